@@ -1,0 +1,5 @@
+pub mod Deed
+pub mod Fits
+pub mod Flaw
+pub mod History
+pub mod Id
