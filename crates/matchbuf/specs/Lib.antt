@@ -1,0 +1,4 @@
+pub mod Held
+pub mod Journal
+pub mod Laws
+pub mod Unchanged

@@ -1,0 +1,17 @@
+-- What a buffer is once what it lent has ended.
+use Rattle.std.specs.Prelude.{◌≡◌, ℕ, List, length, ⊤}
+use Rattle.std.specs.Borrow.{Fml, RattleType, MutBor, Array, Lends, follows_so, u8}
+use Rattle.std.specs.List.{refill}
+use Rattle.std.specs.declared.alloc.Allocator.{Ghosts}
+use mathlib.Core.Option.{none}
+use Rattle.matchbuf.specs.Held.{Held, held}
+use Rattle.matchbuf.specs.contracts.buffer.MatchBuf.{the_row}
+
+module _ (A : RattleType) (g : Ghosts A.Denot) (buffer : MutBor Held) where
+  -- it is as it was before the call
+  abbrev pub StaysUnchanged : Fml
+  StaysUnchanged = follows_so (the_row A g) (the_row A g) buffer.ghost_name none (λ _ _. ⊤) (λ after. after ≡ buffer.now)
+
+  -- it holds the bytes that were last behind the reference
+  abbrev pub LendsBytes : MutBor (List ℕ) → Fml
+  LendsBytes r = Lends (the_row A g) (Array u8 0) buffer r (λ bytes. held (refill (length buffer.now.bytes) buffer.now.bytes bytes) buffer.now.max)

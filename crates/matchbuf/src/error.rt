@@ -1,0 +1,25 @@
+//! Why a match buffer is not made, or keeps its size.
+use std::alloc::AllocError;
+use thiserror::Error;
+
+/// Why a match buffer was not made, or kept its size.
+#[derive(Clone, Copy, Debug, PartialEq, Eq, Error)]
+pub enum MatchBufError {
+    /// The size is not from 1 to [`MAX_SIZE`](crate::MAX_SIZE) bytes.
+    #[error("match_max must be 1 to 1000000")]
+    Size,
+    /// Memory was refused.
+    #[error("no memory")]
+    NoMemory,
+}
+
+impl From<AllocError> for MatchBufError {
+    ghost use Rattle.matchbuf.specs.declared.error.MatchBufError.TheVariants.{NoMemory};
+    ghost use Rattle.std.specs.Prelude.{◌≡◌};
+
+    ghost from_gives = { λ _ e. e ≡ NoMemory };
+
+    fn from(_error: AllocError) -> MatchBufError {
+        MatchBufError::NoMemory
+    }
+}
