@@ -1,5 +1,5 @@
 -- The window of a journal is the history from one place on, so each record changes it as the calls do.
-use Rattle.std.proofs.Common.{◌≡◌, ℕ, zero, suc, ◌+◌, ◌-◌, ◌<◌, ◌≤◌, max, Bool, true, false, ◌&&◌, ◌↔◌, cond, nat_le, nat_eq, get_or, slice_index, if◌then◌else◌, IsTrue, List, [], ◌∷◌, ◌++◌, length, map, drop, filter, refl, sym, ap, ◌∙◌, arith, append_assoc, length-append, length-drop}
+use Rattle.std.proofs.Common.{◌≡◌, ℕ, zero, suc, ◌+◌, ◌-◌, ◌<◌, ◌≤◌, max, Bool, true, false, ◌&&◌, ◌↔◌, cond, nat_le, nat_eq, slice_index, if◌then◌else◌, IsTrue, List, [], ◌∷◌, ◌++◌, length, map, drop, filter, refl, sym, ap, ◌∙◌, arith, append_assoc, length-append, length-drop}
 use Rattle.std.proofs.lemmas.Bool.Decides.{nat_tests}
 use Rattle.std.proofs.lemmas.List.{drop-drop, drop-append-le, length-map}
 use Rattle.std.proofs.Math.Seq.{get_or-append_seam}

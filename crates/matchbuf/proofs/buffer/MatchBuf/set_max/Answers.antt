@@ -1,4 +1,4 @@
-use Rattle.std.proofs.Common.{◌≡◌, ap, ◌∙◌}
+use Rattle.std.proofs.Common.{ap, ◌∙◌}
 use Rattle.matchbuf.proofs.Windows.{fits_sized, refilled}
 use Rattle.matchbuf.proofs.buffer.MatchBuf.set_max.Goals as goal
 

@@ -1,19 +1,19 @@
 -- The bytes are lent in one piece as `&mut`, and shared for all the time that the loan has, so that what was lent stays as it was.
-use Rattle.std.proofs.Common.{◌≡◌, ℕ, ◌+◌, ◌^◌, ◌<◌, ◌≤◌, List, [], ◌∷◌, length, refl, sym, ap, ◌∙◌, w8, w64, Bor, MutBor}
+use Rattle.std.proofs.Common.{◌≡◌, ℕ, List, [], ◌∷◌, length, refl, ap, ◌∙◌, w8, Bor, MutBor}
 use mathlib.Core.Option.{none}
 use seplogic.Ra.Ura.{Ura}
 use base.Fraction.{full_share}
 use base.Logic.{SProp, ent, id⊢}
-use base.Fml.{Lft, Share, Fml, ftrue, fsep, fex, flft, fres}
+use base.Fml.{Lft, Share, ftrue, fsep, flft, fres}
 use mir.Syntax.{Args, Fn, a_type, dnil, dcons, named, erased}
-use mir.Val.{Val, vptr}
+use mir.Val.{Val}
 use mir.MapTy.{inst_fn}
 use prog.Memory.{Memory}
 use prog.Routine.{Routine}
 use prog.Wp.{WpFn, Tables}
 use types.Logic.{Logic, sem}
 use base.Stored.{coded_list}
-use types.Kit.{‵, raw, ◌⊛◌, some, later, ◌$◌, ◌∵◌, !, qed, by, move, keep, drop, use1, use2, split, split3, join, pick, fsplit, fjoin, fpack, feq_i, rewrite, suffices, frame, await, done}
+use types.Kit.{‵, raw, ◌⊛◌, some, later, ◌$◌, ◌∵◌, !, qed, by, move, drop, use1, use2, split, split3, join, pick, fsplit, fjoin, fpack, feq_i, rewrite, suffices, frame, await, done}
 use types.Part.{whole, sub, agg}
 use types.Run.{stop, fld, hop, from, addr, no_more, and_then, returns, enter}
 use types.ByLocal.{alloc_all, pass_all, free_all, look_at, look_in_at, get, get_in, through, sets, lands_as}
@@ -23,10 +23,10 @@ use contract.Running.{tables, tables_of}
 use sound.WpLaws.{fm_of, WpFn-mono}
 use borrow.Rule.Slice.Handed.{sl_Share}
 use borrow.Table.Owned as borrowed
-use denote.Builtin.{u8, RefMutOf}
+use denote.Builtin.{u8}
 use denote.Copied.{uint_Copied}
 use denote.Exit.{no}
-use denote.Follow.{follows, follows_so, such_by, follows_by, followed}
+use denote.Follow.{follows, such_by, follows_by, followed}
 use denote.FollowSlice.{finally-res}
 use denote.Array.{Array}
 use denote.Laws.{shows}
@@ -35,7 +35,7 @@ use denote.Plain.{uint_row_laws}
 use denote.RattleType.{RattleType}
 use denote.Ref.{mut_vals, mut_Tells}
 use denote.Signature.{Slot, plain, mut_ref_to}
-use denote.Slice.{MutSlice, ShrSlice, finally, slice_val}
+use denote.Slice.{MutSlice, finally, slice_val}
 use denote.Steps.{heard, nothing, peeks, only}
 use denote.Triple.Call.{calls_at}
 use denote.Triple.Clauses.{Ended, Clauses}
