@@ -88,7 +88,7 @@ impl<A: Allocator> MatchBuf<A> {
         ensures fits { (j : List Record) → Fits j self.old → Fits (Consumed (place_after j n) ∷ j) self.new }
         ensures value { self.new ≡ held (drop n self.old.bytes) self.old.max }
     {
-        let rest = self.ring.len() - n;
+        let rest = self.len() - n;
         self.ring.truncate_front(rest);
     }
 
