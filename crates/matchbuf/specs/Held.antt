@@ -7,6 +7,7 @@ pub record Held : Type 0 where
   pub bytes : List ℕ
   pub max : ℕ
 
+-- the buffer of these bytes and this size
 abbrev pub held : List ℕ → ℕ → Held
 held bytes max = record { bytes = bytes; max = max }
 

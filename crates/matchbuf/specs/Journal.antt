@@ -50,7 +50,7 @@ remembers place moment = nat_le (length (history moment) - size_of moment) place
 abbrev pub is_visible : List Record → ℕ → Bool
 is_visible journal place = list_all (spares place) journal && list_all (remembers place) (moments journal)
 
--- the places of the history that are visible, in order
+-- the places of the history that are visible, in order (this project's own rule)
 abbrev pub visible_places : List Record → List ℕ
 visible_places journal = filter (is_visible journal) (range_with_len 0 (length (history journal)))
 
@@ -62,7 +62,7 @@ window journal = map (slice_index (history journal)) (visible_places journal)
 abbrev pub place_after : List Record → ℕ → ℕ
 place_after journal n = if nat_eq n 0 then 0 else slice_index (visible_places journal) (n - 1) + 1
 
--- a buffer is as the journal says: it holds the window, and the last size is in force
+-- a buffer is as the journal says: it holds the window, and has the last size (this project's own rule)
 pub record Fits (journal : List Record) (buffer : Held) : Type 0 where
   pub is_journal : IsJournal journal
   pub bytes : window journal ≡ buffer.bytes

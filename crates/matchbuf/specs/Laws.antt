@@ -1,4 +1,4 @@
--- What windows are, in words that do not go over records.
+-- What follows from the definition of a window.
 use Rattle.std.specs.Prelude.{◌≡◌, ℕ, ◌+◌, ◌≤◌, ◌↔◌, List, [], ◌∷◌, ◌++◌, length, drop, IsTrue}
 use Rattle.circular_buffer.specs.Buffer.{keep_last}
 use Rattle.matchbuf.specs.Held.{Held}
@@ -29,6 +29,6 @@ VisibleAtEnd = (j : List Record) (place : ℕ) → IsJournal j
 abbrev pub GoneForGood : Type 0
 GoneForGood = (j : List Record) (r : Record) (place : ℕ) → IsTrue (is_visible (r ∷ j) place) → IsTrue (is_visible j place)
 
--- what a buffer holds and its size alone say a journal that fits
+-- the size of a buffer and then its bytes are a journal that fits it
 abbrev pub ShortJournals : Type 0
 ShortJournals = (buffer : Held) → length buffer.bytes ≤ buffer.max → Fits (Arrived buffer.bytes ∷ Sized buffer.max ∷ []) buffer

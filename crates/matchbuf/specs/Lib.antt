@@ -1,4 +1,5 @@
 pub mod Held
 pub mod Journal
 pub mod Laws
+pub mod Rows
 pub mod Unchanged

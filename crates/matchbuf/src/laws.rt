@@ -1,5 +1,6 @@
 //! What is proved of the definition of a window, for those who reason about journals.
 ghost use Rattle.matchbuf.specs.Laws.{ArrivalsJoin, ConsumptionsTake, SizesKeep, WindowsEnd, VisibleAtEnd, GoneForGood, ShortJournals};
+ghost use Rattle.matchbuf.specs.Rows.{WorkedRows};
 
 /// Does nothing: its clauses say what the window of a journal is.
 pub fn window_laws()
@@ -10,4 +11,5 @@ pub fn window_laws()
     ensures visible { VisibleAtEnd }
     ensures gone { GoneForGood }
     ensures short_journals { ShortJournals }
+    ensures rows { WorkedRows }
 {}

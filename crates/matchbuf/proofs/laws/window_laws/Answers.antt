@@ -1,3 +1,4 @@
+use Rattle.std.proofs.Common.{refl}
 use Rattle.matchbuf.proofs.Windows.{arrivals_join, consumptions_take, sizes_keep, windows_end, visible_at_end, gone_for_good, short_journals}
 use Rattle.matchbuf.proofs.laws.window_laws.Goals as goal
 
@@ -10,4 +11,5 @@ returns c = record {
   visible = visible_at_end;
   gone = gone_for_good;
   short_journals = short_journals;
+  rows = (refl, refl, refl, refl, refl, refl, refl, refl);
 }
