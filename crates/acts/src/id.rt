@@ -1,9 +1,11 @@
 //! Spawn ids.
 
-ghost use Rattle.std.specs.Prelude.{◌≡◌, ◌≢◌, ◌^◌, ◌<◌, ℕ, IfSome, IfNone};
+ghost use Rattle.std.specs.Prelude.{◌≡◌, ◌≢◌, ◌^◌, ◌<◌, ℕ, IfSome, IfNone, IfOk};
 ghost use Rattle.acts.specs.Id.{id_text};
 
-use crate::decimal::read_decimal;
+use crate::decimal::{push_decimal, read_decimal};
+use memory::NoMemory;
+use std::alloc::Allocator;
 
 /// A spawn id, by its number: `exp4` is the id of number 4 (expect(1), spawn).
 #[derive(Clone, Copy, Debug, PartialEq, Eq)]
@@ -18,5 +20,14 @@ impl Id {
         let digits = text.strip_prefix(b"exp")?;
         let number = read_decimal(digits)?;
         Some(Id(number))
+    }
+
+    /// How the id is spelled.
+    pub fn text<A: Allocator>(self, alloc: A) -> Result<Vec<u8, A>, NoMemory>
+        ensures { IfOk result (λ text. text.items ≡ id_text self.0) }
+    {
+        let mut text = Vec::from_slice(alloc, b"exp")?;
+        push_decimal(&mut text, self.0)?;
+        Ok(text)
     }
 }

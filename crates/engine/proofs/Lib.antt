@@ -1,0 +1,10 @@
+pub mod Begun
+pub mod Closings
+pub mod Places
+pub mod Shows
+pub mod Steps
+pub mod Tables
+pub mod Total
+pub mod Turns
+pub mod Words
+pub mod Worlds

@@ -1,0 +1,15 @@
+pub mod Closing
+pub mod Commands
+pub mod Course
+pub mod Does
+pub mod Outcome
+pub mod Plain
+pub mod Run
+pub mod Runs
+pub mod Script
+pub mod Session
+pub mod Status
+pub mod Step
+pub mod Tables
+pub mod Turn
+pub mod View

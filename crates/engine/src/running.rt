@@ -1,0 +1,42 @@
+//! A whole run of a script in a world.
+
+ghost use Rattle.std.specs.Prelude.{IfOk, IfErr};
+ghost use Rattle.engine.specs.Outcome.{ending_of};
+ghost use Rattle.engine.specs.Run.{Began, Ran};
+ghost use Rattle.engine.specs.View.{words_of};
+
+use crate::end::End;
+use crate::session::{Session, Step};
+use acts::{Limits, NoMemory, World};
+use std::alloc::Allocator;
+
+/// Runs a script with its arguments, of which the first is `argv0`, in a world, for so many ticks at
+/// most. Only want of memory stops a run without an end; what was done by then stays done.
+pub fn run<A: Allocator + Copy, W: World<A>>(
+    alloc: A,
+    script: &[u8],
+    args: &[Vec<u8, A>],
+    limits: Limits,
+    world: &mut W,
+) -> Result<End<A>, NoMemory>
+    // The acts and the end are those of the definition for the world's answers, and at every wait
+    // each buffer holds at most its match_max.
+    ensures ran { IfOk result (λ end. Ran W.step world.old world.new script.now (words_of args.now) limits.ticks (ending_of end)) }
+
+    // Where memory was refused, the acts are a beginning of those of the definition.
+    ensures began { IfErr result (λ _. Began W.step world.old world.new script.now (words_of args.now) limits.ticks) }
+{
+    let mut session = Session::start(alloc, script, args, limits)?;
+    session.go_on(None)?;
+    'acts: loop {
+        let answer = match session.step() {
+            Step::Act(act) => world.act(act),
+            Step::End(_) => break,
+        };
+        session.go_on(Some(answer))?;
+    }
+    match session.into_end() {
+        Some(end) => Ok(end),
+        None => unreachable!(),
+    }
+}
