@@ -1,5 +1,6 @@
 pub mod Begun
 pub mod Closings
+pub mod OneRun
 pub mod Places
 pub mod Shows
 pub mod Steps

@@ -2,6 +2,8 @@ pub mod Closing
 pub mod Commands
 pub mod Course
 pub mod Does
+pub mod Laws
+pub mod Lending
 pub mod Outcome
 pub mod Plain
 pub mod Run

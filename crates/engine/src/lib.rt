@@ -6,6 +6,7 @@ mod commands;
 mod course;
 mod end;
 mod frame;
+mod laws;
 mod machine;
 mod outcome;
 mod phase;
@@ -18,5 +19,6 @@ mod table;
 mod turn;
 
 pub use end::End;
+pub use laws::answers_decide;
 pub use running::run;
 pub use session::{Session, Step};

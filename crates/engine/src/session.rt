@@ -1,6 +1,7 @@
 //! A run that stops at each act and goes on with its answer.
 
 ghost use Rattle.std.specs.Prelude.{◌≡◌, ◌≢◌, ℕ, ◌+◌, ◌<◌, ◌≤◌, [], ◌++◌, List, length, IfOk, IfErr, Some};
+ghost use Rattle.std.specs.Borrow.{sem};
 ghost use Rattle.acts.specs.History.{History};
 ghost use Rattle.engine.specs.Outcome.{Ending, outcome_of};
 ghost use Rattle.engine.specs.Run.{Run, initial};
@@ -44,6 +45,7 @@ pub enum Step<'a, A: Allocator> {
 }
 
 impl<A: Allocator + Copy> Session<A> {
+    ghost use Rattle.engine.specs.Lending.{GoesOn};
     ghost use Rattle.engine.specs.Runs.{IsRefused, Runs, answered_so, has_end, owed_by};
 
     /// A run of a script that has not begun. Of its arguments the first is `argv0`, the rest are
@@ -73,6 +75,16 @@ impl<A: Allocator + Copy> Session<A> {
             state,
             phase,
         })
+    }
+
+    /// Goes on to the next act or to the end, and lends it. The first call is without an answer, each
+    /// later one has the answer to the last act. After an end each call gives the same end; after
+    /// want of memory each call answers `NoMemory`.
+    pub fn next(&mut self, answer: Option<Answer<A>>) -> Result<Step<'_, A>, NoMemory>
+        ensures* goes_on { sem 𝓛 (GoesOn A.row A.Allocator self.entry answer result) }
+    {
+        self.go_on(answer)?;
+        Ok(self.step())
     }
 
     /// Goes on to the next act or to the end.
