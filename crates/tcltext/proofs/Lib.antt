@@ -1,0 +1,11 @@
+pub mod Choices
+pub mod Pairing
+pub mod Spelled
+pub mod Elements
+pub mod Unique
+pub mod Total
+pub mod Written
+pub mod Numbers
+pub mod Numerals
+pub mod Range
+pub mod Spellings

@@ -1,0 +1,12 @@
+use Rattle.std.proofs.Common.{◌≡◌, arith, sym, subst}
+use Rattle.std.proofs.lemmas.Grind.{common_steps}
+use Rattle.tcltext.specs.Canonical.{canonical}
+use Rattle.tcltext.specs.Elements.{IsList}
+use Rattle.tcltext.specs.Seen.{texts}
+use Rattle.tcltext.proofs.Written.{reads_back}
+use Rattle.tcltext.proofs.list.join.join_list.Goals as goal
+
+pub returns-clause-reads_back : goal.returns-clause-reads_back
+returns-clause-reads_back g c =
+    let e : c.loop-element.text.items ≡ canonical (texts c.args.list.now) = grind (arith, common_steps) in
+    subst (IsList (texts c.args.list.now)) (sym e) (reads_back (texts c.args.list.now))

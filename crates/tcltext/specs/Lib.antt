@@ -1,0 +1,11 @@
+pub mod Digit
+pub mod Escape
+pub mod White
+pub mod Balanced
+pub mod Elements
+pub mod Seen
+pub mod Reads
+pub mod Numeral
+pub mod Numbers
+pub mod Spellings
+pub mod Canonical

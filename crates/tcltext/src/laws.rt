@@ -1,0 +1,37 @@
+//! Laws of the definitions: each text is one list or has one first fault, what is written reads back, and a numeral has one number.
+
+ghost use Rattle.std.specs.Prelude.{◌≡◌, ◌⊎◌, ◌↔◌, ℕ, ℤ, List};
+ghost use Rattle.tcltext.specs.declared.list.ListFault.{ListFault};
+ghost use Rattle.tcltext.specs.Elements.{IsList, HasFault};
+ghost use Rattle.tcltext.specs.Canonical.{canonical};
+ghost use Rattle.tcltext.specs.Spellings.{AreSpellings};
+ghost use Rattle.tcltext.specs.Numeral.{IsNumeral};
+
+/// No text is two lists, or has two first faults, or is a list and has a fault.
+pub fn one_reading()
+    ensures list { (x : List ℕ) (v u : List (List ℕ)) → IsList v x → IsList u x → v ≡ u }
+    ensures fault { (x : List ℕ) (f g : ListFault) → HasFault f x → HasFault g x → f ≡ g }
+    ensures apart { (x : List ℕ) (v : List (List ℕ)) (f : ListFault) → IsList v x → HasFault f x → ⊥ }
+{}
+
+/// Each text is a list or has a fault.
+pub fn list_or_fault()
+    ensures { (x : List ℕ) → ((v : List (List ℕ)) × IsList v x) ⊎ ((f : ListFault) × HasFault f x) }
+{}
+
+/// What is written for a list reads back as that list, and as nothing else.
+pub fn reads_back()
+    ensures list { (v : List (List ℕ)) → IsList v (canonical v) }
+    ensures alone { (v u : List (List ℕ)) → IsList u (canonical v) → u ≡ v }
+    ensures sound { (v : List (List ℕ)) (f : ListFault) → HasFault f (canonical v) → ⊥ }
+{}
+
+/// A text is a list exactly where it is spellings of the elements with white before, between and behind them.
+pub fn list_is_spellings()
+    ensures { (x : List ℕ) (v : List (List ℕ)) → IsList v x ↔ AreSpellings v x }
+{}
+
+/// A text is a numeral of one number alone.
+pub fn one_value()
+    ensures { (x : List ℕ) (n m : ℤ) → IsNumeral n x → IsNumeral m x → n ≡ m }
+{}
