@@ -9,3 +9,4 @@ pub mod Numbers
 pub mod Numerals
 pub mod Range
 pub mod Spellings
+pub mod Patterns

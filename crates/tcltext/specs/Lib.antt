@@ -9,3 +9,4 @@ pub mod Numeral
 pub mod Numbers
 pub mod Spellings
 pub mod Canonical
+pub mod Pattern

@@ -6,10 +6,15 @@ pub mod escape;
 pub mod laws;
 mod list;
 mod number;
+mod pattern;
 mod white;
 
 pub use list::{ListFault, join_list, split_list};
 pub use number::{print_int, print_nat, read_int};
+pub use pattern::Pattern;
+pub use pattern::error::PatternError;
+pub use pattern::scratch::Scratch;
+pub use pattern::search::{Found, Search};
 
 #[cfg(test)]
 mod tests;

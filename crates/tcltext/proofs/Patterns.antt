@@ -1,0 +1,9 @@
+-- Lemmas on patterns.
+pub mod Spans
+pub mod Stars
+pub mod Sets
+pub mod Signs
+pub mod Tests
+pub mod Places
+pub mod Finds
+pub mod Items

@@ -1,0 +1,14 @@
+use Rattle.std.proofs.Common.{◌≡◌, ℕ, List, Bool, false, ap, ◌∙◌, sym, slice_index_or}
+use Rattle.tcltext.specs.Pattern.Item.{one_of}
+use Rattle.tcltext.specs.Pattern.Glob.{ranges, is_in_ranges}
+use Rattle.tcltext.specs.Pattern.Runs.{marked}
+use Rattle.tcltext.proofs.Patterns.Sets.{all_bytes-filter}
+use Rattle.tcltext.proofs.pattern.read.token_of.Goals as goal
+
+pub returns-in_ok-new-in-Set : goal.returns-in_ok-new-in-Set
+returns-in_ok-new-in-Set g c =
+    let table : List Bool = c.read_set.result in
+    let text : List ℕ = c.in-Set.text.now in
+    rw c.in-Set.is
+    (ap (λ (t : List Bool). one_of (marked t)) c.in_ok-new-in-Set.ensures.ok
+    ∙ ap one_of (all_bytes-filter (λ (b : ℕ). slice_index_or table b false) (is_in_ranges (ranges text)) c.read_set.ensures))

@@ -1,0 +1,11 @@
+-- What a sign of the code stands for.
+use Rattle.std.specs.Prelude.{List}
+use Rattle.tcltext.specs.Pattern.Glob.{Sign as GlobSign, bare, quoted, a_set}
+use Rattle.tcltext.specs.declared.pattern.read.Sign.{Sign}
+use Rattle.tcltext.specs.declared.pattern.read.Sign.TheVariants.{Bare, Quoted, Set}
+
+-- the sign that a value of the code stands for
+abbrev pub sign_of : Sign → GlobSign
+sign_of (Bare b) = bare b
+sign_of (Quoted b) = quoted b
+sign_of (Set text) = a_set text.now

@@ -1,0 +1,25 @@
+//! Why a text is no pattern.
+use memory::NoMemory;
+use thiserror::Error;
+
+/// Why a text was not made a pattern.
+#[derive(Clone, Copy, Debug, PartialEq, Eq, Error)]
+pub enum PatternError {
+    /// Memory was refused (5).
+    #[error("no memory")]
+    NoMemory,
+    /// The text has more than 1,000,000 bytes (7).
+    #[error("pattern too long")]
+    TooLong,
+}
+
+impl From<NoMemory> for PatternError {
+    ghost use Rattle.std.specs.Prelude.{◌≡◌};
+    ghost use Rattle.tcltext.specs.declared.pattern.error.PatternError.TheVariants.{NoMemory};
+
+    ghost from_gives = { λ _ error. error ≡ NoMemory };
+
+    fn from(_error: NoMemory) -> PatternError {
+        PatternError::NoMemory
+    }
+}

@@ -1,0 +1,37 @@
+//! What a search is lent for the time of its run.
+ghost use Rattle.std.specs.Prelude.{◌≡◌, ℕ, IsOkAnd};
+
+use memory::NoMemory;
+use std::alloc::Allocator;
+use std::marker::{Model, PhantomData};
+
+/// The room of a search: how many bytes a window may have.
+///
+/// The search keeps no table, so that the room is a number alone. It bounds the number of steps, which fits 64 bits for
+/// each pattern and each window with room.
+#[derive(Drop)]
+pub struct Scratch<A: Allocator> {
+    room: u32,
+    memory: PhantomData<A>,
+}
+
+impl<A: Allocator> Model for Scratch<A> {
+    ghost Value = { ℕ };
+
+    ghost view = { λ s. s.room };
+}
+
+impl<A: Allocator> Scratch<A> {
+    /// Room for windows of at most `room` bytes.
+    ///
+    /// # Errors
+    /// None today, since no memory is asked for.
+    pub fn new(_alloc: A, room: u32) -> Result<Scratch<A>, NoMemory>
+        ensures { IsOkAnd result (λ scratch. scratch ≡ room) }
+    {
+        Ok(Scratch {
+            room,
+            memory: PhantomData,
+        })
+    }
+}
