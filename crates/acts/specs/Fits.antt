@@ -1,5 +1,5 @@
 -- Which answers fit an act.
-use Rattle.std.specs.Prelude.{ℕ, ◌==◌, Bool, true, false, nat_le, List, length}
+use Rattle.std.specs.Prelude.{ℕ, ◌==◌, Bool, true, false, nat_le, List, length, Some, None}
 use Rattle.std.specs.List.{list_any}
 use Rattle.acts.specs.declared.id.Id.{Id}
 use Rattle.acts.specs.declared.row.Row.{Row}
@@ -40,7 +40,8 @@ fits_plain _ = false
 
 -- a process ended, with a status or without
 abbrev pub fits_reap : Reply → Bool
-fits_reap (said.Exited status) = true
+fits_reap (said.Exited None) = true
+fits_reap (said.Exited (Some status)) = nat_le status 255
 fits_reap said.NoMore = true
 fits_reap _ = false
 

@@ -29,7 +29,7 @@ pub fn fits<A: Allocator>(act: &Act<A>, answer: &Answer<A>) -> bool
         Act::Close(_) | Act::Sleep(_) | Act::CloseLog => {
             matches!(answer, Answer::Done | Answer::NoMore)
         }
-        Act::Reap(_) => matches!(answer, Answer::Exited(_) | Answer::NoMore),
+        Act::Reap(_) => fits_reap(answer),
         Act::Wait { rows, timer } => fits_wait(rows, *timer, answer),
     }
 }
@@ -41,6 +41,17 @@ fn fits_write<A: Allocator>(bytes: &[u8], answer: &Answer<A>) -> bool
     match answer {
         Answer::Done | Answer::NoMore => true,
         Answer::Failed(sent) => *sent <= bytes.len() as u64,
+        _ => false,
+    }
+}
+
+/// Whether an answer fits the wait for a process: it ended with a status of 0 to 255, or without one.
+fn fits_reap<A: Allocator>(answer: &Answer<A>) -> bool
+    ensures { result ≡ table.fits_reap (reply_of answer.now) }
+{
+    match answer {
+        Answer::Exited(Some(status)) => *status <= u8::MAX,
+        Answer::Exited(None) | Answer::NoMore => true,
         _ => false,
     }
 }

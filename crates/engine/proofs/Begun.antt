@@ -9,7 +9,7 @@ use Rattle.acts.specs.Deed as said
 use Rattle.acts.specs.Flaw as flaw
 use Rattle.engine.specs.Status.{Status, is_open}
 use Rattle.engine.specs.Plain.{Plain, raises, ask, written}
-use Rattle.engine.specs.Commands.{begins_with_dash, spawn_words, numbered, echo_of, starts, with_current, expects, spawn, spawn_quietly, expect}
+use Rattle.engine.specs.Commands.{is_flag, spawn_words, numbered, echo_of, starts, with_current, expects, spawn, spawn_quietly, expect}
 use Rattle.acts.specs.declared.act.Timer.TheVariants as timer
 use Rattle.engine.specs.Turn.{turn}
 use Rattle.engine.specs.View.{IsNext}
@@ -22,7 +22,7 @@ after_next (Some k) n m h e = (omega (arith, h.1), omega (arith, h.0, h.1))
 pub left_over : (n m : ℕ) → n ≡ m → n < 2 ^ 64 → nat_le (2 ^ 64) m ≡ false
 left_over n m e lt = grind (arith, nat_tests)
 
-module _ (w : List ℕ) (ws : List (List ℕ)) (s : Status) (dash : begins_with_dash w ≡ false) where
+module _ (w : List ℕ) (ws : List (List ℕ)) (s : Status) (dash : is_flag w ≡ false) where
   pub spawns-full : (echo : Bool) → nat_le 64 (length s.peers) ≡ true → spawn_words echo w ws s ≡ raises flaw.TooManyIds s
   spawns-full echo full = rw (dash, full) refl
 

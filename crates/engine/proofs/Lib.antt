@@ -1,5 +1,6 @@
 pub mod Begun
 pub mod Closings
+pub mod Numbers
 pub mod OneRun
 pub mod Places
 pub mod Shows

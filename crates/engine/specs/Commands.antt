@@ -1,5 +1,5 @@
 -- What each command does.
-use Rattle.std.specs.Prelude.{ℕ, ◌+◌, ◌^◌, ◌==◌, nat_le, nat_lt, Bool, true, false, List, [], ◌∷◌, ◌++◌, length, Option, Some, None, codes, decimal, if◌then◌else◌}
+use Rattle.std.specs.Prelude.{ℕ, ◌+◌, ◌^◌, ◌==◌, nat_le, nat_lt, Bool, true, false, ◌&&◌, not, List, [], ◌∷◌, ◌++◌, length, Option, Some, None, codes, decimal, if◌then◌else◌}
 use Rattle.std.specs.Str.{bytes_eq}
 use Rattle.acts.specs.declared.id.Id.{Id}
 use Rattle.acts.specs.declared.act.Timer.TheVariants as timer
@@ -11,6 +11,7 @@ use Rattle.matchbuf.specs.Journal.{Sized}
 use Rattle.engine.specs.declared.commands.Builtin.{Builtin}
 use Rattle.engine.specs.declared.commands.Builtin.TheVariants as builtin
 use Rattle.engine.specs.Status.{Status, is_open}
+use Rattle.engine.specs.Number.{is_number}
 use Rattle.engine.specs.Plain.{Plain, gives, raises, ask, written}
 use Rattle.engine.specs.Turn.{turn}
 
@@ -93,10 +94,14 @@ spawns echo words s =
     else if nat_le (2 ^ 64) s.next then raises flaw.TooManyIds s
     else starts_with_echo echo words s
 
--- a first word that begins with a dash would be a flag
+-- a word that begins with a dash and is no number would be a flag (expect(1), spawn)
+abbrev pub is_flag : List ℕ → Bool
+is_flag w = begins_with_dash w && not (is_number w)
+
+-- a first word that would be a flag is none of this command's
 abbrev pub spawn_words : Bool → List ℕ → List (List ℕ) → Status → Plain
 spawn_words echo w ws s =
-    if begins_with_dash w then raises (flaw.BadArgument w (codes "spawn")) s
+    if is_flag w then raises (flaw.BadArgument w (codes "spawn")) s
     else spawns echo (w ∷ ws) s
 
 abbrev pub spawn_quietly : List (List ℕ) → Status → Plain

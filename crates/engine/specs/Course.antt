@@ -22,8 +22,8 @@ abbrev pub is_no_more : Reply → Bool
 is_no_more said.NoMore = true
 is_no_more _ = false
 
--- a dialogue goes on by an answer that fits; without one, or with another, the whole run stops
--- (this project's own rule)
+-- a dialogue goes on by an answer that fits; without one, or with another, the whole run stops, so
+-- that what follows an act never meets an answer that does not fit (this project's own rule)
 abbrev pub judged : {X : Type 0} → (Stop → X) → Deed → ℕ → Reply → Course X → Course X
 judged stops deed number reply next =
     if is_no_more reply then Ends (stops stop.NoMore)

@@ -12,7 +12,7 @@ use Rattle.engine.specs.declared.phase.Phase.TheVariants as phase
 use Rattle.engine.specs.declared.session.Session.{Session}
 use Rattle.engine.specs.declared.session.Step.{Step}
 use Rattle.engine.specs.Outcome.{Ending}
-use Rattle.engine.specs.Runs.{IsRefused, Runs, answered_so}
+use Rattle.engine.specs.Runs.{IsRefused, IsSound, Runs, answered_so}
 use Rattle.engine.specs.Session.{PhaseHolds}
 use Rattle.engine.specs.Step.{StepIs}
 
@@ -29,6 +29,7 @@ GivesAgain (phase.Closes act c) r = Unit {0}
 pub record Went {A : Type 0} (old : Session A) (answer : Option (Answer A)) (r : Result (Step A) NoMemory) (new : Session A) : Type 0 where
   pub runs : IfOk r (λ s. (h : History) (e : Ending) → Runs new h e → Runs old (answered_so old answer ++ h) e)
   pub tells : MatchResult r (λ s. StepIs s new.phase) (λ _. IsRefused new)
+  pub sound : IsSound old → IfOk r (λ _. IsSound new)
   pub holds : PhaseHolds old.phase → PhaseHolds new.phase
   pub again : GivesAgain old.phase r
 

@@ -4,6 +4,7 @@ pub mod Course
 pub mod Does
 pub mod Laws
 pub mod Lending
+pub mod Number
 pub mod Outcome
 pub mod Plain
 pub mod Run

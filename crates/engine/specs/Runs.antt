@@ -37,3 +37,7 @@ end_of phase.Refused = None
 -- the end that was given, if any
 abbrev pub has_end : {A : Type 0} → Session A → Option (End A)
 has_end session = end_of session.phase
+
+-- some state of the definition fits
+abbrev pub IsSound : {A : Type 0} → Session A → Type 0
+IsSound session = (s : Status) × FitsState session.state s

@@ -2,7 +2,7 @@
 use Rattle.std.specs.Prelude.{ℕ, ◌==◌, ◌||◌, Bool, List, [], ◌∷◌, ◌++◌, if◌then◌else◌}
 use Rattle.std.specs.List.{list_any}
 
--- blank, tab, vertical tab, form feed and carriage return stand between words (Tcl(n), rules 1 and 2)
+-- blank, tab, vertical tab, form feed and carriage return stand between words (Tcl(n), rule 3)
 abbrev pub is_white : ℕ → Bool
 is_white b = b == 32 || b == 9 || b == 11 || b == 12 || b == 13
 

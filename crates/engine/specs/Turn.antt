@@ -59,7 +59,8 @@ abbrev pub on_journal : List ℕ → Id → Status → (List Record → Plain) �
 on_journal p i s wait (Some j) = on_place p i s wait j (first_place p (window j))
 on_journal p i s wait None = raises (flaw.NotOpen (Some (id_text i.0))) s
 
--- where the pattern is found in the id's window the turn is over; else it waits
+-- where the pattern is found in the id's window the turn is over; else it waits; the id was open when
+-- the turn began, and is until the turn is over
 abbrev pub tested : List ℕ → Id → Status → (List Record → Plain) → Plain
 tested p i s wait = on_journal p i s wait (journal_of s.peers i)
 
@@ -71,7 +72,7 @@ waited again s (said.Ended i) =
     ask (said.Close i) s (λ t reply. gives [] (record t { peers = without i t.peers }))
 waited again s _ = gives [] s
 
--- the turn, with so many ticks left: each wait takes one before it happens
+-- the turn, with so many ticks left, which are those of the state: each wait takes one before it happens
 abbrev pub turn : ℕ → List ℕ → Id → Timer → Status → Plain
 turn zero p i clock s = tested p i s (λ j. stops stop.Limit s)
 turn (suc left) p i clock s =

@@ -38,16 +38,16 @@ abbrev pub out_bytes : Deed → List ℕ
 out_bytes (said.Out bytes) = bytes
 out_bytes _ = []
 
-abbrev pub spawn_words : Deed → List (List ℕ)
-spawn_words (said.Spawn id words) = words
-spawn_words _ = []
+abbrev pub words_spawned : Deed → List (List ℕ)
+words_spawned (said.Spawn id words) = words
+words_spawned _ = []
 
 -- what is done with the answer to an act, once the act is counted
 abbrev pub next_of : {A : Type 0} → Waiting A → Deed → Status → Reply → Plain
 next_of waiting.Put deed = written (gives [])
 next_of (waiting.Sent id) deed = sent id
 next_of (waiting.Echoed id words) deed = written (starts id (words_of words.items))
-next_of (waiting.Spawned id) deed = started id (spawn_words deed)
+next_of (waiting.Spawned id) deed = started id (words_spawned deed)
 next_of (waiting.Awaited id pattern) deed = λ s reply. waited (turned s.left pattern.items id timer.Running) s reply
 next_of (waiting.Logged from turn) deed = written (λ t. turned t.left turn.pattern.items turn.id timer.Running (arrived from (out_bytes deed) t))
 next_of (waiting.Closed id) deed = λ s reply. gives [] (record s { peers = without id s.peers })

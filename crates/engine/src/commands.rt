@@ -4,6 +4,7 @@ ghost use Rattle.std.specs.Prelude.{◌≡◌, ℕ, ◌+◌, ◌≤◌, List, If
 ghost use Rattle.acts.specs.Flaw as flaw;
 ghost use Rattle.acts.specs.Flaw.{text_of};
 ghost use Rattle.engine.specs.Commands as command;
+ghost use Rattle.engine.specs.Number as numbers;
 ghost use Rattle.engine.specs.Outcome as outcome;
 ghost use Rattle.engine.specs.Status.{Status};
 ghost use Rattle.engine.specs.View.{Current, FitsState, HasOutcome, NowHolds, Shows, pending, words_of, worth};
@@ -17,6 +18,7 @@ use crate::course::{Now, empty, raises};
 use crate::state::State;
 use acts::{Fault, Id, NoMemory};
 use std::alloc::Allocator;
+use tcltext::read_int;
 
 /// The commands of this stage.
 #[derive(Clone, Copy, Debug, PartialEq, Eq)]
@@ -115,4 +117,18 @@ fn begins_with_dash(word: &[u8]) -> bool
     ensures { result ≡ command.begins_with_dash word.now }
 {
     matches!(word, [b'-', ..])
+}
+
+/// Whether a word begins with a dash and is no number, so that it would be a flag.
+fn is_flag(word: &[u8]) -> bool
+    ensures { result ≡ command.is_flag word.now }
+{
+    begins_with_dash(word) && !is_number(word)
+}
+
+/// Whether a word is a whole number within 64 bits.
+fn is_number(word: &[u8]) -> bool
+    ensures { result ≡ numbers.is_number word.now }
+{
+    read_int(word).is_some()
 }

@@ -11,7 +11,7 @@ ghost use Rattle.engine.specs.Outcome as outcome;
 ghost use Rattle.engine.specs.Plain.{gives, replied, written};
 ghost use Rattle.engine.specs.Turn as turns;
 ghost use Rattle.engine.specs.Status.{Status, counted};
-ghost use Rattle.engine.specs.View.{FitsState, HasOutcome, NowHolds, Shows, next_of, out_bytes, pending, pending_of, spawn_words, words_of, worth};
+ghost use Rattle.engine.specs.View.{FitsState, HasOutcome, NowHolds, Shows, next_of, out_bytes, pending, pending_of, words_of, words_spawned, worth};
 
 use crate::course::{Now, Waiting, empty, raises, stops};
 use crate::outcome::Stop;
@@ -243,7 +243,7 @@ fn written_bytes<A: Allocator>(alloc: A, act: Act<A>) -> Vec<u8, A>
 
 /// The words of a program that is started.
 fn spawned_words<A: Allocator>(alloc: A, act: Act<A>) -> Vec<Vec<u8, A>, A>
-    ensures { words_of result.items ≡ spawn_words (deed_of act) }
+    ensures { words_of result.items ≡ words_spawned (deed_of act) }
 {
     match act {
         Act::Spawn(_, words) => words,

@@ -22,7 +22,7 @@ pub fn is_later(text: &[u8]) -> bool
     text.iter().any(|b| is_beyond(*b))
 }
 
-/// The commands of a text, each by its words (Tcl(n), rules 1 and 2).
+/// The commands of a text, each by its words (Tcl(n), rules 1 and 3).
 pub fn commands<A: Allocator + Copy>(alloc: A, text: &[u8]) -> Result<Vec<Command<A>, A>, NoMemory>
     ensures { IfOk result (λ commands. commands_view commands.items ≡ texts.commands_of text.now) }
 {

@@ -46,7 +46,7 @@ pub enum Step<'a, A: Allocator> {
 
 impl<A: Allocator + Copy> Session<A> {
     ghost use Rattle.engine.specs.Lending.{GoesOn};
-    ghost use Rattle.engine.specs.Runs.{IsRefused, Runs, answered_so, has_end, owed_by};
+    ghost use Rattle.engine.specs.Runs.{IsRefused, IsSound, Runs, answered_so, has_end, owed_by};
 
     /// A run of a script that has not begun. Of its arguments the first is `argv0`, the rest are
     /// `argv`; no command of this stage reads them.
@@ -60,6 +60,7 @@ impl<A: Allocator + Copy> Session<A> {
         ensures leads { IfOk result (λ session. Leads session.phase (stack session.frames) session.state (Run script.now (words_of args.now) limits.ticks)) }
         ensures holds { IfOk result (λ session. PhaseHolds session.phase) }
         ensures begins { IfOk result (λ session. NotRefused session.phase) }
+        ensures sound { IfOk result (λ session. IsSound session) }
     {
         let state = State {
             table: Table::new(alloc),
@@ -91,6 +92,7 @@ impl<A: Allocator + Copy> Session<A> {
     pub(crate) fn go_on(&mut self, answer: Option<Answer<A>>) -> Result<(), NoMemory>
         ensures runs { IfOk result (λ _. (h : History) (e : Ending) → Runs self.new h e → Runs self.old (answered_so self.old answer ++ h) e) }
         ensures leads { (s : Status) → FitsState self.old.state s → IfOk result (λ _. Leads self.new.phase (stack self.new.frames) self.new.state (λ h e. PhaseRuns self.old.phase (stack self.old.frames) s (answered_so self.old answer ++ h) e)) }
+        ensures sound { IsSound self.old → IfOk result (λ _. IsSound self.new) }
         ensures owes { IfOk result (λ _. length (answered_so self.old answer) + owed_by self.new ≤ owed_by self.old) }
         ensures told { IfOk result (λ _. IsTold self.new.phase) }
         ensures holds { PhaseHolds self.old.phase → IfOk result (λ _. PhaseHolds self.new.phase) }

@@ -5,7 +5,7 @@ ghost use Rattle.engine.specs.Commands as command;
 ghost use Rattle.engine.specs.Status.{Status};
 ghost use Rattle.engine.specs.View.{FitsState, NowHolds, Shows, pending, words_of, worth};
 
-use super::{bad_argument, begins_with_dash, wrong_args};
+use super::{bad_argument, is_flag, wrong_args};
 use crate::course::{Now, Waiting, raises};
 use crate::state::State;
 use acts::{Act, Fault, Id, NoMemory};
@@ -68,7 +68,7 @@ fn spawn_words<A: Allocator + Copy>(
     ensures pays { IfOk result (λ now. pending now + worth state.new ≤ worth state.old + 3) }
     ensures holds { IfOk result NowHolds }
 {
-    if begins_with_dash(first) {
+    if is_flag(first) {
         return bad_argument(alloc, first, b"spawn");
     }
     if state.table.is_full() {

@@ -1,6 +1,6 @@
 //! Reading a numeral.
 
-ghost use Rattle.std.specs.Prelude.{◌≡◌, ◌≤◌, ◌<◌, ◌+◌, ◌*◌, ◌^◌, ℤ, MatchOption, SomeIff};
+ghost use Rattle.std.specs.Prelude.{◌≡◌, ◌≤◌, ◌<◌, ◌+◌, ◌*◌, ◌^◌, ℤ, IfSome, MatchOption, SomeIff};
 ghost use Rattle.tcltext.specs.Numeral.{IsNumeral, IsInRange};
 ghost use Rattle.tcltext.specs.White.{skip_white};
 ghost use Rattle.tcltext.specs.Numbers.{small, then_white, digits_behind, some_digits, behind_zero, unsigned, is_minus, behind_sign};
@@ -13,9 +13,10 @@ use crate::white::skip_white;
 ///
 /// Takes no memory, and time in the length of the text.
 pub fn read_int(text: &[u8]) -> Option<i64>
-    ensures { MatchOption result
+    ensures value { MatchOption result
         ((n : ℤ) → IsNumeral n text.now → IsInRange n → ⊥)
         (λ n. IsNumeral n text.now) }
+    ensures in_range { IfSome result IsInRange }
 {
     let (negative, digits) = split_sign(skip_white(text));
     let size = read_unsigned(digits)?;

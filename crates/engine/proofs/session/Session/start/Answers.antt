@@ -12,3 +12,6 @@ returns-clause-leads g c = record {
 
 pub returns-clause-runs : goal.returns-clause-runs
 returns-clause-runs g c = λ h e runs. let l = returns-clause-leads g c in l.leads h e (runs l.status l.fits)
+
+pub returns-clause-sound : goal.returns-clause-sound
+returns-clause-sound g c = let l = returns-clause-leads g c in (l.status, l.fits)
