@@ -1,0 +1,11 @@
+pub mod Trees
+pub mod Exits
+pub mod WordKinds
+pub mod Steps
+pub mod Unique
+pub mod Spelled
+pub mod Joined
+pub mod Pieces
+pub mod Gaps
+pub mod Exists
+pub mod Balanced

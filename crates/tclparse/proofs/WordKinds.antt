@@ -1,0 +1,40 @@
+-- The kinds of a word, as the code takes them.
+use Rattle.std.proofs.Common.{◌≡◌, ℕ, List, Bool, true, false, Some, None, Ok, Err, Vec, refl, ap, subst, ◌∙◌}
+use Rattle.std.specs.declared.rc.Rc.{Rc}
+use Rattle.tclparse.specs.Tree.{Parts, no_parts, Words, word, bytes_then}
+use Rattle.tclparse.specs.Context.{ends_word}
+use Rattle.tclparse.specs.Braces.{matched, folded, plain}
+use Rattle.tclparse.specs.Grammar.{Outcome, in_quotes, in_braces, bare, kind, expands, unprefixed, quotes_closed, IsBraced, IsParts, IsWord}
+use Rattle.tclparse.specs.Reads.{IsBody, IsOneWord}
+use Rattle.tclparse.specs.View.{word_view, parts_then}
+use Rattle.tclparse.specs.declared.context.Context.{Context}
+use Rattle.tclparse.specs.declared.piece.Place.TheVariants.{Bare, Quotes}
+use Rattle.tclparse.specs.declared.tree.Fault.TheVariants.{OpenBrace, AfterBrace}
+use Rattle.tclparse.specs.declared.tree.Part.{Part}
+use Rattle.tclparse.specs.declared.tree.Part.TheViews.{roll-Word}
+use Rattle.tclparse.proofs.Trees.{view_of_word}
+
+pub open_brace : (n : Context) (x : List ℕ) → None ≡ matched 0 false x → (ps : Parts) × IsBraced n ps (matched 0 false x) (Err OpenBrace)
+open_brace n x e = (no_parts, subst (λ r. IsBraced n no_parts r (Err OpenBrace)) e (refl, refl))
+
+pub after_brace : (n : Context) (x bs z : List ℕ) → Some (bs, z) ≡ matched 0 false x → ends_word n z ≡ false → (ps : Parts) × IsBraced n ps (matched 0 false x) (Err AfterBrace)
+after_brace n x bs z e h = (bytes_then (folded plain bs) no_parts, subst (λ r. IsBraced n (bytes_then (folded plain bs) no_parts) r (Err AfterBrace)) e (refl, rw h refl))
+
+pub braced_word : (n : Context) (x bs z v : List ℕ) (ps : Parts) → Some (bs, z) ≡ matched 0 false x → ends_word n z ≡ true → v ≡ folded plain bs → ps ≡ bytes_then v no_parts
+    → IsBraced n ps (matched 0 false x) (Ok z)
+braced_word n x bs z v ps e h is made = subst (λ r. IsBraced n ps r (Ok z)) e (made ∙ ap (λ l. bytes_then l no_parts) is, rw h refl)
+
+pub braces_word : (n : Context) (d : ℕ) (x z : List ℕ) (ps : Parts) (o : Outcome) → in_braces z ≡ kind x → IsBraced n ps (matched 0 false z) o → IsBody n d ps x o
+braces_word n d x z ps o e h = subst (λ k. IsWord n ps (λ place y r. IsParts place d ps y r) k x o) e h
+
+pub quoted_word : (n : Context) (d : ℕ) (x z : List ℕ) (ps : Parts) (s o : Outcome) → in_quotes z ≡ kind x → IsParts Quotes d ps z s → o ≡ quotes_closed n s → IsBody n d ps x o
+quoted_word n d x z ps s o e h is = subst (λ k. IsWord n ps (λ place y r. IsParts place d ps y r) k x o) e (s, h, is)
+
+pub bare_word : (n : Context) (d : ℕ) (x : List ℕ) (ps : Parts) (o : Outcome) → bare ≡ kind x → IsParts (Bare n) d ps x o → IsBody n d ps x o
+bare_word n d x ps o e h = subst (λ k. IsWord n ps (λ place y r. IsParts place d ps y r) k x o) e h
+
+pub one_word : {A : Type 0} (n : Context) (d : ℕ) (x y z : List ℕ) (e : Bool) (ps : Rc (Vec (Part A) A) A)
+    → e ≡ expands n x → y ≡ unprefixed n x → IsBody n d (parts_then ps.value.items no_parts) y (Ok z)
+    → (t : Words) → IsOneWord n d (word_view (roll-Word A (record { expands = e; parts = ps })) t) t x (Ok z)
+one_word n d x y z e ps is at h t =
+    (parts_then ps.value.items no_parts, view_of_word e ps t ∙ ap (λ v. word v (parts_then ps.value.items no_parts) t) is, subst (λ v. IsBody n d (parts_then ps.value.items no_parts) v (Ok z)) at h)

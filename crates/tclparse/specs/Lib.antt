@@ -1,0 +1,12 @@
+pub mod Tree
+pub mod View
+pub mod Context
+pub mod Gap
+pub mod Variable
+pub mod Braces
+pub mod Piece
+pub mod Grammar
+pub mod Seen
+pub mod Reads
+pub mod Spelled
+pub mod Balanced

@@ -1,0 +1,75 @@
+//! What stands between words and between commands: white, separators, comments.
+
+ghost use Rattle.std.specs.Prelude.{◌≡◌, ◌≤◌, length, false, true};
+ghost use Rattle.tclparse.specs.Context.{ends_script, ends_command, ends_word};
+ghost use Rattle.tclparse.specs.Gap.{skip_white, skip_gap, between, comment, in_pair};
+
+use crate::context::{Context, begins_with, is_separator, is_white};
+
+/// The text behind the white at its beginning.
+pub(crate) fn skip_white(context: Context, text: &[u8]) -> &[u8]
+    ensures rest { result.now ≡ skip_white context false text.now }
+    ensures begins { ends_word context result.now ≡ ends_command context result.now }
+    ensures shorter { length result.now ≤ length text.now }
+{
+    let mut bytes = text;
+    loop {
+        match bytes {
+            [c, rest @ ..] => {
+                if is_white(context, *c) {
+                    bytes = rest;
+                } else if *c == b'\\' && begins_with(b'\n', rest) {
+                    bytes = &rest[1..];
+                } else {
+                    return bytes;
+                }
+            }
+            [] => return bytes,
+        }
+    }
+}
+
+// The text from the end of a comment on.
+fn skip_comment(context: Context, text: &[u8]) -> &[u8]
+    ensures rest { skip_gap context between result.now ≡ skip_gap context comment text.now }
+    ensures shorter { length result.now ≤ length text.now }
+{
+    let mut bytes = text;
+    let mut hidden = false;
+    while let [c, rest @ ..] = bytes {
+        bytes = rest;
+        if hidden {
+            hidden = false;
+        } else if *c == b'\n' {
+            return rest;
+        } else {
+            hidden = *c == b'\\';
+        }
+    }
+    bytes
+}
+
+/// The text from the first word of the next command on, or from the end of the script.
+pub(crate) fn skip_gap(context: Context, text: &[u8]) -> &[u8]
+    ensures rest { result.now ≡ skip_gap context between text.now }
+    ensures begins { ends_word context result.now ≡ ends_script context result.now }
+    ensures shorter { length result.now ≤ length text.now }
+{
+    let mut bytes = text;
+    loop {
+        match bytes {
+            [c, rest @ ..] => {
+                if is_white(context, *c) || is_separator(context, *c) {
+                    bytes = rest;
+                } else if *c == b'#' {
+                    bytes = skip_comment(context, rest);
+                } else if *c == b'\\' && begins_with(b'\n', rest) {
+                    bytes = rest;
+                } else {
+                    return bytes;
+                }
+            }
+            [] => return bytes,
+        }
+    }
+}

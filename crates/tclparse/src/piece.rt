@@ -1,0 +1,101 @@
+//! What stands next in a word.
+
+ghost use Rattle.std.specs.Prelude.{◌≡◌, ◌+◌, length, false};
+ghost use Rattle.tclparse.specs.Piece.{ends_parts, next, next_escape, next_bracket, next_dollar};
+ghost use Rattle.tclparse.specs.Seen.{seen, IsShorter, OpensWithin, IsNotEnd};
+
+use crate::context::{Context, ends_word};
+use crate::tree::Fault;
+use crate::variable::dollar;
+use tcltext::escape;
+
+/// Where the parts of a word stand, which says where they end.
+#[derive(Clone, Copy)]
+pub enum Place {
+    /// In a bare word.
+    Bare(Context),
+    /// Between quotes.
+    Quotes,
+    /// In the parentheses of a variable's index.
+    Index,
+}
+
+/// What stands next in a word, each with the text behind it.
+pub enum Piece<'a> {
+    /// The place ends here.
+    End,
+    /// The word can't go on.
+    Fault(Fault),
+    /// One byte of the value.
+    Byte(u8, &'a [u8]),
+    /// A variable by its name.
+    Name(&'a [u8], &'a [u8]),
+    /// An element of the array of that name; its index, up to `)`, stands behind.
+    Index(&'a [u8], &'a [u8]),
+    /// An element of the array of that name, at an index that is written out.
+    Element(&'a [u8], &'a [u8], &'a [u8]),
+    /// A script, which stands behind, up to `]`.
+    Bracket(&'a [u8]),
+}
+
+fn ends_parts(place: Place, text: &[u8]) -> bool
+    ensures { result ≡ ends_parts place text.now }
+{
+    match place {
+        Place::Bare(context) => ends_word(context, text),
+        Place::Quotes => match text {
+            [] => true,
+            [c, ..] => *c == b'"',
+        },
+        Place::Index => match text {
+            [] => true,
+            [c, ..] => *c == b')',
+        },
+    }
+}
+
+// What stands behind a backslash.
+fn escaped(text: &[u8]) -> Piece<'_>
+    ensures piece { seen result ≡ next_escape text.now }
+    ensures shorter { IsShorter result (length text.now + 1) }
+    ensures within { OpensWithin result 0 }
+    ensures moves { IsNotEnd result }
+{
+    match escape::read(text) {
+        Ok((byte, rest)) => Piece::Byte(byte, rest),
+        Err(_) => Piece::Fault(Fault::EscapeNotHere),
+    }
+}
+
+// What stands at a bracket, with so many more that may be open.
+fn bracket(depth: u32, text: &[u8]) -> Piece<'_>
+    ensures piece { seen result ≡ next_bracket depth text.now }
+    ensures shorter { IsShorter result (length text.now + 1) }
+    ensures within { OpensWithin result depth }
+    ensures moves { IsNotEnd result }
+{
+    if depth == 0 {
+        Piece::Fault(Fault::TooDeep)
+    } else {
+        Piece::Bracket(text)
+    }
+}
+
+/// The next piece of a word, where so many brackets and indexes more may be open.
+pub(crate) fn next(place: Place, depth: u32, text: &[u8]) -> Piece<'_>
+    ensures piece { seen result ≡ next place depth text.now }
+    ensures shorter { IsShorter result (length text.now) }
+    ensures within { OpensWithin result depth }
+    ensures moves { ends_parts place text.now ≡ false → IsNotEnd result }
+{
+    if ends_parts(place, text) {
+        return Piece::End;
+    }
+    match text {
+        [] => Piece::End,
+        [b'\\', rest @ ..] => escaped(rest),
+        [b'$', rest @ ..] => dollar(depth, rest),
+        [b'[', rest @ ..] => bracket(depth, rest),
+        [c, rest @ ..] => Piece::Byte(*c, rest),
+    }
+}

@@ -1,0 +1,294 @@
+//! One pass over the text, from left to right.
+
+ghost use Rattle.std.specs.Prelude.{◌≡◌, ℕ, ◌<◌, ◌≤◌, length, [], false, true, IfOk, OnOk, Ok, Err};
+ghost use Rattle.tclparse.specs.Tree.{Parts, no_parts, Words, Commands, no_commands, bytes_then};
+ghost use Rattle.tclparse.specs.View.{parts_then, words_then, commands_then};
+ghost use Rattle.tclparse.specs.Context.{ends_script, ends_command, ends_word};
+ghost use Rattle.tclparse.specs.Piece.{ends_parts};
+ghost use Rattle.tclparse.specs.Reads.{ReadsParts, ReadsIndex, ReadsBracket, ReadsBraced, ReadsBody, ReadsWord, ReadsWords, ReadsTo};
+
+use crate::braces::{fold_lines, split_braces};
+use crate::context::{Context, ends_command, ends_script, ends_word};
+use crate::gap::{skip_gap, skip_white};
+use crate::piece::{Piece, Place, next};
+use crate::tree::{Command, Fault, Part, Word};
+use crate::word::{Opening, close_bracket, close_index, close_quotes, open_word, split_prefix};
+use std::alloc::{AllocError, AllocFailed, Allocator};
+use std::rc::Rc;
+
+/// How many brackets and variable indexes may be open at one place.
+pub const MAX_OPEN: u32 = 100;
+
+/// Why no part of the tree was made.
+#[derive(Clone, Copy, Debug, Drop)]
+pub(crate) enum ReadError {
+    Memory,
+    Fault(Fault),
+}
+
+impl From<AllocError> for ReadError {
+    ghost use Rattle.tclparse.specs.declared.read.ReadError.TheVariants.{Memory};
+
+    ghost from_gives = { λ _ e. e ≡ Memory };
+
+    fn from(_: AllocError) -> Self {
+        ReadError::Memory
+    }
+}
+
+impl<T: Drop> From<AllocFailed<T>> for ReadError {
+    ghost use Rattle.tclparse.specs.declared.read.ReadError.TheVariants.{Memory};
+
+    ghost from_gives = { λ _ e. e ≡ Memory };
+
+    fn from(_: AllocFailed<T>) -> Self {
+        ReadError::Memory
+    }
+}
+
+impl From<Fault> for ReadError {
+    ghost use Rattle.tclparse.specs.declared.read.ReadError.TheVariants.{Fault};
+
+    ghost from_gives = { λ f e. e ≡ Fault f };
+
+    fn from(fault: Fault) -> Self {
+        ReadError::Fault(fault)
+    }
+}
+
+/// A list of the tree, kept alive by whoever stands in it.
+type Shared<T, A> = Rc<Vec<T, A>, A>;
+
+// Makes a part of the bytes so far, if there are any.
+#[tactic(auto, using(crate::proofs::Trees::parts_push, crate::proofs::Trees::view_Literal))]
+fn end_literal<A: Allocator + Copy>(
+    alloc: A,
+    parts: &mut Vec<Part<A>, A>,
+    literal: &mut Vec<u8, A>,
+) -> Result<(), AllocError>
+    ensures empty { OnOk result (literal.new.items ≡ []) }
+    ensures parts { OnOk result ((t : Parts) → parts_then parts.new.items t ≡ parts_then parts.old.items (bytes_then literal.old.items t)) }
+{
+    if !literal.is_empty() {
+        let bytes = std::mem::replace(literal, Vec::new(alloc));
+        parts.push(Part::Literal(bytes))?;
+    }
+    Ok(())
+}
+
+// The parts that stand for these bytes alone.
+fn literal_parts<A: Allocator + Copy>(
+    alloc: A,
+    bytes: Vec<u8, A>,
+) -> Result<Shared<Part<A>, A>, AllocError>
+    ensures { IfOk result (λ ps. (t : Parts) → parts_then ps.value.items t ≡ bytes_then bytes.items t) }
+{
+    let mut parts = Vec::new(alloc);
+    let mut literal = bytes;
+    end_literal(alloc, &mut parts, &mut literal)?;
+    Ok(Rc::new(alloc, parts)?)
+}
+
+// Behind an open brace, a word up to its end.
+fn read_braces<A: Allocator + Copy>(
+    alloc: A,
+    context: Context,
+    text: &[u8],
+) -> Result<(Shared<Part<A>, A>, &[u8]), ReadError>
+    ensures tree { ReadsBraced context text.now result }
+    ensures shorter { IfOk result (λ r. length r.1.now ≤ length text.now) }
+{
+    let Some((content, rest)) = split_braces(text) else {
+        return Err(ReadError::Fault(Fault::OpenBrace));
+    };
+    if !ends_word(context, rest) {
+        return Err(ReadError::Fault(Fault::AfterBrace));
+    }
+    let bytes = fold_lines(alloc, content)?;
+    let parts = literal_parts(alloc, bytes)?;
+    Ok((parts, rest))
+}
+
+// The parts of a word up to the end of their place.
+#[cycle(read)]
+fn read_parts<A: Allocator + Copy>(
+    alloc: A,
+    place: Place,
+    depth: u32,
+    text: &[u8],
+) -> Result<(Shared<Part<A>, A>, &[u8]), ReadError>
+    ensures tree { ReadsParts place depth text.now result }
+    ensures shorter { IfOk result (λ r. length r.1.now ≤ length text.now) }
+    ensures moves { ends_parts place text.now ≡ false → IfOk result (λ r. length r.1.now < length text.now) }
+{
+    let mut parts = Vec::new(alloc);
+    let mut literal = Vec::new(alloc);
+    let mut bytes = text;
+    loop {
+        match next(place, depth, bytes) {
+            Piece::End => {
+                end_literal(alloc, &mut parts, &mut literal)?;
+                let parts = Rc::new(alloc, parts)?;
+                return Ok((parts, bytes));
+            }
+            Piece::Fault(fault) => return Err(ReadError::Fault(fault)),
+            Piece::Byte(c, rest) => {
+                literal.push(c)?;
+                bytes = rest;
+            }
+            Piece::Name(name, rest) => {
+                end_literal(alloc, &mut parts, &mut literal)?;
+                parts.push(Part::Variable(name.to_vec(alloc)?))?;
+                bytes = rest;
+            }
+            Piece::Index(name, inner) => {
+                end_literal(alloc, &mut parts, &mut literal)?;
+                let name = name.to_vec(alloc)?;
+                let (index, rest) = read_index(alloc, depth - 1, inner)?;
+                parts.push(Part::Element(name, index))?;
+                bytes = rest;
+            }
+            Piece::Element(name, index, rest) => {
+                end_literal(alloc, &mut parts, &mut literal)?;
+                let name = name.to_vec(alloc)?;
+                let index = literal_parts(alloc, index.to_vec(alloc)?)?;
+                parts.push(Part::Element(name, index))?;
+                bytes = rest;
+            }
+            Piece::Bracket(inner) => {
+                end_literal(alloc, &mut parts, &mut literal)?;
+                let (commands, rest) = read_bracket(alloc, depth - 1, inner)?;
+                parts.push(Part::Bracket(commands))?;
+                bytes = rest;
+            }
+        }
+    }
+}
+
+// The parts behind an open parenthesis, and the text behind its end.
+#[cycle(read)]
+fn read_index<A: Allocator + Copy>(
+    alloc: A,
+    depth: u32,
+    text: &[u8],
+) -> Result<(Shared<Part<A>, A>, &[u8]), ReadError>
+    ensures tree { ReadsIndex depth text.now result }
+    ensures shorter { IfOk result (λ r. length r.1.now ≤ length text.now) }
+{
+    let (parts, end) = read_parts(alloc, Place::Index, depth, text)?;
+    let rest = close_index(end)?;
+    Ok((parts, rest))
+}
+
+// The script behind an open bracket, and the text behind its end.
+#[cycle(read)]
+fn read_bracket<A: Allocator + Copy>(
+    alloc: A,
+    depth: u32,
+    text: &[u8],
+) -> Result<(Shared<Command<A>, A>, &[u8]), ReadError>
+    ensures tree { ReadsBracket depth text.now result }
+    ensures shorter { IfOk result (λ r. length r.1.now ≤ length text.now) }
+{
+    let (commands, end) = read_commands(alloc, Context::Brackets, depth, text)?;
+    let rest = close_bracket(end?)?;
+    Ok((commands, rest))
+}
+
+// The parts of a word without its prefix.
+#[cycle(read)]
+fn read_body<A: Allocator + Copy>(
+    alloc: A,
+    context: Context,
+    depth: u32,
+    text: &[u8],
+) -> Result<(Shared<Part<A>, A>, &[u8]), ReadError>
+    requires { ends_word context text.now ≡ false }
+    ensures tree { ReadsBody context depth text.now result }
+    ensures shorter { IfOk result (λ r. length r.1.now < length text.now) }
+{
+    match open_word(text) {
+        Opening::Braces(inner) => read_braces(alloc, context, inner),
+        Opening::Quotes(inner) => {
+            let (parts, end) = read_parts(alloc, Place::Quotes, depth, inner)?;
+            let rest = close_quotes(context, end)?;
+            Ok((parts, rest))
+        }
+        Opening::Bare => read_parts(alloc, Place::Bare(context), depth, text),
+    }
+}
+
+#[cycle(read)]
+fn read_word<A: Allocator + Copy>(
+    alloc: A,
+    context: Context,
+    depth: u32,
+    text: &[u8],
+) -> Result<(Word<A>, &[u8]), ReadError>
+    requires { ends_word context text.now ≡ false }
+    ensures tree { ReadsWord context depth text.now result }
+    ensures shorter { IfOk result (λ r. length r.1.now < length text.now) }
+{
+    let (expands, body) = split_prefix(context, text);
+    let (parts, rest) = read_body(alloc, context, depth, body)?;
+    Ok((Word { expands, parts }, rest))
+}
+
+/// The words of one command up to its end.
+#[cycle(read)]
+pub(crate) fn read_words<A: Allocator + Copy>(
+    alloc: A,
+    context: Context,
+    depth: u32,
+    text: &[u8],
+) -> Result<(Shared<Word<A>, A>, &[u8]), ReadError>
+    requires begins { ends_word context text.now ≡ ends_command context text.now }
+    ensures tree { ReadsWords context depth text.now result }
+    ensures shorter { IfOk result (λ r. length r.1.now ≤ length text.now) }
+    ensures moves { ends_command context text.now ≡ false → IfOk result (λ r. length r.1.now < length text.now) }
+    ensures ends { IfOk result (λ r. ends_command context r.1.now ≡ true) }
+{
+    let mut words = Vec::new(alloc);
+    let mut bytes = text;
+    while !ends_command(context, bytes) {
+        let (word, rest) = read_word(alloc, context, depth, bytes)?;
+        words.push(word)?;
+        bytes = skip_white(context, rest);
+    }
+    let words = Rc::new(alloc, words)?;
+    Ok((words, bytes))
+}
+
+/// The commands of a script up to its end or first fault.
+#[cycle(read)]
+pub(crate) fn read_commands<A: Allocator + Copy>(
+    alloc: A,
+    context: Context,
+    depth: u32,
+    text: &[u8],
+) -> Result<(Shared<Command<A>, A>, Result<&[u8], Fault>), AllocError>
+    ensures tree { IfOk result (λ r. ReadsTo context depth (commands_then r.0.value.items no_commands) text.now r.1) }
+    ensures shorter { IfOk result (λ r. IfOk r.1 (λ z. length z.now ≤ length text.now)) }
+    ensures ends { IfOk result (λ r. IfOk r.1 (λ z. ends_script context z.now ≡ true)) }
+{
+    let mut commands = Vec::new(alloc);
+    let mut bytes = text;
+    loop {
+        let start = skip_gap(context, bytes);
+        if ends_script(context, start) {
+            let commands = Rc::new(alloc, commands)?;
+            return Ok((commands, Ok(start)));
+        }
+        match read_words(alloc, context, depth, start) {
+            Ok((words, rest)) => {
+                commands.push(Command { words })?;
+                bytes = rest;
+            }
+            Err(ReadError::Fault(fault)) => {
+                let commands = Rc::new(alloc, commands)?;
+                return Ok((commands, Err(fault)));
+            }
+            Err(ReadError::Memory) => return Err(AllocError),
+        }
+    }
+}

@@ -1,0 +1,86 @@
+//! How a word begins and how it ends.
+
+ghost use Rattle.std.specs.Prelude.{◌≡◌, ◌≤◌, ◌<◌, length, false, Ok, IfOk};
+ghost use Rattle.tclparse.specs.Context.{ends_word};
+ghost use Rattle.tclparse.specs.Grammar.{kind, expands, unprefixed, bracket_closed, index_closed, quotes_closed};
+ghost use Rattle.tclparse.specs.Seen.{opening, OpensShorter, outcome};
+
+use crate::context::{Context, ends_word};
+use crate::tree::Fault;
+
+/// What a word's first byte opens, and the text behind it.
+pub(crate) enum Opening<'a> {
+    Braces(&'a [u8]),
+    Quotes(&'a [u8]),
+    Bare,
+}
+
+/// How a word begins.
+pub(crate) fn open_word(text: &[u8]) -> Opening<'_>
+    ensures kind { opening result ≡ kind text.now }
+    ensures shorter { OpensShorter result (length text.now) }
+{
+    match text {
+        [b'{', rest @ ..] => Opening::Braces(rest),
+        [b'"', rest @ ..] => Opening::Quotes(rest),
+        _ => Opening::Bare,
+    }
+}
+
+/// Whether `{*}` stands before the word that begins here, and the text of the word without it.
+pub(crate) fn split_prefix(context: Context, text: &[u8]) -> (bool, &[u8])
+    ensures expands { result.0 ≡ expands context text.now }
+    ensures rest { result.1.now ≡ unprefixed context text.now }
+    ensures begins { ends_word context text.now ≡ false → ends_word context result.1.now ≡ false }
+    ensures shorter { length result.1.now ≤ length text.now }
+{
+    match text {
+        [b'{', b'*', b'}', rest @ ..] => {
+            if ends_word(context, rest) {
+                (false, text)
+            } else {
+                (true, rest)
+            }
+        }
+        _ => (false, text),
+    }
+}
+
+/// Where a word is read up to its closing quote: the text behind it.
+pub(crate) fn close_quotes(context: Context, text: &[u8]) -> Result<&[u8], Fault>
+    ensures rest { outcome result ≡ quotes_closed context (Ok text.now) }
+    ensures shorter { IfOk result (λ z. length z.now ≤ length text.now) }
+{
+    match text {
+        [] => Err(Fault::OpenQuote),
+        [_, rest @ ..] => {
+            if ends_word(context, rest) {
+                Ok(rest)
+            } else {
+                Err(Fault::AfterQuote)
+            }
+        }
+    }
+}
+
+/// Where a script is read up to its closing bracket: the text behind it.
+pub(crate) fn close_bracket(text: &[u8]) -> Result<&[u8], Fault>
+    ensures rest { outcome result ≡ bracket_closed (Ok text.now) }
+    ensures shorter { IfOk result (λ z. length z.now ≤ length text.now) }
+{
+    match text {
+        [] => Err(Fault::OpenBracket),
+        [_, rest @ ..] => Ok(rest),
+    }
+}
+
+/// Where an index is read up to its closing parenthesis: the text behind it.
+pub(crate) fn close_index(text: &[u8]) -> Result<&[u8], Fault>
+    ensures rest { outcome result ≡ index_closed (Ok text.now) }
+    ensures shorter { IfOk result (λ z. length z.now ≤ length text.now) }
+{
+    match text {
+        [] => Err(Fault::BadVariable),
+        [_, rest @ ..] => Ok(rest),
+    }
+}
