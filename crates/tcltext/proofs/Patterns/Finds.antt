@@ -1,14 +1,14 @@
 -- What the places of the runs say of where the whole pattern sits.
-use Rattle.std.proofs.Common.{◌≡◌, ℕ, ◌+◌, ◌-◌, ◌<◌, ◌≤◌, Bool, true, false, List, [], ◌∷◌, ◌++◌, length, take, drop, refl, sym, ◌∙◌, ap, subst, arith, IsTrue, Option, Some, None, MatchOption, is_some}
+use Rattle.std.proofs.Common.{◌≡◌, ℕ, ◌+◌, ◌-◌, ◌≤◌, Bool, true, List, [], ◌∷◌, ◌++◌, length, drop, refl, sym, ◌∙◌, ap, subst, arith, IsTrue, Option, Some, None, MatchOption, is_some}
 use Rattle.std.proofs.lemmas.List.{append-nil, length-drop, take_all}
 use Rattle.std.specs.Prelude.{slice_range}
 use Rattle.std.proofs.lemmas.Bool.{false≢true}
-use Rattle.tcltext.specs.Pattern.Item.{Item, any_run, Reading}
+use Rattle.tcltext.specs.Pattern.Item.{Item, any_run}
 use Rattle.tcltext.specs.Pattern.Match.{Whole, Sits, SitsNowhere, IsFound}
-use Rattle.tcltext.specs.Pattern.Runs.{Fits, IsFixed, Leaves, IsPlace, IsFirstPlace, IsLastPlace, FitsNowhere, IsEnd, IsFurthest, EndsNowhere}
+use Rattle.tcltext.specs.Pattern.Runs.{IsFixed, Leaves, IsPlace, FitsNowhere, IsFurthest, EndsNowhere}
 use Rattle.tcltext.specs.declared.pattern.search.Found.{Found}
 use Rattle.tcltext.proofs.Patterns.Spans.{Fits-length, Leaves-behind_run, Leaves-join_run, Leaves-from_range, Leaves-range, drop_once}
-use Rattle.tcltext.proofs.Patterns.Stars.{drop_behind, Leaves-star_run, Leaves-earlier, first_serves, first_joins, last_place_of, last_joins}
+use Rattle.tcltext.proofs.Patterns.Stars.{drop_behind, Leaves-star_run, Leaves-earlier, last_place_of, last_joins}
 
 -- the last run of a pattern has no place: the pattern has no end
 pub none_furthest : (all run : List Item) (w : List ℕ) (place from n : ℕ) (tied : Bool) → IsFixed run → n ≡ length run → from ≤ length w →

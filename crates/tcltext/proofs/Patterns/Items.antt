@@ -1,7 +1,7 @@
 -- The items of tokens that are split at a `*`, and the steps that the parts cost.
 use Rattle.std.proofs.Common.{◌≡◌, ℕ, ◌+◌, ◌-◌, ◌*◌, ◌≤◌, Bool, true, false, cond, List, ◌∷◌, ◌++◌, length, map, take, ap, sym, ◌∙◌, arith}
 use Rattle.std.proofs.lemmas.List.{length-append, length-map, map-append, take-map}
-use Rattle.tcltext.specs.Pattern.Item.{Item, any_run}
+use Rattle.tcltext.specs.Pattern.Item.{any_run}
 use Rattle.tcltext.specs.Pattern.Glob.{Sign, item_of, ends_in_dollar, before_dollar}
 use Rattle.tcltext.specs.Pattern.Runs.{items_of, item_of_token}
 use Rattle.tcltext.specs.declared.pattern.token.Token.{Token}

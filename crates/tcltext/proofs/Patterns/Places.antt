@@ -1,6 +1,6 @@
 -- Where a run of tokens fits, and what a search over places costs.
-use Rattle.std.proofs.Common.{◌≡◌, ℕ, ◌+◌, ◌-◌, ◌*◌, ◌<◌, ◌≤◌, Bool, true, false, List, [], ◌∷◌, ◌++◌, length, take, drop, map, refl, sym, ◌∙◌, ap, subst, ⊎_elim, arith, IsTrue, Option, Some, None, slice_index, slice_get, get_or}
-use Rattle.std.proofs.lemmas.List.{length-drop, length-map, length-take-le, drop_more, take_more, take_rest, get_or-take, get_or-drop}
+use Rattle.std.proofs.Common.{◌≡◌, ℕ, ◌+◌, ◌-◌, ◌*◌, ◌<◌, ◌≤◌, false, List, [], ◌∷◌, ◌++◌, length, take, drop, refl, sym, ◌∙◌, ap, subst, ⊎_elim, arith, IsTrue, Some, None, slice_index, slice_get, get_or}
+use Rattle.std.proofs.lemmas.List.{length-drop, length-take-le, drop_more, take_more, take_rest, get_or-take, get_or-drop}
 use Rattle.std.proofs.lemmas.Bool.{cases_lt, false≢true}
 use Rattle.std.proofs.Math.Nat.{mul-le-mul_left}
 use Rattle.tcltext.specs.Pattern.Item.{Item}

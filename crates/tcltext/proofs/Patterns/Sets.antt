@@ -1,8 +1,8 @@
 -- The bytes of a set, and those that a table marks.
-use Rattle.std.proofs.Common.{◌≡◌, ℕ, zero, suc, ◌+◌, ◌<◌, ◌≤◌, Bool, true, false, cond, List, [], ◌∷◌, length, refl, sym, ◌∙◌, ap, subst, ⊎_elim, inl, inr, ◌⊎◌, arith, Contains, IsTrue, filter, slice_index_or}
+use Rattle.std.proofs.Common.{◌≡◌, ℕ, zero, suc, ◌+◌, ◌<◌, Bool, true, false, cond, List, [], ◌∷◌, refl, sym, ◌∙◌, ap, ⊎_elim, inl, inr, ◌⊎◌, arith, Contains, IsTrue, filter, slice_index_or}
 use Rattle.std.specs.List.{range_with_len}
 use Rattle.std.proofs.lemmas.List.FromFn.{length-range_with_len, get_or-range_with_len}
-use Rattle.tcltext.specs.Pattern.Glob.{all_bytes, ranges, is_in_ranges, set_bytes}
+use Rattle.tcltext.specs.Pattern.Glob.{all_bytes}
 use Rattle.tcltext.specs.Pattern.Runs.{marked}
 
 Contains-cons : (x y : ℕ) (ys : List ℕ) → Contains (y ∷ ys) x → (y ≡ x) ⊎ Contains ys x

@@ -1,11 +1,10 @@
 -- What a list of items leaves of a text, and where a run in it sits.
-use Rattle.std.proofs.Common.{◌≡◌, ℕ, zero, suc, ◌+◌, ◌-◌, ◌<◌, ◌≤◌, List, [], ◌∷◌, ◌++◌, length, take, drop, refl, sym, ◌∙◌, ap, subst, ⊎_elim, arith, Contains, IsTrue}
-use Rattle.std.proofs.lemmas.List.{append-nil, append_assoc, length-append, length-drop, length-take-le, take-append-drop, drop-drop, drop_at, take_at}
-use Rattle.std.proofs.lemmas.Bool.{cases_lt}
+use Rattle.std.proofs.Common.{◌≡◌, ℕ, ◌+◌, ◌-◌, ◌≤◌, List, [], ◌∷◌, ◌++◌, length, take, drop, refl, sym, ◌∙◌, ap, subst, arith}
+use Rattle.std.proofs.lemmas.List.{append_assoc, length-append, length-drop, take-append-drop, drop-drop, drop_at, take_at}
 use Rattle.std.specs.Prelude.{slice_range}
-use Rattle.tcltext.specs.Pattern.Item.{Item, literal, any_byte, one_of, any_run, Reading}
-use Rattle.tcltext.specs.Pattern.Match.{IsPiece, Whole, Sits}
-use Rattle.tcltext.specs.Pattern.Runs.{Takes, Fits, IsFixed, Leaves, IsPlace, IsFirstPlace, IsLastPlace}
+use Rattle.tcltext.specs.Pattern.Item.{Item, literal, any_byte, one_of, any_run}
+use Rattle.tcltext.specs.Pattern.Match.{Whole}
+use Rattle.tcltext.specs.Pattern.Runs.{Fits, IsFixed, Leaves}
 
 -- a run takes as many bytes as it has items
 pub Fits-length : (run : List Item) (t : List ℕ) → Fits run t → length run ≤ length t

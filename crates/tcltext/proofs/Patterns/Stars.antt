@@ -1,9 +1,9 @@
 -- Runs behind a `*`: the first place of a run serves each later one, and the last run ends last at its last place.
-use Rattle.std.proofs.Common.{◌≡◌, ℕ, ◌+◌, ◌-◌, ◌<◌, ◌≤◌, List, [], ◌∷◌, ◌++◌, length, drop, Bool, refl, sym, ◌∙◌, ap, subst, ⊎_elim, arith, IsTrue}
+use Rattle.std.proofs.Common.{◌≡◌, ℕ, ◌+◌, ◌-◌, ◌<◌, ◌≤◌, List, [], ◌∷◌, ◌++◌, length, drop, refl, sym, ◌∙◌, ap, subst, ⊎_elim, arith}
 use Rattle.std.proofs.lemmas.List.{append-nil, length-drop, drop-drop}
 use Rattle.std.proofs.lemmas.Bool.{cases_lt}
 use Rattle.tcltext.specs.Pattern.Item.{Item, any_run}
-use Rattle.tcltext.specs.Pattern.Runs.{Fits, IsFixed, Leaves, IsPlace, IsFirstPlace, IsLastPlace, FitsNowhere, IsEnd, IsFurthest, EndsNowhere}
+use Rattle.tcltext.specs.Pattern.Runs.{IsFixed, Leaves, IsPlace, IsFirstPlace}
 use Rattle.tcltext.proofs.Patterns.Spans.{Fits-length, Leaves-behind_run, Leaves-join_run, drop_once}
 
 -- a place in the window behind a place

@@ -1,5 +1,5 @@
 -- How the text of a pattern is read.
-use Rattle.std.specs.Prelude.{ℕ, ◌-◌, ◌==◌, ◌&&◌, nat_le, min, max, Bool, true, false, List, [], ◌∷◌, ◌++◌, length, map, take, filter, if◌then◌else◌}
+use Rattle.std.specs.Prelude.{ℕ, ◌-◌, ◌==◌, ◌&&◌, nat_le, min, max, Bool, false, List, [], ◌∷◌, ◌++◌, length, map, take, filter, if◌then◌else◌}
 use Rattle.std.specs.List.{list_any, range_with_len}
 use Rattle.tcltext.specs.Pattern.Item.{Item, literal, any_byte, one_of, any_run, Reading}
 

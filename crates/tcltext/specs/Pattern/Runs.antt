@@ -1,5 +1,5 @@
 -- The words of the private functions: runs of items without `*`, and where they sit.
-use Rattle.std.specs.Prelude.{◌≡◌, ℕ, ◌+◌, ◌<◌, ◌≤◌, Bool, List, [], ◌∷◌, ◌++◌, length, map, drop, filter, Contains, Option, None, Some, MatchOption, slice_index_or, false, IsTrue}
+use Rattle.std.specs.Prelude.{◌≡◌, ℕ, ◌+◌, ◌<◌, ◌≤◌, Bool, List, [], ◌∷◌, length, map, drop, filter, Contains, slice_index_or, false, IsTrue}
 use Rattle.tcltext.specs.Pattern.Item.{Item, literal, any_byte, one_of, any_run}
 use Rattle.tcltext.specs.Pattern.Glob.{all_bytes}
 use Rattle.tcltext.specs.declared.pattern.token.Token.{Token}

@@ -1,5 +1,4 @@
 -- What a sign of the code stands for.
-use Rattle.std.specs.Prelude.{List}
 use Rattle.tcltext.specs.Pattern.Glob.{Sign as GlobSign, bare, quoted, a_set}
 use Rattle.tcltext.specs.declared.pattern.read.Sign.{Sign}
 use Rattle.tcltext.specs.declared.pattern.read.Sign.TheVariants.{Bare, Quoted, Set}

@@ -1,4 +1,3 @@
-use Rattle.std.proofs.Common.{◌≡◌, ap, sym}
 use Rattle.tcltext.specs.Pattern.Runs.{items_of}
 use Rattle.tcltext.proofs.Patterns.Finds.{whole_iff_found}
 use Rattle.tcltext.proofs.pattern.Pattern.whole.Goals as goal

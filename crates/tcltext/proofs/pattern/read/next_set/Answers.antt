@@ -1,4 +1,4 @@
-use Rattle.std.proofs.Common.{◌≡◌, ◌∷◌, ◌∙◌, ◌+◌, [], ap, sym, arith, length, take, drop, add-one, ℕ, List}
+use Rattle.std.proofs.Common.{◌∷◌, ◌∙◌, ◌+◌, [], ap, sym, take, drop, add-one, ℕ, List}
 use Rattle.std.proofs.lemmas.List.{take_rest}
 use Rattle.tcltext.specs.Pattern.Glob.{signs, a_set}
 use Rattle.tcltext.proofs.Patterns.Signs.{signs_in_set-closed, signs_in_set-open}

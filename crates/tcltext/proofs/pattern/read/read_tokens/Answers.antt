@@ -1,4 +1,4 @@
-use Rattle.std.proofs.Common.{◌≡◌, ◌∙◌, ap, sym}
+use Rattle.std.proofs.Common.{◌∙◌, ap, sym}
 use Rattle.tcltext.specs.Pattern.Glob.{signs}
 use Rattle.tcltext.proofs.Patterns.Signs.{dollar_after, dollar_after-false}
 use Rattle.tcltext.proofs.pattern.read.read_tokens.Goals as goal

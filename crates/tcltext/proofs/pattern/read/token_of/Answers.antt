@@ -1,4 +1,4 @@
-use Rattle.std.proofs.Common.{◌≡◌, ℕ, List, Bool, false, ap, ◌∙◌, sym, slice_index_or}
+use Rattle.std.proofs.Common.{ℕ, List, Bool, false, ap, ◌∙◌, slice_index_or}
 use Rattle.tcltext.specs.Pattern.Item.{one_of}
 use Rattle.tcltext.specs.Pattern.Glob.{ranges, is_in_ranges}
 use Rattle.tcltext.specs.Pattern.Runs.{marked}

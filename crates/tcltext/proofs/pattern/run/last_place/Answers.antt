@@ -1,7 +1,7 @@
-use Rattle.std.proofs.Common.{◌≡◌, ℕ, ◌+◌, ◌-◌, ◌*◌, ◌<◌, ◌≤◌, length, refl, sym, ◌∙◌, arith, ⊎_elim}
+use Rattle.std.proofs.Common.{◌≡◌, ℕ, ◌+◌, ◌-◌, ◌*◌, ◌<◌, ◌≤◌, length, refl, sym, arith, ⊎_elim}
 use Rattle.std.proofs.lemmas.List.{length-map}
 use Rattle.std.proofs.lemmas.Bool.{cases_lt}
-use Rattle.tcltext.specs.Pattern.Runs.{items_of, item_of_token, IsPlace}
+use Rattle.tcltext.specs.Pattern.Runs.{items_of, item_of_token}
 use Rattle.tcltext.proofs.Patterns.Places.{place_here, no_place_here, none_after, not_empty, part_length, steps_of_turn, steps_of_skip, steps_within}
 use Rattle.tcltext.proofs.pattern.run.last_place.Goals as goal
 

@@ -1,4 +1,4 @@
-use Rattle.std.proofs.Common.{ℕ, ◌+◌, ◌-◌, ◌*◌, ◌<◌, ◌≤◌, length}
+use Rattle.std.proofs.Common.{ℕ, ◌+◌, ◌-◌, ◌*◌, ◌≤◌, length}
 use Rattle.tcltext.specs.Pattern.Runs.{items_of, IsPlace}
 use Rattle.tcltext.proofs.pattern.run.last_place.Given as goal
 

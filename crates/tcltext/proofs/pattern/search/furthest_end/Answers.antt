@@ -1,5 +1,5 @@
-use Rattle.std.proofs.Common.{◌≡◌, ℕ, List, ◌+◌, ◌*◌, ◌<◌, ◌≤◌, ◌++◌, ◌∷◌, length, drop, refl, sym, ◌∙◌, ap, subst, arith}
-use Rattle.std.proofs.lemmas.List.{length-map, map-append}
+use Rattle.std.proofs.Common.{◌≡◌, ℕ, List, ◌+◌, ◌*◌, ◌∷◌, length, drop, sym, subst, arith}
+use Rattle.std.proofs.lemmas.List.{length-map}
 use Rattle.tcltext.specs.Pattern.Item.{Item, any_run}
 use Rattle.tcltext.specs.Pattern.Runs.{items_of, item_of_token, Leaves}
 use Rattle.tcltext.proofs.Patterns.Finds.{none_furthest, last_is_furthest, none_inside}

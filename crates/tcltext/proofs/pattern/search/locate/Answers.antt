@@ -1,8 +1,6 @@
-use Rattle.std.proofs.Common.{◌≡◌, ℕ, List, ◌+◌, ◌*◌, ◌≤◌, ◌++◌, ◌∷◌, length, refl, sym, ◌∙◌, ap, arith}
-use Rattle.std.proofs.lemmas.List.{length-map, length-append, map-append}
-use Rattle.tcltext.specs.Pattern.Item.{Item, any_run}
+use Rattle.std.proofs.Common.{◌+◌, length, sym, ap}
+use Rattle.std.proofs.lemmas.List.{length-map}
 use Rattle.tcltext.specs.Pattern.Runs.{items_of, item_of_token}
-use Rattle.tcltext.specs.declared.pattern.token.Token.TheVariants.{AnyRun}
 use Rattle.tcltext.proofs.Patterns.Finds.{only_nowhere, only_found, start_nowhere, end_nowhere, starred_found}
 use Rattle.tcltext.proofs.Patterns.Items.{items_of-starred, steps_of_parts}
 use Rattle.tcltext.proofs.pattern.search.locate.Goals as goal

@@ -1,4 +1,4 @@
-use Rattle.std.proofs.Common.{◌≡◌, ℕ, zero, suc, Bool, false, refl, get_or, replicate}
+use Rattle.std.proofs.Common.{◌≡◌, ℕ, zero, suc, false, refl, get_or, replicate}
 use Rattle.tcltext.proofs.pattern.set.no_bytes.Goals as goal
 
 all_false : (n b : ℕ) → get_or (replicate n false) b false ≡ false

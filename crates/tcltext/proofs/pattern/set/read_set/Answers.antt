@@ -1,4 +1,4 @@
-use Rattle.std.proofs.Common.{◌≡◌, ◌∙◌, ◌||◌, sym, ap, Bool, false, slice_index_or}
+use Rattle.std.proofs.Common.{◌∙◌, ◌||◌, sym, ap, Bool, false, slice_index_or}
 use Rattle.std.proofs.Math.Bool.{or_assoc}
 use Rattle.tcltext.specs.Pattern.Glob.{ranges, is_in_ranges, is_within}
 use Rattle.tcltext.proofs.pattern.set.read_set.Goals as goal

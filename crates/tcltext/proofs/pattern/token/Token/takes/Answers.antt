@@ -1,4 +1,4 @@
-use Rattle.std.proofs.Common.{arith, ◌<◌}
+use Rattle.std.proofs.Common.{◌<◌}
 use Rattle.tcltext.proofs.Patterns.Sets.{marked_holds, holds_marked}
 use Rattle.tcltext.proofs.pattern.token.Token.takes.Goals as goal
 

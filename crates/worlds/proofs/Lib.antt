@@ -1,0 +1,7 @@
+mod Cuts
+mod Digits
+mod Faults
+mod Limits
+mod Lines
+mod Records
+mod Sinks

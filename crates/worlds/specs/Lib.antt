@@ -1,0 +1,7 @@
+pub mod Arguments
+pub mod Cut
+pub mod Fault
+pub mod Record
+pub mod Replay
+pub mod Sink
+pub mod Status

@@ -1,0 +1,23 @@
+-- What a replay answers and writes.
+use Rattle.std.specs.Prelude.{◌≡◌, ℕ, nat_le, if◌then◌else◌, List, [], ◌∷◌, length, take}
+use Rattle.acts.specs.Deed.{Deed, Reply}
+use Rattle.acts.specs.Deed as said
+
+-- the first of the answers is given, and the others are left; where there is none, NoMore is
+abbrev pub Answers : List Reply → Reply → List Reply → Type 0
+Answers [] reply left = (reply ≡ said.NoMore) × (left ≡ [])
+Answers (first ∷ others) reply left = (reply ≡ first) × (left ≡ others)
+
+-- what goes out of a text that is written: all of it where that is done, as many bytes as the answer
+-- says where it failed after a number that the text has, and else nothing
+abbrev pub gone_out : List ℕ → Reply → List ℕ
+gone_out text said.Done = text
+gone_out text (said.Failed sent) = if nat_le sent (length text) then take sent text else []
+gone_out text _ = []
+
+-- Only what goes out of a writing act is written, to its own writer. The relations say what a writer
+-- does at a text.
+abbrev pub Writes : {O E : Type 0} → (O → List ℕ → O → Type 0) → (E → List ℕ → E → Type 0) → O × E → Deed → Reply → O × E → Type 0
+Writes out err before (said.Out text) reply after = out before.0 (gone_out text reply) after.0 × (after.1 ≡ before.1)
+Writes out err before (said.Err text) reply after = (after.0 ≡ before.0) × err before.1 (gone_out text reply) after.1
+Writes out err before _ reply after = (after.0 ≡ before.0) × (after.1 ≡ before.1)

@@ -1,0 +1,214 @@
+//! Records: the texts of answers that a run is replayed from.
+
+ghost use Rattle.std.specs.Prelude.{◌≡◌, ◌+◌, ◌^◌, ◌<◌, ◌⊎◌, ℕ, List, length, map, ◌∷◌, ◌++◌, IfOk, IfErr, MatchResult, MatchOption};
+ghost use Rattle.std.specs.List.{AllByRecursion};
+ghost use Rattle.acts.specs.Deed.{Reply, reply_of};
+ghost use Rattle.worlds.specs.Fault.{IsFault, IsLineFault};
+ghost use Rattle.worlds.specs.Record.{AreLines, BeginsWithLine, HasHeader, HasLine, IsFirstBad, IsLine, IsRecord, newline};
+ghost use Rattle.worlds.specs.declared.record.RecordFault.TheVariants as fault;
+
+use crate::cut::cut_at;
+use crate::line::read_line;
+use acts::{Answer, NoMemory};
+use std::alloc::{AllocFailed, Allocator};
+use thiserror::Error;
+
+/// The first line of a record, with its newline.
+const HEADER: &[u8; 12] = b"rx-record 1\n";
+
+/// Why a text was not read as a record.
+#[derive(Clone, Copy, Debug, PartialEq, Eq, Error)]
+pub enum RecordFault {
+    /// It does not begin with the header line.
+    #[error("no record of version 1")]
+    Header,
+    /// The line of this number, counted from 1 with the header, is the first that is the line of no
+    /// answer, or that lacks its newline.
+    #[error("line {0} is the line of no answer")]
+    Line(u64),
+    /// Memory was refused.
+    #[error("no memory")]
+    NoMemory,
+}
+
+impl From<NoMemory> for RecordFault {
+    ghost from_gives = { λ _ result. result ≡ fault.NoMemory };
+
+    fn from(_error: NoMemory) -> RecordFault {
+        RecordFault::NoMemory
+    }
+}
+
+impl<T: Drop> From<AllocFailed<T>> for RecordFault {
+    ghost from_gives = { λ _ result. result ≡ fault.NoMemory };
+
+    fn from(_error: AllocFailed<T>) -> RecordFault {
+        RecordFault::NoMemory
+    }
+}
+
+/// The answers whose record a text is, in time linear in its length.
+pub fn read_record<A: Allocator + Copy>(
+    alloc: A,
+    text: &[u8],
+) -> Result<Vec<Answer<A>, A>, RecordFault>
+    ensures read { IfOk result (λ answers. IsRecord (map reply_of answers.items) text.now) }
+    ensures fault { IfErr result (λ fault. IsFault text.now fault) }
+    // The other way round, where memory is not refused.
+    ensures record { (replies : List Reply) → IsRecord replies text.now
+        → MatchResult result (λ answers. map reply_of answers.items ≡ replies) (λ fault. fault ≡ RecordFault.NoMemory) }
+    ensures no_header { ¬ HasHeader text.now → result ≡ Err RecordFault.Header }
+    ensures bad_line { (n : ℕ) → IsFirstBad text.now n
+        → MatchResult result (λ _. ⊥) (λ fault. (fault ≡ RecordFault.Line n) ⊎ (fault ≡ RecordFault.NoMemory)) }
+{
+    match text.strip_prefix(HEADER) {
+        Some(lines) => read_lines(alloc, lines),
+        None => Err(RecordFault::Header),
+    }
+}
+
+/// The answers whose lines a text has, after the header.
+fn read_lines<A: Allocator + Copy>(alloc: A, lines: &[u8]) -> Result<Vec<Answer<A>, A>, RecordFault>
+    requires { length lines.now + 12 < 2 ^ 64 }
+    ensures read { IfOk result (λ answers. AreLines (map reply_of answers.items) lines.now) }
+    ensures fault { IfErr result (λ fault. IsLineFault lines.now fault) }
+{
+    let mut answers = Vec::new(alloc);
+    let mut rest = lines;
+    while !rest.is_empty() {
+        let Some((answer, after)) = read_first(alloc, rest)? else {
+            return Err(RecordFault::Line(answers.len() as u64 + 2));
+        };
+        answers.push(answer)?;
+        rest = after;
+    }
+    Ok(answers)
+}
+
+/// The answer whose line a text begins with, and what follows that line.
+fn read_first<A: Allocator>(alloc: A, text: &[u8]) -> Result<Option<(Answer<A>, &[u8])>, NoMemory>
+    ensures { IfOk result (λ found. MatchOption found
+        (¬ BeginsWithLine text.now)
+        (λ first. (line : List ℕ) × IsLine (reply_of first.0) line × (text.now ≡ line ++ newline ∷ first.1.now))) }
+{
+    let Some((line, rest)) = cut_at(text, b'\n') else {
+        return Ok(None);
+    };
+    match read_line(alloc, line)? {
+        Some(answer) => Ok(Some((answer, rest))),
+        None => Ok(None),
+    }
+}
+
+/// A list of answers that have lines has one text, no two lists have the same text, and a text that has
+/// a bad line is of no list and has one first bad line.
+pub fn one_record()
+    ensures some_text { (replies : List Reply) → AllByRecursion HasLine replies → (text : List ℕ) × IsRecord replies text }
+    ensures one_text { (replies : List Reply) (a b : List ℕ) → IsRecord replies a → IsRecord replies b → a ≡ b }
+    ensures one_list { (a b : List Reply) (text : List ℕ) → IsRecord a text → IsRecord b text → a ≡ b }
+    ensures no_bad_line { (replies : List Reply) (text : List ℕ) (n : ℕ) → IsRecord replies text → IsFirstBad text n → ⊥ }
+    ensures one_bad_line { (text : List ℕ) (m n : ℕ) → IsFirstBad text m → IsFirstBad text n → m ≡ n }
+{}
+
+#[cfg(test)]
+mod tests {
+    use super::*;
+    use refusal::Refusing;
+    use std::test::Fail;
+
+    /// Each line that has an answer, an empty arrival and the greatest numbers among them.
+    const RECORD: &str = "rx-record 1\nstarted 100\ndone\narrive exp4 68690a\ntimeout\n\
+        arrive exp18446744073709551615 \nstarted 18446744073709551615\nstarted 0\narrive exp0 00ff\n";
+
+    #[test]
+    fn reads_each_line(rt: HostRuntime) -> Result<(), Fail> {
+        let answers = read_record(rt.alloc(), RECORD.as_bytes())?;
+        let shown = format!(in rt.alloc(); "{answers:?}")?;
+        assert_eq!(rt;
+            shown.as_str(),
+            "[Started(100), Done, Arrive(Id(4), [104, 105, 10]), TimedOut, \
+            Arrive(Id(18446744073709551615), []), Started(18446744073709551615), Started(0), \
+            Arrive(Id(0), [0, 255])]"
+        );
+        Ok(())
+    }
+
+    #[test]
+    fn refuses_other_texts(rt: HostRuntime) {
+        for (text, fault) in [
+            ("rx-record 1\r\n", RecordFault::Header),
+            ("rx-record 2\ndone\n", RecordFault::Header),
+            (" rx-record 1\n", RecordFault::Header),
+            ("rx-record 1\n\n", RecordFault::Line(2)),
+            ("rx-record 1\nDone\n", RecordFault::Line(2)),
+            ("rx-record 1\ndone \n", RecordFault::Line(2)),
+            ("rx-record 1\ntimeout\r\n", RecordFault::Line(2)),
+            ("rx-record 1\nstarted 007\n", RecordFault::Line(2)),
+            ("rx-record 1\nstarted \n", RecordFault::Line(2)),
+            ("rx-record 1\nstarted +1\n", RecordFault::Line(2)),
+            (
+                "rx-record 1\nstarted 18446744073709551616\n",
+                RecordFault::Line(2),
+            ),
+            ("rx-record 1\narrive exp4 6A\n", RecordFault::Line(2)),
+            ("rx-record 1\narrive exp04 61\n", RecordFault::Line(2)),
+            ("rx-record 1\narrive exp4\n", RecordFault::Line(2)),
+            ("rx-record 1\narrive exp4 6\n", RecordFault::Line(2)),
+            ("rx-record 1\narrive exp4 6g\n", RecordFault::Line(2)),
+            ("rx-record 1\narrive exp4  61\n", RecordFault::Line(2)),
+            ("rx-record 1\narrive 4 61\n", RecordFault::Line(2)),
+            ("rx-record 1\nrefused\n", RecordFault::Line(2)),
+            ("rx-record 1\nexited 256\n", RecordFault::Line(2)),
+            (
+                "rx-record 1\nfailed 18446744073709551616\n",
+                RecordFault::Line(2),
+            ),
+            ("rx-record 1\ndone\nbad\nworse\ndone", RecordFault::Line(3)),
+        ] {
+            let read = read_record(rt.alloc(), text.as_bytes());
+            assert!(rt;
+                matches!(&read, Err(found) if *found == fault),
+                "{text:?}: {read:?}"
+            );
+        }
+    }
+
+    #[test]
+    fn refuses_a_record_that_is_cut_inside_a_line(rt: HostRuntime) {
+        let record = b"rx-record 1\nstarted 100\ndone\narrive exp4 68690a\ndone\ndone\n";
+        for end in 0..=record.len() {
+            let text = &record[..end];
+            let lines = text.iter().filter(|b| **b == b'\n').count();
+            let read = read_record(rt.alloc(), text);
+            let fits = match &read {
+                Err(RecordFault::Header) => end < 12,
+                Err(RecordFault::Line(n)) => {
+                    12 <= end
+                        && text.last() != Some(&b'\n')
+                        && *n == (lines as u64).saturating_add(1)
+                }
+                Ok(answers) => text.last() == Some(&b'\n')
+                    && answers.len().saturating_add(1) == lines,
+                Err(RecordFault::NoMemory) => false,
+            };
+            assert!(rt; fits, "{end}: {read:?}");
+        }
+    }
+
+    #[test]
+    fn ends_without_memory(rt: HostRuntime) -> Result<(), Fail> {
+        let heap = Refusing::new(rt.alloc());
+        for n in 1..100u64 {
+            let refused = heap.refused();
+            heap.refuse_nth(n);
+            let read = read_record(&heap, RECORD.as_bytes());
+            if heap.refused() == refused {
+                assert!(rt; matches!(&read, Ok(answers) if answers.len() == 8));
+                assert!(rt; 4 < n);
+                return Ok(());
+            }
+            assert!(rt; matches!(&read, Err(RecordFault::NoMemory)), "{n}");
+        }
+        Err(Fail::from("each request was refused"))
+    }
+}
