@@ -1,6 +1,6 @@
 //! Numbers in decimal digits without leading zeros, as ids and records spell them.
 
-ghost use Rattle.std.specs.Prelude.{◌≡◌, ◌≢◌, ◌^◌, ◌<◌, ◌++◌, ℕ, IfSome, IfNone, OnOk, decimal};
+ghost use Rattle.std.specs.Prelude.{◌≡◌, ◌≢◌, ◌^◌, ◌<◌, ◌++◌, ℕ, IfSome, IfNone, OnOk, OnErr, decimal};
 
 use itoa::Buffer;
 use memory::NoMemory;
@@ -25,9 +25,10 @@ pub fn read_decimal(text: &[u8]) -> Option<u64>
     }
 }
 
-/// Writes a number at the end of a text.
+/// Writes a number at the end of a text. Where memory is refused the text stays as it is.
 pub fn push_decimal<A: Allocator>(text: &mut Vec<u8, A>, number: u64) -> Result<(), NoMemory>
-    ensures { OnOk result (text.new.items ≡ text.old.items ++ decimal number) }
+    ensures written { OnOk result (text.new.items ≡ text.old.items ++ decimal number) }
+    ensures refused { OnErr result (text.new.items ≡ text.old.items) }
 {
     let mut buffer = Buffer::new();
     text.extend_from_slice(buffer.format(number).as_bytes())?;
