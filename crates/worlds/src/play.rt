@@ -184,6 +184,21 @@ mod tests {
         Ok(())
     }
 
+    /// The status of the first dialogue, played with memory from `alloc`.
+    fn status_of_first<A: Allocator + Copy>(alloc: A, limits: Limits, told: &mut [u8]) -> u8 {
+        let mut printed = [0u8; 9];
+        play(
+            alloc,
+            FIRST.as_bytes(),
+            &[],
+            limits,
+            b"r",
+            FIRST_RECORD.as_bytes(),
+            Counted::new(&mut printed[..]),
+            Counted::new(&mut told[..]),
+        )
+    }
+
     #[test]
     fn tells_that_memory_was_refused(rt: HostRuntime) -> Result<(), Fail> {
         let heap = Refusing::new(rt.alloc());
@@ -191,18 +206,8 @@ mod tests {
         for n in 1..1000u64 {
             let refused = heap.refused();
             heap.refuse_nth(n);
-            let mut printed = [0u8; 9];
             let mut told = [0u8; 99];
-            let ended = play(
-                &heap,
-                FIRST.as_bytes(),
-                &[],
-                limits,
-                b"r",
-                FIRST_RECORD.as_bytes(),
-                Counted::new(&mut printed[..]),
-                Counted::new(&mut told[..]),
-            );
+            let ended = status_of_first(&heap, limits, &mut told[..]);
             if heap.refused() == refused {
                 assert_eq!(rt; ended, 0);
                 assert!(rt; 4 < n);
