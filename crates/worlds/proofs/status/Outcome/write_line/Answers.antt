@@ -1,5 +1,4 @@
-use Rattle.std.proofs.Common.{◌≡◌, ◌++◌, codes, decimal, append_assoc, subst}
-use Rattle.worlds.specs.Sink.{Takes}
+use Rattle.std.proofs.Common.{◌++◌, codes, decimal, append_assoc}
 use Rattle.worlds.proofs.Sinks.{Takes-then}
 use Rattle.worlds.proofs.status.Outcome.write_line.Goals as goal
 
