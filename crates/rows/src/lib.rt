@@ -11,6 +11,8 @@ mod course;
 #[cfg(test)]
 mod hostile;
 #[cfg(test)]
+mod played;
+#[cfg(test)]
 mod refused;
 #[cfg(test)]
 mod row;
