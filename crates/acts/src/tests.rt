@@ -21,23 +21,23 @@ fn wait<A: Allocator + Copy>(alloc: A, ids: &[Id], timer: Timer) -> Result<Act<A
 
 /// Each answer: the columns of the table of what fits.
 fn answers<A: Allocator + Copy>(alloc: A) -> Result<Vec<Answer<A>, A>, Fail> {
-    Ok(vec![in alloc;
-        Answer::Done,
-        Answer::Failed(0),
-        Answer::Failed(3),
-        Answer::Failed(4),
-        Answer::Started(100),
-        Answer::Refused,
-        Answer::Exited(Some(255)),
-        Answer::Exited(None),
-        Answer::Arrive(Id(4), Vec::new(alloc)),
-        Answer::Arrive(Id(5), Vec::from_slice(alloc, b"x")?),
-        Answer::Arrive(Id(6), Vec::from_slice(alloc, b"x")?),
-        Answer::Ended(Id(4)),
-        Answer::Ended(Id(6)),
-        Answer::TimedOut,
-        Answer::NoMore,
-    ]?)
+    let mut answers: Vec<Answer<A>, A> = Vec::new(alloc);
+    answers.push(Answer::Done)?;
+    answers.push(Answer::Failed(0))?;
+    answers.push(Answer::Failed(3))?;
+    answers.push(Answer::Failed(4))?;
+    answers.push(Answer::Started(100))?;
+    answers.push(Answer::Refused)?;
+    answers.push(Answer::Exited(Some(255)))?;
+    answers.push(Answer::Exited(None))?;
+    answers.push(Answer::Arrive(Id(4), Vec::new(alloc)))?;
+    answers.push(Answer::Arrive(Id(5), Vec::from_slice(alloc, b"x")?))?;
+    answers.push(Answer::Arrive(Id(6), Vec::from_slice(alloc, b"x")?))?;
+    answers.push(Answer::Ended(Id(4)))?;
+    answers.push(Answer::Ended(Id(6)))?;
+    answers.push(Answer::TimedOut)?;
+    answers.push(Answer::NoMore)?;
+    Ok(answers)
 }
 
 /// Each act, with a `y` for each answer that fits it.
@@ -201,11 +201,11 @@ fn names_each_error_or_says_that_memory_was_refused(rt: HostRuntime) -> Result<(
         heap.refuse_none();
         assert_eq!(rt; fault.text(&heap)?.as_slice(), wanted);
         let before = heap.refused();
-        let mut answered = 0;
+        let mut answered: u64 = 0;
         for nth in 1..100 {
             heap.refuse_nth(nth);
             match fault.text(&heap) {
-                Err(NoMemory) => answered += 1,
+                Err(NoMemory) => answered = answered.saturating_add(1),
                 Ok(text) => {
                     assert_eq!(rt; text.as_slice(), wanted);
                     break;
