@@ -3,7 +3,8 @@
 use crate::table::{DIALOGUES, ERRORS};
 use acts::Limits;
 use std::test::Fail;
-use worlds::{Counted, play};
+use worlds::Counted;
+use worlds::play::play;
 
 #[test]
 fn plays_each_record(rt: HostRuntime) -> Result<(), Fail> {
