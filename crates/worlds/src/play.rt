@@ -59,7 +59,6 @@ pub fn finish<E: Sink>(outcome: Outcome<'_>, err: &mut E) -> u8
 mod tests {
     use super::*;
     use crate::sink::Counted;
-    use refusal::Refusing;
     use std::test::Fail;
 
     const FIRST: &str = "spawn -noecho cat; send hi; expect -ex hi; puts ok";
@@ -182,40 +181,5 @@ mod tests {
             assert_eq!(rt; ended, 4, "{script}");
         }
         Ok(())
-    }
-
-    /// The status of the first dialogue, played with memory from `alloc`.
-    fn status_of_first<A: Allocator + Copy>(alloc: A, limits: Limits, told: &mut [u8]) -> u8 {
-        let mut printed = [0u8; 9];
-        play(
-            alloc,
-            FIRST.as_bytes(),
-            &[],
-            limits,
-            b"r",
-            FIRST_RECORD.as_bytes(),
-            Counted::new(&mut printed[..]),
-            Counted::new(&mut told[..]),
-        )
-    }
-
-    #[test]
-    fn tells_that_memory_was_refused(rt: HostRuntime) -> Result<(), Fail> {
-        let heap = Refusing::new(rt.alloc());
-        let limits = Limits::new(100).ok_or("ticks")?;
-        for n in 1..1000u64 {
-            let refused = heap.refused();
-            heap.refuse_nth(n);
-            let mut told = [0u8; 99];
-            let ended = status_of_first(&heap, limits, &mut told[..]);
-            if heap.refused() == refused {
-                assert_eq!(rt; ended, 0);
-                assert!(rt; 4 < n);
-                return Ok(());
-            }
-            assert_eq!(rt; ended, 6, "{n}");
-            assert!(rt; told.starts_with(b"rx: no memory\n\0"), "{n}");
-        }
-        Err(Fail::from("each request was refused"))
     }
 }
