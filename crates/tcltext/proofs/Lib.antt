@@ -8,5 +8,6 @@ pub mod Written
 pub mod Numbers
 pub mod Numerals
 pub mod Range
+pub mod Within
 pub mod Spellings
 pub mod Patterns

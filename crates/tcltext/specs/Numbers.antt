@@ -1,5 +1,5 @@
 -- How a numeral is read from its front: the number without limit, or none (Tcl_GetInt(3)). What a numeral is stands in Numeral.
-use Rattle.std.specs.Prelude.{ℕ, ◌+◌, ◌*◌, ◌^◌, ◌==◌, nat_lt, ◌||◌, List, [], ◌∷◌, Bool, false, Option, Some, None, option_map, ℤ, pos, neg_ℤ, if◌then◌else◌}
+use Rattle.std.specs.Prelude.{ℕ, ◌+◌, ◌-◌, ◌*◌, ◌^◌, ◌==◌, nat_lt, nat_le, ◌||◌, List, [], ◌∷◌, Bool, false, Option, Some, None, option_map, ℤ, pos, negsuc, neg_ℤ, if◌then◌else◌}
 use Rattle.tcltext.specs.Digit.{digit_value, is_digit}
 use Rattle.tcltext.specs.White.{skip_white}
 
@@ -50,6 +50,19 @@ signed x = option_map (with_sign (is_minus x)) (unsigned (behind_sign x))
 -- white, and then a number with its sign
 abbrev pub numeral : List ℕ → Option ℤ
 numeral x = signed (skip_white x)
+
+-- 64 bits hold the number (expr(n), operands)
+abbrev pub is_in_range : ℤ → Bool
+is_in_range (pos n) = nat_le n (2 ^ 63 - 1)
+is_in_range (negsuc n) = nat_le n (2 ^ 63 - 1)
+
+abbrev pub some_in_range : Option ℤ → Bool
+some_in_range None = false
+some_in_range (Some n) = is_in_range n
+
+-- the text is a number: a numeral within 64 bits (expr(n), operands). The law number_is_numeral says so by IsNumeral and IsInRange alone
+abbrev pub is_number : List ℕ → Bool
+is_number x = some_in_range (numeral x)
 
 -- the number, where it is below 2^64
 abbrev pub small : Option ℕ → Option ℕ

@@ -1,11 +1,12 @@
-//! Laws of the definitions: each text is one list or has one first fault, what is written reads back, and a numeral has one number.
+//! Laws of the definitions: each text is one list or has one first fault, what is written reads back, a numeral has one number, and a text is a number where it is a numeral within 64 bits.
 
-ghost use Rattle.std.specs.Prelude.{◌≡◌, ◌⊎◌, ◌↔◌, ℕ, ℤ, List};
+ghost use Rattle.std.specs.Prelude.{◌≡◌, ◌⊎◌, ◌↔◌, ℕ, ℤ, List, true};
 ghost use Rattle.tcltext.specs.declared.list.ListFault.{ListFault};
 ghost use Rattle.tcltext.specs.Elements.{IsList, HasFault};
 ghost use Rattle.tcltext.specs.Canonical.{canonical};
 ghost use Rattle.tcltext.specs.Spellings.{AreSpellings};
-ghost use Rattle.tcltext.specs.Numeral.{IsNumeral};
+ghost use Rattle.tcltext.specs.Numbers.{is_number};
+ghost use Rattle.tcltext.specs.Numeral.{IsNumeral, IsInRange};
 
 /// No text is two lists, or has two first faults, or is a list and has a fault.
 pub fn one_reading()
@@ -34,4 +35,9 @@ pub fn list_is_spellings()
 /// A text is a numeral of one number alone.
 pub fn one_value()
     ensures { (x : List ℕ) (n m : ℤ) → IsNumeral n x → IsNumeral m x → n ≡ m }
+{}
+
+/// A text is a number exactly where it is a numeral of a number within 64 bits.
+pub fn number_is_numeral()
+    ensures { (x : List ℕ) → (is_number x ≡ true) ↔ ((n : ℤ) × IsNumeral n x × IsInRange n) }
 {}
