@@ -1,5 +1,5 @@
 -- What a session is once the step that it lent has ended.
-use Rattle.std.specs.Prelude.{◌++◌, Option, Result, IfOk, MatchResult, IsErr, ⊤}
+use Rattle.std.specs.Prelude.{◌++◌, Option, Result, IfOk, MatchResult, ⊤}
 use Rattle.std.specs.Borrow.{Fml, RattleType, MutBor, follows_so}
 use Rattle.std.specs.declared.alloc.Allocator.{Ghosts}
 use mathlib.Core.Option.{none}
@@ -7,22 +7,12 @@ use Rattle.memory.specs.declared.NoMemory.{NoMemory}
 use Rattle.acts.specs.declared.answer.Answer.{Answer}
 use Rattle.acts.specs.History.{History}
 use Rattle.engine.specs.contracts.session.Session.{the_row}
-use Rattle.engine.specs.declared.phase.Phase.{Phase}
-use Rattle.engine.specs.declared.phase.Phase.TheVariants as phase
 use Rattle.engine.specs.declared.session.Session.{Session}
 use Rattle.engine.specs.declared.session.Step.{Step}
 use Rattle.engine.specs.Outcome.{Ending}
 use Rattle.engine.specs.Runs.{IsRefused, IsSound, Runs, answered_so}
-use Rattle.engine.specs.Session.{PhaseHolds}
+use Rattle.engine.specs.Session.{GivesAgain, PhaseHolds}
 use Rattle.engine.specs.Step.{StepIs}
-
--- an end is given again, and a refusal stays
-abbrev pub GivesAgain : {A : Type 0} → Phase A → Result (Step A) NoMemory → Type 0
-GivesAgain (phase.Over end) r = IfOk r (λ s. StepIs s (phase.Over end)) × (IsErr r → ⊥)
-GivesAgain phase.Refused r = IsErr r
-GivesAgain (phase.Has o) r = Unit {0}
-GivesAgain (phase.Asks act waiting) r = Unit {0}
-GivesAgain (phase.Closes act c) r = Unit {0}
 
 -- what a call with this answer did: the runs that are left were runs before with the act and its
 -- answer in front, and what is given is the act that is asked or the end
@@ -31,7 +21,7 @@ pub record Went {A : Type 0} (old : Session A) (answer : Option (Answer A)) (r :
   pub tells : MatchResult r (λ s. StepIs s new.phase) (λ _. IsRefused new)
   pub sound : IsSound old → IfOk r (λ _. IsSound new)
   pub holds : PhaseHolds old.phase → PhaseHolds new.phase
-  pub again : GivesAgain old.phase r
+  pub again : GivesAgain StepIs old.phase r
 
 module _ (A : RattleType) (g : Ghosts A.Denot) (session : MutBor (Session A.Denot)) where
   abbrev pub GoesOn : Option (Answer A.Denot) → Result (Step A.Denot) NoMemory → Fml

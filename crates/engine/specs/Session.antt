@@ -1,5 +1,5 @@
 -- The runs that a session allows.
-use Rattle.std.specs.Prelude.{◌≡◌, ℕ, ◌+◌, List, [], ◌∷◌, ◌++◌, map, reverse, drop, length, Option, Some, None, Result, Ok, IsErr}
+use Rattle.std.specs.Prelude.{◌≡◌, ℕ, ◌+◌, List, [], ◌∷◌, ◌++◌, map, reverse, drop, length, Option, Some, None, Result, IsOkAnd, IsErr}
 use Rattle.std.specs.declared.vec.Vec.{Vec}
 use Rattle.memory.specs.declared.NoMemory.{NoMemory}
 use Rattle.acts.specs.Deed.{Deed, Reply, deed_of, reply_of}
@@ -161,20 +161,11 @@ MayFail (phase.Closes act c) answer = ⊥
 MayFail (phase.Over end) answer = ⊥
 MayFail phase.Refused answer = Unit {0}
 
--- an end stays, and so does a refusal
-abbrev pub StaysPut : {A : Type 0} → Phase A → Result (Phase A) NoMemory → Type 0
-StaysPut (phase.Over end) r = r ≡ Ok (phase.Over end)
-StaysPut phase.Refused r = IsErr r
-StaysPut (phase.Has o) r = Unit {0}
-StaysPut (phase.Asks act waiting) r = Unit {0}
-StaysPut (phase.Closes act c) r = Unit {0}
-
-abbrev pub Stays : {A : Type 0} → Phase A → Phase A → Result (Unit {0}) NoMemory → Type 0
-Stays (phase.Over end) new r = (r ≡ Ok tt) × (new ≡ phase.Over end)
-Stays phase.Refused new r = IsErr r × (new ≡ phase.Refused)
-Stays (phase.Has o) new r = Unit {0}
-Stays (phase.Asks act waiting) new r = Unit {0}
-Stays (phase.Closes act c) new r = Unit {0}
+-- an end is given again, and a refusal stays; IsEnd says of what is given that it is that end
+abbrev pub GivesAgain : {A X : Type 0} → (X → Phase A → Type 0) → Phase A → Result X NoMemory → Type 0
+GivesAgain IsEnd (phase.Over end) r = IsOkAnd r (λ x. IsEnd x (phase.Over end))
+GivesAgain IsEnd phase.Refused r = IsErr r
+GivesAgain IsEnd _ r = Unit {0}
 
 abbrev pub NotRefused : {A : Type 0} → Phase A → Type 0
 NotRefused (phase.Has o) = Unit {0}

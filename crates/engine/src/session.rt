@@ -5,7 +5,7 @@ ghost use Rattle.std.specs.Borrow.{sem};
 ghost use Rattle.acts.specs.History.{History};
 ghost use Rattle.engine.specs.Outcome.{Ending, outcome_of};
 ghost use Rattle.engine.specs.Run.{Run, initial};
-ghost use Rattle.engine.specs.Session.{After, IsTold, Leads, MayFail, NotRefused, PhaseHolds, PhaseRuns, Stays, StaysPut, answered_in, owed, stack, total};
+ghost use Rattle.engine.specs.Session.{After, GivesAgain, IsTold, Leads, MayFail, NotRefused, PhaseHolds, PhaseRuns, answered_in, owed, stack, total};
 ghost use Rattle.engine.specs.Status.{Status};
 ghost use Rattle.engine.specs.Step.{StepIs};
 ghost use Rattle.engine.specs.View.{FitsState, words_of};
@@ -98,7 +98,7 @@ impl<A: Allocator + Copy> Session<A> {
         ensures holds { PhaseHolds self.old.phase → IfOk result (λ _. PhaseHolds self.new.phase) }
         ensures refused { IfErr result (λ _. IsRefused self.new) }
         ensures fails { IfErr result (λ _. MayFail self.old.phase answer) }
-        ensures stays { Stays self.old.phase self.new.phase result }
+        ensures again { GivesAgain (λ _ end. self.new.phase ≡ end) self.old.phase result }
     {
         let alloc = *self.frames.allocator();
         let phase = mem::replace(&mut self.phase, Phase::Refused);
@@ -173,7 +173,7 @@ fn forward<A: Allocator + Copy>(
     ensures told { IfOk result IsTold }
     ensures holds { PhaseHolds phase → IfOk result PhaseHolds }
     ensures fails { IfErr result (λ _. MayFail phase answer) }
-    ensures stays { StaysPut phase result }
+    ensures again { GivesAgain (λ now end. now ≡ end) phase result }
 {
     match phase {
         Phase::Has(outcome) => advance(alloc, frames, state, outcome),
