@@ -1,6 +1,5 @@
 pub mod Begun
 pub mod Closings
-pub mod Numbers
 pub mod OneRun
 pub mod Places
 pub mod Shows

@@ -8,10 +8,10 @@ use Rattle.acts.specs.Deed as said
 use Rattle.acts.specs.Flaw as flaw
 use Rattle.acts.specs.Id.{id_text}
 use Rattle.matchbuf.specs.Journal.{Sized}
+use Rattle.tcltext.specs.Numbers.{is_number}
 use Rattle.engine.specs.declared.commands.Builtin.{Builtin}
 use Rattle.engine.specs.declared.commands.Builtin.TheVariants as builtin
 use Rattle.engine.specs.Status.{Status, is_open}
-use Rattle.engine.specs.Number.{is_number}
 use Rattle.engine.specs.Plain.{Plain, gives, raises, ask, written}
 use Rattle.engine.specs.Turn.{turn}
 

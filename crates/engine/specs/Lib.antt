@@ -4,7 +4,6 @@ pub mod Course
 pub mod Does
 pub mod Laws
 pub mod Lending
-pub mod Number
 pub mod Outcome
 pub mod Plain
 pub mod Run

@@ -4,10 +4,10 @@ ghost use Rattle.std.specs.Prelude.{◌≡◌, ℕ, ◌+◌, ◌≤◌, List, If
 ghost use Rattle.acts.specs.Flaw as flaw;
 ghost use Rattle.acts.specs.Flaw.{text_of};
 ghost use Rattle.engine.specs.Commands as command;
-ghost use Rattle.engine.specs.Number as numbers;
 ghost use Rattle.engine.specs.Outcome as outcome;
 ghost use Rattle.engine.specs.Status.{Status};
 ghost use Rattle.engine.specs.View.{Current, FitsState, HasOutcome, NowHolds, Shows, pending, words_of, worth};
+ghost use Rattle.tcltext.specs.Numbers as numbers;
 
 mod expect;
 mod puts;

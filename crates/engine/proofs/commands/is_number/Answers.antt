@@ -1,5 +1,5 @@
 use Rattle.std.proofs.Common.{◌∙◌}
-use Rattle.engine.proofs.Numbers.{read_says}
+use Rattle.tcltext.proofs.Within.{read_says}
 use Rattle.engine.proofs.commands.is_number.Goals as goal
 
 pub returns : goal.returns
