@@ -59,6 +59,7 @@ pub fn finish<E: Sink>(outcome: Outcome<'_>, err: &mut E) -> u8
 mod tests {
     use super::*;
     use crate::sink::Counted;
+    use refusal::Refusing;
     use std::test::Fail;
 
     const FIRST: &str = "spawn -noecho cat; send hi; expect -ex hi; puts ok";
@@ -181,5 +182,58 @@ mod tests {
             assert_eq!(rt; ended, 4, "{script}");
         }
         Ok(())
+    }
+
+    /// The status of the first dialogue, played with memory from `alloc`.
+    fn status_of_first<A: Allocator + Copy, O: Sink + Drop, E: Sink + Drop>(
+        alloc: A,
+        limits: Limits,
+        out: O,
+        err: E,
+    ) -> u8
+        requires out { O.has_failed out ≡ false }
+        requires err { E.has_failed err ≡ false }
+    {
+        let args: Vec<Vec<u8, A>, A> = Vec::new(alloc);
+        let record = FIRST_RECORD.as_bytes();
+        play(
+            alloc,
+            FIRST.as_bytes(),
+            &args,
+            limits,
+            b"r",
+            record,
+            out,
+            err,
+        )
+    }
+
+    #[test]
+    fn tells_that_memory_was_refused(rt: HostRuntime) -> Result<(), Fail> {
+        let heap = Refusing::new(rt.alloc());
+        let limits = Limits::new(100).ok_or("ticks")?;
+        for n in 1..1000u64 {
+            let mut printed = Vec::new(rt.alloc());
+            let mut told = Vec::new(rt.alloc());
+            let refused = heap.refused();
+            heap.refuse_nth(n);
+            let ended = status_of_first(
+                &heap,
+                limits,
+                Counted::new(&mut printed),
+                Counted::new(&mut told),
+            );
+            if heap.refused() == refused {
+                assert_eq!(rt; ended, 0);
+                assert_eq!(rt; printed.as_slice(), b"hiok\n".as_slice());
+                assert!(rt; told.is_empty());
+                assert!(rt; 10 < n);
+                return Ok(());
+            }
+            assert_eq!(rt; ended, 6, "{n}");
+            assert!(rt; b"hiok\n".starts_with(&printed), "{n}");
+            assert_eq!(rt; told.as_slice(), b"rx: no memory\n".as_slice(), "{n}");
+        }
+        Err(Fail::from("each request was refused"))
     }
 }
