@@ -4,7 +4,7 @@ use Rattle.std.proofs.lemmas.Bool.Decides.{eqb_tells, nat_tests}
 use Rattle.std.proofs.Math.Seq.{drop-cons, take-length}
 use Rattle.std.proofs.Math.ListN.{drop_of_length-le}
 use Rattle.tcltext.proofs.Choices.{or_false}
-use Rattle.tcltext.specs.Balanced.{is_brace_byte, IsBalanced, nothing, a_byte, a_pair, a_group}
+use Rattle.tcltext.specs.Balanced.{is_brace_byte, IsBalanced, nothing, a_byte, a_pair, a_group, IsPaired}
 
 abbrev pub Found : Type 0
 Found = Option (List ℕ × List ℕ)
@@ -150,11 +150,25 @@ mutual
       (ap (λ y. 92 ∷ c ∷ y) rest.0 ∙ ap (λ y. y ++ 125 ∷ z) (sym is), subst (Closes k) (sym is) (closes_pair k c found.0 rest.1))
 
 -- A brace is found exactly where the text before it is balanced.
-pub found_pairs : (x e z : List ℕ) → pairing 0 false x ≡ Some (e, z) → (x ≡ e ++ 125 ∷ z) × IsBalanced e
+pub found_pairs : (x e z : List ℕ) → pairing 0 false x ≡ Some (e, z) → IsPaired x e z
 found_pairs x e z h = found_closes x 0 e z h
 
-pub pairs_found : (x e z : List ℕ) → x ≡ e ++ 125 ∷ z → IsBalanced e → pairing 0 false x ≡ Some (e, z)
-pairs_found x e z h b = ap (pairing 0 false) h ∙ balanced_kept e b 0 (125 ∷ z) ∙ ap (λ y. Some (y, z)) (append-nil e)
+pub pairs_found : (x e z : List ℕ) → IsPaired x e z → pairing 0 false x ≡ Some (e, z)
+pairs_found x e z h = ap (pairing 0 false) h.0 ∙ balanced_kept e h.1 0 (125 ∷ z) ∙ ap (λ y. Some (y, z)) (append-nil e)
+
+pub pairs_nowhere : (x : List ℕ) → pairing 0 false x ≡ None → (e z : List ℕ) → IsPaired x e z → ⊥
+pairs_nowhere x h e z p = let found = pairs_found x e z p in cc
+
+-- A text pairs up in one way or in none.
+pub one_pair : (x d y e z : List ℕ) → IsPaired x d y → IsPaired x e z → (d ≡ e) × (y ≡ z)
+one_pair x d y e z h k = same_pair (d, y) (e, z) (sym (pairs_found x d y h) ∙ pairs_found x e z k)
+
+found_or_none : (x : List ℕ) (r : Found) → pairing 0 false x ≡ r → ((e z : List ℕ) × IsPaired x e z) ⊎ ((e z : List ℕ) → IsPaired x e z → ⊥)
+found_or_none x None h = inr (pairs_nowhere x h)
+found_or_none x (Some p) h = inl (p.0, p.1, found_pairs x p.0 p.1 h)
+
+pub pair_or_none : (x : List ℕ) → ((e z : List ℕ) × IsPaired x e z) ⊎ ((e z : List ℕ) → IsPaired x e z → ⊥)
+pair_or_none x = found_or_none x (pairing 0 false x) refl
 
 -- the text from a place on, as a range
 pub range_rest : (x : List ℕ) (i : ℕ) → take (length x - i) (drop i x) ≡ drop i x
@@ -162,7 +176,7 @@ range_rest x i = ap (λ n. take n (drop i x)) (sym (length-drop i x)) ∙ take-l
 
 -- The loop has come to the closing brace.
 pub found_here : (x : List ℕ) (i depth : ℕ) (hidden : Bool) → keep_all (take i x) (pairing depth hidden (drop i x)) ≡ pairing 0 false x → i < length x
-    → hidden ≡ false → depth ≡ 0 → get_or x i 0 ≡ 125 → (x ≡ take i x ++ 125 ∷ take (length x - (i + 1)) (drop (i + 1) x)) × IsBalanced (take i x)
+    → hidden ≡ false → depth ≡ 0 → get_or x i 0 ≡ 125 → IsPaired x (take i x) (take (length x - (i + 1)) (drop (i + 1) x))
 found_here x i depth hidden h within unhidden none closes =
     let rest = drop (i + 1) x in
     let at : drop i x ≡ 125 ∷ rest = drop-cons x i 0 within ∙ ap (λ c. c ∷ drop (suc i) x) closes ∙ ap (λ j. 125 ∷ drop j x) (sym (add-one i)) in
@@ -173,8 +187,5 @@ found_here x i depth hidden h within unhidden none closes =
 
 -- The loop has come to the text's end.
 pub found_nowhere : (x : List ℕ) (i depth : ℕ) (hidden : Bool) → keep_all (take i x) (pairing depth hidden (drop i x)) ≡ pairing 0 false x → length x ≤ i
-    → (e z : List ℕ) → x ≡ e ++ 125 ∷ z → IsBalanced e → ⊥
-found_nowhere x i depth hidden h end e z is b =
-    let none : pairing 0 false x ≡ None = sym h ∙ ap (λ y. keep_all (take i x) (pairing depth hidden y)) (drop_of_length-le x end) in
-    let some : pairing 0 false x ≡ Some (e, z) = pairs_found x e z is b in
-    cc
+    → (e z : List ℕ) → IsPaired x e z → ⊥
+found_nowhere x i depth hidden h end = pairs_nowhere x (sym h ∙ ap (λ y. keep_all (take i x) (pairing depth hidden y)) (drop_of_length-le x end))

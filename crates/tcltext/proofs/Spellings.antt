@@ -127,9 +127,9 @@ Spelt e y z = (t : List ℕ) × (y ≡ t ++ z) × IsSpelling e t z × (ends_elem
 braced_spelt : (e z x : List ℕ) → IsBraced x (Ok (e, z)) → Spelt e (123 ∷ x) z
 braced_spelt e z x (inr h) = absurd (fault_apart fault.OpenBrace (e, z) (sym h.1))
 braced_spelt e z x (inl h) =
-    let ok = closed_ok fault.AfterBrace e z h.0 h.1 h.4 in
-    let at : x ≡ (e ++ 125 ∷ []) ++ z = h.2 ∙ ap (λ d. d ++ 125 ∷ h.1) (sym ok.0) ∙ ap (λ y. e ++ 125 ∷ y) (sym ok.1) ∙ sym (append_assoc e (125 ∷ []) z) in
-    (123 ∷ (e ++ 125 ∷ []), ap (λ y. 123 ∷ y) at, inl (refl, subst IsBalanced (sym ok.0) h.3), ap ends_element ok.1 ∙ ok.2)
+    let ok = closed_ok fault.AfterBrace e z h.0 h.1 h.3 in
+    let at : x ≡ (e ++ 125 ∷ []) ++ z = h.2.0 ∙ ap (λ d. d ++ 125 ∷ h.1) (sym ok.0) ∙ ap (λ y. e ++ 125 ∷ y) (sym ok.1) ∙ sym (append_assoc e (125 ∷ []) z) in
+    (123 ∷ (e ++ 125 ∷ []), ap (λ y. 123 ∷ y) at, inl (refl, subst IsBalanced (sym ok.0) h.2.1), ap ends_element ok.1 ∙ ok.2)
 
 -- a quote ends an element in quotes
 abbrev Quotes : List ℕ → Next → Type 0
@@ -216,7 +216,7 @@ abbrev Reads : List ℕ → List ℕ → List ℕ → Type 0
 Reads e y z = (ends_element y ≡ false) × IsElement y (Ok (e, z))
 
 braced_reads : (e z : List ℕ) → IsBalanced e → ends_element z ≡ true → Reads e ((123 ∷ (e ++ 125 ∷ [])) ++ z) z
-braced_reads e z b end = (refl, inl (e, z, append_assoc e (125 ∷ []) z, b, rw end refl))
+braced_reads e z b end = (refl, inl (e, z, (append_assoc e (125 ∷ []) z, b), rw end refl))
 
 quoted_reads : (e q z : List ℕ) → ArePieces Quoted e q (34 ∷ z) → ends_element z ≡ true → Reads e ((34 ∷ (q ++ 34 ∷ [])) ++ z) z
 quoted_reads e q z pieces end =

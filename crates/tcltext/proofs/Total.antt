@@ -10,7 +10,7 @@ use Rattle.tcltext.specs.Digit.{digit_value, is_digit}
 use Rattle.tcltext.specs.Escape.{skip_blanks, byte_number, hexadecimal_byte, named_byte, escape}
 use Rattle.tcltext.specs.White.{is_white, skip_white, ends_element}
 use Rattle.tcltext.specs.Elements.{stops, Next, at_end, a_stop, a_byte, no_escape, escaped, next, IsSpelled, Outcome, closed, QuotedEnds, BareEnds, Opening, in_braces, in_quotes, bare, opening, IsOpened, IsElement, IsElements, IsList, HasFault}
-use Rattle.tcltext.proofs.Pairing.{Found, pairing, found_pairs, pairs_found}
+use Rattle.tcltext.proofs.Pairing.{Found, pairing, found_pairs, pairs_nowhere}
 use Rattle.tcltext.proofs.Unique.{NoByte}
 
 skip_blanks_within : (x : List ℕ) → length (skip_blanks x) ≤ length x
@@ -104,11 +104,11 @@ closed_shorter : (n : ℕ) (f : ListFault) (e z : List ℕ) → length z < n →
 closed_shorter n f e z h = choice (Shorter n) (ends_element z) (Ok (e, z)) (Err f) h tt
 
 braced_reads : (n : ℕ) (x : List ℕ) (r : Found) → pairing 0 false x ≡ r → length x < n → Reads n (in_braces x)
-braced_reads n x None e h = (Err fault.OpenBrace, inr ((λ d z is b. let found = pairs_found x d z is b in cc), refl), tt)
+braced_reads n x None e h = (Err fault.OpenBrace, inr (pairs_nowhere x e, refl), tt)
 braced_reads n x (Some p) e h =
     let pair = found_pairs x p.0 p.1 e in
     let long : length x ≡ length p.0 + length (125 ∷ p.1) = ap length pair.0 ∙ length-append p.0 (125 ∷ p.1) in
-    (closed fault.AfterBrace p.0 p.1, inl (p.0, p.1, pair.0, pair.1, refl), closed_shorter n fault.AfterBrace p.0 p.1 (omega arith))
+    (closed fault.AfterBrace p.0 p.1, inl (p.0, p.1, pair, refl), closed_shorter n fault.AfterBrace p.0 p.1 (omega arith))
 
 quoted_reads : (n : ℕ) (x e z : List ℕ) (k : Next) → next Quoted z ≡ k → Fewer (length z) k → NoByte k → IsSpelled Quoted e x z → length z < n → Reads n (in_quotes x)
 quoted_reads n x e z at_end is h b spelled within = (Err fault.OpenQuote, (e, z, spelled, subst (λ k. QuotedEnds e k (Err fault.OpenQuote)) (sym is) refl), tt)

@@ -6,7 +6,7 @@ use Rattle.tcltext.specs.declared.list.element.Style.{Style}
 use Rattle.tcltext.specs.declared.list.element.Style.TheVariants.{Bare, Quoted}
 use Rattle.tcltext.specs.White.{skip_white}
 use Rattle.tcltext.specs.Elements.{Next, at_end, a_stop, a_byte, no_escape, next, IsSpelled, Outcome, closed, IsBraced, QuotedEnds, BareEnds, Opening, in_braces, in_quotes, bare, opening, IsOpened, IsElement, IsElements, IsList, HasFault}
-use Rattle.tcltext.proofs.Pairing.{same_pair, pairs_found}
+use Rattle.tcltext.proofs.Pairing.{one_pair}
 
 -- no byte of the element stands next
 abbrev pub NoByte : Next → Type 0
@@ -53,10 +53,10 @@ bare_once e z no_escape r q h k = h ∙ sym k
 
 braced_once : (x : List ℕ) (r q : Outcome) → IsBraced x r → IsBraced x q → r ≡ q
 braced_once x r q (inl h) (inl k) =
-    let same = same_pair (h.0, h.1) (k.0, k.1) (sym (pairs_found x h.0 h.1 h.2 h.3) ∙ pairs_found x k.0 k.1 k.2 k.3) in
-    h.4 ∙ ap (λ e. closed fault.AfterBrace e h.1) same.0 ∙ ap (closed fault.AfterBrace k.0) same.1 ∙ sym k.4
-braced_once x r q (inl h) (inr k) = absurd (k.0 h.0 h.1 h.2 h.3)
-braced_once x r q (inr h) (inl k) = absurd (h.0 k.0 k.1 k.2 k.3)
+    let same = one_pair x h.0 h.1 k.0 k.1 h.2 k.2 in
+    h.3 ∙ ap (λ e. closed fault.AfterBrace e h.1) same.0 ∙ ap (closed fault.AfterBrace k.0) same.1 ∙ sym k.3
+braced_once x r q (inl h) (inr k) = absurd (k.0 h.0 h.1 h.2)
+braced_once x r q (inr h) (inl k) = absurd (h.0 k.0 k.1 k.2)
 braced_once x r q (inr h) (inr k) = h.1 ∙ sym k.1
 
 pub opened_once : (o : Opening) (r q : Outcome) → IsOpened o r → IsOpened o q → r ≡ q

@@ -188,7 +188,7 @@ braced_reads : (e z : List ℕ) → is_braceable e ≡ true → ends_element z �
 braced_reads e z h ends =
     let p = and_true (not (list_any (λ c. c == 92) e)) (pairs_up 0 e) h in
     let balanced : IsBalanced e = pairs_close e 0 (not_true _ p.0) p.1 in
-    (refl, inl (e, z, append_assoc e (125 ∷ []) z, balanced, rw ends refl))
+    (refl, inl (e, z, (append_assoc e (125 ∷ []) z, balanced), rw ends refl))
 
 not_comment : (first : Bool) (e : List ℕ) → is_bare first e ≡ true → (is_empty e ≡ false) × (list_any is_special e ≡ false)
 not_comment first e h =

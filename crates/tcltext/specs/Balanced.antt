@@ -12,3 +12,7 @@ pub data IsBalanced : List ℕ → Type 0 where
   a_byte : (c : ℕ) (x : List ℕ) → is_brace_byte c ≡ false → IsBalanced x → IsBalanced (c ∷ x)
   a_pair : (c : ℕ) (x : List ℕ) → IsBalanced x → IsBalanced (92 ∷ c ∷ x)
   a_group : (x y : List ℕ) → IsBalanced x → IsBalanced y → IsBalanced (123 ∷ x ++ 125 ∷ y)
+
+-- Behind an open brace the text is this content, the brace that pairs up, and this rest (Tcl(n), rule 6).
+abbrev pub IsPaired : List ℕ → List ℕ → List ℕ → Type 0
+IsPaired text content rest = (text ≡ content ++ 125 ∷ rest) × IsBalanced content

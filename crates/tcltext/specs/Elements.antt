@@ -7,7 +7,7 @@ use Rattle.tcltext.specs.declared.list.element.Style.{Style}
 use Rattle.tcltext.specs.declared.list.element.Style.TheVariants.{Bare, Quoted}
 use Rattle.tcltext.specs.White.{is_white, skip_white, ends_element}
 use Rattle.tcltext.specs.Escape.{escape}
-use Rattle.tcltext.specs.Balanced.{IsBalanced}
+use Rattle.tcltext.specs.Balanced.{IsPaired}
 
 -- The bytes at which an element ends: white where it is bare, the closing quote in quotes (Tcl_SplitList(3)).
 abbrev pub stops : Style → ℕ → Bool
@@ -49,8 +49,8 @@ closed f e z = if ends_element z then Ok (e, z) else Err f
 -- (Tcl(n), rule 6; Tcl_SplitList(3)).
 abbrev pub IsBraced : List ℕ → Outcome → Type 0
 IsBraced x o =
-    ((e z : List ℕ) × (x ≡ e ++ 125 ∷ z) × IsBalanced e × (o ≡ closed fault.AfterBrace e z)) ⊎
-    (((e z : List ℕ) → x ≡ e ++ 125 ∷ z → IsBalanced e → ⊥) × (o ≡ Err fault.OpenBrace))
+    ((e z : List ℕ) × IsPaired x e z × (o ≡ closed fault.AfterBrace e z)) ⊎
+    (((e z : List ℕ) → IsPaired x e z → ⊥) × (o ≡ Err fault.OpenBrace))
 
 -- An element in quotes goes up to the next quote; the text's end leaves it open (Tcl_SplitList(3)).
 abbrev pub QuotedEnds : List ℕ → Next → Outcome → Type 0

@@ -75,8 +75,10 @@ fn number(base: u8, most: u8, text: &[u8]) -> (u8, &[u8])
     (value, rest)
 }
 
-// The text without the blanks and tabs at its front.
-fn skip_blanks(text: &[u8]) -> &[u8]
+/// The text behind its first blanks and tabs, which a newline behind a backslash takes with it (Tcl(n), rule 9).
+///
+/// Takes no memory, and time in the length of what it skips.
+pub fn skip_blanks(text: &[u8]) -> &[u8]
     ensures rest { result.now ≡ skip_blanks text.now }
     ensures shorter { length result.now ≤ length text.now }
 {

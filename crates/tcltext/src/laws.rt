@@ -1,12 +1,19 @@
-//! Laws of the definitions: each text is one list or has one first fault, what is written reads back, a numeral has one number, and a text is a number where it is a numeral within 64 bits.
+//! Laws of the definitions: a brace pairs up with one alone, each text is one list or has one first fault, what is written reads
+//! back, a numeral has one number, and a text is a number where it is a numeral within 64 bits.
 
 ghost use Rattle.std.specs.Prelude.{◌≡◌, ◌⊎◌, ◌↔◌, ℕ, ℤ, List, true};
 ghost use Rattle.tcltext.specs.declared.list.ListFault.{ListFault};
+ghost use Rattle.tcltext.specs.Balanced.{IsPaired};
 ghost use Rattle.tcltext.specs.Elements.{IsList, HasFault};
 ghost use Rattle.tcltext.specs.Canonical.{canonical};
 ghost use Rattle.tcltext.specs.Spellings.{AreSpellings};
 ghost use Rattle.tcltext.specs.Numbers.{is_number};
 ghost use Rattle.tcltext.specs.Numeral.{IsNumeral, IsInRange};
+
+/// At most one brace in a text pairs up with the open brace before the text.
+pub fn one_closing_brace()
+    ensures { (text d y e z : List ℕ) → IsPaired text d y → IsPaired text e z → (d ≡ e) × (y ≡ z) }
+{}
 
 /// No text is two lists, or has two first faults, or is a list and has a fault.
 pub fn one_reading()

@@ -1,6 +1,7 @@
-//! Reading and writing of texts: escapes, lists, numbers and patterns.
+//! Reading and writing of texts: escapes, braces that pair up, lists, numbers and patterns.
 #![tactic(auto)]
 
+pub mod braces;
 mod digit;
 pub mod escape;
 pub mod laws;

@@ -1,6 +1,5 @@
 //! Lists: reading a text as a list, and writing a list as a text.
 
-mod braces;
 mod element;
 mod join;
 mod split;

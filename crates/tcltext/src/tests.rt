@@ -1,6 +1,6 @@
 //! Texts and what tclsh 8.6 makes of them, every refusal of memory, and long texts.
 use crate::escape::EscapeNotHere;
-use crate::{ListFault, escape, join_list, print_int, print_nat, read_int, split_list};
+use crate::{ListFault, braces, escape, join_list, print_int, print_nat, read_int, split_list};
 use refusal::Refusing;
 use std::alloc::{AllocError, Allocator};
 use std::test::Fail;
@@ -71,6 +71,36 @@ fn reads_lists_as_tclsh_does(rt: HostRuntime) -> Result<(), Fail> {
         let list = split_list(rt.alloc(), text).map_err(|_| "a fault")?;
         let seen = barred(rt.alloc(), &list)?;
         assert_eq!(rt; seen.as_slice(), wanted, "of {text:?}");
+    }
+    Ok(())
+}
+
+#[test]
+fn splits_at_the_brace_that_pairs_up(rt: HostRuntime) -> Result<(), Fail> {
+    let rows: [(&[u8], &[u8], &[u8]); 5] = [
+        (b"} a", b"", b" a"),
+        (b"a} b}", b"a", b" b}"),
+        (b"a {b {}} c}d", b"a {b {}} c", b"d"),
+        (b"a\\}b\\{}c", b"a\\}b\\{", b"c"),
+        (b"a\\\\}b", b"a\\\\", b"b"),
+    ];
+    for (text, content, behind) in rows {
+        let (found, rest) = braces::split(text).ok_or("an open brace")?;
+        assert_eq!(rt; found, content, "of {text:?}");
+        assert_eq!(rt; rest, behind, "of {text:?}");
+    }
+    let open: [&[u8]; 3] = [b"", b"a {b}", b"a\\}"];
+    for text in open {
+        assert!(rt; braces::split(text).is_none());
+    }
+    Ok(())
+}
+
+#[test]
+fn skips_blanks_and_tabs_alone(rt: HostRuntime) -> Result<(), Fail> {
+    let rows: [(&[u8], &[u8]); 3] = [(b" \t \n a", b"\n a"), (b"a ", b"a "), (b" ", b"")];
+    for (text, behind) in rows {
+        assert_eq!(rt; escape::skip_blanks(text), behind, "of {text:?}");
     }
     Ok(())
 }

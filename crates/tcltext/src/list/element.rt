@@ -6,9 +6,9 @@ ghost use Rattle.tcltext.specs.Elements.{stops, next, opening, in_braces, in_quo
 ghost use Rattle.tcltext.specs.Seen.{seen, seen_opening};
 ghost use Rattle.tcltext.specs.Reads.{IsShorter, OpensShorter, ReadsSpelled, ReadsElement};
 
-use super::{ListFault, braces};
-use crate::escape;
+use super::ListFault;
 use crate::white::{ends_element, is_white};
+use crate::{braces, escape};
 use std::alloc::Allocator;
 
 /// How the bytes of an element outside braces are spelled.

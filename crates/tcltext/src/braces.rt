@@ -1,13 +1,15 @@
-//! Braces that pair up.
+//! Braces that pair up (Tcl(n), rule 6).
 
-ghost use Rattle.std.specs.Prelude.{◌≡◌, ◌<◌, ◌++◌, ◌∷◌, List, ℕ, length, MatchOption, IfSome};
-ghost use Rattle.tcltext.specs.Balanced.{IsBalanced};
+ghost use Rattle.std.specs.Prelude.{◌<◌, List, ℕ, length, MatchOption, IfSome};
+ghost use Rattle.tcltext.specs.Balanced.{IsPaired};
 
-/// Behind an open brace: the text up to the brace that pairs up with it, and the text behind that one.
-pub(crate) fn split(text: &[u8]) -> Option<(&[u8], &[u8])>
+/// Behind an open brace: the text up to the brace that pairs up with it, and the text behind that one (Tcl(n), rule 6).
+///
+/// `None` where no brace does. Takes no memory, and time in the length of the text up to that brace.
+pub fn split(text: &[u8]) -> Option<(&[u8], &[u8])>
     ensures pair { MatchOption result
-        ((e z : List ℕ) → text.now ≡ e ++ 125 ∷ z → IsBalanced e → ⊥)
-        (λ r. (text.now ≡ r.0.now ++ 125 ∷ r.1.now) × IsBalanced r.0.now) }
+        ((content rest : List ℕ) → IsPaired text.now content rest → ⊥)
+        (λ r. IsPaired text.now r.0.now r.1.now) }
     ensures shorter { IfSome result (λ r. length r.1.now < length text.now) }
 {
     let mut len = 0;

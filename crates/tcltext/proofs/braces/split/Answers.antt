@@ -1,6 +1,6 @@
 use Rattle.std.proofs.Common.{rules}
 use Rattle.tcltext.proofs.Pairing.{found_here, found_nowhere}
-use Rattle.tcltext.proofs.list.braces.split.Goals as goal
+use Rattle.tcltext.proofs.braces.split.Goals as goal
 
 pub returns-then-open-eq0-clause-pair : goal.returns-then-open-eq0-clause-pair
 returns-then-open-eq0-clause-pair c =

@@ -1,6 +1,6 @@
 use Rattle.std.proofs.Common.{◌≡◌, ◌≤◌, ◌-◌, length, false, take, drop}
 use Rattle.tcltext.proofs.Pairing.{keep_all, pairing}
-use Rattle.tcltext.proofs.list.braces.split.Given as goal
+use Rattle.tcltext.proofs.braces.split.Given as goal
 
 abbrev pub invariant-loop-len : goal.invariant-loop-len
 invariant-loop-len l = record {
