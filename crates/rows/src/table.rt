@@ -137,6 +137,12 @@ pub const DIALOGUES: &[Row] = &[
         script: "spawn -5 x",
         answers: &[Reply::Started(100)],
         acts: &["Out(spawn -5 x\\n)", "Spawn(exp4, [-5 x])", "Close(exp4)"],
+        played: Some(Played {
+            record: "rx-record 1\ndone\nstarted 100\ndone\n",
+            status: 0,
+            out: "spawn -5 x\n",
+            err: "",
+        }),
         ..Row::SILENT
     },
 ];
@@ -159,6 +165,12 @@ pub const ERRORS: &[Row] = &[
         script: "expect -ex x",
         acts: &["Err(spawn id \"\" not open\\n)"],
         end: "Error(spawn id \"\" not open)",
+        played: Some(Played {
+            record: "rx-record 1\ndone\n",
+            status: 1,
+            out: "",
+            err: "spawn id \"\" not open\n",
+        }),
         ..Row::SILENT
     },
     // The end of the other side closes the id, and `expect` goes on without a match.
@@ -195,6 +207,12 @@ pub const ERRORS: &[Row] = &[
             "Close(exp4)",
         ],
         end: "Error(bad flag \"-x\")",
+        played: Some(Played {
+            record: "rx-record 1\nstarted 100\ndone\ndone\n",
+            status: 1,
+            out: "",
+            err: "bad flag \"-x\"\n",
+        }),
         ..Row::SILENT
     },
     Row {
@@ -213,12 +231,24 @@ pub const ERRORS: &[Row] = &[
         script: "puts",
         acts: &["Err(wrong # args for \"puts\"\\n)"],
         end: "Error(wrong # args for \"puts\")",
+        played: Some(Played {
+            record: "rx-record 1\ndone\n",
+            status: 1,
+            out: "",
+            err: "wrong # args for \"puts\"\n",
+        }),
         ..Row::SILENT
     },
     Row {
         script: "spawn -noecho",
         acts: &["Err(wrong # args for \"spawn\"\\n)"],
         end: "Error(wrong # args for \"spawn\")",
+        played: Some(Played {
+            record: "rx-record 1\ndone\n",
+            status: 1,
+            out: "",
+            err: "wrong # args for \"spawn\"\n",
+        }),
         ..Row::SILENT
     },
     Row {
@@ -230,6 +260,12 @@ pub const ERRORS: &[Row] = &[
             "Close(exp4)",
         ],
         end: "Error(wrong # args for \"send\")",
+        played: Some(Played {
+            record: "rx-record 1\nstarted 100\ndone\ndone\n",
+            status: 1,
+            out: "",
+            err: "wrong # args for \"send\"\n",
+        }),
         ..Row::SILENT
     },
     Row {
@@ -241,6 +277,12 @@ pub const ERRORS: &[Row] = &[
             "Close(exp4)",
         ],
         end: "Error(wrong # args for \"expect\")",
+        played: Some(Played {
+            record: "rx-record 1\nstarted 100\ndone\ndone\n",
+            status: 1,
+            out: "",
+            err: "wrong # args for \"expect\"\n",
+        }),
         ..Row::SILENT
     },
     Row {
@@ -252,12 +294,24 @@ pub const ERRORS: &[Row] = &[
             "Close(exp4)",
         ],
         end: "Error(bad argument \"-gl\" for \"expect\")",
+        played: Some(Played {
+            record: "rx-record 1\nstarted 100\ndone\ndone\n",
+            status: 1,
+            out: "",
+            err: "bad argument \"-gl\" for \"expect\"\n",
+        }),
         ..Row::SILENT
     },
     Row {
         script: "spawn -x cat",
         acts: &["Err(bad argument \"-x\" for \"spawn\"\\n)"],
         end: "Error(bad argument \"-x\" for \"spawn\")",
+        played: Some(Played {
+            record: "rx-record 1\ndone\n",
+            status: 1,
+            out: "",
+            err: "bad argument \"-x\" for \"spawn\"\n",
+        }),
         ..Row::SILENT
     },
     // What was not started is not closed.
@@ -296,5 +350,21 @@ pub const ERRORS: &[Row] = &[
         ],
         end: "Error(send to exp4 failed after 1 bytes)",
         ..Row::SILENT
+    },
+];
+
+/// Records that are none: without the last newline, and without the header.
+pub const BAD_RECORDS: &[Played] = &[
+    Played {
+        record: "rx-record 1\nstarted 100\ndone\narrive exp4 68690a\ndone\ndone",
+        status: 5,
+        out: "",
+        err: "rx: bad record record at line 6\n",
+    },
+    Played {
+        record: "",
+        status: 5,
+        out: "",
+        err: "rx: bad record record at line 1\n",
     },
 ];
