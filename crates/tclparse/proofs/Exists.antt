@@ -3,7 +3,6 @@ use Rattle.std.proofs.Common.{◌≡◌, ℕ, zero, suc, ◌+◌, ◌-◌, ◌<�
 use Rattle.tclparse.specs.Tree.{Parts, no_parts, byte, variable, element, script, Words, no_words, word, Commands, no_commands, command, bytes_then, with_last}
 use Rattle.tclparse.specs.Context.{ends_script, ends_command, ends_word}
 use Rattle.tclparse.specs.Gap.{skip_white, skip_gap, between}
-use Rattle.tclparse.specs.Braces.{matched, folded, plain}
 use Rattle.tclparse.specs.Piece.{Next, end, fault, a_byte, a_name, an_index, an_element, a_bracket, next}
 use Rattle.tclparse.specs.Grammar.{Outcome, Then, EndsAs, bracket_closed, index_closed, quotes_closed, word_ended, Kind, in_braces, in_quotes, bare, kind, without_prefix, expands, unprefixed, IsBraced, IsWord, IsParts, IsWords, IsCommands, IsScript, IsArgument}
 use Rattle.tclparse.specs.Spelled.{Joins, Leaves}
@@ -13,17 +12,12 @@ use Rattle.tclparse.specs.declared.context.Context.{Context}
 use Rattle.tclparse.specs.declared.context.Context.TheVariants.{Script, Brackets, Argument}
 use Rattle.tclparse.specs.declared.piece.Place.{Place}
 use Rattle.tclparse.specs.declared.piece.Place.TheVariants.{Bare, Quotes, Index}
+use Rattle.tcltext.proofs.Pairing.{pair_or_none}
+use Rattle.tclparse.proofs.Lengths.{by_length}
+use Rattle.tclparse.proofs.Braced.{each_value}
 use Rattle.tclparse.proofs.Pieces.{joins_length, Shorter, piece_shorter, Within, piece_within, IsPiece, bare_is_piece}
 use Rattle.tclparse.proofs.Gaps.{white_begins, gap_begins, command_goes_on}
-use Rattle.tclparse.proofs.Joined.{white_joins, gap_joins, unprefixed_joins, leaves_trans, then_leaves, index_leaves, bracket_leaves, braced_leaves, quotes_leaves, matched_joins, parts_leave, words_leave, commands_leave}
-
--- a fact of a list that follows from that of all shorter ones
-shorter_first : (P : List ℕ → Type 0) → ((x : List ℕ) → ((z : List ℕ) → length z < length x → P z) → P x) → (n : ℕ) (x : List ℕ) → length x < n → P x
-shorter_first P step zero x h = absurd (omega arith)
-shorter_first P step (suc n) x h = step x (λ z k. shorter_first P step n z (omega arith))
-
-by_length : (P : List ℕ → Type 0) → ((x : List ℕ) → ((z : List ℕ) → length z < length x → P z) → P x) → (x : List ℕ) → P x
-by_length P step x = shorter_first P step (length x + 1) x (omega arith)
+use Rattle.tclparse.proofs.Joined.{white_joins, gap_joins, unprefixed_joins, leaves_trans, then_leaves, index_leaves, bracket_leaves, braced_leaves, quotes_leaves, parts_leave, words_leave, commands_leave}
 
 abbrev PartsRead : Place → ℕ → List ℕ → Type 0
 PartsRead place d x = (ps : Parts) × (o : Outcome) × IsParts place d ps x o
@@ -125,14 +119,16 @@ kind_shorter : (x : List ℕ) → KindShorter (kind x) x
 kind_shorter [] = tt
 kind_shorter (c ∷ x) = kind_if (c == 123) (in_braces x) _ (c ∷ x) (omega arith) (kind_if (c == 34) (in_quotes x) bare (c ∷ x) (omega arith) tt)
 
-braces_read : (context : Context) (found : Option (List ℕ × List ℕ)) → (ps : Parts) × (r : Outcome) × IsBraced context ps found r
-braces_read context None = (no_parts, Err OpenBrace, (refl, refl))
-braces_read context (Some found) = (bytes_then (folded plain found.0) no_parts, word_ended context AfterBrace found.1, (refl, refl))
+braces_read : (context : Context) (x : List ℕ) → (ps : Parts) × (r : Outcome) × IsBraced context ps x r
+braces_read context x = elim (pair_or_none x) [
+  | inl p ↦ let v = each_value p.0 in (bytes_then v.0 no_parts, word_ended context AfterBrace p.1, inl (p.0, p.1, v.0, p.2, v.1, refl, refl))
+  | inr p ↦ (no_parts, Err OpenBrace, inr (p, refl, refl))
+]
 
 body_reads : (w : Kind) (context : Context) (d : ℕ) (x : List ℕ) → KindShorter w x → ends_word context x ≡ false → ((place : Place) (z : List ℕ) → PartsRead place d z) → BodyRead context d w x
 body_reads (in_braces z) context d x s b parts =
-    let k = braces_read context (matched 0 false z) in
-    (k.0, k.1, k.2, leaves_shrinks x z k.1 s (braced_leaves context k.0 (matched 0 false z) z k.1 (matched_joins 0 false z) k.2))
+    let k = braces_read context z in
+    (k.0, k.1, k.2, leaves_shrinks x z k.1 s (braced_leaves context k.0 z k.1 k.2))
 body_reads (in_quotes z) context d x s b parts =
     let k = parts Quotes z in
     (k.0, quotes_closed context k.1, (k.1, k.2, refl), leaves_shrinks x z (quotes_closed context k.1) s (quotes_leaves context z k.1 (parts_leave k.0 Quotes d z k.1 k.2)))

@@ -1,9 +1,9 @@
 -- What is left of a text behind parts, words and commands is its end.
-use Rattle.std.proofs.Common.{◌≡◌, ℕ, ◌+◌, ◌-◌, ◌==◌, ◌&&◌, ◌||◌, List, [], ◌∷◌, Bool, true, false, Option, Some, None, Ok, Err, if◌then◌else◌, sym, subst, inl, inr}
+use Rattle.std.proofs.Common.{◌≡◌, ℕ, ◌-◌, ◌==◌, ◌&&◌, ◌||◌, List, [], ◌∷◌, ◌++◌, Bool, true, false, Some, None, Ok, Err, if◌then◌else◌, sym, subst, inl, inr, ◌∙◌, append_assoc}
 use Rattle.tclparse.specs.Tree.{Parts, no_parts, byte, variable, element, script, Words, no_words, word, Commands, no_commands, command}
 use Rattle.tclparse.specs.Context.{ends_word, is_white, is_separator, is_continuation}
 use Rattle.tclparse.specs.Gap.{Gap, skip_white, skip_gap, between, comment, in_pair, after_comment_byte}
-use Rattle.tclparse.specs.Braces.{keep, matched}
+use Rattle.tcltext.specs.Balanced.{IsPaired}
 use Rattle.tclparse.specs.Piece.{Next, end, fault, a_byte, a_name, an_index, an_element, a_bracket, next}
 use Rattle.tclparse.specs.Grammar.{Outcome, Then, EndsAs, bracket_closed, index_closed, quotes_closed, Kind, in_braces, in_quotes, bare, kind, without_prefix, unprefixed, IsBraced, IsWord, IsParts, IsWords, IsCommands}
 use Rattle.tclparse.specs.Spelled.{Joins, Behind, Leaves}
@@ -34,28 +34,8 @@ gap_joins context between (c ∷ x) =
     (joins_if (is_continuation c x) whole (skip_gap context between x) whole on (joins_self whole)))
 
 -- so is what stands behind a closing brace
-abbrev pub Found : Option (List ℕ × List ℕ) → List ℕ → Type 0
-Found None x = Unit {0}
-Found (Some p) x = Joins x p.1
-
-found_keep : (c : ℕ) (found : Option (List ℕ × List ℕ)) (x : List ℕ) → Found found x → Found (keep c found) (c ∷ x)
-found_keep c None x h = tt
-found_keep c (Some p) x h = joins_more c x p.1 h
-
-found_if : (b : Bool) (f g : Option (List ℕ × List ℕ)) (x : List ℕ) → Found f x → Found g x → Found (if b then f else g) x
-found_if true f g x h k = h
-found_if false f g x h k = k
-
-pub matched_joins : (k : ℕ) (hidden : Bool) (x : List ℕ) → Found (matched k hidden x) x
-matched_joins k hidden [] = tt
-matched_joins k true (c ∷ x) = found_keep c (matched k false x) x (matched_joins k false x)
-matched_joins k false (c ∷ x) =
-    let whole = c ∷ x in
-    found_if (c == 92) (keep c (matched k true x)) _ whole (found_keep c (matched k true x) x (matched_joins k true x))
-    (found_if (c == 123) (keep c (matched (k + 1) false x)) _ whole (found_keep c (matched (k + 1) false x) x (matched_joins (k + 1) false x))
-    (found_if (c == 125) _ (keep c (matched k false x)) whole
-    (found_if (k == 0) (Some ([], x)) (keep c (matched (k - 1) false x)) whole (joins_more c x x (joins_self x)) (found_keep c (matched (k - 1) false x) x (matched_joins (k - 1) false x)))
-    (found_keep c (matched k false x) x (matched_joins k false x))))
+paired_joins : (x content rest : List ℕ) → IsPaired x content rest → Joins x rest
+paired_joins x content rest h = (content ++ 125 ∷ [], h.0 ∙ sym (append_assoc content (125 ∷ []) rest))
 
 joins_behind : (x w : List ℕ) (c : ℕ) → Joins x (c ∷ w) → Joins x w
 joins_behind x w c h = joins_trans x (c ∷ w) w h (joins_more c w w (joins_self w))
@@ -122,13 +102,13 @@ kind_behind (c ∷ x) =
     let on = joins_more c x x (joins_self x) in
     kind_if (c == 123) (in_braces x) _ (c ∷ x) on (kind_if (c == 34) (in_quotes x) bare (c ∷ x) on tt)
 
-pub braced_leaves : (context : Context) (ps : Parts) (found : Option (List ℕ × List ℕ)) (x : List ℕ) (r : Outcome) → Found found x → IsBraced context ps found r → Leaves x r
-braced_leaves context ps None x r h k = fault_leaves x r _ k.1
-braced_leaves context ps (Some p) x r h k = subst (Leaves x) (sym k.1) (ended_leaves (ends_word context p.1) x p.1 AfterBrace h)
+pub braced_leaves : (context : Context) (ps : Parts) (x : List ℕ) (r : Outcome) → IsBraced context ps x r → Leaves x r
+braced_leaves context ps x r (inl h) = subst (Leaves x) (sym h.6) (ended_leaves (ends_word context h.1) x h.1 AfterBrace (paired_joins x h.0 h.1 h.3))
+braced_leaves context ps x r (inr h) = fault_leaves x r _ h.2
 
 pub word_leaves : (context : Context) (d : ℕ) (ps : Parts) (w : Kind) (x : List ℕ) (r : Outcome) → KindBehind w x → IsWord context ps (λ place z s. IsParts place d ps z s) w x r
     → ((place : Place) (z : List ℕ) (s : Outcome) → IsParts place d ps z s → Leaves z s) → Leaves x r
-word_leaves context d ps (in_braces z) x r h k parts = leaves_trans x z r h (braced_leaves context ps (matched 0 false z) z r (matched_joins 0 false z) k)
+word_leaves context d ps (in_braces z) x r h k parts = leaves_trans x z r h (braced_leaves context ps z r k)
 word_leaves context d ps (in_quotes z) x r h k parts = leaves_trans x z r h (subst (Leaves z) (sym k.2) (quotes_leaves context z k.0 (parts Quotes z k.0 k.1)))
 word_leaves context d ps bare x r h k parts = parts (Bare context) x r k
 

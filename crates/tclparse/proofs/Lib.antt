@@ -8,4 +8,5 @@ pub mod Joined
 pub mod Pieces
 pub mod Gaps
 pub mod Exists
-pub mod Balanced
+pub mod Lengths
+pub mod Braced

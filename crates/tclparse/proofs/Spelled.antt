@@ -24,7 +24,7 @@ pub joins_if : (b : Bool) (x y z : List ℕ) → Joins x y → Joins x z → Joi
 joins_if true x y z h k = h
 joins_if false x y z h k = k
 
-blanks_joins : (x : List ℕ) → Joins x (of_escape.skip_blanks x)
+pub blanks_joins : (x : List ℕ) → Joins x (of_escape.skip_blanks x)
 blanks_joins [] = joins_self []
 blanks_joins (c ∷ x) = joins_if (of_escape.is_blank c) (c ∷ x) (of_escape.skip_blanks x) (c ∷ x) (joins_more c x (of_escape.skip_blanks x) (blanks_joins x)) (joins_self (c ∷ x))
 

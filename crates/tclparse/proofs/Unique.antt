@@ -1,15 +1,17 @@
 -- Each text has one tree.
 use Rattle.std.proofs.Common.{◌≡◌, ℕ, ◌-◌, List, [], false, Option, Some, None, Ok, Err, inl, inr, refl, sym, ap, subst, ◌∙◌, arith}
-use Rattle.tclparse.specs.Tree.{Parts, no_parts, byte, variable, element, script, Words, no_words, word, Commands, no_commands, command, with_last}
+use Rattle.tclparse.specs.Tree.{Parts, no_parts, byte, variable, element, script, Words, no_words, word, Commands, no_commands, command, bytes_then, with_last}
 use Rattle.tclparse.specs.Gap.{skip_white, skip_gap, between}
-use Rattle.tclparse.specs.Braces.{matched}
 use Rattle.tclparse.specs.Piece.{Next, end, fault, a_byte, a_name, an_index, an_element, a_bracket, next}
-use Rattle.tclparse.specs.Grammar.{Outcome, Then, EndsAs, bracket_closed, index_closed, quotes_closed, Kind, in_braces, in_quotes, bare, kind, unprefixed, IsBraced, IsWord, IsParts, IsWords, IsCommands, IsScript, IsArgument}
+use Rattle.tclparse.specs.Grammar.{Outcome, Then, EndsAs, bracket_closed, index_closed, quotes_closed, word_ended, Kind, in_braces, in_quotes, bare, kind, unprefixed, IsBraced, IsWord, IsParts, IsWords, IsCommands, IsScript, IsArgument}
 use Rattle.tclparse.specs.declared.tree.Fault.{Fault}
+use Rattle.tclparse.specs.declared.tree.Fault.TheVariants.{AfterBrace}
 use Rattle.tclparse.specs.declared.context.Context.{Context}
 use Rattle.tclparse.specs.declared.context.Context.TheVariants.{Script, Brackets, Argument}
 use Rattle.tclparse.specs.declared.piece.Place.{Place}
 use Rattle.tclparse.specs.declared.piece.Place.TheVariants.{Bare, Quotes, Index}
+use Rattle.tcltext.proofs.Pairing.{one_pair}
+use Rattle.tclparse.proofs.Braced.{one_value}
 
 -- the next piece of a text says which constructor its tree begins with
 abbrev piece_tag : Next → ℕ
@@ -59,14 +61,19 @@ then_unique : {T : Type 0} (nil t u : T) (K : T → List ℕ → Outcome → Typ
 then_unique nil t u K (Ok w) o p h k same = same w h k
 then_unique nil t u K (Err f) o p h k same = (h.0 ∙ sym k.0, h.1 ∙ sym k.1)
 
-braced_unique : (n : Context) (ps qs : Parts) (found : Option (List ℕ × List ℕ)) (r s : Outcome) → IsBraced n ps found r → IsBraced n qs found s → (ps ≡ qs) × (r ≡ s)
-braced_unique n ps qs None r s h k = (h.0 ∙ sym k.0, h.1 ∙ sym k.1)
-braced_unique n ps qs (Some found) r s h k = (h.0 ∙ sym k.0, h.1 ∙ sym k.1)
+braced_unique : (n : Context) (ps qs : Parts) (x : List ℕ) (r s : Outcome) → IsBraced n ps x r → IsBraced n qs x s → (ps ≡ qs) × (r ≡ s)
+braced_unique n ps qs x r s (inl h) (inl k) =
+    let pair = one_pair x h.0 h.1 k.0 k.1 h.3 k.3 in
+    let value = one_value h.2 h.0 k.2 k.0 h.4 k.4 pair.0 in
+    (h.5 ∙ ap (λ v. bytes_then v no_parts) value ∙ sym k.5, h.6 ∙ ap (word_ended n AfterBrace) pair.1 ∙ sym k.6)
+braced_unique n ps qs x r s (inl h) (inr k) = absurd (k.0 h.0 h.1 h.3)
+braced_unique n ps qs x r s (inr h) (inl k) = absurd (h.0 k.0 k.1 k.3)
+braced_unique n ps qs x r s (inr h) (inr k) = (h.1 ∙ sym k.1, h.2 ∙ sym k.2)
 
 word_unique : (n : Context) (d : ℕ) (ps qs : Parts) (w : Kind) (x : List ℕ) (r s : Outcome)
     → IsWord n ps (λ place z o. IsParts place d ps z o) w x r → IsWord n qs (λ place z o. IsParts place d qs z o) w x s
     → ((place : Place) (z : List ℕ) (o p : Outcome) → IsParts place d ps z o → IsParts place d qs z p → (ps ≡ qs) × (o ≡ p)) → (ps ≡ qs) × (r ≡ s)
-word_unique n d ps qs (in_braces z) x r s h k same = braced_unique n ps qs (matched 0 false z) r s h k
+word_unique n d ps qs (in_braces z) x r s h k same = braced_unique n ps qs z r s h k
 word_unique n d ps qs (in_quotes z) x r s h k same =
     let one = same Quotes z h.0 k.0 h.1 k.1 in
     (one.0, h.2 ∙ ap (quotes_closed n) one.1 ∙ sym k.2)

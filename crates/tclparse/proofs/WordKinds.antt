@@ -1,9 +1,10 @@
 -- The kinds of a word, as the code takes them.
-use Rattle.std.proofs.Common.{◌≡◌, ℕ, List, Bool, true, false, Some, None, Ok, Err, Vec, refl, ap, subst, ◌∙◌}
+use Rattle.std.proofs.Common.{◌≡◌, ℕ, List, Bool, true, false, Ok, Err, Vec, inl, inr, refl, ap, subst, ◌∙◌}
 use Rattle.std.specs.declared.rc.Rc.{Rc}
 use Rattle.tclparse.specs.Tree.{Parts, no_parts, Words, word, bytes_then}
 use Rattle.tclparse.specs.Context.{ends_word}
-use Rattle.tclparse.specs.Braces.{matched, folded, plain}
+use Rattle.tcltext.specs.Balanced.{IsPaired}
+use Rattle.tclparse.specs.Braces.{IsValue}
 use Rattle.tclparse.specs.Grammar.{Outcome, in_quotes, in_braces, bare, kind, expands, unprefixed, quotes_closed, IsBraced, IsParts, IsWord}
 use Rattle.tclparse.specs.Reads.{IsBody, IsOneWord}
 use Rattle.tclparse.specs.View.{word_view, parts_then}
@@ -12,19 +13,22 @@ use Rattle.tclparse.specs.declared.piece.Place.TheVariants.{Bare, Quotes}
 use Rattle.tclparse.specs.declared.tree.Fault.TheVariants.{OpenBrace, AfterBrace}
 use Rattle.tclparse.specs.declared.tree.Part.{Part}
 use Rattle.tclparse.specs.declared.tree.Part.TheViews.{roll-Word}
+use Rattle.tclparse.proofs.Braced.{each_value}
 use Rattle.tclparse.proofs.Trees.{view_of_word}
 
-pub open_brace : (n : Context) (x : List ℕ) → None ≡ matched 0 false x → (ps : Parts) × IsBraced n ps (matched 0 false x) (Err OpenBrace)
-open_brace n x e = (no_parts, subst (λ r. IsBraced n no_parts r (Err OpenBrace)) e (refl, refl))
+pub open_brace : (n : Context) (x : List ℕ) → ((content rest : List ℕ) → IsPaired x content rest → ⊥) → (ps : Parts) × IsBraced n ps x (Err OpenBrace)
+open_brace n x none = (no_parts, inr (none, refl, refl))
 
-pub after_brace : (n : Context) (x bs z : List ℕ) → Some (bs, z) ≡ matched 0 false x → ends_word n z ≡ false → (ps : Parts) × IsBraced n ps (matched 0 false x) (Err AfterBrace)
-after_brace n x bs z e h = (bytes_then (folded plain bs) no_parts, subst (λ r. IsBraced n (bytes_then (folded plain bs) no_parts) r (Err AfterBrace)) e (refl, rw h refl))
+pub after_brace : (n : Context) (x content z : List ℕ) → IsPaired x content z → ends_word n z ≡ false → (ps : Parts) × IsBraced n ps x (Err AfterBrace)
+after_brace n x content z pair h =
+    let value = each_value content in
+    (bytes_then value.0 no_parts, inl (content, z, value.0, pair, value.1, refl, rw h refl))
 
-pub braced_word : (n : Context) (x bs z v : List ℕ) (ps : Parts) → Some (bs, z) ≡ matched 0 false x → ends_word n z ≡ true → v ≡ folded plain bs → ps ≡ bytes_then v no_parts
-    → IsBraced n ps (matched 0 false x) (Ok z)
-braced_word n x bs z v ps e h is made = subst (λ r. IsBraced n ps r (Ok z)) e (made ∙ ap (λ l. bytes_then l no_parts) is, rw h refl)
+pub braced_word : (n : Context) (x content z v : List ℕ) (ps : Parts) → IsPaired x content z → ends_word n z ≡ true → IsValue v content → ps ≡ bytes_then v no_parts
+    → IsBraced n ps x (Ok z)
+braced_word n x content z v ps pair h value made = inl (content, z, v, pair, value, made, rw h refl)
 
-pub braces_word : (n : Context) (d : ℕ) (x z : List ℕ) (ps : Parts) (o : Outcome) → in_braces z ≡ kind x → IsBraced n ps (matched 0 false z) o → IsBody n d ps x o
+pub braces_word : (n : Context) (d : ℕ) (x z : List ℕ) (ps : Parts) (o : Outcome) → in_braces z ≡ kind x → IsBraced n ps z o → IsBody n d ps x o
 braces_word n d x z ps o e h = subst (λ k. IsWord n ps (λ place y r. IsParts place d ps y r) k x o) e h
 
 pub quoted_word : (n : Context) (d : ℕ) (x z : List ℕ) (ps : Parts) (s o : Outcome) → in_quotes z ≡ kind x → IsParts Quotes d ps z s → o ≡ quotes_closed n s → IsBody n d ps x o

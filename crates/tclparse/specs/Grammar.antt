@@ -1,5 +1,6 @@
 -- Which tree a text has (Tcl(n), rules 1 to 10).
 use Rattle.std.specs.Prelude.{◌≡◌, ℕ, ◌-◌, ◌==◌, ◌&&◌, ◌⊎◌, List, [], ◌∷◌, Bool, true, false, Option, Some, None, Result, Ok, Err, if◌then◌else◌}
+use Rattle.tcltext.specs.Balanced.{IsPaired}
 use Rattle.tclparse.specs.declared.tree.Fault.{Fault}
 use Rattle.tclparse.specs.declared.tree.Fault.TheVariants.{OpenBrace, OpenBracket, OpenQuote, AfterBrace, AfterQuote, BadVariable}
 use Rattle.tclparse.specs.declared.context.Context.{Context}
@@ -9,7 +10,7 @@ use Rattle.tclparse.specs.declared.piece.Place.TheVariants.{Bare, Quotes, Index}
 use Rattle.tclparse.specs.Tree.{Parts, no_parts, byte, variable, element, script, Words, no_words, word, Commands, no_commands, command, bytes_then, with_last}
 use Rattle.tclparse.specs.Context.{ends_script, ends_command, ends_word}
 use Rattle.tclparse.specs.Gap.{skip_white, skip_gap, between}
-use Rattle.tclparse.specs.Braces.{matched, folded, plain}
+use Rattle.tclparse.specs.Braces.{IsValue}
 use Rattle.tclparse.specs.Piece.{Next, end, fault, a_byte, a_name, an_index, an_element, a_bracket, next}
 
 -- Reading gives the text that is left, or the fault at which it stops.
@@ -89,14 +90,16 @@ without_prefix context x (Some z) = if ends_word context z then x else z
 abbrev pub unprefixed : Context → List ℕ → List ℕ
 unprefixed context x = without_prefix context x (after_star x)
 
--- a braced word is its bytes, no substitution made (Tcl(n), rule 6)
-abbrev pub IsBraced : Context → Parts → Option (List ℕ × List ℕ) → Outcome → Type 0
-IsBraced context ps None r = (ps ≡ no_parts) × (r ≡ Err OpenBrace)
-IsBraced context ps (Some found) r = (ps ≡ bytes_then (folded plain found.0) no_parts) × (r ≡ word_ended context AfterBrace found.1)
+-- a braced word is the value of its content, up to the brace that pairs up, no substitution made; where none does, the fault is the open brace
+-- (Tcl(n), rule 6)
+abbrev pub IsBraced : Context → Parts → List ℕ → Outcome → Type 0
+IsBraced context ps x r =
+    ((content rest value : List ℕ) × IsPaired x content rest × IsValue value content × (ps ≡ bytes_then value no_parts) × (r ≡ word_ended context AfterBrace rest)) ⊎
+    (((content rest : List ℕ) → IsPaired x content rest → ⊥) × (ps ≡ no_parts) × (r ≡ Err OpenBrace))
 
 -- IsParts: how parts are read at a place
 abbrev pub IsWord : Context → Parts → (Place → List ℕ → Outcome → Type 0) → Kind → List ℕ → Outcome → Type 0
-IsWord context ps IsParts (in_braces z) x r = IsBraced context ps (matched 0 false z) r
+IsWord context ps IsParts (in_braces z) x r = IsBraced context ps z r
 IsWord context ps IsParts (in_quotes z) x r = (s : Outcome) × IsParts Quotes z s × (r ≡ quotes_closed context s)
 IsWord context ps IsParts bare x r = IsParts (Bare context) x r
 

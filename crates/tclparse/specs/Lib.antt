@@ -9,4 +9,3 @@ pub mod Grammar
 pub mod Seen
 pub mod Reads
 pub mod Spelled
-pub mod Balanced

@@ -1,10 +1,9 @@
 -- What the readers answer.
-use Rattle.std.specs.Prelude.{◌≡◌, ℕ, List, false, Result, Ok, Err, Vec}
+use Rattle.std.specs.Prelude.{◌≡◌, ℕ, List, Result, Ok, Err, Vec}
 use Rattle.std.specs.Borrow.{Bor}
 use Rattle.std.specs.declared.rc.Rc.{Rc}
 use Rattle.tclparse.specs.Tree.{Parts, no_parts, Words, no_words, word, Commands, no_commands, with_last}
 use Rattle.tclparse.specs.Grammar.{Outcome, bracket_closed, index_closed, kind, expands, unprefixed, IsBraced, IsParts, IsWord, IsWords, IsCommands}
-use Rattle.tclparse.specs.Braces.{matched}
 use Rattle.tclparse.specs.View.{parts_then, words_then, commands_then, word_view}
 use Rattle.tclparse.specs.declared.tree.Fault.{Fault}
 use Rattle.tclparse.specs.declared.context.Context.{Context}
@@ -48,9 +47,9 @@ ReadsBracket d x (Err (error.Fault f)) = (cs : Commands) × IsBracket d cs x (Er
 
 -- the content of a braced word, with its closing brace
 abbrev pub ReadsBraced : {A : Type 0} → Context → List ℕ → Read A (Part A) → Type 0
-ReadsBraced context x (Ok r) = IsBraced context (parts_then r.0.value.items no_parts) (matched 0 false x) (Ok r.1.now)
+ReadsBraced context x (Ok r) = IsBraced context (parts_then r.0.value.items no_parts) x (Ok r.1.now)
 ReadsBraced context x (Err error.Memory) = Unit {0}
-ReadsBraced context x (Err (error.Fault f)) = (ps : Parts) × IsBraced context ps (matched 0 false x) (Err f)
+ReadsBraced context x (Err (error.Fault f)) = (ps : Parts) × IsBraced context ps x (Err f)
 
 -- the parts of a word that has no prefix
 abbrev pub IsBody : Context → ℕ → Parts → List ℕ → Outcome → Type 0

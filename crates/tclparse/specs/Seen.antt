@@ -1,5 +1,5 @@
 -- What the answers of the code stand for.
-use Rattle.std.specs.Prelude.{ℕ, ◌++◌, ◌<◌, List, length, Option, Some, None, Result, Ok, Err}
+use Rattle.std.specs.Prelude.{ℕ, ◌<◌, List, length, Option, Some, None, Result, Ok, Err}
 use Rattle.std.specs.Borrow.{Bor}
 use Rattle.tclparse.specs.Piece.{Next, end, fault, a_byte, a_name, an_index, an_element, a_bracket}
 use Rattle.tclparse.specs.Grammar.{Outcome, Kind, in_braces, in_quotes, bare}
@@ -53,11 +53,6 @@ IsNotEnd (Bracket z) = Unit {0}
 abbrev pub element_seen : Option (Bor (List ℕ) × Bor (List ℕ)) → Option (List ℕ × List ℕ)
 element_seen None = None
 element_seen (Some r) = Some (r.0.now, r.1.now)
-
--- the same with more bytes in front
-abbrev pub keep_all : List ℕ → Option (List ℕ × List ℕ) → Option (List ℕ × List ℕ)
-keep_all front None = None
-keep_all front (Some r) = Some (front ++ r.0, r.1)
 
 -- a reader's answer as an outcome
 abbrev pub outcome : Result (Bor (List ℕ)) the_fault.Fault → Outcome

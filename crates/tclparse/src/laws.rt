@@ -1,11 +1,9 @@
 //! Laws of the grammar, each the contract of a function that does nothing.
 
-ghost use Rattle.std.specs.Prelude.{◌≡◌, ℕ, ◌∷◌, ◌++◌, List, Bool, false, Option};
+ghost use Rattle.std.specs.Prelude.{◌≡◌, ℕ, List, Bool, Option};
 ghost use Rattle.tclparse.specs.Tree.{Parts, Words, Commands};
 ghost use Rattle.tclparse.specs.Grammar.{Outcome, IsParts, IsWords, IsCommands, IsScript, IsArgument};
 ghost use Rattle.tclparse.specs.Gap.{Gap, skip_white, skip_gap};
-ghost use Rattle.tclparse.specs.Braces.{matched};
-ghost use Rattle.tclparse.specs.Balanced.{Balanced};
 ghost use Rattle.tclparse.specs.Piece.{next};
 ghost use Rattle.tclparse.specs.Spelled.{Joins, Behind, Leaves};
 ghost use Rattle.tclparse.specs.declared.tree.Fault.{Fault};
@@ -42,13 +40,4 @@ pub fn spellings_join()
         → IsWords context depth words text o → Leaves text o }
     ensures commands { (context : Context) (depth : ℕ) (commands : Commands) (text : List ℕ) (o : Outcome)
         → IsCommands context depth commands text o → Leaves text o }
-{}
-
-/// The brace that closes a word is the one up to which the braces pair up, and no other.
-#[tactic(auto, using(crate::proofs::Balanced::balanced_found))]
-pub fn braces_pair_up()
-    ensures found { (text content rest : List ℕ) → matched 0 false text ≡ Some (content, rest)
-        → Balanced content × (text ≡ content ++ 125 ∷ rest) }
-    ensures only { (text content rest : List ℕ) → Balanced content → text ≡ content ++ 125 ∷ rest
-        → matched 0 false text ≡ Some (content, rest) }
 {}

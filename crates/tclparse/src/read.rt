@@ -7,7 +7,7 @@ ghost use Rattle.tclparse.specs.Context.{ends_script, ends_command, ends_word};
 ghost use Rattle.tclparse.specs.Piece.{ends_parts};
 ghost use Rattle.tclparse.specs.Reads.{ReadsParts, ReadsIndex, ReadsBracket, ReadsBraced, ReadsBody, ReadsWord, ReadsWords, ReadsTo};
 
-use crate::braces::{fold_lines, split_braces};
+use crate::braces::fold_lines;
 use crate::context::{Context, ends_command, ends_script, ends_word};
 use crate::gap::{skip_gap, skip_white};
 use crate::piece::{Piece, Place, next};
@@ -15,6 +15,7 @@ use crate::tree::{Command, Fault, Part, Word};
 use crate::word::{Opening, close_bracket, close_index, close_quotes, open_word, split_prefix};
 use std::alloc::{AllocError, AllocFailed, Allocator};
 use std::rc::Rc;
+use tcltext::braces;
 
 /// How many brackets and variable indexes may be open at one place.
 pub const MAX_OPEN: u32 = 100;
@@ -98,7 +99,7 @@ fn read_braces<A: Allocator + Copy>(
     ensures tree { ReadsBraced context text.now result }
     ensures shorter { IfOk result (λ r. length r.1.now ≤ length text.now) }
 {
-    let Some((content, rest)) = split_braces(text) else {
+    let Some((content, rest)) = braces::split(text) else {
         return Err(ReadError::Fault(Fault::OpenBrace));
     };
     if !ends_word(context, rest) {
