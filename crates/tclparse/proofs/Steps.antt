@@ -1,5 +1,5 @@
 -- One more step of a reader: what comes after it completes what was read before it.
-use Rattle.std.proofs.Common.{◌≡◌, ℕ, ◌-◌, List, [], ◌∷◌, ◌++◌, true, false, Result, Ok, Err, Vec, refl, sym, ap, subst, ◌∙◌, inl, inr}
+use Rattle.std.proofs.Common.{◌≡◌, ℕ, ◌-◌, List, [], ◌∷◌, ◌++◌, length, ◌<◌, true, false, Result, Ok, Err, Vec, refl, sym, ap, subst, ◌∙◌, inl, inr}
 use Rattle.std.specs.Borrow.{Bor}
 use Rattle.std.specs.declared.rc.Rc.{Rc}
 use Rattle.tclparse.specs.Tree.{Parts, no_parts, byte, variable, element, script, Words, no_words, word, Commands, no_commands, command, bytes_then, with_last}
@@ -7,18 +7,18 @@ use Rattle.tclparse.specs.Context.{ends_command, ends_script}
 use Rattle.tclparse.specs.Gap.{skip_white, skip_gap, between}
 use Rattle.tclparse.specs.Piece.{a_byte, a_name, an_index, an_element, a_bracket, next}
 use Rattle.tclparse.specs.Grammar.{Outcome, Then, bracket_closed, index_closed, expands, unprefixed, IsParts, IsWords, IsCommands}
-use Rattle.tclparse.specs.Reads.{Read, IsBody, IsOneWord, IsBracket, IsIndex, ReadsIndex, ReadsParts, ReadsBracket, ReadsBody, ReadsWord, ReadsWords}
+use Rattle.tclparse.specs.Reads.{Read, IsBody, IsOneWord, IsBracket, IsIndex, ReadsElement, ReadsParts, ReadsBracket, ReadsBody, ReadsWord, ReadsWords}
 use Rattle.tclparse.specs.View.{part_view, word_view, parts_then, words_then, commands_then}
 use Rattle.tclparse.specs.declared.tree.Fault.{Fault}
 use Rattle.tclparse.specs.declared.context.Context.{Context}
 use Rattle.tclparse.specs.declared.piece.Place.{Place}
-use Rattle.tclparse.specs.declared.tree.Part.{Part, Variable, Bracket, Element}
+use Rattle.tclparse.specs.declared.tree.Part.{Part}
 use Rattle.tclparse.specs.declared.tree.Part.TheViews.{roll-Command}
 use Rattle.tclparse.specs.declared.tree.Word.{Word}
 use Rattle.tclparse.specs.declared.tree.Command.{Command}
 use Rattle.tclparse.specs.declared.read.ReadError.{ReadError}
 use Rattle.tclparse.specs.declared.read.ReadError.TheVariants as error
-use Rattle.tclparse.proofs.Trees.{parts_push, words_push, commands_push, bytes_push, commands_last, view_Variable, view_Bracket, view_Element, view_of_command}
+use Rattle.tclparse.proofs.Trees.{parts_push, words_push, commands_push, bytes_push, commands_last, view_of_command}
 
 -- What was read of the text x, with y left: whatever completes y completes x.
 abbrev pub PartsSoFar : Place → ℕ → List ℕ → List ℕ → (Parts → Parts) → Type 0
@@ -43,23 +43,33 @@ pushed_part : {A : Type 0} (p : Part A) (q t : Parts) (ps qs rs : List (Part A))
 pushed_part p q t ps qs rs bs cs ended is pushed none =
     ap (λ l. parts_then rs (bytes_then l t)) none ∙ ap (λ l. parts_then l t) pushed ∙ parts_push qs p t ∙ ap (parts_then qs) is ∙ ended q
 
-pub after_name : {A : Type 0} (place : Place) (d : ℕ) (x y z n : List ℕ) (v : Vec ℕ A) (ps qs rs : List (Part A)) (bs cs : List ℕ)
-    → PartsSoFar place d x y (λ t. parts_then ps (bytes_then bs t)) → a_name n z ≡ next place d y → ((t : Parts) → parts_then qs t ≡ parts_then ps (bytes_then bs t))
-    → v.items ≡ n → rs ≡ qs ++ Variable v ∷ [] → cs ≡ []
+-- one more part, behind the bytes that were made one
+pub after_part : {A : Type 0} (place : Place) (d : ℕ) (x y z : List ℕ) (p : Part A) (front : Parts → Parts) (ps qs rs : List (Part A)) (bs cs : List ℕ)
+    → PartsSoFar place d x y (λ t. parts_then ps (bytes_then bs t)) → PartsSoFar place d y z front → ((t : Parts) → part_view p t ≡ front t)
+    → ((t : Parts) → parts_then qs t ≡ parts_then ps (bytes_then bs t)) → rs ≡ qs ++ p ∷ [] → cs ≡ []
     → PartsSoFar place d x z (λ t. parts_then rs (bytes_then cs t))
-after_name place d x y z n v ps qs rs bs cs so_far e ended name pushed none t o h =
-    let one = pushed_part (Variable v) (variable n t) t ps qs rs bs cs ended (view_Variable v t ∙ ap (λ l. variable l t) name) pushed none in
-    subst (λ p. IsParts place d p x o) (sym one) (so_far (variable n t) o (z, sym e, h))
+after_part place d x y z p front ps qs rs bs cs so_far one is ended pushed none t o h =
+    subst (λ q. IsParts place d q x o) (sym (pushed_part p (front t) t ps qs rs bs cs ended (is t) pushed none)) (so_far (front t) o (one t o h))
 
-pub after_script : {A : Type 0} (place : Place) (d : ℕ) (x y w z : List ℕ) (s : Rc (Vec (Command A) A) A) (ps qs rs : List (Part A)) (bs cs : List ℕ)
-    → PartsSoFar place d x y (λ t. parts_then ps (bytes_then bs t)) → a_bracket w ≡ next place d y → ((t : Parts) → parts_then qs t ≡ parts_then ps (bytes_then bs t))
-    → IsBracket (d - 1) (commands_then s.value.items no_commands) w (Ok z) → rs ≡ qs ++ Bracket s ∷ [] → cs ≡ []
-    → PartsSoFar place d x z (λ t. parts_then rs (bytes_then cs t))
-after_script place d x y w z s ps qs rs bs cs so_far e ended inner pushed none t o h =
-    let inside = commands_then s.value.items no_commands in
-    let one = pushed_part (Bracket s) (script inside t) t ps qs rs bs cs ended (view_Bracket s t) pushed none in
+-- The part p stands at the front of the text y and leaves z, less than y; front is what it puts before the parts after it.
+abbrev pub StandsAt : {A : Type 0} → Place → ℕ → List ℕ → Part A × Bor (List ℕ) → Type 0
+StandsAt place d y r = (front : Parts → Parts) × PartsSoFar place d y r.1.now front × ((t : Parts) → part_view r.0 t ≡ front t) × (length r.1.now < length y)
+
+pub name_part : (place : Place) (d : ℕ) (y z n : List ℕ) → a_name n z ≡ next place d y → PartsSoFar place d y z (variable n)
+name_part place d y z n e t o h = (z, sym e, h)
+
+pub script_part : (place : Place) (d : ℕ) (y w z : List ℕ) (cs : Commands) → a_bracket w ≡ next place d y → IsBracket (d - 1) cs w (Ok z) → PartsSoFar place d y z (script cs)
+script_part place d y w z cs e inner t o h =
     let goes_on : Then (bracket_closed inner.0) (t ≡ no_parts) (λ v. IsParts place d t v o) o = subst (λ r. Then r (t ≡ no_parts) (λ v. IsParts place d t v o) o) (sym inner.2) h in
-    subst (λ p. IsParts place d p x o) (sym one) (so_far (script inside t) o (w, sym e, inner.0, inner.1, goes_on))
+    (w, sym e, inner.0, inner.1, goes_on)
+
+pub index_part : (place : Place) (d : ℕ) (y w z n : List ℕ) (is : Parts) → an_index n w ≡ next place d y → IsIndex (d - 1) is w (Ok z) → PartsSoFar place d y z (element n is)
+index_part place d y w z n is e inner t o h =
+    let goes_on : Then (index_closed inner.0) (t ≡ no_parts) (λ v. IsParts place d t v o) o = subst (λ r. Then r (t ≡ no_parts) (λ v. IsParts place d t v o) o) (sym inner.2) h in
+    inl (w, sym e, inner.0, inner.1, goes_on)
+
+pub element_part : (place : Place) (d : ℕ) (y z n i : List ℕ) → an_element n i z ≡ next place d y → PartsSoFar place d y z (element n (bytes_then i no_parts))
+element_part place d y z n i e t o h = inr (i, z, sym e, refl, h)
 
 -- the fault of a script is that of the parts
 script_fault : {A : Type 0} (place : Place) (d : ℕ) (x y w : List ℕ) (f : Fault) (ps : List (Part A)) (bs : List ℕ)
@@ -70,16 +80,6 @@ script_fault place d x y w f ps bs so_far e found =
     let stops : Then (bracket_closed inner.0) (no_parts ≡ no_parts) (λ v. IsParts place d no_parts v (Err f)) (Err f) =
     subst (λ r. Then r (no_parts ≡ no_parts) (λ v. IsParts place d no_parts v (Err f)) (Err f)) (sym inner.2) (refl, refl) in
     (parts_then ps (bytes_then bs (script found.0 no_parts)), so_far (script found.0 no_parts) (Err f) (w, sym e, inner.0, inner.1, stops))
-
-pub after_index : {A : Type 0} (place : Place) (d : ℕ) (x y w z n : List ℕ) (v : Vec ℕ A) (is : Rc (Vec (Part A) A) A) (ps qs rs : List (Part A)) (bs cs : List ℕ)
-    → PartsSoFar place d x y (λ t. parts_then ps (bytes_then bs t)) → an_index n w ≡ next place d y → ((t : Parts) → parts_then qs t ≡ parts_then ps (bytes_then bs t))
-    → v.items ≡ n → IsIndex (d - 1) (parts_then is.value.items no_parts) w (Ok z) → rs ≡ qs ++ Element v is ∷ [] → cs ≡ []
-    → PartsSoFar place d x z (λ t. parts_then rs (bytes_then cs t))
-after_index place d x y w z n v is ps qs rs bs cs so_far e ended name inner pushed none t o h =
-    let index = parts_then is.value.items no_parts in
-    let one = pushed_part (Element v is) (element n index t) t ps qs rs bs cs ended (view_Element v is t ∙ ap (λ l. element l index t) name) pushed none in
-    let goes_on : Then (index_closed inner.0) (t ≡ no_parts) (λ v. IsParts place d t v o) o = subst (λ r. Then r (t ≡ no_parts) (λ v. IsParts place d t v o) o) (sym inner.2) h in
-    subst (λ p. IsParts place d p x o) (sym one) (so_far (element n index t) o (inl (w, sym e, inner.0, inner.1, goes_on)))
 
 -- the fault of an index is that of the parts
 index_fault : {A : Type 0} (place : Place) (d : ℕ) (x y w n : List ℕ) (f : Fault) (ps : List (Part A)) (bs : List ℕ)
@@ -92,18 +92,9 @@ index_fault place d x y w n f ps bs so_far e found =
     (parts_then ps (bytes_then bs (element n found.0 no_parts)), so_far (element n found.0 no_parts) (Err f) (inl (w, sym e, inner.0, inner.1, stops)))
 
 pub index_error : {A : Type 0} (place : Place) (d : ℕ) (x y w n : List ℕ) (e : ReadError) (ps : List (Part A)) (bs : List ℕ) (r : Read A (Part A))
-    → PartsSoFar place d x y (λ t. parts_then ps (bytes_then bs t)) → an_index n w ≡ next place d y → ReadsIndex {A = A} (d - 1) w (Err e) → r ≡ Err e → ReadsParts place d x r
+    → PartsSoFar place d x y (λ t. parts_then ps (bytes_then bs t)) → an_index n w ≡ next place d y → ReadsElement {A = A} n (d - 1) w (Err e) → r ≡ Err e → ReadsParts place d x r
 index_error place d x y w n error.Memory ps bs r so_far at h is = subst (ReadsParts place d x) (sym is) tt
 index_error place d x y w n (error.Fault f) ps bs r so_far at h is = subst (ReadsParts place d x) (sym is) (index_fault place d x y w n f ps bs so_far at h)
-
-pub after_element : {A : Type 0} (place : Place) (d : ℕ) (x y z n i : List ℕ) (v : Vec ℕ A) (is : Rc (Vec (Part A) A) A) (ps qs rs : List (Part A)) (bs cs : List ℕ)
-    → PartsSoFar place d x y (λ t. parts_then ps (bytes_then bs t)) → an_element n i z ≡ next place d y → ((t : Parts) → parts_then qs t ≡ parts_then ps (bytes_then bs t))
-    → v.items ≡ n → parts_then is.value.items no_parts ≡ bytes_then i no_parts → rs ≡ qs ++ Element v is ∷ [] → cs ≡ []
-    → PartsSoFar place d x z (λ t. parts_then rs (bytes_then cs t))
-after_element place d x y z n i v is ps qs rs bs cs so_far e ended name index pushed none t o h =
-    let inside = parts_then is.value.items no_parts in
-    let one = pushed_part (Element v is) (element n inside t) t ps qs rs bs cs ended (view_Element v is t ∙ ap (λ l. element l inside t) name) pushed none in
-    subst (λ p. IsParts place d p x o) (sym one) (so_far (element n inside t) o (inr (i, z, sym e, index, h)))
 
 pub after_word : {A : Type 0} (context : Context) (d : ℕ) (x y z u : List ℕ) (w : Word A) (ws vs : List (Word A))
     → WordsSoFar context d x y (words_then ws) → ends_command context y ≡ false → ((t : Words) → IsOneWord context d (word_view w t) t y (Ok z)) → vs ≡ ws ++ w ∷ []

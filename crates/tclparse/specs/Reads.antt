@@ -2,9 +2,9 @@
 use Rattle.std.specs.Prelude.{◌≡◌, ℕ, List, Result, Ok, Err, Vec}
 use Rattle.std.specs.Borrow.{Bor}
 use Rattle.std.specs.declared.rc.Rc.{Rc}
-use Rattle.tclparse.specs.Tree.{Parts, no_parts, Words, no_words, word, Commands, no_commands, with_last}
+use Rattle.tclparse.specs.Tree.{Parts, no_parts, element, script, Words, no_words, word, Commands, no_commands, with_last}
 use Rattle.tclparse.specs.Grammar.{Outcome, bracket_closed, index_closed, kind, expands, unprefixed, IsBraced, IsParts, IsWord, IsWords, IsCommands}
-use Rattle.tclparse.specs.View.{parts_then, words_then, commands_then, word_view}
+use Rattle.tclparse.specs.View.{part_view, parts_then, words_then, commands_then, word_view}
 use Rattle.tclparse.specs.declared.tree.Fault.{Fault}
 use Rattle.tclparse.specs.declared.context.Context.{Context}
 use Rattle.tclparse.specs.declared.context.Context.TheVariants.{Brackets}
@@ -20,6 +20,10 @@ use Rattle.tclparse.specs.declared.tree.Command.{Command}
 abbrev pub Read : Type 0 → Type 0 → Type 0
 Read A T = Result (Rc (Vec T A) A × Bor (List ℕ)) ReadError
 
+-- a part, and the text that is left
+abbrev pub ReadPart : Type 0 → Type 0
+ReadPart A = Result (Part A × Bor (List ℕ)) ReadError
+
 -- Each says: the tree and the text that are answered are those of the grammar, or there is a tree up to the fault.
 -- Want of memory says nothing.
 abbrev pub ReadsParts : {A : Type 0} → Place → ℕ → List ℕ → Read A (Part A) → Type 0
@@ -31,17 +35,17 @@ ReadsParts place d x (Err (error.Fault f)) = (ps : Parts) × IsParts place d ps 
 abbrev pub IsIndex : ℕ → Parts → List ℕ → Outcome → Type 0
 IsIndex d ps x o = (r : Outcome) × IsParts Index d ps x r × (index_closed r ≡ o)
 
-abbrev pub ReadsIndex : {A : Type 0} → ℕ → List ℕ → Read A (Part A) → Type 0
-ReadsIndex d x (Ok r) = IsIndex d (parts_then r.0.value.items no_parts) x (Ok r.1.now)
-ReadsIndex d x (Err error.Memory) = Unit {0}
-ReadsIndex d x (Err (error.Fault f)) = (ps : Parts) × IsIndex d ps x (Err f)
+abbrev pub ReadsElement : {A : Type 0} → List ℕ → ℕ → List ℕ → ReadPart A → Type 0
+ReadsElement n d x (Ok r) = (is : Parts) × ((t : Parts) → part_view r.0 t ≡ element n is t) × IsIndex d is x (Ok r.1.now)
+ReadsElement n d x (Err error.Memory) = Unit {0}
+ReadsElement n d x (Err (error.Fault f)) = (is : Parts) × IsIndex d is x (Err f)
 
 -- a script, and the bracket behind it
 abbrev pub IsBracket : ℕ → Commands → List ℕ → Outcome → Type 0
 IsBracket d cs x o = (r : Outcome) × IsCommands Brackets d cs x r × (bracket_closed r ≡ o)
 
-abbrev pub ReadsBracket : {A : Type 0} → ℕ → List ℕ → Read A (Command A) → Type 0
-ReadsBracket d x (Ok r) = IsBracket d (commands_then r.0.value.items no_commands) x (Ok r.1.now)
+abbrev pub ReadsBracket : {A : Type 0} → ℕ → List ℕ → ReadPart A → Type 0
+ReadsBracket d x (Ok r) = (cs : Commands) × ((t : Parts) → part_view r.0 t ≡ script cs t) × IsBracket d cs x (Ok r.1.now)
 ReadsBracket d x (Err error.Memory) = Unit {0}
 ReadsBracket d x (Err (error.Fault f)) = (cs : Commands) × IsBracket d cs x (Err f)
 

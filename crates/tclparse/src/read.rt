@@ -1,11 +1,11 @@
 //! One pass over the text, from left to right.
 
 ghost use Rattle.std.specs.Prelude.{◌≡◌, ℕ, ◌<◌, ◌≤◌, length, [], false, true, IfOk, OnOk, Ok, Err};
-ghost use Rattle.tclparse.specs.Tree.{Parts, no_parts, Words, Commands, no_commands, bytes_then};
-ghost use Rattle.tclparse.specs.View.{parts_then, words_then, commands_then};
+ghost use Rattle.tclparse.specs.Tree.{Parts, no_parts, element, Words, Commands, no_commands, bytes_then};
+ghost use Rattle.tclparse.specs.View.{part_view, parts_then, words_then, commands_then};
 ghost use Rattle.tclparse.specs.Context.{ends_script, ends_command, ends_word};
 ghost use Rattle.tclparse.specs.Piece.{ends_parts};
-ghost use Rattle.tclparse.specs.Reads.{ReadsParts, ReadsIndex, ReadsBracket, ReadsBraced, ReadsBody, ReadsWord, ReadsWords, ReadsTo};
+ghost use Rattle.tclparse.specs.Reads.{ReadsParts, ReadsElement, ReadsBracket, ReadsBraced, ReadsBody, ReadsWord, ReadsWords, ReadsTo};
 
 use crate::braces::fold_lines;
 use crate::context::{Context, ends_command, ends_script, ends_word};
@@ -90,6 +90,19 @@ fn literal_parts<A: Allocator + Copy>(
     Ok(Rc::new(alloc, parts)?)
 }
 
+// The element of the array of that name at an index that is written out.
+fn literal_element<A: Allocator + Copy>(
+    alloc: A,
+    name: &[u8],
+    index: &[u8],
+) -> Result<Part<A>, AllocError>
+    ensures { IfOk result (λ p. (t : Parts) → part_view p t ≡ element name.now (bytes_then index.now no_parts) t) }
+{
+    let name = name.to_vec(alloc)?;
+    let index = literal_parts(alloc, index.to_vec(alloc)?)?;
+    Ok(Part::Element(name, index))
+}
+
 // Behind an open brace, a word up to its end.
 fn read_braces<A: Allocator + Copy>(
     alloc: A,
@@ -126,59 +139,43 @@ fn read_parts<A: Allocator + Copy>(
     let mut literal = Vec::new(alloc);
     let mut bytes = text;
     loop {
-        match next(place, depth, bytes) {
+        let (part, rest) = match next(place, depth, bytes) {
             Piece::End => {
                 end_literal(alloc, &mut parts, &mut literal)?;
-                let parts = Rc::new(alloc, parts)?;
-                return Ok((parts, bytes));
+                return Ok((Rc::new(alloc, parts)?, bytes));
             }
             Piece::Fault(fault) => return Err(ReadError::Fault(fault)),
             Piece::Byte(c, rest) => {
                 literal.push(c)?;
                 bytes = rest;
+                continue;
             }
-            Piece::Name(name, rest) => {
-                end_literal(alloc, &mut parts, &mut literal)?;
-                parts.push(Part::Variable(name.to_vec(alloc)?))?;
-                bytes = rest;
-            }
-            Piece::Index(name, inner) => {
-                end_literal(alloc, &mut parts, &mut literal)?;
-                let name = name.to_vec(alloc)?;
-                let (index, rest) = read_index(alloc, depth - 1, inner)?;
-                parts.push(Part::Element(name, index))?;
-                bytes = rest;
-            }
-            Piece::Element(name, index, rest) => {
-                end_literal(alloc, &mut parts, &mut literal)?;
-                let name = name.to_vec(alloc)?;
-                let index = literal_parts(alloc, index.to_vec(alloc)?)?;
-                parts.push(Part::Element(name, index))?;
-                bytes = rest;
-            }
-            Piece::Bracket(inner) => {
-                end_literal(alloc, &mut parts, &mut literal)?;
-                let (commands, rest) = read_bracket(alloc, depth - 1, inner)?;
-                parts.push(Part::Bracket(commands))?;
-                bytes = rest;
-            }
-        }
+            Piece::Name(name, rest) => (Part::Variable(name.to_vec(alloc)?), rest),
+            Piece::Index(name, inner) => read_element(alloc, depth - 1, name, inner)?,
+            Piece::Element(name, index, rest) => (literal_element(alloc, name, index)?, rest),
+            Piece::Bracket(inner) => read_bracket(alloc, depth - 1, inner)?,
+        };
+        end_literal(alloc, &mut parts, &mut literal)?;
+        parts.push(part)?;
+        bytes = rest;
     }
 }
 
-// The parts behind an open parenthesis, and the text behind its end.
+// An element of the array of that name whose index stands behind an open parenthesis, and the text behind the index's end.
 #[cycle(read)]
-fn read_index<A: Allocator + Copy>(
+fn read_element<'a, A: Allocator + Copy>(
     alloc: A,
     depth: u32,
-    text: &[u8],
-) -> Result<(Shared<Part<A>, A>, &[u8]), ReadError>
-    ensures tree { ReadsIndex depth text.now result }
+    name: &[u8],
+    text: &'a [u8],
+) -> Result<(Part<A>, &'a [u8]), ReadError>
+    ensures tree { ReadsElement name.now depth text.now result }
     ensures shorter { IfOk result (λ r. length r.1.now ≤ length text.now) }
 {
-    let (parts, end) = read_parts(alloc, Place::Index, depth, text)?;
+    let name = name.to_vec(alloc)?;
+    let (index, end) = read_parts(alloc, Place::Index, depth, text)?;
     let rest = close_index(end)?;
-    Ok((parts, rest))
+    Ok((Part::Element(name, index), rest))
 }
 
 // The script behind an open bracket, and the text behind its end.
@@ -187,13 +184,13 @@ fn read_bracket<A: Allocator + Copy>(
     alloc: A,
     depth: u32,
     text: &[u8],
-) -> Result<(Shared<Command<A>, A>, &[u8]), ReadError>
+) -> Result<(Part<A>, &[u8]), ReadError>
     ensures tree { ReadsBracket depth text.now result }
     ensures shorter { IfOk result (λ r. length r.1.now ≤ length text.now) }
 {
     let (commands, end) = read_commands(alloc, Context::Brackets, depth, text)?;
     let rest = close_bracket(end?)?;
-    Ok((commands, rest))
+    Ok((Part::Bracket(commands), rest))
 }
 
 // The parts of a word without its prefix.

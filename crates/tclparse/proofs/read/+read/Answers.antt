@@ -1,12 +1,14 @@
-use Rattle.std.proofs.Common.{rules, arith, ◌≡◌, ◌<◌, length, Ok, Err, sym, refl, ap, ◌∙◌}
-use Rattle.tclparse.specs.Tree.{no_parts, bytes_then}
-use Rattle.tclparse.specs.View.{parts_then}
+use Rattle.std.proofs.Common.{rules, arith, ◌≡◌, ◌<◌, length, Ok, Err, sym, refl, ap, subst, ◌∙◌}
+use Rattle.tclparse.specs.Tree.{no_parts, variable, element, script, no_commands, bytes_then}
+use Rattle.tclparse.specs.View.{parts_then, commands_then}
 use Rattle.tclparse.specs.Piece.{next, fault}
 use Rattle.tclparse.specs.Grammar.{IsParts}
-use Rattle.tclparse.proofs.Steps.{after_byte, after_name, after_index, after_element, after_script, after_word, after_command, command_fault, bracket_error, index_error, word_error}
+use Rattle.tclparse.proofs.Steps.{StandsAt, after_byte, after_part, name_part, index_part, element_part, script_part, after_word, after_command, command_fault, bracket_error, index_error, word_error}
 use Rattle.tclparse.proofs.Exits.{passed_on}
 use Rattle.tclparse.proofs.WordKinds.{quoted_word, one_word}
+use Rattle.tclparse.proofs.Trees.{view_Variable, view_Bracket, view_Element}
 use Rattle.tclparse.proofs.read.+read.Goals as goal
+use Rattle.tclparse.proofs.read.+read.Goals.{read_parts-in-Name+in_ok-to_vec-in-Name, read_parts-in-Index+in_ok-read_element-in-Index, read_parts-in-Element+in_ok-literal_element-in-Element, read_parts-in-Bracket+in_ok-part-in-Bracket}
 
 pub read_parts-returns-in-Fault-clause-tree : goal.read_parts-returns-in-Fault-clause-tree
 read_parts-returns-in-Fault-clause-tree g t c =
@@ -25,71 +27,69 @@ read_parts-loop-alloc-preserved-in-Byte g t c =
       moves = λ _ h. absurd (omega (arith, less, h, l.invariant.shorter));
     }
 
-pub read_parts-loop-alloc-preserved-in-Name : goal.read_parts-loop-alloc-preserved-in-Name
-read_parts-loop-alloc-preserved-in-Name g t c =
-    let l = c.loop-alloc in
-    let less : length c.in-Name.rest.now < length l.bytes.now = c.in-Name.ensures.shorter in
-    record {
-      tree = after_name c.args.place c.args.depth c.args.text.now l.bytes.now c.in-Name.rest.now c.in-Name.name.now c.in_ok-to_vec-in-Name.field-0
-          l.parts.items c.end_literal-in-Name.new.parts.items c.push-in-Name.new.self.items l.literal.items c.end_literal-in-Name.new.literal.items
-          l.invariant.tree c.in-Name.ensures.piece c.in_ok-end_literal-in-Name.ensures.parts (search rules) (search rules) c.in_ok-end_literal-in-Name.ensures.empty;
-      shorter = omega (arith, less, l.invariant.shorter);
-      moves = λ _ h. absurd (omega (arith, less, h, l.invariant.shorter));
-    }
-
-pub read_parts-loop-alloc-preserved-in-Index : goal.read_parts-loop-alloc-preserved-in-Index
-read_parts-loop-alloc-preserved-in-Index g t c =
-    let l = c.loop-alloc in
-    let less : length c.in-Index.inner.now < length l.bytes.now = c.in-Index.ensures.shorter in
-    let inner = c.in_ok-index-in-Index in
-    record {
-      tree = after_index c.args.place c.args.depth c.args.text.now l.bytes.now c.in-Index.inner.now inner.rest.now c.in-Index.name.now c.in_ok-name-in-Index.name inner.index
-          l.parts.items c.end_literal-in-Index.new.parts.items c.push-in-Index.new.self.items l.literal.items c.end_literal-in-Index.new.literal.items
-          l.invariant.tree c.in-Index.ensures.piece c.in_ok-end_literal-in-Index.ensures.parts (search rules) inner.ensures.tree (search rules) c.in_ok-end_literal-in-Index.ensures.empty;
-      shorter = omega (arith, less, l.invariant.shorter, inner.ensures.shorter);
-      moves = λ _ h. absurd (omega (arith, less, h, l.invariant.shorter, inner.ensures.shorter));
-    }
-
-pub read_parts-returns-in_err-index-in-Index-clause-tree : goal.read_parts-returns-in_err-index-in-Index-clause-tree
-read_parts-returns-in_err-index-in-Index-clause-tree g t c =
-    let l = c.loop-alloc in
-    let fails = c.in_err-index-in-Index in
-    index_error c.args.place c.args.depth c.args.text.now l.bytes.now c.in-Index.inner.now c.in-Index.name.now fails.field-0.0 l.parts.items l.literal.items _
-    l.invariant.tree c.in-Index.ensures.piece fails.ensures.tree (passed_on _ _ c.from_residual-in_err-index-in-Index.ensures.1)
-
-pub read_parts-loop-alloc-preserved-in-Element : goal.read_parts-loop-alloc-preserved-in-Element
-read_parts-loop-alloc-preserved-in-Element g t c =
-    let l = c.loop-alloc in
-    let less : length c.in-Element.rest.now < length l.bytes.now = c.in-Element.ensures.shorter in
-    let made = c.in_ok-index-in-Element in
-    let index : parts_then made.index.value.items no_parts ≡ bytes_then c.in-Element.index.now no_parts = made.ensures no_parts ∙ ap (λ l. bytes_then l no_parts) (search rules) in
-    record {
-      tree = after_element c.args.place c.args.depth c.args.text.now l.bytes.now c.in-Element.rest.now c.in-Element.name.now c.in-Element.index.now c.in_ok-name-in-Element.name made.index
-          l.parts.items c.end_literal-in-Element.new.parts.items c.push-in-Element.new.self.items l.literal.items c.end_literal-in-Element.new.literal.items
-          l.invariant.tree c.in-Element.ensures.piece c.in_ok-end_literal-in-Element.ensures.parts (search rules) index (search rules) c.in_ok-end_literal-in-Element.ensures.empty;
-      shorter = omega (arith, less, l.invariant.shorter);
-      moves = λ _ h. absurd (omega (arith, less, h, l.invariant.shorter));
-    }
-
 pub read_parts-loop-alloc-preserved : goal.read_parts-loop-alloc-preserved
 read_parts-loop-alloc-preserved g t c =
     let l = c.loop-alloc in
-    let less : length c.in-Bracket.inner.now < length l.bytes.now = c.in-Bracket.ensures.shorter in
-    let inner = c.in_ok-commands-in-Bracket in
+    let stands : StandsAt c.args.place c.args.depth l.bytes.now c.match-next.part = elim c.match-next.branch [
+      | read_parts-in-Name+in_ok-to_vec-in-Name w ↦
+          let n = w.in-Name.name.now in
+          let name : w.in_ok-to_vec-in-Name.field-0.items ≡ n = search rules in
+          subst (StandsAt c.args.place c.args.depth l.bytes.now) (sym w.part-is)
+          (variable n, name_part c.args.place c.args.depth l.bytes.now w.in-Name.rest.now n w.in-Name.ensures.piece, (λ u. view_Variable w.in_ok-to_vec-in-Name.field-0 u ∙ ap (λ v. variable v u) name), w.in-Name.ensures.shorter)
+      | read_parts-in-Index+in_ok-read_element-in-Index w ↦
+          let n = w.in-Index.name.now in
+          let read = w.in_ok-read_element-in-Index.ensures.tree in
+          let less = w.in_ok-read_element-in-Index.ensures.shorter in
+          let before = w.in-Index.ensures.shorter in
+          subst (StandsAt c.args.place c.args.depth l.bytes.now) (sym w.part-is)
+          (element n read.0, index_part c.args.place c.args.depth l.bytes.now w.in-Index.inner.now _ n read.0 w.in-Index.ensures.piece read.2, read.1, omega (arith, less, before))
+      | read_parts-in-Element+in_ok-literal_element-in-Element w ↦
+          let n = w.in-Element.name.now in
+          let i = w.in-Element.index.now in
+          subst (StandsAt c.args.place c.args.depth l.bytes.now) (sym w.part-is)
+          (element n (bytes_then i no_parts), element_part c.args.place c.args.depth l.bytes.now w.in-Element.rest.now n i w.in-Element.ensures.piece, w.in_ok-literal_element-in-Element.ensures, w.in-Element.ensures.shorter)
+      | read_parts-in-Bracket+in_ok-part-in-Bracket w ↦
+          let read = w.in_ok-part-in-Bracket.ensures.tree in
+          let less = w.in_ok-part-in-Bracket.ensures.shorter in
+          let before = w.in-Bracket.ensures.shorter in
+          subst (StandsAt c.args.place c.args.depth l.bytes.now) (sym w.part-is)
+          (script read.0, script_part c.args.place c.args.depth l.bytes.now w.in-Bracket.inner.now _ read.0 w.in-Bracket.ensures.piece read.2, read.1, omega (arith, less, before))
+    ] in
     record {
-      tree = after_script c.args.place c.args.depth c.args.text.now l.bytes.now c.in-Bracket.inner.now inner.rest.now inner.commands
-          l.parts.items c.end_literal-in-Bracket.new.parts.items c.push-in-Bracket.new.self.items l.literal.items c.end_literal-in-Bracket.new.literal.items
-          l.invariant.tree c.in-Bracket.ensures.piece c.in_ok-end_literal-in-Bracket.ensures.parts inner.ensures.tree (search rules) c.in_ok-end_literal-in-Bracket.ensures.empty;
-      shorter = omega (arith, less, l.invariant.shorter, inner.ensures.shorter);
-      moves = λ _ h. absurd (omega (arith, less, h, l.invariant.shorter, inner.ensures.shorter));
+      tree = after_part c.args.place c.args.depth c.args.text.now l.bytes.now c.match-next.part.1.now c.match-next.part.0 stands.0
+          l.parts.items c.end_literal-in-loop-alloc.new.parts.items c.push-in-loop-alloc.new.self.items l.literal.items c.end_literal-in-loop-alloc.new.literal.items
+          l.invariant.tree stands.1 stands.2 c.in_ok-end_literal.ensures.parts (search rules) c.in_ok-end_literal.ensures.empty;
+      shorter = omega (arith, stands.3, l.invariant.shorter);
+      moves = λ _ h. absurd (omega (arith, stands.3, h, l.invariant.shorter));
     }
 
-pub read_parts-returns-in_err-commands-in-Bracket-clause-tree : goal.read_parts-returns-in_err-commands-in-Bracket-clause-tree
-read_parts-returns-in_err-commands-in-Bracket-clause-tree g t c =
+pub read_parts-returns-in_err-read_element-in-Index-clause-tree :
+    goal.read_parts-returns-in_err-read_element-in-Index-clause-tree
+read_parts-returns-in_err-read_element-in-Index-clause-tree g t c =
     let l = c.loop-alloc in
-    let fails = c.in_err-commands-in-Bracket in
+    let fails = c.in_err-read_element-in-Index in
+    index_error c.args.place c.args.depth c.args.text.now l.bytes.now c.in-Index.inner.now c.in-Index.name.now fails.field-0.0 l.parts.items l.literal.items _
+    l.invariant.tree c.in-Index.ensures.piece fails.ensures.tree (passed_on _ _ c.from_residual-in_err-read_element-in-Index.ensures.1)
+
+pub read_parts-returns-in_err-part-in-Bracket-clause-tree :
+    goal.read_parts-returns-in_err-part-in-Bracket-clause-tree
+read_parts-returns-in_err-part-in-Bracket-clause-tree g t c =
+    let l = c.loop-alloc in
+    let fails = c.in_err-part-in-Bracket in
     bracket_error c.args.place c.args.depth c.args.text.now l.bytes.now c.in-Bracket.inner.now fails.field-0.0 l.parts.items l.literal.items _
-    l.invariant.tree c.in-Bracket.ensures.piece fails.ensures.tree (passed_on _ _ c.from_residual-in_err-commands-in-Bracket.ensures.1)
+    l.invariant.tree c.in-Bracket.ensures.piece fails.ensures.tree (passed_on _ _ c.from_residual-in_err-part-in-Bracket.ensures.1)
+
+pub read_bracket-returns-clause-tree : goal.read_bracket-returns-clause-tree
+read_bracket-returns-clause-tree g t c =
+    let read = c.in_ok-commands in
+    (commands_then read.commands.value.items no_commands, (λ t. view_Bracket read.commands t), search rules)
+
+pub read_element-returns-clause-tree : goal.read_element-returns-clause-tree
+read_element-returns-clause-tree g t c =
+    let name : c.in_ok-name.name.items ≡ c.args.name.now = search rules in
+    let read = c.in_ok-index in
+    let inside = parts_then read.index.value.items no_parts in
+    (inside, (λ t. view_Element c.in_ok-name.name read.index t ∙ ap (λ n. element n inside t) name), search rules)
 
 pub read_body-returns-in_err-rest-in-Quotes-clause-tree : goal.read_body-returns-in_err-rest-in-Quotes-clause-tree
 read_body-returns-in_err-rest-in-Quotes-clause-tree g t c =

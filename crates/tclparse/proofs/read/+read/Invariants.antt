@@ -9,8 +9,8 @@ use Rattle.tclparse.proofs.read.+read.Given as goal
 abbrev pub decreases-read_parts : goal.decreases-read_parts
 decreases-read_parts g l = 7 * l.depth
 
-abbrev pub decreases-read_index : goal.decreases-read_index
-decreases-read_index g l = 7 * l.depth + 1
+abbrev pub decreases-read_element : goal.decreases-read_element
+decreases-read_element g l = 7 * l.depth + 1
 
 abbrev pub decreases-read_body : goal.decreases-read_body
 decreases-read_body g l = 7 * l.depth + 2
