@@ -2,6 +2,7 @@
 use Rattle.std.specs.Prelude.{◌≡◌, ℕ, ◌+◌, ◌^◌, ◌<◌, ◌≤◌, List, [], map, Option, Some, None, ◌*◌, length, Result, Ok, Err, true}
 use Rattle.std.specs.declared.vec.Vec.{Vec}
 use Rattle.acts.specs.declared.id.Id.{Id}
+use Rattle.acts.specs.declared.row.Row.{Row}
 use Rattle.acts.specs.declared.act.Timer.TheVariants as timer
 use Rattle.acts.specs.Deed.{Deed, Reply, deed_of}
 use Rattle.acts.specs.Deed as said
@@ -41,6 +42,10 @@ out_bytes _ = []
 abbrev pub words_spawned : Deed → List (List ℕ)
 words_spawned (said.Spawn id words) = words
 words_spawned _ = []
+
+abbrev pub rows_waited : Deed → List Row
+rows_waited (said.Wait rows timer) = rows
+rows_waited _ = []
 
 -- what is done with the answer to an act, once the act is counted
 abbrev pub next_of : {A : Type 0} → Waiting A → Deed → Status → Reply → Plain

@@ -11,7 +11,7 @@ ghost use Rattle.engine.specs.Outcome as outcome;
 ghost use Rattle.engine.specs.Plain.{gives, replied, written};
 ghost use Rattle.engine.specs.Turn as turns;
 ghost use Rattle.engine.specs.Status.{Status, counted};
-ghost use Rattle.engine.specs.View.{FitsState, HasOutcome, NowHolds, Shows, next_of, out_bytes, pending, pending_of, words_of, words_spawned, worth};
+ghost use Rattle.engine.specs.View.{FitsState, HasOutcome, NowHolds, Shows, next_of, out_bytes, pending, pending_of, rows_waited, words_of, words_spawned, worth};
 
 use crate::course::{Now, Waiting, empty, raises, stops};
 use crate::outcome::Stop;
@@ -252,7 +252,9 @@ fn spawned_words<A: Allocator>(alloc: A, act: Act<A>) -> Vec<Vec<u8, A>, A>
 }
 
 /// The vector of the rows of a wait, for its room.
-fn waited_rows<A: Allocator>(alloc: A, act: Act<A>) -> Vec<Row, A> {
+fn waited_rows<A: Allocator>(alloc: A, act: Act<A>) -> Vec<Row, A>
+    ensures { result.items ≡ rows_waited (deed_of act) }
+{
     match act {
         Act::Wait { rows, timer: _ } => rows,
         _ => Vec::new(alloc),
