@@ -3,5 +3,6 @@ mod Digits
 mod Faults
 mod Limits
 mod Lines
+mod Plays
 mod Records
 mod Sinks

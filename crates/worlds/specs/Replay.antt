@@ -1,7 +1,8 @@
 -- What a replay answers and writes.
-use Rattle.std.specs.Prelude.{◌≡◌, ℕ, nat_le, if◌then◌else◌, List, [], ◌∷◌, length, take}
+use Rattle.std.specs.Prelude.{◌≡◌, ℕ, Bool, nat_le, if◌then◌else◌, List, [], ◌∷◌, length, take}
 use Rattle.acts.specs.Deed.{Deed, Reply}
 use Rattle.acts.specs.Deed as said
+use Rattle.worlds.specs.Sink.{Takes}
 
 -- the first of the answers is given, and the others are left; where there is none, NoMore is
 abbrev pub Answers : List Reply → Reply → List Reply → Type 0
@@ -21,3 +22,11 @@ abbrev pub Writes : {O E : Type 0} → (O → List ℕ → O → Type 0) → (E 
 Writes out err before (said.Out text) reply after = out before.0 (gone_out text reply) after.0 × (after.1 ≡ before.1)
 Writes out err before (said.Err text) reply after = (after.0 ≡ before.0) × err before.1 (gone_out text reply) after.1
 Writes out err before _ reply after = (after.0 ≡ before.0) × (after.1 ≡ before.1)
+
+-- A step of a replay, which has the answers that are left and the two writers. `out` and `err` say whether
+-- a put may lead from one state of a writer to another and add these bytes, `out_failed` and `err_failed`
+-- whether it has failed.
+abbrev pub Replays : {O E : Type 0} → (O → List ℕ → O → Type 0) → (O → Bool) → (E → List ℕ → E → Type 0) → (E → Bool)
+    → List Reply × (O × E) → Deed → Reply → List Reply × (O × E) → Type 0
+Replays out out_failed err err_failed before act reply after =
+    Answers before.0 reply after.0 × Writes (Takes out out_failed) (Takes err err_failed) before.1 act reply after.1

@@ -1,6 +1,7 @@
 //! A run under replay, as a call of the program.
 
-ghost use Rattle.std.specs.Prelude.{◌≡◌, false, if◌then◌else◌};
+ghost use Rattle.std.specs.Prelude.{◌≡◌, ◌⊎◌, false, if◌then◌else◌};
+ghost use Rattle.worlds.specs.Play.{Plays, Refuses};
 ghost use Rattle.worlds.specs.Sink.{Takes};
 ghost use Rattle.worlds.specs.Status.{line_of, status_of};
 
@@ -26,6 +27,8 @@ pub fn play<A: Allocator + Copy, O: Sink + Drop, E: Sink + Drop>(
 ) -> u8
     requires out { O.has_failed out ≡ false }
     requires err { E.has_failed err ≡ false }
+    ensures { Refuses O.adds O.has_failed E.adds E.has_failed name.entry «record».now err result
+        ⊎ Plays O.adds O.has_failed E.adds E.has_failed script.now args.now limits.ticks «record».now (out, err) result }
 {
     let answers = match read_record(alloc, record) {
         Ok(answers) => answers,

@@ -3,8 +3,7 @@
 ghost use Rattle.std.specs.Prelude.{◌≡◌, ◌||◌, ℕ, List, map, false};
 ghost use Rattle.std.specs.Vec.Iter.{into_iter_items};
 ghost use Rattle.acts.specs.Deed.{deed_of, reply_of};
-ghost use Rattle.worlds.specs.Replay.{Answers, Writes, gone_out};
-ghost use Rattle.worlds.specs.Sink.{Takes};
+ghost use Rattle.worlds.specs.Replay.{Replays, gone_out};
 
 use crate::sink::{Sink, put_all};
 use acts::{Act, Answer, World};
@@ -60,8 +59,8 @@ impl<A: Allocator, O: Drop, E> Replay<A, O, E> {
 
 impl<A: Allocator, O: Sink, E: Sink> World<A> for Replay<A, O, E> {
     ghost step = { λ before act answer after.
-        Answers (map reply_of (into_iter_items before.answers)) answer (map reply_of (into_iter_items after.answers))
-        × Writes (Takes O.adds O.has_failed) (Takes E.adds E.has_failed) (before.out, before.err) act answer (after.out, after.err) };
+        Replays O.adds O.has_failed E.adds E.has_failed (map reply_of (into_iter_items before.answers), (before.out, before.err)) act answer
+        (map reply_of (into_iter_items after.answers), (after.out, after.err)) };
 
     fn act(&mut self, act: &Act<A>) -> Answer<A> {
         let answer = self.answers.next().unwrap_or(Answer::NoMore);
