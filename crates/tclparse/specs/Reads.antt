@@ -2,9 +2,9 @@
 use Rattle.std.specs.Prelude.{◌≡◌, ℕ, List, Result, Ok, Err, Vec}
 use Rattle.std.specs.Borrow.{Bor}
 use Rattle.std.specs.declared.rc.Rc.{Rc}
-use Rattle.tclparse.specs.Tree.{Parts, no_parts, element, script, Words, no_words, word, Commands, no_commands, with_last}
+use Rattle.tclparse.specs.Tree.{Parts, no_parts, element, script, Words, no_words, word, Commands, with_last}
 use Rattle.tclparse.specs.Grammar.{Outcome, bracket_closed, index_closed, kind, expands, unprefixed, IsBraced, IsParts, IsWord, IsWords, IsCommands}
-use Rattle.tclparse.specs.View.{part_view, parts_then, words_then, commands_then, word_view}
+use Rattle.tclparse.specs.View.{part_view, parts_then, words_then, word_view}
 use Rattle.tclparse.specs.declared.tree.Fault.{Fault}
 use Rattle.tclparse.specs.declared.context.Context.{Context}
 use Rattle.tclparse.specs.declared.context.Context.TheVariants.{Brackets}
@@ -14,7 +14,6 @@ use Rattle.tclparse.specs.declared.read.ReadError.{ReadError}
 use Rattle.tclparse.specs.declared.read.ReadError.TheVariants as error
 use Rattle.tclparse.specs.declared.tree.Part.{Part}
 use Rattle.tclparse.specs.declared.tree.Word.{Word}
-use Rattle.tclparse.specs.declared.tree.Command.{Command}
 
 -- a list behind its counted pointer, and the text that is left
 abbrev pub Read : Type 0 → Type 0 → Type 0

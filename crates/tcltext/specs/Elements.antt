@@ -1,5 +1,5 @@
 -- Which list a text is, and which fault comes first in a text that is none (Tcl_SplitList(3)).
-use Rattle.std.specs.Prelude.{◌≡◌, ℕ, ◌<◌, ◌==◌, List, [], ◌∷◌, ◌++◌, length, Bool, ◌⊎◌, Option, Some, None, Result, Ok, Err, if◌then◌else◌}
+use Rattle.std.specs.Prelude.{◌≡◌, ℕ, ◌<◌, ◌==◌, List, [], ◌∷◌, length, Bool, ◌⊎◌, Option, Some, None, Result, Ok, Err, if◌then◌else◌}
 use Rattle.tcltext.specs.declared.escape.EscapeNotHere.{EscapeNotHere}
 use Rattle.tcltext.specs.declared.list.ListFault.{ListFault}
 use Rattle.tcltext.specs.declared.list.ListFault.TheVariants as fault
