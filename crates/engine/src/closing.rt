@@ -1,6 +1,6 @@
 //! The acts that close a run (this project's own rule).
 
-ghost use Rattle.std.specs.Prelude.{◌≡◌, ℕ, ◌+◌, ◌<◌, ◌≤◌, ◌^◌, length, IfOk};
+ghost use Rattle.std.specs.Prelude.{◌≡◌, ℕ, ◌+◌, ◌<◌, ◌≤◌, ◌^◌, List, length, IfOk, IfErr};
 ghost use Rattle.acts.specs.Deed.{deed_of, reply_of};
 ghost use Rattle.engine.specs.Closing as closes;
 ghost use Rattle.engine.specs.Outcome as outcomes;
@@ -38,6 +38,7 @@ pub fn close_run<A: Allocator + Copy>(
     ensures owes { IfOk result (λ phase. owed phase state.new ≤ 1 + worth state.old) }
     ensures told { IfOk result IsTold }
     ensures holds { IfOk result PhaseHolds }
+    ensures fails { IfErr result (λ _. (text : List ℕ) × (outcome_of outcome ≡ outcomes.Raises text)) }
 {
     match outcome {
         Ok(_) => Ok(close_next(state, End::Exit(0))),
