@@ -1,6 +1,6 @@
 //! The turn of expect (expect(1), expect).
 
-ghost use Rattle.std.specs.Prelude.{◌≡◌, ℕ, ◌+◌, ◌≤◌, List, IfOk, Some, None};
+ghost use Rattle.std.specs.Prelude.{◌≡◌, ℕ, ◌+◌, ◌≤◌, ◌⊎◌, List, IfOk, IfErr, Some, None, vec_capacity};
 ghost use Rattle.matchbuf.specs.Journal.{Record, window};
 ghost use Rattle.engine.specs.Status.{Status, journal_of};
 ghost use Rattle.engine.specs.Turn as turns;
@@ -35,6 +35,7 @@ pub fn tested<A: Allocator + Copy>(
     ensures left { state.new.left ≤ state.old.left }
     ensures pays { IfOk result (λ now. pending now + worth state.new ≤ worth state.old) }
     ensures holds { IfOk result NowHolds }
+    ensures fails { (s : Status) → FitsState state.old s → IfErr result (λ _. (vec_capacity turn.rows ≡ 0) ⊎ (journal_of s.peers turn.id ≡ None)) }
 {
     match state.table.select(turn.id, &turn.pattern) {
         Selection::NotOpen => {
@@ -59,6 +60,7 @@ fn waits<A: Allocator>(
     ensures left { state.new.left ≤ state.old.left }
     ensures pays { IfOk result (λ now. pending now + worth state.new ≤ worth state.old) }
     ensures holds { IfOk result NowHolds }
+    ensures fails { IfErr result (λ _. vec_capacity turn.rows ≡ 0) }
 {
     if state.left == 0 {
         return Ok(stops(Stop::Limit));
