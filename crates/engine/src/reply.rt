@@ -1,6 +1,6 @@
 //! What the answer to an act leads to.
 
-ghost use Rattle.std.specs.Prelude.{◌≡◌, ◌+◌, ◌≤◌, ◌<◌, ◌^◌, [], IfOk};
+ghost use Rattle.std.specs.Prelude.{◌≡◌, ◌+◌, ◌≤◌, ◌<◌, ◌^◌, ◌⊎◌, [], None, IfOk, IfErr, vec_capacity};
 ghost use Rattle.acts.specs.Deed.{deed_of, reply_of};
 ghost use Rattle.acts.specs.Flaw as flaw;
 ghost use Rattle.acts.specs.Flaw.{text_of};
@@ -10,7 +10,7 @@ ghost use Rattle.engine.specs.Course as course;
 ghost use Rattle.engine.specs.Outcome as outcome;
 ghost use Rattle.engine.specs.Plain.{gives, replied, written};
 ghost use Rattle.engine.specs.Turn as turns;
-ghost use Rattle.engine.specs.Status.{Status, counted};
+ghost use Rattle.engine.specs.Status.{Status, counted, journal_of};
 ghost use Rattle.engine.specs.View.{FitsState, HasOutcome, NowHolds, Shows, next_of, out_bytes, pending, pending_of, rows_waited, words_of, words_spawned, worth};
 
 use crate::course::{Now, Waiting, empty, raises, stops};
@@ -207,6 +207,7 @@ fn logged<A: Allocator + Copy>(
     ensures acts { state.new.acts ≡ state.old.acts }
     ensures pays { IfOk result (λ now. pending now + worth state.new ≤ worth state.old) }
     ensures holds { IfOk result NowHolds }
+    ensures fails { (s : Status) → FitsState state.old s → IfErr result (λ _. (vec_capacity turn.rows ≡ 0) ⊎ (journal_of (turns.arrived from bytes.items s).peers turn.id ≡ None)) }
 {
     match answer {
         Answer::Failed(_) => Ok(stops(Stop::WriterFailed)),
@@ -226,6 +227,7 @@ fn arrived<A: Allocator + Copy>(
     ensures acts { state.new.acts ≡ state.old.acts }
     ensures pays { IfOk result (λ now. pending now + worth state.new ≤ worth state.old) }
     ensures holds { IfOk result NowHolds }
+    ensures fails { (s : Status) → FitsState state.old s → IfErr result (λ _. (vec_capacity turn.rows ≡ 0) ⊎ (journal_of (turns.arrived from bytes.items s).peers turn.id ≡ None)) }
 {
     state.table.arrive(from, bytes);
     tested(alloc, state, turn, Timer::Running)
