@@ -51,10 +51,11 @@ pub after_part : {A : Type 0} (place : Place) (d : ℕ) (x y z : List ℕ) (p : 
 after_part place d x y z p front ps qs rs bs cs so_far one is ended pushed none t o h =
     subst (λ q. IsParts place d q x o) (sym (pushed_part p (front t) t ps qs rs bs cs ended (is t) pushed none)) (so_far (front t) o (one t o h))
 
--- The part p stands at the front of the text y and leaves z, less than y; front is what it puts before the parts after it.
+-- The part r.0 stands at the front of the text y and leaves r.1, less than y; front is what it puts before the parts after it.
 abbrev pub StandsAt : {A : Type 0} → Place → ℕ → List ℕ → Part A × Bor (List ℕ) → Type 0
 StandsAt place d y r = (front : Parts → Parts) × PartsSoFar place d y r.1.now front × ((t : Parts) → part_view r.0 t ≡ front t) × (length r.1.now < length y)
 
+-- what each piece puts before the parts after it
 pub name_part : (place : Place) (d : ℕ) (y z n : List ℕ) → a_name n z ≡ next place d y → PartsSoFar place d y z (variable n)
 name_part place d y z n e t o h = (z, sym e, h)
 
