@@ -2,9 +2,9 @@
 
 use crate::course::{TICKS, course, lines, with_end};
 use crate::row::{Reply, answers};
+use crate::way::{WAYS, Way};
 use crate::world::Scripted;
 use acts::{Act, Answer, Limits, World};
-use engine::run;
 use refusal::Refusing;
 use std::alloc::{AllocError, Allocator, Global};
 use std::test::Fail;
@@ -25,9 +25,7 @@ fn many<A: Allocator + Copy>(
 #[test]
 fn ends_at_the_limit_where_bytes_come_for_ever(rt: HostRuntime) -> Result<(), Fail> {
     let alloc = rt.alloc();
-    let replies = many(alloc, 100, 1)?;
     let script = "spawn -noecho cat; expect -ex q";
-    let told = course(alloc, script, 5, Scripted::new(alloc, replies))?;
     let wanted = lines(
         alloc,
         &[
@@ -42,7 +40,11 @@ fn ends_at_the_limit_where_bytes_come_for_ever(rt: HostRuntime) -> Result<(), Fa
             "Limit",
         ],
     )?;
-    assert_eq!(rt; told.as_str(), wanted.as_str());
+    for way in WAYS {
+        let world = Scripted::new(alloc, many(alloc, 100, 1)?);
+        let told = course(way, alloc, script, 5, world)?;
+        assert_eq!(rt; told.as_str(), wanted.as_str(), "{way:?}");
+    }
     Ok(())
 }
 
@@ -67,6 +69,7 @@ impl<A: Allocator> World<A> for Starved<'_, A> {
 
 /// The course of a script whose answers are made before memory is refused.
 fn starved_course<A: Allocator + Copy>(
+    way: Way,
     log: Global,
     alloc: A,
     heap: &Refusing<Global>,
@@ -77,8 +80,7 @@ fn starved_course<A: Allocator + Copy>(
         inner: Scripted::new(log, many(alloc, 1000, 1000)?),
         heap,
     };
-    let args: Vec<Vec<u8, A>, A> = Vec::new(alloc);
-    let ended = run(alloc, script.as_bytes(), &args, limits, &mut world);
+    let ended = way.run(alloc, script, limits, &mut world)?;
     let Starved { inner, heap: _ } = world;
     with_end(inner.told, &ended)
 }
@@ -103,11 +105,13 @@ fn million(alloc: Global) -> Result<String<Global>, Fail> {
 
 #[test]
 fn takes_no_memory_from_an_arrival_to_the_next_wait(rt: HostRuntime) -> Result<(), Fail> {
-    let heap = Refusing::new(rt.alloc());
     let script = "spawn -noecho cat; expect -ex zz";
-    let told = starved_course(rt.alloc(), &heap, &heap, script)?;
-    assert_eq!(rt; heap.refused(), 0);
     let wanted = million(rt.alloc())?;
-    assert!(rt; told.as_str() == wanted.as_str());
+    for way in WAYS {
+        let heap = Refusing::new(rt.alloc());
+        let told = starved_course(way, rt.alloc(), &heap, &heap, script)?;
+        assert_eq!(rt; heap.refused(), 0, "{way:?}");
+        assert!(rt; told.as_str() == wanted.as_str(), "{way:?}");
+    }
     Ok(())
 }

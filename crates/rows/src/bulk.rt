@@ -2,6 +2,7 @@
 
 use crate::course::{TICKS, course, lines};
 use crate::row::{Reply, answers, flood};
+use crate::way::Way;
 use crate::world::Scripted;
 use std::alloc::Global;
 use std::test::Fail;
@@ -23,7 +24,13 @@ fn opens_64_ids_and_no_more(rt: HostRuntime) -> Result<(), Fail> {
         writeln!(wanted, "Close(exp{number})")?;
     }
     wanted.push_str("Error(too many spawn ids)\n")?;
-    let told = course(alloc, script.as_str(), TICKS, Scripted::new(alloc, replies))?;
+    let told = course(
+        Way::Run,
+        alloc,
+        script.as_str(),
+        TICKS,
+        Scripted::new(alloc, replies),
+    )?;
     assert_eq!(rt; told.as_str(), wanted.as_str());
     Ok(())
 }
@@ -52,7 +59,13 @@ fn takes_patterns_of_a_million_bytes_and_no_more(rt: HostRuntime) -> Result<(), 
     for (bytes, acts) in [(1_000_000, &long), (1_000_001, &too_long)] {
         let script = waits_for(alloc, bytes)?;
         let replies = answers(alloc, &[Reply::Started(100), Reply::TimedOut])?;
-        let told = course(alloc, script.as_str(), TICKS, Scripted::new(alloc, replies))?;
+        let told = course(
+            Way::Run,
+            alloc,
+            script.as_str(),
+            TICKS,
+            Scripted::new(alloc, replies),
+        )?;
         assert_eq!(rt; told.as_str(), lines(alloc, acts)?.as_str(), "{bytes}");
     }
     Ok(())
@@ -69,7 +82,7 @@ fn runs_nothing_of_a_script_that_is_not_in_this_stage(rt: HostRuntime) -> Result
         let mut script = String::new(alloc);
         write!(script, "puts a; puts b{byte}c")?;
         let world = Scripted::new(alloc, answers(alloc, &[])?);
-        let told = course(alloc, script.as_str(), TICKS, world)?;
+        let told = course(Way::Run, alloc, script.as_str(), TICKS, world)?;
         assert_eq!(rt; told.as_str(), wanted.as_str(), "{byte}");
     }
     Ok(())

@@ -2,9 +2,10 @@
 
 use crate::row::{Row, answers};
 use crate::shown::push_end;
+use crate::way::Way;
 use crate::world::Scripted;
 use acts::{Limits, NoMemory};
-use engine::{End, run};
+use engine::End;
 use std::alloc::{AllocError, Allocator, Global};
 use std::test::Fail;
 
@@ -13,14 +14,14 @@ pub const TICKS: u64 = 10_000_000;
 
 /// The course of a script in a world. It is cut short by NoMemory where memory is refused.
 pub fn course<A: Allocator + Copy>(
+    way: Way,
     alloc: A,
     script: &str,
     ticks: u64,
     mut world: Scripted<A>,
 ) -> Result<String<Global>, Fail> {
     let limits = Limits::new(ticks).ok_or("ticks")?;
-    let args: Vec<Vec<u8, A>, A> = Vec::new(alloc);
-    let ended = run(alloc, script.as_bytes(), &args, limits, &mut world);
+    let ended = way.run(alloc, script, limits, &mut world)?;
     with_end(world.told, &ended)
 }
 

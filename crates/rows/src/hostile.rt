@@ -3,6 +3,7 @@
 use crate::course::{course, lines, world_of};
 use crate::row::{Reply, Row};
 use crate::table::{DIALOGUES, ERRORS};
+use crate::way::{WAYS, Way};
 use std::alloc::{AllocError, Global};
 use std::test::Fail;
 
@@ -19,9 +20,11 @@ fn ends_as_the_turned_answer_says(rt: HostRuntime) -> Result<(), Fail> {
     for row in DIALOGUES.iter().chain(ERRORS) {
         for place in 0..row.acts.len() {
             for reply in TURNED {
-                let told = turned_course(rt.alloc(), row, place, reply)?;
                 let wanted = wanted_course(rt.alloc(), row.acts, place, reply)?;
-                assert_eq!(rt; told.as_str(), wanted.as_str(), "{}", row.script);
+                for way in WAYS {
+                    let told = turned_course(way, rt.alloc(), row, place, reply)?;
+                    assert_eq!(rt; told.as_str(), wanted.as_str(), "{way:?}: {}", row.script);
+                }
             }
         }
     }
@@ -30,6 +33,7 @@ fn ends_as_the_turned_answer_says(rt: HostRuntime) -> Result<(), Fail> {
 
 /// The course of a row whose act at a place is answered otherwise.
 fn turned_course(
+    way: Way,
     alloc: Global,
     row: &Row,
     place: usize,
@@ -37,7 +41,7 @@ fn turned_course(
 ) -> Result<String<Global>, Fail> {
     let number = (place as u64).saturating_add(1);
     let world = world_of(alloc, row)?.turned(number, reply.answer(alloc)?);
-    course(alloc, row.script, row.ticks, world)
+    course(way, alloc, row.script, row.ticks, world)
 }
 
 /// What has to come of it: the acts up to that one stay.

@@ -21,6 +21,8 @@ mod shown;
 #[cfg(test)]
 mod table;
 #[cfg(test)]
+mod way;
+#[cfg(test)]
 mod whole;
 #[cfg(test)]
 mod world;

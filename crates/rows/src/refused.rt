@@ -3,6 +3,7 @@
 use crate::course::{course, wanted};
 use crate::row::answers;
 use crate::table::FIRST;
+use crate::way::{WAYS, Way};
 use crate::world::Scripted;
 use refusal::Refusing;
 use std::alloc::{Allocator, Global};
@@ -14,6 +15,7 @@ const MANY: u64 = 1000;
 
 /// The course of the first dialogue where the n-th request of its run is refused.
 fn refused_course<A: Allocator + Copy>(
+    way: Way,
     log: Global,
     alloc: A,
     heap: &Refusing<Global>,
@@ -21,25 +23,40 @@ fn refused_course<A: Allocator + Copy>(
 ) -> Result<String<Global>, Fail> {
     let world = Scripted::new(log, answers(alloc, FIRST.answers)?);
     heap.refuse_nth(n);
-    let told = course(alloc, FIRST.script, FIRST.ticks, world);
+    let told = course(way, alloc, FIRST.script, FIRST.ticks, world);
     heap.refuse_none();
     told
 }
 
 #[test]
 fn ends_where_a_run_is_refused_memory(rt: HostRuntime) -> Result<(), Fail> {
-    let heap = Refusing::new(rt.alloc());
-    let whole = wanted(rt.alloc(), &FIRST)?;
+    for way in WAYS {
+        let requests = refuse_each(rt.alloc(), way)?;
+        assert!(rt; 10 < requests, "{way:?}");
+    }
+    Ok(())
+}
+
+/// Runs the first dialogue with each of its requests refused in turn, up to a run that meets no
+/// refusal, and gives how many requests that makes.
+fn refuse_each(alloc: Global, way: Way) -> Result<u64, Fail> {
+    let heap = Refusing::new(alloc);
+    let whole = wanted(alloc, &FIRST)?;
     for n in 1..MANY {
         let refused = heap.refused();
-        let told = refused_course(rt.alloc(), &heap, &heap, n)?;
+        let told = refused_course(way, alloc, &heap, &heap, n)?;
         if heap.refused() == refused {
-            assert_eq!(rt; told.as_str(), whole.as_str());
-            assert!(rt; 10 < n);
-            return Ok(());
+            let is_whole = told.as_str() == whole.as_str();
+            return if is_whole {
+                Ok(n)
+            } else {
+                Err(Fail::from("not the whole course"))
+            };
         }
         let acts = told.strip_suffix("NoMemory\n").ok_or("an end")?;
-        assert!(rt; whole.starts_with(acts), "{n}");
+        if !whole.starts_with(acts) {
+            return Err(Fail::from("no beginning of the course"));
+        }
     }
     Err(Fail::from("each request was refused"))
 }

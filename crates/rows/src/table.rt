@@ -353,18 +353,26 @@ pub const ERRORS: &[Row] = &[
     },
 ];
 
-/// Records that are none: without the last newline, and without the header.
-pub const BAD_RECORDS: &[Played] = &[
-    Played {
-        record: "rx-record 1\nstarted 100\ndone\narrive exp4 68690a\ndone\ndone",
-        status: 5,
-        out: "",
-        err: "rx: bad record record at line 6\n",
+/// Records that are none, without the last newline and without the header: nothing is run.
+pub const BAD_RECORDS: &[Row] = &[
+    Row {
+        script: "puts never",
+        played: Some(Played {
+            record: "rx-record 1\nstarted 100\ndone\narrive exp4 68690a\ndone\ndone",
+            status: 5,
+            out: "",
+            err: "rx: bad record record at line 6\n",
+        }),
+        ..Row::SILENT
     },
-    Played {
-        record: "",
-        status: 5,
-        out: "",
-        err: "rx: bad record record at line 1\n",
+    Row {
+        script: "puts never",
+        played: Some(Played {
+            record: "",
+            status: 5,
+            out: "",
+            err: "rx: bad record record at line 1\n",
+        }),
+        ..Row::SILENT
     },
 ];
