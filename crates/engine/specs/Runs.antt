@@ -12,7 +12,7 @@ use Rattle.engine.specs.Session.{PhaseRuns, answered_in, owed, stack}
 use Rattle.engine.specs.View.{FitsState}
 
 -- the acts with their answers and the end that a session still allows, its journals being any that
--- fit its buffers; after a refusal there are none
+-- fit its buffers
 abbrev pub Runs : {A : Type 0} → Session A → History → Ending → Type 0
 Runs session h e = (s : Status) → FitsState session.state s → PhaseRuns session.phase (stack session.frames) s h e
 

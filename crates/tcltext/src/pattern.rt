@@ -106,7 +106,7 @@ impl<A: Allocator> Pattern<A> {
 
     /// Finds the pattern in the window, with the least start and, at that start, the greatest end.
     ///
-    /// Takes no memory. The steps are the entries of the search table that were filled, at least 1.
+    /// Takes no memory. The steps are the tests of one item at one place, those that a skip spares among them, and one more.
     pub fn find(&self, window: &[u8], scratch: &mut Scratch<A>) -> Search
         requires { length window.now ≤ scratch.old }
         ensures found { MatchOption result.found
@@ -118,7 +118,7 @@ impl<A: Allocator> Pattern<A> {
     {
         let mut tests = 0;
         let found = locate(&self.tokens, self.ties, window, &mut tests);
-        // The end of the items is the table's last row, of which one entry is always filled.
+        // The end of the items counts as one test.
         let steps = tests.saturating_add(1);
         Search { found, steps }
     }

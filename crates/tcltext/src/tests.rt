@@ -1,4 +1,4 @@
-//! Texts and what tclsh 8.6 makes of them, every refusal of memory, and long texts.
+//! Texts and what tclsh 8.6 makes of them, but for the rules of this project's own; every refusal of memory, and long texts.
 use crate::escape::EscapeNotHere;
 use crate::{ListFault, braces, escape, join_list, print_int, print_nat, read_int, split_list};
 use refusal::Refusing;

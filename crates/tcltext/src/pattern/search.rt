@@ -20,7 +20,8 @@ pub struct Found {
 pub struct Search {
     /// The place with the least start and, at that start, the greatest end.
     pub found: Option<Found>,
-    /// How many entries of the search table were filled: tests of one item at one place, and one for the end of the items.
+    /// How many entries a table of items and places would have had to fill: one for each item that was tested at a place or known
+    /// not to take its byte there, and one for the end of the items.
     pub steps: u64,
 }
 
