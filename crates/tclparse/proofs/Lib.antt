@@ -10,3 +10,7 @@ pub mod Gaps
 pub mod Exists
 pub mod Lengths
 pub mod Braced
+pub mod Spelling
+pub mod SpelledPieces
+pub mod SpelledTrees
+pub mod SpelledScripts

@@ -9,3 +9,4 @@ pub mod Grammar
 pub mod Seen
 pub mod Reads
 pub mod Spelled
+pub mod Spelling
