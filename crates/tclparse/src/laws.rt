@@ -28,9 +28,8 @@ pub fn no_text_has_two_trees()
         → IsArgument a f text → IsArgument b g text → (a ≡ b) × (f ≡ g) }
 {}
 
-/// What is read of a text stands in it, one spelling behind the other: a byte of a word, a variable, an opening bracket, what
-/// stands between words and between commands, and so parts, words and commands. Each time the text is that spelling, and
-/// then what is left to be read.
+/// What is left of a text behind a piece of a word, behind what stands between words and between commands, and so behind
+/// parts, words and commands, is an end of that text. Of the bytes before that end `texts_are_spellings` speaks.
 #[tactic(auto, using(crate::proofs::Joined::piece_behind, crate::proofs::Joined::white_joins, crate::proofs::Joined::gap_joins, crate::proofs::Joined::parts_leave, crate::proofs::Joined::words_leave, crate::proofs::Joined::commands_leave))]
 pub fn spellings_join()
     ensures pieces { (place : Place) (depth : ℕ) (text : List ℕ) → Behind (next place depth text) text }
