@@ -1,9 +1,9 @@
--- What is read of a text is a piece of it.
+-- What is left of a text is an end of it.
 use Rattle.std.specs.Prelude.{◌≡◌, ℕ, List, ◌++◌, Ok, Err}
 use Rattle.tclparse.specs.Piece.{Next, end, fault, a_byte, a_name, an_index, an_element, a_bracket}
 use Rattle.tclparse.specs.Grammar.{Outcome}
 
--- the text x is some spelling, and then z
+-- the text x is some bytes, and then z
 abbrev pub Joins : List ℕ → List ℕ → Type 0
 Joins x z = (s : List ℕ) × (x ≡ s ++ z)
 
