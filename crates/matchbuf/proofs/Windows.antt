@@ -1,5 +1,5 @@
 -- The window of a journal is the history from one place on, so each record changes it as the calls do.
-use Rattle.std.proofs.Common.{◌≡◌, ℕ, zero, suc, ◌+◌, ◌-◌, ◌<◌, ◌≤◌, max, Bool, true, false, ◌&&◌, ◌↔◌, cond, nat_le, nat_eq, slice_index, if◌then◌else◌, IsTrue, List, [], ◌∷◌, ◌++◌, length, map, drop, filter, refl, sym, ap, ◌∙◌, arith, append_assoc, length-append, length-drop}
+use Rattle.std.proofs.Common.{◌≡◌, ℕ, zero, suc, ◌+◌, ◌-◌, ◌<◌, ◌≤◌, max, Bool, true, false, ◌&&◌, ◌↔◌, cond, nat_le, nat_lt, nat_eq, slice_index, if◌then◌else◌, IsTrue, List, [], ◌∷◌, ◌++◌, length, map, drop, filter, refl, sym, ap, ◌∙◌, arith, append_assoc, length-append, length-drop}
 use Rattle.std.proofs.lemmas.Bool.Decides.{nat_tests}
 use Rattle.std.proofs.lemmas.List.{drop-drop, drop-append-le, length-map}
 use Rattle.std.proofs.Math.Seq.{get_or-append_seam}
@@ -7,7 +7,7 @@ use Rattle.std.proofs.Math.ListN.{drop_of_length-le}
 use Rattle.std.specs.List.{list_all, range_with_len}
 use Rattle.circular_buffer.specs.Buffer.{Buffer, buffer, keep_last}
 use Rattle.matchbuf.specs.Held.{Held, held}
-use Rattle.matchbuf.specs.Journal.{Record, Arrived, Consumed, Sized, history, size_of, IsJournal, moments, spares, remembers, is_visible, visible_places, window, place_after, Fits}
+use Rattle.matchbuf.specs.Journal.{Record, Arrived, Consumed, Sized, history, size_of, IsJournal, moments, spares, remembers, has_come, is_kept, is_visible, visible_places, window, place_after, Fits}
 use Rattle.matchbuf.specs.Laws.{ArrivalsJoin, ConsumptionsTake, SizesKeep, WindowsEnd, VisibleAtEnd, GoneForGood, ShortJournals}
 
 -- the least place that the record leaves
@@ -38,18 +38,30 @@ regrouped false b c d = refl
 all_at_most : (a b c p : ℕ) → (nat_le a p && (nat_le b p && nat_le c p)) ≡ nat_le (max a (max b c)) p
 all_at_most a b c p = grind (arith, nat_tests)
 
-visible_from : (j : List Record) (p : ℕ) → is_visible j p ≡ nat_le (floor j) p
-visible_from [] p = grind (arith, nat_tests)
-visible_from (r ∷ j) p =
+kept_from : (j : List Record) (p : ℕ) → is_kept j p ≡ nat_le (floor j) p
+kept_from [] p = grind (arith, nat_tests)
+kept_from (r ∷ j) p =
     let last = length (history (r ∷ j)) - size_of (r ∷ j) in
     regrouped (spares p r) (list_all (spares p) j) (nat_le last p) (list_all (remembers p) (moments j))
-    ∙ ap (λ b. b && (nat_le last p && is_visible j p)) (spares_from p r)
-    ∙ ap (λ b. nat_le (spared_from r) p && (nat_le last p && b)) (visible_from j p)
+    ∙ ap (λ b. b && (nat_le last p && is_kept j p)) (spares_from p r)
+    ∙ ap (λ b. nat_le (spared_from r) p && (nat_le last p && b)) (kept_from j p)
     ∙ all_at_most (spared_from r) last (floor j) p
 
-filter_same : (s t : ℕ → Bool) → ((p : ℕ) → s p ≡ t p) → (ps : List ℕ) → filter s ps ≡ filter t ps
-filter_same s t same [] = refl
-filter_same s t same (p ∷ ps) = ap (λ b. cond b (p ∷ filter s ps) (filter s ps)) (same p) ∙ ap (λ qs. cond (t p) (p ∷ qs) qs) (filter_same s t same ps)
+visible_from : (j : List Record) (p : ℕ) → is_visible j p ≡ (has_come j p && nat_le (floor j) p)
+visible_from j p = ap (λ b. has_come j p && b) (kept_from j p)
+
+come_from : (f n p : ℕ) → p < n → (nat_lt p n && nat_le f p) ≡ nat_le f p
+come_from f n p lt = grind (arith, nat_tests)
+
+-- tests that agree at the places of a range let the same ones through
+filter_same : (s t : ℕ → Bool) (p n : ℕ) → ((k : ℕ) → k < p + n → s k ≡ t k)
+    → filter s (range_with_len p n) ≡ filter t (range_with_len p n)
+filter_same s t p zero same = refl
+filter_same s t p (suc n) same =
+    let ps = range_with_len (p + 1) n in
+    let here : s p ≡ t p = same p (omega arith) in
+    let rest = filter_same s t (p + 1) n (λ k lt. same k (omega arith)) in
+    ap (λ b. cond b (p ∷ filter s ps) (filter s ps)) here ∙ ap (λ qs. cond (t p) (p ∷ qs) qs) rest
 
 above_step : (f p : ℕ) (l : List ℕ) (x : ℕ) (xs ps : List ℕ) (b : Bool) → nat_le f p ≡ b → slice_index l p ≡ x → map (slice_index l) ps ≡ drop (f - (p + 1)) xs
     → map (slice_index l) (cond b (p ∷ ps) ps) ≡ drop (f - p) (x ∷ xs)
@@ -89,7 +101,10 @@ place_at f p zero i h = absurd (omega arith)
 place_at f p (suc n) i h = at_step f p i (filter (nat_le f) (range_with_len (p + 1) n)) (nat_le f p) refl (place_at f (p + 1) n) h
 
 places_from : (j : List Record) → visible_places j ≡ filter (nat_le (floor j)) (range_with_len 0 (length (history j)))
-places_from j = filter_same (is_visible j) (nat_le (floor j)) (visible_from j) (range_with_len 0 (length (history j)))
+places_from j =
+    let n = length (history j) in
+    filter_same (is_visible j) (nat_le (floor j)) 0 n
+    (λ k lt. visible_from j k ∙ come_from (floor j) n k (omega arith))
 
 window_from : (j : List Record) → window j ≡ drop (floor j) (history j)
 window_from j =
@@ -159,17 +174,24 @@ windows_end j h =
     let first : floor j ≡ length (history j) - n = omega (arith, length-window j h) in
     (window_from j ∙ ap (λ k. drop k (history j)) first, omega (arith, length-window j h, floor_ge j h))
 
-at_end : (f p len n : ℕ) (b : Bool) → b ≡ nat_le f p → n + f ≡ len → IsTrue b ↔ (len ≤ p + n)
+at_end : (f p len n : ℕ) (b : Bool) → b ≡ (nat_lt p len && nat_le f p) → n + f ≡ len
+    → IsTrue b ↔ ((p < len) × (len ≤ p + n))
 at_end f p len n b e h = grind (arith, nat_tests)
 
 pub visible_at_end : VisibleAtEnd
-visible_at_end j p h = at_end (floor j) p (length (history j)) (length (window j)) (is_visible j p) (visible_from j p) (length-window j h)
+visible_at_end j p h =
+    at_end (floor j) p (length (history j)) (length (window j)) (is_visible j p)
+    (visible_from j p) (length-window j h)
 
-lower : (f g p : ℕ) (a b : Bool) → a ≡ nat_le g p → b ≡ nat_le f p → f ≤ g → IsTrue a → IsTrue b
-lower f g p a b ea eb le t = grind (arith, nat_tests)
+lower : (f g m n p : ℕ) (a b : Bool) → a ≡ (nat_lt p m && nat_le g p)
+    → b ≡ (nat_lt p n && nat_le f p) → f ≤ g → p < n → IsTrue a → IsTrue b
+lower f g m n p a b ea eb le come t = grind (arith, nat_tests)
 
 pub gone_for_good : GoneForGood
-gone_for_good j r p = lower (floor j) (floor (r ∷ j)) p (is_visible (r ∷ j) p) (is_visible j p) (visible_from (r ∷ j) p) (visible_from j p) (omega arith)
+gone_for_good j r p come =
+    lower (floor j) (floor (r ∷ j)) (length (history (r ∷ j))) (length (history j)) p
+    (is_visible (r ∷ j) p) (is_visible j p) (visible_from (r ∷ j) p) (visible_from j p)
+    (omega arith) come
 
 pub short_journals : ShortJournals
 short_journals b le =
@@ -212,7 +234,8 @@ fits_sized j b size fits =
     }
 
 -- a ring that is filled in two parts holds what one filled at once would
-kept_twice : (m : ℕ) (first second : List ℕ) → keep_last m (keep_last m ([] ++ first) ++ second) ≡ keep_last m (first ++ second)
+pub kept_twice : (m : ℕ) (first second : List ℕ)
+    → keep_last m (keep_last m ([] ++ first) ++ second) ≡ keep_last m (first ++ second)
 kept_twice m first second =
     let over = length first - m in
     let more = length (drop over first ++ second) - m in

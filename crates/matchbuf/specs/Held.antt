@@ -13,4 +13,6 @@ held bytes max = record { bytes = bytes; max = max }
 
 -- how the logic stores one
 abbrev pub held_code : Coded Held
-held_code = code_by (List ℕ × ℕ) (coded× (coded_list coded_ℕ) coded_ℕ) (λ h. (h.bytes, h.max)) (λ p. held p.0 p.1) (λ _. refl)
+held_code =
+    let stored = coded× (coded_list coded_ℕ) coded_ℕ in
+    code_by (List ℕ × ℕ) stored (λ h. (h.bytes, h.max)) (λ p. held p.0 p.1) (λ _. refl)

@@ -2,4 +2,5 @@ pub mod Held
 pub mod Journal
 pub mod Laws
 pub mod Rows
+pub mod Size
 pub mod Unchanged

@@ -2,7 +2,8 @@
 use Rattle.std.specs.Prelude.{◌≡◌, [], ◌∷◌, codes}
 use Rattle.matchbuf.specs.Journal.{Arrived, Consumed, Sized, window, place_after}
 
--- a size of 3, an arrival that is too long, a byte consumed, another arrival, a larger size, an arrival that fills it, a smaller size
+-- a size of 3, an arrival that is too long, a byte consumed, another arrival, a larger size, an
+-- arrival that fills it, a smaller size
 abbrev pub WorkedRows : Type 0
 WorkedRows =
     let made = Sized 3 ∷ [] in
@@ -12,5 +13,6 @@ WorkedRows =
     let larger = Sized 5 ∷ again in
     let full = Arrived (codes "ij") ∷ larger in
     let smaller = Sized 2 ∷ full in
-    (window made ≡ []) × (window filled ≡ codes "bcd") × (place_after filled 1 ≡ 2) × (window consumed ≡ codes "cd") × (window again ≡ codes "fgh")
-    × (window larger ≡ codes "fgh") × (window full ≡ codes "fghij") × (window smaller ≡ codes "ij")
+    (window made ≡ []) × (window filled ≡ codes "bcd") × (place_after filled 1 ≡ 2)
+    × (window consumed ≡ codes "cd") × (window again ≡ codes "fgh") × (window larger ≡ codes "fgh")
+    × (window full ≡ codes "fghij") × (window smaller ≡ codes "ij")

@@ -10,8 +10,13 @@ use Rattle.matchbuf.specs.contracts.buffer.MatchBuf.{the_row}
 module _ (A : RattleType) (g : Ghosts A.Denot) (buffer : MutBor Held) where
   -- it is as it was before the call
   abbrev pub StaysUnchanged : Fml
-  StaysUnchanged = follows_so (the_row A g) (the_row A g) buffer.ghost_name none (λ _ _. ⊤) (λ after. after ≡ buffer.now)
+  StaysUnchanged =
+      let row = the_row A g in
+      follows_so row row buffer.ghost_name none (λ _ _. ⊤) (λ after. after ≡ buffer.now)
 
   -- it holds the bytes that were last behind the reference
   abbrev pub LendsBytes : MutBor (List ℕ) → Fml
-  LendsBytes r = Lends (the_row A g) (Array u8 0) buffer r (λ bytes. held (refill (length buffer.now.bytes) buffer.now.bytes bytes) buffer.now.max)
+  LendsBytes r =
+      let now = buffer.now in
+      let refilled = λ (bytes : List ℕ). held (refill (length now.bytes) now.bytes bytes) now.max in
+      Lends (the_row A g) (Array u8 0) buffer r refilled

@@ -1,10 +1,12 @@
 //! The match buffer of one spawned process or connection.
-ghost use Rattle.std.specs.Prelude.{◌≡◌, ◌<◌, ◌≤◌, ◌↔◌, ◌⊎◌, ◌++◌, ◌∷◌, [], ℕ, List, length, drop, IfOk, OnOk, OnErr, MatchResult, IsTrue};
+ghost use Rattle.std.specs.Prelude.{◌≡◌, ◌≤◌, ◌↔◌, ◌++◌, ◌∷◌, [], ℕ, List, length, drop};
+ghost use Rattle.std.specs.Prelude.{IfOk, IfErr, OnOk, OnErr, IsTrue};
 ghost use Rattle.std.specs.Borrow.{sem};
 ghost use Rattle.std.specs.List.{refill};
 ghost use Rattle.circular_buffer.specs.Buffer.{keep_last};
 ghost use Rattle.matchbuf.specs.Held.{held};
 ghost use Rattle.matchbuf.specs.Journal.{Record, Arrived, Consumed, Sized, Fits, place_after};
+ghost use Rattle.matchbuf.specs.Size.{IsSize};
 ghost use Rattle.matchbuf.specs.Unchanged.{StaysUnchanged, LendsBytes};
 
 use crate::error::MatchBufError;
@@ -15,17 +17,19 @@ use std::marker::Model;
 /// The largest size of a match buffer, in bytes.
 pub const MAX_SIZE: u32 = 1_000_000;
 
-/// The last bytes that arrived and were neither consumed nor forgotten, at most as many as its size; expect(1), `match_max`.
+/// The last bytes that arrived and were neither consumed nor forgotten, at most as many as its
+/// size; expect(1), `match_max`.
 ///
-/// Its block is as large as its size, and only [`new`](MatchBuf::new) and [`set_max`](MatchBuf::set_max) take memory.
+/// Its block is as large as its size, and only [`new`](MatchBuf::new) and
+/// [`set_max`](MatchBuf::set_max) take memory.
 #[derive(Drop)]
 pub struct MatchBuf<A: Allocator> {
     ring: HeapCircularBuffer<u8, A>,
 }
 
 impl<A: Allocator> Model for MatchBuf<A> {
-    ghost use Rattle.std.specs.Prelude.{◌≤◌};
     ghost use Rattle.matchbuf.specs.Held.{Held, held, held_code};
+    ghost use Rattle.matchbuf.specs.Size.{IsSize};
 
     ghost Value = { Held };
 
@@ -33,7 +37,7 @@ impl<A: Allocator> Model for MatchBuf<A> {
 
     ghost view = { λ b. held b.ring.items b.ring.capacity };
 
-    ghost invariant = { λ b. (1 ≤ b.ring.capacity) × (b.ring.capacity ≤ 1000000) };
+    ghost invariant = { λ b. IsSize b.ring.capacity };
 }
 
 impl<A: Allocator> MatchBuf<A> {
@@ -44,7 +48,7 @@ impl<A: Allocator> MatchBuf<A> {
     pub fn new(alloc: A, max: u32) -> Result<MatchBuf<A>, MatchBufError>
         ensures fits { IfOk result (λ buffer. Fits (Sized max ∷ []) buffer) }
         ensures value { IfOk result (λ buffer. buffer ≡ held [] max) }
-        ensures size { (result ≡ Err MatchBufError.Size) ↔ ((max < 1) ⊎ (1000000 < max)) }
+        ensures size { (result ≡ Err MatchBufError.Size) ↔ ¬ IsSize max }
     {
         check_size(max)?;
         let ring = HeapCircularBuffer::with_capacity(alloc, max as usize)?;
@@ -55,6 +59,7 @@ impl<A: Allocator> MatchBuf<A> {
     pub fn len(&self) -> usize
         ensures len { result ≡ length self.now.bytes }
         ensures within { result ≤ self.now.max }
+        ensures size { IsSize self.now.max }
     {
         self.ring.len()
     }
@@ -62,7 +67,7 @@ impl<A: Allocator> MatchBuf<A> {
     /// Its size: how many bytes it may hold.
     pub fn max(&self) -> u32
         ensures max { result ≡ self.now.max }
-        ensures within { (1 ≤ result) × (result ≤ 1000000) }
+        ensures within { IsSize result }
     {
         self.ring.capacity() as u32
     }
@@ -74,10 +79,12 @@ impl<A: Allocator> MatchBuf<A> {
         self.ring.is_full()
     }
 
-    /// Takes an arrival whole, however long, and then forgets the oldest bytes where there are too many.
+    /// Takes an arrival whole, however long, and then forgets the oldest bytes where there are too
+    /// many.
     pub fn arrive(&mut self, bytes: &[u8])
         ensures fits { (j : List Record) → Fits j self.old → Fits (Arrived bytes.now ∷ j) self.new }
-        ensures value { self.new ≡ held (keep_last self.old.max (self.old.bytes ++ bytes.now)) self.old.max }
+        ensures value { let max = self.old.max in
+            self.new ≡ held (keep_last max (self.old.bytes ++ bytes.now)) max }
     {
         self.ring.extend_from_slice(bytes);
     }
@@ -85,7 +92,8 @@ impl<A: Allocator> MatchBuf<A> {
     /// Consumes the first `n` bytes.
     pub fn take(&mut self, n: usize)
         requires { n ≤ length self.old.bytes }
-        ensures fits { (j : List Record) → Fits j self.old → Fits (Consumed (place_after j n) ∷ j) self.new }
+        ensures fits { (j : List Record) → Fits j self.old
+            → Fits (Consumed (place_after j n) ∷ j) self.new }
         ensures value { self.new ≡ held (drop n self.old.bytes) self.old.max }
     {
         let rest = self.len() - n;
@@ -104,23 +112,26 @@ impl<A: Allocator> MatchBuf<A> {
     fn straighten(&mut self) -> &mut [u8]
         ensures* writes_back { sem 𝓛 (LendsBytes A.row A.Allocator self.entry result) }
         ensures value { result.now ≡ self.old.bytes }
-        ensures same_len { (bytes : List ℕ) → length bytes ≡ length self.old.bytes
-            → refill (length self.old.bytes) self.old.bytes bytes ≡ bytes }
+        ensures same_len { let old = self.old.bytes in
+            (bytes : List ℕ) → length bytes ≡ length old → refill (length old) old bytes ≡ bytes }
     {
         self.ring.make_contiguous()
     }
 }
 
 impl<A: Allocator + Copy> MatchBuf<A> {
-    /// Sets the size to `max` bytes. A smaller one forgets the oldest bytes, and a larger one brings none back.
+    /// Sets the size to `max` bytes. A smaller one forgets the oldest bytes, and a larger one
+    /// brings none back.
     ///
     /// # Errors
-    /// `Size` where `max` is not from 1 to [`MAX_SIZE`], and `NoMemory`. The buffer is then as it was.
+    /// `Size` where `max` is not from 1 to [`MAX_SIZE`], and `NoMemory`. The buffer is then as it
+    /// was.
     pub fn set_max(&mut self, max: u32) -> Result<(), MatchBufError>
-        ensures fits { OnOk result ((j : List Record) → Fits j self.old → Fits (Sized max ∷ j) self.new) }
+        ensures fits { OnOk result ((j : List Record) → Fits j self.old
+            → Fits (Sized max ∷ j) self.new) }
         ensures value { OnOk result (self.new ≡ held (keep_last max self.old.bytes) max) }
         ensures unchanged { OnErr result (self.new ≡ self.old) }
-        ensures size { (result ≡ Err MatchBufError.Size) ↔ ((max < 1) ⊎ (1000000 < max)) }
+        ensures size { (result ≡ Err MatchBufError.Size) ↔ ¬ IsSize max }
     {
         check_size(max)?;
         let mut ring = HeapCircularBuffer::with_capacity(*self.ring.allocator(), max as usize)?;
@@ -134,8 +145,8 @@ impl<A: Allocator + Copy> MatchBuf<A> {
 
 /// Refuses a size that no buffer can have.
 fn check_size(max: u32) -> Result<(), MatchBufError>
-    ensures { MatchResult result (λ _. (1 ≤ max) × (max ≤ 1000000))
-        (λ e. (e ≡ MatchBufError.Size) × ((max < 1) ⊎ (1000000 < max))) }
+    ensures ok { OnOk result (IsSize max) }
+    ensures err { IfErr result (λ e. (e ≡ MatchBufError.Size) × (¬ IsSize max)) }
 {
     if max < 1 || MAX_SIZE < max {
         return Err(MatchBufError::Size);

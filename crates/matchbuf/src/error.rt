@@ -1,4 +1,5 @@
 //! Why a match buffer is not made, or keeps its size.
+use memory::NoMemory;
 use std::alloc::AllocError;
 use thiserror::Error;
 
@@ -10,16 +11,17 @@ pub enum MatchBufError {
     Size,
     /// Memory was refused.
     #[error("no memory")]
-    NoMemory,
+    NoMemory(NoMemory),
 }
 
 impl From<AllocError> for MatchBufError {
-    ghost use Rattle.matchbuf.specs.declared.error.MatchBufError.TheVariants.{NoMemory};
     ghost use Rattle.std.specs.Prelude.{◌≡◌};
+    ghost use Rattle.memory.specs.declared.NoMemory.{NoMemory};
+    ghost use Rattle.matchbuf.specs.declared.error.MatchBufError.TheVariants as error;
 
-    ghost from_gives = { λ _ e. e ≡ NoMemory };
+    ghost from_gives = { λ _ made. (refusal : NoMemory) × (made ≡ error.NoMemory refusal) };
 
-    fn from(_error: AllocError) -> MatchBufError {
-        MatchBufError::NoMemory
+    fn from(refusal: AllocError) -> MatchBufError {
+        MatchBufError::NoMemory(NoMemory::from(refusal))
     }
 }

@@ -1,5 +1,6 @@
 //! What is proved of the definition of a window, for those who reason about journals.
-ghost use Rattle.matchbuf.specs.Laws.{ArrivalsJoin, ConsumptionsTake, SizesKeep, WindowsEnd, VisibleAtEnd, GoneForGood, ShortJournals};
+ghost use Rattle.matchbuf.specs.Laws.{ArrivalsJoin, ConsumptionsTake, SizesKeep, WindowsEnd};
+ghost use Rattle.matchbuf.specs.Laws.{VisibleAtEnd, GoneForGood, ShortJournals};
 ghost use Rattle.matchbuf.specs.Rows.{WorkedRows};
 
 /// Does nothing: its clauses say what the window of a journal is.

@@ -1,4 +1,5 @@
-//! Match buffers: the last bytes of a dialogue that are neither consumed nor forgotten, each buffer in a ring of its size.
+//! Match buffers: the last bytes of a dialogue that are neither consumed nor forgotten, each buffer
+//! in a ring of its size.
 #![tactic(auto)]
 
 mod buffer;

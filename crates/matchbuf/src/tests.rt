@@ -71,18 +71,27 @@ fn makes_a_buffer_of_1_to_1000000_bytes(rt: HostRuntime) -> Result<(), Fail> {
 fn says_when_memory_is_refused_and_changes_nothing(rt: HostRuntime) -> Result<(), Fail> {
     let heap = Refusing::new(rt.alloc());
     heap.refuse_all();
-    assert!(rt; matches!(MatchBuf::new(&heap, 3), Err(MatchBufError::NoMemory)));
+    assert!(rt; matches!(MatchBuf::new(&heap, 3), Err(MatchBufError::NoMemory(_))));
     heap.refuse_none();
     let mut buffer = MatchBuf::new(&heap, 3)?;
     buffer.arrive(b"abcd");
-    for max in [1, 3, 5] {
-        heap.refuse_all();
-        assert_eq!(rt; buffer.set_max(max), Err(MatchBufError::NoMemory));
+    for max in [1, 3, 5, 1_000_000] {
+        heap.refuse_nth(1);
+        let answer = buffer.set_max(max);
+        assert!(rt;
+            matches!(answer, Err(MatchBufError::NoMemory(_))),
+            "of {max}"
+        );
         assert_eq!(rt; buffer.window(), b"bcd".as_slice());
         assert_eq!(rt; buffer.max(), 3);
-        heap.refuse_none();
     }
-    assert_eq!(rt; heap.refused(), 4);
+    assert_eq!(rt; heap.refused(), 5);
+    // a size takes one request, so that with it granted the largest is set
+    let before = heap.requests();
+    buffer.set_max(1_000_000)?;
+    assert_eq!(rt; heap.requests().checked_sub(before), Some(1));
+    assert_eq!(rt; buffer.max(), 1_000_000);
+    assert_eq!(rt; buffer.window(), b"bcd".as_slice());
     Ok(())
 }
 
@@ -106,7 +115,15 @@ fn takes_a_long_stream_in_little_time(rt: HostRuntime) -> Result<(), Fail> {
 
 #[test]
 fn names_its_errors(rt: HostRuntime) -> Result<(), Fail> {
-    let text = format!(in rt.alloc(); "{}, {}", MatchBufError::Size, MatchBufError::NoMemory)?;
-    assert_eq!(rt; text.as_str(), "match_max must be 1 to 1000000, no memory");
+    let heap = Refusing::new(rt.alloc());
+    heap.refuse_all();
+    for (max, wanted) in [(0, "match_max must be 1 to 1000000"), (3, "no memory")] {
+        let Err(error) = MatchBuf::new(&heap, max) else {
+            continue;
+        };
+        let text = format!(in rt.alloc(); "{error}")?;
+        assert_eq!(rt; text.as_str(), wanted);
+    }
+    assert_eq!(rt; heap.refused(), 1);
     Ok(())
 }

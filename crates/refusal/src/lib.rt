@@ -1,10 +1,12 @@
-//! Test support: an allocator that refuses the requests that a test chooses, and hands the others on.
+//! Test support: an allocator that refuses the requests that a test chooses, and hands the others
+//! on.
 #![tactic(auto)]
 
 use std::alloc::{AllocError, Allocator};
 use std::cell::Cell;
 
-/// Which requests are refused: those numbered `first` up to `end`, `end` itself not among them. The first request is number 1.
+/// Which requests are refused: those numbered `first` up to `end`, `end` itself not among them. The
+/// first request is number 1.
 #[derive(Drop)]
 struct Gate {
     requests: Cell<u64>,
@@ -36,9 +38,11 @@ impl Gate {
     }
 }
 
-/// An allocator over another, which refuses the requests that the test chooses. `&Refusing<_>` is the `Copy` allocator to hand in.
+/// An allocator over another, which refuses the requests that the test chooses. `&Refusing<_>` is
+/// the `Copy` allocator to hand in.
 ///
-/// A growth or a shrinking counts as one request, and so does each new block. Giving a block back is none, and is never refused.
+/// A growth or a shrinking counts as one request, and so does each new block. Giving a block back
+/// is none, and is never refused.
 #[derive(Drop)]
 pub struct Refusing<B: Allocator> {
     inner: B,
