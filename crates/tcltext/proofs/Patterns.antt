@@ -5,5 +5,6 @@ pub mod Sets
 pub mod Signs
 pub mod Tests
 pub mod Places
+pub mod Texts
 pub mod Finds
 pub mod Items

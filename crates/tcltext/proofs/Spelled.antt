@@ -1,7 +1,6 @@
 -- The steps of reading an element that is bare or in quotes.
 use Rattle.std.proofs.Common.{◌≡◌, ℕ, List, [], ◌++◌, refl, sym, subst, append-nil}
-use Rattle.tcltext.specs.declared.list.ListFault.TheVariants.{EscapeNotHere}
-use Rattle.tcltext.specs.declared.list.element.Style.{Style}
+use Rattle.tcltext.specs.Style.{Style}
 use Rattle.std.specs.Borrow.{Bor}
 use Rattle.tcltext.specs.declared.list.element.Piece.{Piece}
 use Rattle.tcltext.specs.declared.list.element.Piece.TheVariants as piece
@@ -16,8 +15,8 @@ SpelledSoFar s x y bs = (t z : List ℕ) → IsSpelled s t y z → IsSpelled s (
 pub spelled_here : (s : Style) (x y bs : List ℕ) → SpelledSoFar s x y bs → IsSpelled s bs x y
 spelled_here s x y bs so_far = subst (λ e. IsSpelled s e x y) (append-nil bs) (so_far [] y refl)
 
-pub meets_escape : (s : Style) (x y bs : List ℕ) → SpelledSoFar s x y bs → no_escape ≡ next s y → MeetsEscape s x EscapeNotHere
-meets_escape s x y bs so_far e = (refl, (bs, y, spelled_here s x y bs so_far, sym e))
+pub meets_escape : (s : Style) (x y bs : List ℕ) → SpelledSoFar s x y bs → no_escape ≡ next s y → MeetsEscape s x
+meets_escape s x y bs so_far e = (bs, y, spelled_here s x y bs so_far, sym e)
 
 -- what is no byte and no fault halts
 pub halted : (p : Piece) (n : Next) → seen p ≡ n → ((b : ℕ) (z : Bor (List ℕ)) → p ≡ piece.Byte b z → ⊥) → (p ≡ piece.NoEscape → ⊥) → Halts n

@@ -2,19 +2,17 @@
 use Rattle.std.proofs.Common.{◌≡◌, ℕ, ◌+◌, ◌-◌, ◌*◌, ◌<◌, ◌==◌, ◌||◌, List, [], ◌∷◌, ◌++◌, ◌↔◌, inl, inr, length, Bool, true, false, not, cond, Result, Ok, Err, refl, sym, ap, subst, ◌∙◌, append_assoc, arith}
 use Rattle.std.proofs.lemmas.Bool.{eqb-true}
 use Rattle.tcltext.specs.declared.escape.EscapeNotHere.{EscapeNotHere}
-use Rattle.tcltext.specs.declared.list.ListFault.{ListFault}
-use Rattle.tcltext.specs.declared.list.ListFault.TheVariants as fault
-use Rattle.tcltext.specs.declared.list.element.Style.{Style}
-use Rattle.tcltext.specs.declared.list.element.Style.TheVariants.{Bare, Quoted}
+use Rattle.tcltext.specs.Flaw.{Flaw, open_brace, open_quote, after_brace, after_quote, escape_not_here}
+use Rattle.tcltext.specs.Style.{Style, up_to_white, up_to_quote, stops}
 use Rattle.tcltext.specs.Digit.{digit_value, is_digit}
 use Rattle.tcltext.specs.Escape.{is_blank, skip_blanks, byte_number, hexadecimal_byte, named_byte, escape}
 use Rattle.tcltext.specs.White.{is_white, skip_white, ends_element}
 use Rattle.tcltext.specs.Balanced.{IsBalanced}
-use Rattle.tcltext.specs.Elements.{stops, Next, at_end, a_stop, a_byte, no_escape, escaped, next, IsSpelled, closed, IsBraced, QuotedEnds, BareEnds, Opening, in_braces, in_quotes, bare, opening, IsOpened, IsElement, IsList}
+use Rattle.tcltext.specs.Elements.{Next, at_end, a_stop, a_byte, no_escape, escaped, next, IsSpelled, closed, IsBraced, QuotedEnds, BareEnds, Opening, in_braces, in_quotes, bare, opening, IsOpened, IsElement, IsList}
 use Rattle.tcltext.specs.Spellings.{ArePieces, begins_bare, IsSpelling, AreSpellings}
 use Rattle.tcltext.proofs.Choices.{choice, and_true, not_true}
 use Rattle.tcltext.proofs.Numerals.{skip_splits, skip_over}
-use Rattle.tcltext.proofs.Unique.{Same, fault_apart, same_element}
+use Rattle.tcltext.proofs.Unique.{Same, flaw_apart, same_element}
 
 -- y is the end of x
 abbrev pub EndsIn : List ℕ → List ℕ → Type 0
@@ -113,11 +111,11 @@ opens : (y : List ℕ) → Opens y (opening y)
 opens [] = (refl, refl)
 opens (c ∷ x) = opens_at c x (c == 123) (c == 34) refl refl
 
-closed_at : (f : ListFault) (e z d y : List ℕ) (b : Bool) → ends_element y ≡ b → Same (Ok (e, z)) (cond b (Ok (d, y)) (Err f)) → (e ≡ d) × (z ≡ y) × (ends_element y ≡ true)
+closed_at : (f : Flaw) (e z d y : List ℕ) (b : Bool) → ends_element y ≡ b → Same (Ok (e, z)) (cond b (Ok (d, y)) (Err f)) → (e ≡ d) × (z ≡ y) × (ends_element y ≡ true)
 closed_at f e z d y true h k = let same = same_element (e, z) (d, y) k in (same.0, same.1, h)
-closed_at f e z d y false h k = absurd (fault_apart f (e, z) (sym k))
+closed_at f e z d y false h k = absurd (flaw_apart f (e, z) (sym k))
 
-closed_ok : (f : ListFault) (e z d y : List ℕ) → Same (Ok (e, z)) (closed f d y) → (e ≡ d) × (z ≡ y) × (ends_element y ≡ true)
+closed_ok : (f : Flaw) (e z d y : List ℕ) → Same (Ok (e, z)) (closed f d y) → (e ≡ d) × (z ≡ y) × (ends_element y ≡ true)
 closed_ok f e z d y h = closed_at f e z d y (ends_element y) refl h
 
 -- What an element's text is
@@ -125,9 +123,9 @@ abbrev Spelt : List ℕ → List ℕ → List ℕ → Type 0
 Spelt e y z = (t : List ℕ) × (y ≡ t ++ z) × IsSpelling e t z × (ends_element z ≡ true)
 
 braced_spelt : (e z x : List ℕ) → IsBraced x (Ok (e, z)) → Spelt e (123 ∷ x) z
-braced_spelt e z x (inr h) = absurd (fault_apart fault.OpenBrace (e, z) (sym h.1))
+braced_spelt e z x (inr h) = absurd (flaw_apart open_brace (e, z) (sym h.1))
 braced_spelt e z x (inl h) =
-    let ok = closed_ok fault.AfterBrace e z h.0 h.1 h.3 in
+    let ok = closed_ok after_brace e z h.0 h.1 h.3 in
     let at : x ≡ (e ++ 125 ∷ []) ++ z = h.2.0 ∙ ap (λ d. d ++ 125 ∷ h.1) (sym ok.0) ∙ ap (λ y. e ++ 125 ∷ y) (sym ok.1) ∙ sym (append_assoc e (125 ∷ []) z) in
     (123 ∷ (e ++ 125 ∷ []), ap (λ y. 123 ∷ y) at, inl (refl, subst IsBalanced (sym ok.0) h.2.1), ap ends_element ok.1 ∙ ok.2)
 
@@ -146,18 +144,18 @@ quotes_at : (c : ℕ) (x : List ℕ) (b : Bool) → (c == 34) ≡ b → Quotes (
 quotes_at c x true h = ap (λ d. d ∷ x) (eqb-true c 34 h)
 quotes_at c x false h = choice (Quotes (c ∷ x)) (c == 92) (escaped (escape x)) (a_byte c x) (escaped_quotes (c ∷ x) (escape x)) tt
 
-quotes : (z : List ℕ) → Quotes z (next Quoted z)
+quotes : (z : List ℕ) → Quotes z (next up_to_quote z)
 quotes [] = tt
 quotes (c ∷ x) = quotes_at c x (c == 34) refl
 
-quoted_spelt : (e z x d y : List ℕ) (n : Next) → next Quoted y ≡ n → Quotes y n → IsSpelled Quoted d x y → QuotedEnds d n (Ok (e, z)) → Spelt e (34 ∷ x) z
-quoted_spelt e z x d y at_end is quote spelled h = absurd (fault_apart fault.OpenQuote (e, z) (sym h))
+quoted_spelt : (e z x d y : List ℕ) (n : Next) → next up_to_quote y ≡ n → Quotes y n → IsSpelled up_to_quote d x y → QuotedEnds d n (Ok (e, z)) → Spelt e (34 ∷ x) z
+quoted_spelt e z x d y at_end is quote spelled h = absurd (flaw_apart open_quote (e, z) (sym h))
 quoted_spelt e z x d y (a_byte b u) is quote spelled h = absurd h
-quoted_spelt e z x d y no_escape is quote spelled h = absurd (fault_apart fault.EscapeNotHere (e, z) (sym h))
+quoted_spelt e z x d y no_escape is quote spelled h = absurd (flaw_apart escape_not_here (e, z) (sym h))
 quoted_spelt e z x d y (a_stop u) is quote spelled h =
-    let ok = closed_ok fault.AfterQuote e z d u h in
+    let ok = closed_ok after_quote e z d u h in
     let end : y ≡ 34 ∷ z = quote ∙ ap (λ v. 34 ∷ v) (sym ok.1) in
-    let t = spelled_pieces e Quoted x (34 ∷ z) (subst (λ v. IsSpelled Quoted e x v) end (subst (λ v. IsSpelled Quoted v x y) (sym ok.0) spelled)) in
+    let t = spelled_pieces e up_to_quote x (34 ∷ z) (subst (λ v. IsSpelled up_to_quote e x v) end (subst (λ v. IsSpelled up_to_quote v x y) (sym ok.0) spelled)) in
     let at : x ≡ (t.0 ++ 34 ∷ []) ++ z = t.1 ∙ sym (append_assoc t.0 (34 ∷ []) z) in
     (34 ∷ (t.0 ++ 34 ∷ []), ap (λ v. 34 ∷ v) at, inr (inl (t.0, refl, t.2)), ap ends_element ok.1 ∙ ok.2)
 
@@ -176,7 +174,7 @@ ends_at : (c : ℕ) (x : List ℕ) (b : Bool) → is_white c ≡ b → Ends (c �
 ends_at c x true h = h
 ends_at c x false h = choice (Ends (c ∷ x)) (c == 92) (escaped (escape x)) (a_byte c x) (escaped_black (c ∷ x) (escape x) h) h
 
-ends : (z : List ℕ) → Ends z (next Bare z)
+ends : (z : List ℕ) → Ends z (next up_to_white z)
 ends [] = refl
 ends (c ∷ x) = ends_at c x (is_white c) refl
 
@@ -184,24 +182,24 @@ begins_front : (t z : List ℕ) → begins_bare (t ++ z) ≡ true → begins_bar
 begins_front [] z h = refl
 begins_front (c ∷ t) z h = h
 
-bare_same : (e z x d y : List ℕ) → 0 < length d → Same (Ok (e, z)) (Ok (d, y)) → ends_element y ≡ true → begins_bare x ≡ true → IsSpelled Bare d x y → Spelt e x z
+bare_same : (e z x d y : List ℕ) → 0 < length d → Same (Ok (e, z)) (Ok (d, y)) → ends_element y ≡ true → begins_bare x ≡ true → IsSpelled up_to_white d x y → Spelt e x z
 bare_same e z x d y some h end begins spelled =
     let same = same_element (e, z) (d, y) h in
-    let t = spelled_pieces e Bare x z (subst (λ v. IsSpelled Bare e x v) (sym same.1) (subst (λ v. IsSpelled Bare v x y) (sym same.0) spelled)) in
+    let t = spelled_pieces e up_to_white x z (subst (λ v. IsSpelled up_to_white e x v) (sym same.1) (subst (λ v. IsSpelled up_to_white v x y) (sym same.0) spelled)) in
     let more : 0 < length e = subst (λ v. 0 < length v) (sym same.0) some in
     (t.0, t.1, inr (inr (begins_front t.0 z (ap begins_bare (sym t.1) ∙ begins), more, t.2)), ap ends_element same.1 ∙ end)
 
-bare_spelt : (e z x d y : List ℕ) (n : Next) → next Bare y ≡ n → Ends y n → begins_bare x ≡ true → IsSpelled Bare d x y → BareEnds d y n (Ok (e, z)) → Spelt e x z
+bare_spelt : (e z x d y : List ℕ) (n : Next) → next up_to_white y ≡ n → Ends y n → begins_bare x ≡ true → IsSpelled up_to_white d x y → BareEnds d y n (Ok (e, z)) → Spelt e x z
 bare_spelt e z x d y at_end is end begins spelled h = bare_same e z x d y h.0 h.1 end begins spelled
 bare_spelt e z x d y (a_stop u) is end begins spelled h = bare_same e z x d y h.0 h.1 end begins spelled
 bare_spelt e z x d y (a_byte b u) is end begins spelled h = absurd h
-bare_spelt e z x d y no_escape is end begins spelled h = absurd (fault_apart fault.EscapeNotHere (e, z) (sym h))
+bare_spelt e z x d y no_escape is end begins spelled h = absurd (flaw_apart escape_not_here (e, z) (sym h))
 
 element_spelt : (e z y : List ℕ) (o : Opening) → Opens y o → IsOpened o (Ok (e, z)) → Spelt e y z
 element_spelt e z y (in_braces x) at h = subst (λ v. Spelt e v z) (sym at) (braced_spelt e z x h)
-element_spelt e z y (in_quotes x) at h = subst (λ v. Spelt e v z) (sym at) (quoted_spelt e z x h.0 h.1 (next Quoted h.1) refl (quotes h.1) h.2 h.3)
+element_spelt e z y (in_quotes x) at h = subst (λ v. Spelt e v z) (sym at) (quoted_spelt e z x h.0 h.1 (next up_to_quote h.1) refl (quotes h.1) h.2 h.3)
 element_spelt e z y (bare x) at h =
-    subst (λ v. Spelt e v z) at.0 (bare_spelt e z x h.0 h.1 (next Bare h.1) refl (ends h.1) (ap begins_bare at.0 ∙ at.1) h.2 h.3)
+    subst (λ v. Spelt e v z) at.0 (bare_spelt e z x h.0 h.1 (next up_to_white h.1) refl (ends h.1) (ap begins_bare at.0 ∙ at.1) h.2 h.3)
 
 spelt_list : (v : List (List ℕ)) (x : List ℕ) → IsList v x → AreSpellings v x
 spelt_list [] x h = h
@@ -218,13 +216,13 @@ Reads e y z = (ends_element y ≡ false) × IsElement y (Ok (e, z))
 braced_reads : (e z : List ℕ) → IsBalanced e → ends_element z ≡ true → Reads e ((123 ∷ (e ++ 125 ∷ [])) ++ z) z
 braced_reads e z b end = (refl, inl (e, z, (append_assoc e (125 ∷ []) z, b), rw end refl))
 
-quoted_reads : (e q z : List ℕ) → ArePieces Quoted e q (34 ∷ z) → ends_element z ≡ true → Reads e ((34 ∷ (q ++ 34 ∷ [])) ++ z) z
+quoted_reads : (e q z : List ℕ) → ArePieces up_to_quote e q (34 ∷ z) → ends_element z ≡ true → Reads e ((34 ∷ (q ++ 34 ∷ [])) ++ z) z
 quoted_reads e q z pieces end =
-    let spelled : IsSpelled Quoted e ((q ++ 34 ∷ []) ++ z) (34 ∷ z) = subst (λ y. IsSpelled Quoted e y (34 ∷ z)) (sym (append_assoc q (34 ∷ []) z)) (pieces_spelled e Quoted q (34 ∷ z) pieces) in
+    let spelled : IsSpelled up_to_quote e ((q ++ 34 ∷ []) ++ z) (34 ∷ z) = subst (λ y. IsSpelled up_to_quote e y (34 ∷ z)) (sym (append_assoc q (34 ∷ []) z)) (pieces_spelled e up_to_quote q (34 ∷ z) pieces) in
     (refl, (e, 34 ∷ z, spelled, rw end refl))
 
 -- the first piece of a bare element is no white
-bare_black : (y : List ℕ) (b : ℕ) (u : List ℕ) (n : Next) → next Bare y ≡ n → Ends y n → n ≡ a_byte b u → ends_element y ≡ false
+bare_black : (y : List ℕ) (b : ℕ) (u : List ℕ) (n : Next) → next up_to_white y ≡ n → Ends y n → n ≡ a_byte b u → ends_element y ≡ false
 bare_black y b u n is end at = subst (Ends y) at end
 
 opened_bare : (c : ℕ) (x : List ℕ) → begins_bare (c ∷ x) ≡ true → opening (c ∷ x) ≡ bare (c ∷ x)
@@ -234,20 +232,20 @@ opened_bare c x h =
     let b = not_true (c == 34) p.1 in
     rw (a, b) refl
 
-bare_ends : (e z : List ℕ) → ends_element z ≡ true → 0 < length e → BareEnds e z (next Bare z) (Ok (e, z))
+bare_ends : (e z : List ℕ) → ends_element z ≡ true → 0 < length e → BareEnds e z (next up_to_white z) (Ok (e, z))
 bare_ends e [] h some = (some, refl)
 bare_ends e (c ∷ z) h some = rw h (some, refl)
 
-bare_reads : (e t z : List ℕ) → begins_bare t ≡ true → 0 < length e → ArePieces Bare e t z → ends_element z ≡ true → Reads e (t ++ z) z
+bare_reads : (e t z : List ℕ) → begins_bare t ≡ true → 0 < length e → ArePieces up_to_white e t z → ends_element z ≡ true → Reads e (t ++ z) z
 bare_reads [] t z begins some pieces end = absurd (omega arith)
 bare_reads (b ∷ e) [] z begins some pieces end =
-    let spelled = pieces_spelled (b ∷ e) Bare [] z pieces in
-    let black : ends_element z ≡ false = bare_black z b spelled.0 (next Bare z) refl (ends z) spelled.1 in
+    let spelled = pieces_spelled (b ∷ e) up_to_white [] z pieces in
+    let black : ends_element z ≡ false = bare_black z b spelled.0 (next up_to_white z) refl (ends z) spelled.1 in
     absurd (cc)
 bare_reads (b ∷ e) (c ∷ t) z begins some pieces end =
-    let spelled = pieces_spelled (b ∷ e) Bare (c ∷ t) z pieces in
+    let spelled = pieces_spelled (b ∷ e) up_to_white (c ∷ t) z pieces in
     let y = c ∷ (t ++ z) in (
-      bare_black y b spelled.0 (next Bare y) refl (ends y) spelled.1,
+      bare_black y b spelled.0 (next up_to_white y) refl (ends y) spelled.1,
       subst (λ o. IsOpened o (Ok (b ∷ e, z))) (sym (opened_bare c (t ++ z) begins)) (b ∷ e, z, spelled, bare_ends (b ∷ e) z end some),
     )
 

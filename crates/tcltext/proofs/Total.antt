@@ -2,14 +2,12 @@
 use Rattle.std.proofs.Common.{◌≡◌, ℕ, zero, suc, ◌+◌, ◌-◌, ◌*◌, ◌<◌, ◌≤◌, List, [], ◌∷◌, ◌⊎◌, inl, inr, ◌==◌, ◌||◌, length, length-append, Bool, true, false, cond, Option, Some, None, Result, Ok, Err, refl, sym, ap, subst, ◌∙◌, arith}
 use Rattle.tcltext.proofs.Choices.{choice}
 use Rattle.tcltext.specs.declared.escape.EscapeNotHere.{EscapeNotHere}
-use Rattle.tcltext.specs.declared.list.ListFault.{ListFault}
-use Rattle.tcltext.specs.declared.list.ListFault.TheVariants as fault
-use Rattle.tcltext.specs.declared.list.element.Style.{Style}
-use Rattle.tcltext.specs.declared.list.element.Style.TheVariants.{Bare, Quoted}
+use Rattle.tcltext.specs.Flaw.{Flaw, open_brace, open_quote, after_brace, after_quote, escape_not_here}
+use Rattle.tcltext.specs.Style.{Style, up_to_white, up_to_quote, stops}
 use Rattle.tcltext.specs.Digit.{digit_value, is_digit}
 use Rattle.tcltext.specs.Escape.{skip_blanks, byte_number, hexadecimal_byte, named_byte, escape}
 use Rattle.tcltext.specs.White.{is_white, skip_white, ends_element}
-use Rattle.tcltext.specs.Elements.{stops, Next, at_end, a_stop, a_byte, no_escape, escaped, next, IsSpelled, Outcome, closed, QuotedEnds, BareEnds, Opening, in_braces, in_quotes, bare, opening, IsOpened, IsElement, IsElements, IsList, HasFault}
+use Rattle.tcltext.specs.Elements.{Next, at_end, a_stop, a_byte, no_escape, escaped, next, IsSpelled, Outcome, closed, QuotedEnds, BareEnds, Opening, in_braces, in_quotes, bare, opening, IsOpened, IsElement, IsElements, IsList, HasFlaw}
 use Rattle.tcltext.proofs.Pairing.{Found, pairing, found_pairs, pairs_nowhere}
 use Rattle.tcltext.proofs.Unique.{NoByte}
 
@@ -100,23 +98,23 @@ Shorter n (Err f) = Unit {0}
 abbrev pub Reads : ℕ → Opening → Type 0
 Reads n o = (r : Outcome) × IsOpened o r × Shorter n r
 
-closed_shorter : (n : ℕ) (f : ListFault) (e z : List ℕ) → length z < n → Shorter n (closed f e z)
+closed_shorter : (n : ℕ) (f : Flaw) (e z : List ℕ) → length z < n → Shorter n (closed f e z)
 closed_shorter n f e z h = choice (Shorter n) (ends_element z) (Ok (e, z)) (Err f) h tt
 
 braced_reads : (n : ℕ) (x : List ℕ) (r : Found) → pairing 0 false x ≡ r → length x < n → Reads n (in_braces x)
-braced_reads n x None e h = (Err fault.OpenBrace, inr (pairs_nowhere x e, refl), tt)
+braced_reads n x None e h = (Err open_brace, inr (pairs_nowhere x e, refl), tt)
 braced_reads n x (Some p) e h =
     let pair = found_pairs x p.0 p.1 e in
     let long : length x ≡ length p.0 + length (125 ∷ p.1) = ap length pair.0 ∙ length-append p.0 (125 ∷ p.1) in
-    (closed fault.AfterBrace p.0 p.1, inl (p.0, p.1, pair, refl), closed_shorter n fault.AfterBrace p.0 p.1 (omega arith))
+    (closed after_brace p.0 p.1, inl (p.0, p.1, pair, refl), closed_shorter n after_brace p.0 p.1 (omega arith))
 
-quoted_reads : (n : ℕ) (x e z : List ℕ) (k : Next) → next Quoted z ≡ k → Fewer (length z) k → NoByte k → IsSpelled Quoted e x z → length z < n → Reads n (in_quotes x)
-quoted_reads n x e z at_end is h b spelled within = (Err fault.OpenQuote, (e, z, spelled, subst (λ k. QuotedEnds e k (Err fault.OpenQuote)) (sym is) refl), tt)
+quoted_reads : (n : ℕ) (x e z : List ℕ) (k : Next) → next up_to_quote z ≡ k → Fewer (length z) k → NoByte k → IsSpelled up_to_quote e x z → length z < n → Reads n (in_quotes x)
+quoted_reads n x e z at_end is h b spelled within = (Err open_quote, (e, z, spelled, subst (λ k. QuotedEnds e k (Err open_quote)) (sym is) refl), tt)
 quoted_reads n x e z (a_stop y) is h b spelled within =
-    let r = closed fault.AfterQuote e y in
-    (r, (e, z, spelled, subst (λ k. QuotedEnds e k r) (sym is) refl), closed_shorter n fault.AfterQuote e y (omega arith))
+    let r = closed after_quote e y in
+    (r, (e, z, spelled, subst (λ k. QuotedEnds e k r) (sym is) refl), closed_shorter n after_quote e y (omega arith))
 quoted_reads n x e z (a_byte c y) is h b spelled within = absurd b
-quoted_reads n x e z no_escape is h b spelled within = (Err fault.EscapeNotHere, (e, z, spelled, subst (λ k. QuotedEnds e k (Err fault.EscapeNotHere)) (sym is) refl), tt)
+quoted_reads n x e z no_escape is h b spelled within = (Err escape_not_here, (e, z, spelled, subst (λ k. QuotedEnds e k (Err escape_not_here)) (sym is) refl), tt)
 
 -- a bare element goes on
 abbrev GoesOn : Next → Type 0
@@ -129,15 +127,15 @@ escaped_goes_on : (r : Result (ℕ × List ℕ) EscapeNotHere) → GoesOn (escap
 escaped_goes_on (Ok p) = tt
 escaped_goes_on (Err e) = tt
 
-bare_goes_on : (x : List ℕ) → ends_element x ≡ false → GoesOn (next Bare x)
+bare_goes_on : (x : List ℕ) → ends_element x ≡ false → GoesOn (next up_to_white x)
 bare_goes_on [] h = absurd (cc)
 bare_goes_on (c ∷ x) h = rw h (choice GoesOn (c == 92) (escaped (escape x)) (a_byte c x) (escaped_goes_on (escape x)) tt)
 
-bare_begins : (e x z : List ℕ) (k : Next) → GoesOn (next Bare x) → IsSpelled Bare e x z → next Bare z ≡ k → (GoesOn k → ⊥) → 0 < length e
-bare_begins [] x z k h spelled is stops = absurd (stops (subst GoesOn (ap (next Bare) spelled ∙ is) h))
+bare_begins : (e x z : List ℕ) (k : Next) → GoesOn (next up_to_white x) → IsSpelled up_to_white e x z → next up_to_white z ≡ k → (GoesOn k → ⊥) → 0 < length e
+bare_begins [] x z k h spelled is stops = absurd (stops (subst GoesOn (ap (next up_to_white) spelled ∙ is) h))
 bare_begins (c ∷ e) x z k h spelled is stops = omega arith
 
-bare_reads : (x e z : List ℕ) (k : Next) → ends_element x ≡ false → next Bare z ≡ k → NoByte k → IsSpelled Bare e x z → length e + length z ≤ length x → Reads (length x) (bare x)
+bare_reads : (x e z : List ℕ) (k : Next) → ends_element x ≡ false → next up_to_white z ≡ k → NoByte k → IsSpelled up_to_white e x z → length e + length z ≤ length x → Reads (length x) (bare x)
 bare_reads x e z at_end starts is b spelled within =
     let some = bare_begins e x z at_end (bare_goes_on x starts) spelled is (λ h. h) in
     (Ok (e, z), (e, z, spelled, subst (λ k. BareEnds e z k (Ok (e, z))) (sym is) (some, refl)), omega arith)
@@ -145,7 +143,7 @@ bare_reads x e z (a_stop y) starts is b spelled within =
     let some = bare_begins e x z (a_stop y) (bare_goes_on x starts) spelled is (λ h. h) in
     (Ok (e, z), (e, z, spelled, subst (λ k. BareEnds e z k (Ok (e, z))) (sym is) (some, refl)), omega arith)
 bare_reads x e z (a_byte c y) starts is b spelled within = absurd b
-bare_reads x e z no_escape starts is b spelled within = (Err fault.EscapeNotHere, (e, z, spelled, subst (λ k. BareEnds e z k (Err fault.EscapeNotHere)) (sym is) refl), tt)
+bare_reads x e z no_escape starts is b spelled within = (Err escape_not_here, (e, z, spelled, subst (λ k. BareEnds e z k (Err escape_not_here)) (sym is) refl), tt)
 
 abbrev pub IsBehind : ℕ → Opening → Type 0
 IsBehind n (in_braces x) = length x < n
@@ -175,12 +173,12 @@ opening_bare (c ∷ x) =
 opened_reads : (x : List ℕ) (o : Opening) → IsBehind (length x) o → IsBareOf x o → ends_element x ≡ false → Reads (length x) o
 opened_reads x (in_braces y) h same starts = braced_reads (length x) y (pairing 0 false y) refl h
 opened_reads x (in_quotes y) h same starts =
-    let s = spells_within (length y) Quoted y (omega arith) in
+    let s = spells_within (length y) up_to_quote y (omega arith) in
     let shorter : length s.0 + length s.1 ≤ length y = s.4 in
-    quoted_reads (length x) y s.0 s.1 (next Quoted s.1) refl (next_fewer Quoted s.1) s.3 s.2 (omega arith)
+    quoted_reads (length x) y s.0 s.1 (next up_to_quote s.1) refl (next_fewer up_to_quote s.1) s.3 s.2 (omega arith)
 opened_reads x (bare y) h same starts =
-    let s = spells_within (length y) Bare y (omega arith) in
-    subst (λ w. Reads (length w) (bare y)) same (bare_reads y s.0 s.1 (next Bare s.1) (subst (λ w. ends_element w ≡ false) (sym same) starts) refl s.3 s.2 s.4)
+    let s = spells_within (length y) up_to_white y (omega arith) in
+    subst (λ w. Reads (length w) (bare y)) same (bare_reads y s.0 s.1 (next up_to_white s.1) (subst (λ w. ends_element w ≡ false) (sym same) starts) refl s.3 s.2 s.4)
 
 skip_white_within : (x : List ℕ) → length (skip_white x) ≤ length x
 skip_white_within [] = omega arith
@@ -196,7 +194,7 @@ skip_begins [] = inl refl
 skip_begins (c ∷ x) = begins_at c x (is_white c) refl (skip_begins x)
 
 abbrev pub IsRead : List ℕ → Type 0
-IsRead x = (v : List (List ℕ)) × (o : Option ListFault) × IsElements v o x
+IsRead x = (v : List (List ℕ)) × (o : Option Flaw) × IsElements v o x
 
 read_next : (n : ℕ) (x : List ℕ) (r : Outcome) → IsElement (skip_white x) r → Shorter (length (skip_white x)) r → length x ≤ suc n → ((y : List ℕ) → length y ≤ n → IsRead y) → IsRead x
 read_next n x (Err f) is h within so = ([], Some f, is)
@@ -216,9 +214,9 @@ read_within (suc n) x h = elim (skip_begins x) [
       read_next n x read.0 read.1 read.2 h (λ z k. read_within n z k)
 ]
 
-either : (x : List ℕ) (v : List (List ℕ)) (o : Option ListFault) → IsElements v o x → ((v : List (List ℕ)) × IsList v x) ⊎ ((f : ListFault) × HasFault f x)
+either : (x : List ℕ) (v : List (List ℕ)) (o : Option Flaw) → IsElements v o x → ((v : List (List ℕ)) × IsList v x) ⊎ ((f : Flaw) × HasFlaw f x)
 either x v None h = inl (v, h)
 either x v (Some f) h = inr (f, (v, h))
 
-pub list_or_fault : (x : List ℕ) → ((v : List (List ℕ)) × IsList v x) ⊎ ((f : ListFault) × HasFault f x)
-list_or_fault x = let read = read_within (length x) x (omega arith) in either x read.0 read.1 read.2
+pub list_or_flaw : (x : List ℕ) → ((v : List (List ℕ)) × IsList v x) ⊎ ((f : Flaw) × HasFlaw f x)
+list_or_flaw x = let read = read_within (length x) x (omega arith) in either x read.0 read.1 read.2

@@ -4,15 +4,15 @@ use Rattle.std.proofs.lemmas.Bool.Decides.{eqb_tells, nat_tests}
 use Rattle.std.proofs.lemmas.Bool.{eqb-true}
 use Rattle.std.specs.List.{list_any}
 use Rattle.tcltext.proofs.Choices.{and_true, or_false, not_true}
-use Rattle.tcltext.specs.declared.list.ListFault.{ListFault}
-use Rattle.tcltext.specs.declared.list.element.Style.TheVariants.{Bare}
+use Rattle.tcltext.specs.Flaw.{Flaw}
+use Rattle.tcltext.specs.Style.{up_to_white}
 use Rattle.tcltext.specs.Escape.{escape}
 use Rattle.tcltext.specs.White.{is_white, skip_white, ends_element}
 use Rattle.tcltext.specs.Balanced.{IsBalanced, nothing}
-use Rattle.tcltext.specs.Elements.{a_byte, escaped, next, IsSpelled, BareEnds, bare, opening, IsOpened, IsElement, IsElements, IsList, HasFault}
+use Rattle.tcltext.specs.Elements.{a_byte, escaped, next, IsSpelled, BareEnds, bare, opening, IsOpened, IsElement, IsElements, IsList, HasFlaw}
 use Rattle.tcltext.specs.Canonical.{is_special, is_comment, is_empty, is_bare, pairs_up, is_braceable, escape_name, escaped_bytes, written, joined, canonical}
 use Rattle.tcltext.proofs.Pairing.{Closes, closes_byte, closes_open, closes_close}
-use Rattle.tcltext.proofs.Unique.{one_list, no_list_with_fault}
+use Rattle.tcltext.proofs.Unique.{one_list, no_list_with_flaw}
 
 -- What a byte is not, where it is not special
 abbrev IsPlain : ℕ → Type 0
@@ -31,7 +31,7 @@ plain c h =
     (a.0, d.0, i.0, j.0, j.1)
 
 -- a plain byte is itself
-next_plain : (c : ℕ) (x : List ℕ) → IsPlain c → next Bare (c ∷ x) ≡ a_byte c x
+next_plain : (c : ℕ) (x : List ℕ) → IsPlain c → next up_to_white (c ∷ x) ≡ a_byte c x
 next_plain c x h = rw (h.0, h.4) refl
 
 opening_plain : (c : ℕ) (x : List ℕ) → IsPlain c → opening (c ∷ x) ≡ bare (c ∷ x)
@@ -94,26 +94,26 @@ special_cases c h x =
       ]
     ]
 
-next_special : (c : ℕ) (x : List ℕ) → is_special c ≡ true → next Bare (92 ∷ escape_name c ∷ x) ≡ a_byte c x
+next_special : (c : ℕ) (x : List ℕ) → is_special c ≡ true → next up_to_white (92 ∷ escape_name c ∷ x) ≡ a_byte c x
 next_special c x h = ap escaped (special_cases c h x)
 
 -- behind an element white follows, or nothing
-bare_ends : (e z : List ℕ) → ends_element z ≡ true → 0 < length e → BareEnds e z (next Bare z) (Ok (e, z))
+bare_ends : (e z : List ℕ) → ends_element z ≡ true → 0 < length e → BareEnds e z (next up_to_white z) (Ok (e, z))
 bare_ends e [] h some = (some, refl)
 bare_ends e (c ∷ z) h some = rw h (some, refl)
 
-spelled_plain : (e z : List ℕ) → list_any is_special e ≡ false → IsSpelled Bare e (e ++ z) z
+spelled_plain : (e z : List ℕ) → list_any is_special e ≡ false → IsSpelled up_to_white e (e ++ z) z
 spelled_plain [] z h = refl
 spelled_plain (c ∷ e) z h =
     let p = or_false (is_special c) (list_any is_special e) h in
     (e ++ z, next_plain c (e ++ z) (plain c p.0), spelled_plain e z p.1)
 
-spelled_escaped_at : (c : ℕ) (e z : List ℕ) (b : Bool) → is_special c ≡ b → IsSpelled Bare e (escaped_bytes e ++ z) z
-    → IsSpelled Bare (c ∷ e) ((cond b (92 ∷ escape_name c ∷ escaped_bytes e) (c ∷ escaped_bytes e)) ++ z) z
+spelled_escaped_at : (c : ℕ) (e z : List ℕ) (b : Bool) → is_special c ≡ b → IsSpelled up_to_white e (escaped_bytes e ++ z) z
+    → IsSpelled up_to_white (c ∷ e) ((cond b (92 ∷ escape_name c ∷ escaped_bytes e) (c ∷ escaped_bytes e)) ++ z) z
 spelled_escaped_at c e z true h so = (escaped_bytes e ++ z, next_special c (escaped_bytes e ++ z) h, so)
 spelled_escaped_at c e z false h so = (escaped_bytes e ++ z, next_plain c (escaped_bytes e ++ z) (plain c h), so)
 
-spelled_escaped : (e z : List ℕ) → IsSpelled Bare e (escaped_bytes e ++ z) z
+spelled_escaped : (e z : List ℕ) → IsSpelled up_to_white e (escaped_bytes e ++ z) z
 spelled_escaped [] z = refl
 spelled_escaped (c ∷ e) z = spelled_escaped_at c e z (is_special c) refl (spelled_escaped e z)
 
@@ -122,7 +122,7 @@ abbrev pub ReadsAs : List ℕ → List ℕ → List ℕ → Type 0
 ReadsAs e t z = (skip_white (t ++ z) ≡ t ++ z) × IsElement (t ++ z) (Ok (e, z))
 
 -- a bare text that begins with no white
-bare_reads : (e z : List ℕ) (c : ℕ) (x : List ℕ) → opening (c ∷ x) ≡ bare (c ∷ x) → is_white c ≡ false → IsSpelled Bare e (c ∷ x) z → ends_element z ≡ true → 0 < length e
+bare_reads : (e z : List ℕ) (c : ℕ) (x : List ℕ) → opening (c ∷ x) ≡ bare (c ∷ x) → is_white c ≡ false → IsSpelled up_to_white e (c ∷ x) z → ends_element z ≡ true → 0 < length e
     → (skip_white (c ∷ x) ≡ c ∷ x) × IsElement (c ∷ x) (Ok (e, z))
 bare_reads e z c x begins black spelled ends some = (rw black refl, subst (λ o. IsOpened o (Ok (e, z))) (sym begins) (e, z, spelled, bare_ends e z ends some))
 
@@ -232,5 +232,5 @@ reads_back v = joined_reads v true
 pub reads_back_alone : (v u : List (List ℕ)) → IsList u (canonical v) → u ≡ v
 reads_back_alone v u h = one_list (canonical v) u v h (reads_back v)
 
-pub written_has_no_fault : (v : List (List ℕ)) (f : ListFault) → HasFault f (canonical v) → ⊥
-written_has_no_fault v f h = no_list_with_fault (canonical v) v f (reads_back v) h
+pub written_has_no_flaw : (v : List (List ℕ)) (f : Flaw) → HasFlaw f (canonical v) → ⊥
+written_has_no_flaw v f h = no_list_with_flaw (canonical v) v f (reads_back v) h

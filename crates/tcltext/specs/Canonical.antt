@@ -1,4 +1,5 @@
--- How a list is written (list(n); the spelling of an element that is not bare is this project's own rule).
+-- How a list is written (list(n); the spelling of an element that is not bare is this project's own
+-- rule).
 use Rattle.std.specs.Prelude.{ℕ, ◌+◌, ◌-◌, ◌==◌, ◌&&◌, ◌||◌, not, List, [], ◌∷◌, ◌++◌, Bool, true, false, if◌then◌else◌}
 use Rattle.std.specs.List.{list_any}
 use Rattle.tcltext.specs.White.{is_white}
@@ -6,7 +7,8 @@ use Rattle.tcltext.specs.White.{is_white}
 -- White and the bytes ; " $ [ ] { } \, which a bare element doesn't have (this project's own rule).
 abbrev pub is_special : ℕ → Bool
 is_special c =
-    is_white c || ((c == 59) || ((c == 34) || ((c == 36) || ((c == 91) || ((c == 93) || ((c == 123) || ((c == 125) || (c == 92))))))))
+    is_white c || ((c == 59) || ((c == 34) || ((c == 36) || ((c == 91) || ((c == 93) ||
+    ((c == 123) || ((c == 125) || (c == 92))))))))
 
 -- The first element begins with #, which would make a comment of a command (list(n)).
 abbrev pub is_comment : Bool → List ℕ → Bool
@@ -18,7 +20,8 @@ abbrev pub is_empty : List ℕ → Bool
 is_empty [] = true
 is_empty (c ∷ x) = false
 
--- An element may stand as it is: it has a byte, begins no comment and has no special byte (this project's own rule).
+-- An element may stand as it is: it has a byte, begins no comment and has no special byte (this
+-- project's own rule).
 abbrev pub is_bare : Bool → List ℕ → Bool
 is_bare first e = not (is_empty e) && (not (is_comment first e) && not (list_any is_special e))
 
@@ -26,23 +29,28 @@ is_bare first e = not (is_empty e) && (not (is_comment first e) && not (list_any
 abbrev pub pairs_up : ℕ → List ℕ → Bool
 pairs_up k [] = k == 0
 pairs_up k (c ∷ x) =
-    if c == 123 then pairs_up (k + 1) x else (if c == 125 then not (k == 0) && pairs_up (k - 1) x else pairs_up k x)
+    if c == 123 then pairs_up (k + 1) x else
+    (if c == 125 then not (k == 0) && pairs_up (k - 1) x else pairs_up k x)
 
--- An element may stand in braces: it has no backslash, and its braces pair up (this project's own rule).
+-- An element may stand in braces: it has no backslash, and its braces pair up (this project's own
+-- rule).
 abbrev pub is_braceable : List ℕ → Bool
 is_braceable e = not (list_any (λ c. c == 92) e) && pairs_up 0 e
 
 -- The name of a byte behind a backslash (Tcl(n), rule 9).
 abbrev pub escape_name : ℕ → ℕ
 escape_name c =
-    if c == 9 then 116 else (if c == 10 then 110 else (if c == 11 then 118 else (if c == 12 then 102 else (if c == 13 then 114 else c))))
+    if c == 9 then 116 else (if c == 10 then 110 else (if c == 11 then 118 else
+    (if c == 12 then 102 else (if c == 13 then 114 else c))))
 
 -- Each special byte behind a backslash, under its name (this project's own rule).
 abbrev pub escaped_bytes : List ℕ → List ℕ
 escaped_bytes [] = []
-escaped_bytes (c ∷ x) = if is_special c then 92 ∷ escape_name c ∷ escaped_bytes x else c ∷ escaped_bytes x
+escaped_bytes (c ∷ x) =
+    if is_special c then 92 ∷ escape_name c ∷ escaped_bytes x else c ∷ escaped_bytes x
 
--- Bare where it can be, else in braces where it can be, else with backslashes (this project's own rule).
+-- Bare where it can be, else in braces where it can be, else with backslashes (this project's own
+-- rule).
 abbrev pub written : Bool → List ℕ → List ℕ
 written first e =
     if is_bare first e then e else (if is_braceable e then 123 ∷ (e ++ 125 ∷ []) else

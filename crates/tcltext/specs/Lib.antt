@@ -2,6 +2,8 @@ pub mod Digit
 pub mod Escape
 pub mod White
 pub mod Balanced
+pub mod Flaw
+pub mod Style
 pub mod Elements
 pub mod Seen
 pub mod Reads
@@ -10,3 +12,4 @@ pub mod Numbers
 pub mod Spellings
 pub mod Canonical
 pub mod Pattern
+pub mod Value

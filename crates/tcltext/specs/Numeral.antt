@@ -22,14 +22,18 @@ abbrev pub begins_zero : List ℕ → Bool
 begins_zero [] = false
 begins_zero (c ∷ x) = c == 48
 
--- How a number without a sign is spelled: in decimal digits that begin with no 0; as a 0 with octal digits behind it, or with none;
--- in digits behind 0x, 0o or 0b (expr(n), operands).
+-- How a number without a sign is spelled: in decimal digits that begin with no 0; as a 0 with octal
+-- digits behind it, or with none; in digits behind 0x, 0o or 0b (expr(n), operands).
 pub data IsUnsigned : ℕ → List ℕ → Type 0 where
-  decimal : (ds : List ℕ) → AreDigits 10 ds → 0 < length ds → begins_zero ds ≡ false → IsUnsigned (number_of 10 ds) ds
+  decimal : (ds : List ℕ) → AreDigits 10 ds → 0 < length ds → begins_zero ds ≡ false
+      → IsUnsigned (number_of 10 ds) ds
   octal : (ds : List ℕ) → AreDigits 8 ds → IsUnsigned (number_of 8 ds) (48 ∷ ds)
-  marked_hexadecimal : (ds : List ℕ) → AreDigits 16 ds → 0 < length ds → IsUnsigned (number_of 16 ds) (48 ∷ 120 ∷ ds)
-  marked_octal : (ds : List ℕ) → AreDigits 8 ds → 0 < length ds → IsUnsigned (number_of 8 ds) (48 ∷ 111 ∷ ds)
-  marked_binary : (ds : List ℕ) → AreDigits 2 ds → 0 < length ds → IsUnsigned (number_of 2 ds) (48 ∷ 98 ∷ ds)
+  marked_hexadecimal : (ds : List ℕ) → AreDigits 16 ds → 0 < length ds
+      → IsUnsigned (number_of 16 ds) (48 ∷ 120 ∷ ds)
+  marked_octal : (ds : List ℕ) → AreDigits 8 ds → 0 < length ds
+      → IsUnsigned (number_of 8 ds) (48 ∷ 111 ∷ ds)
+  marked_binary : (ds : List ℕ) → AreDigits 2 ds → 0 < length ds
+      → IsUnsigned (number_of 2 ds) (48 ∷ 98 ∷ ds)
 
 -- The sign s makes of m the number n: no sign or + keeps it, - turns it (expr(n), operands).
 abbrev pub IsSigned : List ℕ → ℕ → ℤ → Type 0
@@ -39,9 +43,12 @@ IsSigned s m n = (((s ≡ []) ⊎ (s ≡ 43 ∷ [])) × (n ≡ pos m)) ⊎ ((s �
 abbrev pub IsWhite : List ℕ → Type 0
 IsWhite x = skip_white x ≡ []
 
--- The text is a numeral for n, however large: white, a sign or none, a number without a sign, white (Tcl_GetInt(3)).
+-- The text is a numeral for n, however large: white, a sign or none, a number without a sign, white
+-- (Tcl_GetInt(3)).
 abbrev pub IsNumeral : ℤ → List ℕ → Type 0
-IsNumeral n x = (w s d u : List ℕ) × (m : ℕ) × (x ≡ w ++ (s ++ (d ++ u))) × IsWhite w × IsWhite u × IsUnsigned m d × IsSigned s m n
+IsNumeral n x =
+    (w s d u : List ℕ) × (m : ℕ) × (x ≡ w ++ (s ++ (d ++ u))) × IsWhite w × IsWhite u
+    × IsUnsigned m d × IsSigned s m n
 
 -- A number is in range where 64 bits hold it (expr(n), operands).
 abbrev pub IsInRange : ℤ → Type 0

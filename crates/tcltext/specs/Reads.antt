@@ -1,45 +1,48 @@
 -- What the readers of elements answer.
-use Rattle.std.specs.Prelude.{◌≡◌, ℕ, ◌<◌, List, length, ◌⊎◌, Result, Ok, Err, Vec}
+use Rattle.std.specs.Prelude.{◌≡◌, ℕ, ◌<◌, List, length, Result, Ok, Err, IfSome, Vec}
 use Rattle.std.specs.Borrow.{Bor}
-use Rattle.tcltext.specs.declared.list.ListFault.{ListFault}
-use Rattle.tcltext.specs.declared.list.ListFault.TheVariants.{NoMemory, EscapeNotHere}
-use Rattle.tcltext.specs.declared.list.element.Style.{Style}
+use Rattle.tcltext.specs.Flaw.{escape_not_here}
+use Rattle.tcltext.specs.Style.{Style}
+use Rattle.tcltext.specs.declared.list.fault.ListFault.{ListFault}
 use Rattle.tcltext.specs.declared.list.element.Piece.{Piece}
 use Rattle.tcltext.specs.declared.list.element.Piece.TheVariants as piece
 use Rattle.tcltext.specs.declared.list.element.Opening as opened
 use Rattle.tcltext.specs.declared.list.element.Opening.TheVariants as opens
 use Rattle.tcltext.specs.Elements.{Next, at_end, a_stop, a_byte, no_escape, next, IsSpelled, Opening, IsOpened}
+use Rattle.tcltext.specs.Seen.{flaw_of}
 
--- No byte of the element stands next, and no fault.
+-- No byte of the element stands next, and no flaw (Tcl_SplitList(3)).
 abbrev pub Halts : Next → Type 0
 Halts at_end = Unit {0}
 Halts (a_stop z) = Unit {0}
 Halts (a_byte b z) = ⊥
 Halts no_escape = ⊥
 
--- the text behind a byte has fewer bytes than that
+-- The text behind a byte has fewer bytes than that (this project's own rule).
 abbrev pub IsShorter : Piece → ℕ → Type 0
 IsShorter piece.End n = Unit {0}
 IsShorter (piece.Stop z) n = Unit {0}
 IsShorter (piece.Byte b z) n = length z.now < n
 IsShorter piece.NoEscape n = Unit {0}
 
--- the text behind an open brace or quote has fewer bytes than that
+-- The text behind an open brace or quote has fewer bytes than that (this project's own rule).
 abbrev pub OpensShorter : opened.Opening → ℕ → Type 0
 OpensShorter (opens.Braces z) n = length z.now < n
 OpensShorter (opens.Quotes z) n = length z.now < n
 OpensShorter (opens.Bare z) n = length z.now ≡ n
 
--- some bytes of the element, and then an escape that isn't here
-abbrev pub MeetsEscape : Style → List ℕ → ListFault → Type 0
-MeetsEscape s x f = (f ≡ EscapeNotHere) × ((e z : List ℕ) × IsSpelled s e x z × (next s z ≡ no_escape))
+-- Some bytes of the element, and then an escape that isn't here (Tcl_SplitList(3)).
+abbrev pub MeetsEscape : Style → List ℕ → Type 0
+MeetsEscape s x = (e z : List ℕ) × IsSpelled s e x z × (next s z ≡ no_escape)
 
--- the bytes of an element up to its end, or an escape that isn't here
-abbrev pub ReadsSpelled : {A : Type 0} → Style → List ℕ → Result (Vec ℕ A × Bor (List ℕ)) ListFault → Type 0
+-- The bytes of an element up to its end, or an escape that isn't here (Tcl_SplitList(3)).
+abbrev pub ReadsSpelled : {A : Type 0}
+    → Style → List ℕ → Result (Vec ℕ A × Bor (List ℕ)) ListFault → Type 0
 ReadsSpelled s x (Ok r) = IsSpelled s r.0.items x r.1.now × Halts (next s r.1.now)
-ReadsSpelled s x (Err f) = (f ≡ NoMemory) ⊎ MeetsEscape s x f
+ReadsSpelled s x (Err f) = IfSome (flaw_of f) (λ flaw. (flaw ≡ escape_not_here) × MeetsEscape s x)
 
--- an element and the text behind it, or its fault
-abbrev pub ReadsElement : {A : Type 0} → Opening → Result (Vec ℕ A × Bor (List ℕ)) ListFault → Type 0
+-- An element and the text behind it, or its flaw (Tcl_SplitList(3)).
+abbrev pub ReadsElement : {A : Type 0}
+    → Opening → Result (Vec ℕ A × Bor (List ℕ)) ListFault → Type 0
 ReadsElement o (Ok r) = IsOpened o (Ok (r.0.items, r.1.now))
-ReadsElement o (Err f) = (f ≡ NoMemory) ⊎ IsOpened o (Err f)
+ReadsElement o (Err f) = IfSome (flaw_of f) (λ flaw. IsOpened o (Err flaw))

@@ -1,7 +1,6 @@
 -- What a list is, by the spellings of its elements (Tcl_SplitList(3)).
 use Rattle.std.specs.Prelude.{◌≡◌, ℕ, ◌<◌, ◌==◌, ◌&&◌, not, List, [], ◌∷◌, ◌++◌, length, Bool, true, ◌⊎◌}
-use Rattle.tcltext.specs.declared.list.element.Style.{Style}
-use Rattle.tcltext.specs.declared.list.element.Style.TheVariants.{Bare, Quoted}
+use Rattle.tcltext.specs.Style.{Style, up_to_white, up_to_quote}
 use Rattle.tcltext.specs.White.{skip_white, ends_element}
 use Rattle.tcltext.specs.Balanced.{IsBalanced}
 use Rattle.tcltext.specs.Elements.{a_byte, next}
@@ -20,15 +19,18 @@ abbrev pub begins_bare : List ℕ → Bool
 begins_bare [] = true
 begins_bare (c ∷ x) = not (c == 123) && not (c == 34)
 
--- With z behind it, t spells the element e: in braces as it stands, in quotes, or bare (Tcl_SplitList(3)).
+-- With z behind it, t spells the element e: in braces as it stands, in quotes, or bare
+-- (Tcl_SplitList(3)).
 abbrev pub IsSpelling : List ℕ → List ℕ → List ℕ → Type 0
 IsSpelling e t z =
     ((t ≡ 123 ∷ (e ++ 125 ∷ [])) × IsBalanced e) ⊎ (
-    ((q : List ℕ) × (t ≡ 34 ∷ (q ++ 34 ∷ [])) × ArePieces Quoted e q (34 ∷ z)) ⊎
-    ((begins_bare t ≡ true) × (0 < length e) × ArePieces Bare e t z))
+    ((q : List ℕ) × (t ≡ 34 ∷ (q ++ 34 ∷ [])) × ArePieces up_to_quote e q (34 ∷ z)) ⊎
+    ((begins_bare t ≡ true) × (0 < length e) × ArePieces up_to_white e t z))
 
--- x is spellings of the elements v with white before, between and behind them (Tcl_SplitList(3)).
+-- x is spellings of the elements v with white before, between and behind them
+-- (Tcl_SplitList(3)).
 abbrev pub AreSpellings : List (List ℕ) → List ℕ → Type 0
 AreSpellings [] x = skip_white x ≡ []
 AreSpellings (e ∷ v) x =
-    (w t z : List ℕ) × (x ≡ w ++ (t ++ z)) × (skip_white w ≡ []) × IsSpelling e t z × (ends_element z ≡ true) × AreSpellings v z
+    (w t z : List ℕ) × (x ≡ w ++ (t ++ z)) × (skip_white w ≡ []) × IsSpelling e t z
+    × (ends_element z ≡ true) × AreSpellings v z

@@ -1,7 +1,8 @@
 -- White in lists and numerals.
 use Rattle.std.specs.Prelude.{ℕ, nat_le, ◌==◌, ◌&&◌, ◌||◌, List, [], ◌∷◌, Bool, true, if◌then◌else◌}
 
--- Blank, tab, newline, vertical tab, form feed or carriage return (Tcl(n), rule 3; string(n), is space, for ASCII alone).
+-- Blank, tab, newline, vertical tab, form feed or carriage return (Tcl(n), rule 3; string(n), is
+-- space, for ASCII alone).
 abbrev pub is_white : ℕ → Bool
 is_white c = (c == 32) || (nat_le 9 c && nat_le c 13)
 

@@ -4,16 +4,21 @@ ghost use Rattle.std.specs.Prelude.{◌≡◌, ℕ, ◌≤◌, length, MatchResu
 ghost use Rattle.tcltext.specs.Escape.{escape, byte_number, hexadecimal_byte, skip_blanks, named_byte};
 
 use crate::digit;
+use thiserror::Error;
 
 /// Behind the backslash stands `u` or `U`: these escapes are left out.
-#[derive(Clone, Copy, Debug, PartialEq, Eq)]
+#[derive(Clone, Copy, Debug, PartialEq, Eq, Error)]
+#[error("\\u and \\U are not in this profile")]
 pub struct EscapeNotHere;
 
-/// Reads an escape whose backslash stands right before `text`: the one byte that it stands for, and the text behind it.
+/// Reads an escape whose backslash stands right before `text`: the one byte that it stands for, and
+/// the text behind it.
 ///
 /// Takes no memory, and time in the length of what it reads.
 pub fn read(text: &[u8]) -> Result<(u8, &[u8]), EscapeNotHere>
-    ensures value { MatchResult result (λ r. escape text.now ≡ Ok (r.0, r.1.now)) (λ e. escape text.now ≡ Err e) }
+    ensures value { MatchResult result
+        (λ r. escape text.now ≡ Ok (r.0, r.1.now))
+        (λ e. escape text.now ≡ Err e) }
     ensures shorter { IfOk result (λ r. length r.1.now ≤ length text.now) }
 {
     match text {
@@ -53,7 +58,8 @@ fn hexadecimal(text: &[u8]) -> (u8, &[u8])
     }
 }
 
-// The number that at most so many digits at the front of a text make, as long as it fits a byte, and the text behind them.
+// The number that at most so many digits at the front of a text make, as long as it fits a byte,
+// and the text behind them.
 fn number(base: u8, most: u8, text: &[u8]) -> (u8, &[u8])
     requires { base ≤ 16 }
     ensures value { byte_number base most 0 text.now ≡ (result.0, result.1.now) }
@@ -75,7 +81,8 @@ fn number(base: u8, most: u8, text: &[u8]) -> (u8, &[u8])
     (value, rest)
 }
 
-/// The text behind its first blanks and tabs, which a newline behind a backslash takes with it (Tcl(n), rule 9).
+/// The text behind its first blanks and tabs, which a newline behind a backslash takes with it
+/// (Tcl(n), rule 9).
 ///
 /// Takes no memory, and time in the length of what it skips.
 pub fn skip_blanks(text: &[u8]) -> &[u8]

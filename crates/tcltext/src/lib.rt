@@ -8,14 +8,13 @@ pub mod laws;
 mod list;
 mod number;
 mod pattern;
+mod value;
 mod white;
 
-pub use list::{ListFault, join_list, split_list};
+pub use list::{ListFault, join_list, join_values, push_element, split_list, split_values};
 pub use number::{print_int, print_nat, read_int};
 pub use pattern::Pattern;
 pub use pattern::error::PatternError;
 pub use pattern::scratch::Scratch;
 pub use pattern::search::{Found, Search};
-
-#[cfg(test)]
-mod tests;
+pub use value::Value;

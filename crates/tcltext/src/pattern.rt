@@ -1,25 +1,28 @@
 //! Patterns: read from a text, tested against a whole text, or sought in a window.
-ghost use Rattle.std.specs.Prelude.{◌≡◌, ◌+◌, ◌*◌, ◌<◌, ◌≤◌, ◌↔◌, length, IfOk, IsTrue, MatchOption, MatchResult};
+ghost use Rattle.std.specs.Prelude.{◌≡◌, ◌+◌, ◌*◌, ◌<◌, ◌≤◌, ◌↔◌, length, map, IfOk, IsTrue, MatchOption, MatchResult};
+ghost use Rattle.tcltext.specs.Pattern.Item.{literal};
 ghost use Rattle.tcltext.specs.Pattern.Glob.{glob, plain, exact};
 ghost use Rattle.tcltext.specs.Pattern.Match.{Whole, SitsNowhere, IsFound};
+ghost use Rattle.tcltext.specs.Pattern.Runs.{items_of_runs};
 
 pub mod error;
-pub mod read;
+mod items;
+mod read;
 pub mod run;
 pub mod scratch;
 pub mod search;
-pub mod set;
-#[cfg(test)]
-mod tests;
+mod set;
+mod text;
 pub mod token;
 
 use error::PatternError;
-use read::{literal_tokens, read_tied_tokens, read_tokens, split_caret};
+use memory::NoMemory;
+use read::{read_runs, split_caret};
+use run::{Run, Runs};
 use scratch::Scratch;
 use search::{Search, Ties, locate};
 use std::alloc::Allocator;
 use std::marker::Model;
-use token::Token;
 
 /// The most bytes that the text of a pattern may have.
 pub const MOST_BYTES: usize = 1_000_000;
@@ -36,10 +39,19 @@ fn check_length(text: &[u8]) -> Result<(), PatternError>
     Ok(())
 }
 
+/// The runs of a text that is sought as it stands.
+fn text_alone<A: Allocator + Copy>(alloc: A, text: &[u8]) -> Result<Runs<A>, NoMemory>
+    ensures { IfOk result (λ runs. items_of_runs runs ≡ map literal text.now) }
+{
+    let starred = Vec::new(alloc);
+    let last = Run::Text(Vec::from_slice(alloc, text)?);
+    Ok(Runs { starred, last })
+}
+
 /// A pattern: a glob, or a text that is sought as it stands.
 #[derive(Drop)]
 pub struct Pattern<A: Allocator> {
-    tokens: Vec<Token<A>, A>,
+    runs: Runs<A>,
     ties: Ties,
 }
 
@@ -48,24 +60,23 @@ impl<A: Allocator> Model for Pattern<A> {
 
     ghost Value = { Reading };
 
-    ghost use Rattle.tcltext.specs.Pattern.Runs.{items_of};
+    ghost use Rattle.tcltext.specs.Pattern.Runs.{reading_of};
 
-    ghost view = { λ p. record { items = items_of p.tokens.items; at_start = p.ties.start; at_end = p.ties.end } };
+    ghost view = { λ p. reading_of p.runs p.ties };
 }
 
 impl<A: Allocator + Copy> Pattern<A> {
-    /// Reads a glob of expect(1): `^` as first byte and `$` as last item tie it to the window's ends.
+    /// Reads a glob of expect(1): `^` as first byte and `$` as last item tie it to the window's
+    /// ends.
     pub fn glob(alloc: A, text: &[u8]) -> Result<Pattern<A>, PatternError>
         ensures value { IfOk result (λ pattern. pattern ≡ glob text.now) }
         ensures too_long { (result ≡ Err PatternError.TooLong) ↔ (1000000 < length text.now) }
     {
         check_length(text)?;
         let (start, body) = split_caret(text);
-        let (tokens, end) = read_tied_tokens(alloc, body)?;
-        Ok(Pattern {
-            tokens,
-            ties: Ties { start, end },
-        })
+        let (runs, end) = read_runs(alloc, body, true)?;
+        let ties = Ties { start, end };
+        Ok(Pattern { runs, ties })
     }
 
     /// Reads a glob of `string match` (string(n)), which is tied nowhere.
@@ -74,11 +85,9 @@ impl<A: Allocator + Copy> Pattern<A> {
         ensures too_long { (result ≡ Err PatternError.TooLong) ↔ (1000000 < length text.now) }
     {
         check_length(text)?;
-        let (tokens, _) = read_tokens(alloc, text)?;
-        Ok(Pattern {
-            tokens,
-            ties: Ties::NOWHERE,
-        })
+        let (runs, _) = read_runs(alloc, text, false)?;
+        let ties = Ties::NOWHERE;
+        Ok(Pattern { runs, ties })
     }
 
     /// A pattern that takes this text and no other.
@@ -87,11 +96,9 @@ impl<A: Allocator + Copy> Pattern<A> {
         ensures too_long { (result ≡ Err PatternError.TooLong) ↔ (1000000 < length text.now) }
     {
         check_length(text)?;
-        let tokens = literal_tokens(alloc, text)?;
-        Ok(Pattern {
-            tokens,
-            ties: Ties::NOWHERE,
-        })
+        let runs = text_alone(alloc, text)?;
+        let ties = Ties::NOWHERE;
+        Ok(Pattern { runs, ties })
     }
 }
 
@@ -101,12 +108,13 @@ impl<A: Allocator> Pattern<A> {
         ensures { IsTrue result ↔ Whole self.now.items text.now }
     {
         let mut steps = 0;
-        locate(&self.tokens, Ties::BOTH_ENDS, text, &mut steps).is_some()
+        locate(&self.runs, Ties::BOTH_ENDS, text, &mut steps).is_some()
     }
 
     /// Finds the pattern in the window, with the least start and, at that start, the greatest end.
     ///
-    /// Takes no memory. The steps are the tests of one item at one place, those that a skip spares among them, and one more.
+    /// Takes no memory. A text between two `*` is found in time that is linear in the window; other
+    /// runs are tried at each place. [`Search::steps`] says what counts as a step.
     pub fn find(&self, window: &[u8], scratch: &mut Scratch<A>) -> Search
         requires { length window.now ≤ scratch.old }
         ensures found { MatchOption result.found
@@ -117,7 +125,7 @@ impl<A: Allocator> Pattern<A> {
         ensures room { scratch.new ≡ scratch.old }
     {
         let mut tests = 0;
-        let found = locate(&self.tokens, self.ties, window, &mut tests);
+        let found = locate(&self.runs, self.ties, window, &mut tests);
         // The end of the items counts as one test.
         let steps = tests.saturating_add(1);
         Search { found, steps }

@@ -1,12 +1,12 @@
 -- Where a run of tokens fits, and what a search over places costs.
-use Rattle.std.proofs.Common.{◌≡◌, ℕ, ◌+◌, ◌-◌, ◌*◌, ◌<◌, ◌≤◌, false, List, [], ◌∷◌, ◌++◌, length, take, drop, refl, sym, ◌∙◌, ap, subst, ⊎_elim, arith, IsTrue, Some, None, slice_index, slice_get, get_or}
-use Rattle.std.proofs.lemmas.List.{length-drop, length-take-le, drop_more, take_more, take_rest, get_or-take, get_or-drop}
+use Rattle.std.proofs.Common.{◌≡◌, ℕ, ◌+◌, ◌-◌, ◌*◌, ◌<◌, ◌≤◌, false, List, [], ◌∷◌, length, take, drop, sym, ◌∙◌, ap, subst, ⊎_elim, arith, IsTrue, Some, None, slice_index, slice_get}
+use Rattle.std.proofs.lemmas.List.{length-drop, length-take-le, drop_more, take_rest, get_or-take, get_or-drop}
 use Rattle.std.proofs.lemmas.Bool.{cases_lt, false≢true}
 use Rattle.std.proofs.Math.Nat.{mul-le-mul_left}
 use Rattle.tcltext.specs.Pattern.Item.{Item}
 use Rattle.tcltext.specs.Pattern.Runs.{items_of, item_of_token, Takes, Fits, IsFixed, IsPlace}
 use Rattle.tcltext.specs.declared.pattern.token.Token.{Token}
-use Rattle.tcltext.specs.declared.pattern.token.Token.TheVariants.{Literal, AnyByte, Set, AnyRun}
+use Rattle.tcltext.specs.declared.pattern.token.Token.TheVariants.{Literal, AnyByte, Set}
 use Rattle.tcltext.proofs.Patterns.Spans.{Fits-length}
 
 -- a place where the items fit what the window has there
@@ -87,19 +87,9 @@ steps_within s0 s l m n one le = let more : l * m ≤ l * n = mul-le-mul_left l 
 pub part_length : (w : List ℕ) (from end : ℕ) → from ≤ end → end ≤ length w → length (take (end - from) (drop from w)) ≡ end - from
 part_length w from end low high = length-take-le (end - from) (drop from w) (omega (arith, length-drop from w))
 
-IsFixed-push : {A : Type 0} (tokens : List (Token A)) (token : Token A) → ¬ (token ≡ AnyRun) → IsFixed (items_of tokens) → IsFixed (items_of (tokens ++ token ∷ []))
-IsFixed-push [] (Literal c) one fixed = tt
-IsFixed-push [] AnyByte one fixed = tt
-IsFixed-push [] (Set table) one fixed = tt
-IsFixed-push [] AnyRun one fixed = absurd (one refl)
-IsFixed-push (Literal c ∷ tokens) token one fixed = IsFixed-push tokens token one fixed
-IsFixed-push (AnyByte ∷ tokens) token one fixed = IsFixed-push tokens token one fixed
-IsFixed-push (Set table ∷ tokens) token one fixed = IsFixed-push tokens token one fixed
-IsFixed-push (AnyRun ∷ tokens) token one fixed = absurd fixed
-
--- the tokens so far and one more, none of which takes a run
-pub IsFixed-more : {A : Type 0} (tokens : List (Token A)) (i : ℕ) (token : Token A) → i < length tokens → token ≡ get_or tokens i token → ¬ (token ≡ AnyRun) →
-    IsFixed (items_of (take i tokens)) → IsFixed (items_of (take (i + 1) tokens))
-IsFixed-more tokens i token below is one fixed =
-    subst (λ x. IsFixed (items_of x)) (sym (take_more tokens i token below ∙ ap (λ t. take i tokens ++ t ∷ []) (sym is)))
-    (IsFixed-push (take i tokens) token one fixed)
+-- no token takes a run of bytes
+pub IsFixed-items : {A : Type 0} (tokens : List (Token A)) → IsFixed (items_of tokens)
+IsFixed-items [] = tt
+IsFixed-items (Literal c ∷ tokens) = IsFixed-items tokens
+IsFixed-items (AnyByte ∷ tokens) = IsFixed-items tokens
+IsFixed-items (Set table ∷ tokens) = IsFixed-items tokens

@@ -40,3 +40,12 @@ dollar_after-cons s (t ∷ ss) = dollar_after-cons t ss
 pub dollar_after-false : (ss : List Sign) → ends_in_dollar ss ≡ dollar_after false ss
 dollar_after-false [] = refl
 dollar_after-false (s ∷ ss) = dollar_after-cons s ss
+
+-- the last sign of all says whether they end in a bare `$`
+pub dollar_last : (so_far : Bool) (s : Sign) (before after all : List Sign) → before ≡ s ∷ after → after ≡ [] → dollar_after so_far before ≡ dollar_after false all → ends_in_dollar all ≡ is_dollar s
+dollar_last so_far s before after all sign none h =
+    dollar_after-false all ∙ sym h ∙ ap (dollar_after so_far) sign ∙ ap (dollar_after (is_dollar s)) none
+
+-- the last sign that was read says so
+pub dollar_read : (so_far : Bool) (before all : List Sign) → before ≡ [] → dollar_after so_far before ≡ dollar_after false all → ends_in_dollar all ≡ so_far
+dollar_read so_far before all none h = dollar_after-false all ∙ sym h ∙ ap (dollar_after so_far) none

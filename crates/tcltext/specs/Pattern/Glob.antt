@@ -3,40 +3,46 @@ use Rattle.std.specs.Prelude.{ℕ, ◌-◌, ◌==◌, ◌&&◌, nat_le, min, max
 use Rattle.std.specs.List.{list_any, range_with_len}
 use Rattle.tcltext.specs.Pattern.Item.{Item, literal, any_byte, one_of, any_run, Reading}
 
--- the ranges of a set's text, from left to right; a `-` in no range is a byte as any other (string(n), match; in detail this project's own rule)
+-- The ranges of a set's text, from left to right; a `-` in no range is a byte as any other
+-- (string(n), match; in detail this project's own rule).
 abbrev pub ranges : List ℕ → List (ℕ × ℕ)
 ranges [] = []
 ranges (x ∷ []) = (x, x) ∷ []
 ranges (x ∷ d ∷ []) = (x, x) ∷ (d, d) ∷ []
-ranges (x ∷ d ∷ y ∷ rest) = if d == 45 then (x, y) ∷ ranges rest else (x, x) ∷ ranges (d ∷ y ∷ rest)
+ranges (x ∷ d ∷ y ∷ rest) =
+    if d == 45 then (x, y) ∷ ranges rest else (x, x) ∷ ranges (d ∷ y ∷ rest)
 
--- whether b lies in a range, whose ends stand in either order (this project's own rule)
+-- Whether b lies in a range, whose ends stand in either order (this project's own rule).
 abbrev pub is_within : ℕ → ℕ × ℕ → Bool
 is_within b r = nat_le (min r.0 r.1) b && nat_le b (max r.0 r.1)
 
--- whether b lies in one of the ranges
+-- Whether b lies in one of the ranges (string(n), match).
 abbrev pub is_in_ranges : List (ℕ × ℕ) → ℕ → Bool
 is_in_ranges rs b = list_any (is_within b) rs
 
--- each byte, by rising value
+-- Each byte, by rising value (this project's own rule).
 unfoldable pub all_bytes : List ℕ
 all_bytes = range_with_len 0 256
 
--- the bytes of the set with this text (string(n), match)
+-- The bytes of the set with this text (string(n), match).
 abbrev pub set_bytes : List ℕ → List ℕ
 set_bytes text = filter (is_in_ranges (ranges text)) all_bytes
 
--- what stands next in a text: a byte, a byte behind a backslash, or the text of a set
+-- What stands next in a text: a byte, a byte behind a backslash, or the text of a set
+-- (string(n), match).
 pub data Sign : Type 0 where
   bare : ℕ → Sign
   quoted : ℕ → Sign
   a_set : List ℕ → Sign
 
--- the signs of a text from left to right; a last backslash is itself, the first `]` closes a set, and so does the end (string(n), match; in detail this project's own rule)
+-- The signs of a text from left to right; a last backslash is itself, the first `]` closes a set,
+-- and so does the end (string(n), match; in detail this project's own rule).
 abbrev mutual
   pub signs : List ℕ → List Sign
   signs [] = []
-  signs (b ∷ t) = if b == 92 then signs_behind_backslash t else (if b == 91 then signs_in_set [] t else bare b ∷ signs t)
+  signs (b ∷ t) =
+      if b == 92 then signs_behind_backslash t else
+      (if b == 91 then signs_in_set [] t else bare b ∷ signs t)
 
   pub signs_behind_backslash : List ℕ → List Sign
   signs_behind_backslash [] = bare 92 ∷ []
@@ -44,49 +50,57 @@ abbrev mutual
 
   pub signs_in_set : List ℕ → List ℕ → List Sign
   signs_in_set so_far [] = a_set so_far ∷ []
-  signs_in_set so_far (c ∷ t) = if c == 93 then a_set so_far ∷ signs t else signs_in_set (so_far ++ c ∷ []) t
+  signs_in_set so_far (c ∷ t) =
+      if c == 93 then a_set so_far ∷ signs t else signs_in_set (so_far ++ c ∷ []) t
 
--- the item of a sign: `*` and `?` are special where they are bare (string(n), match)
+-- The item of a sign: `*` and `?` are special where they are bare (string(n), match).
 abbrev pub item_of : Sign → Item
 item_of (bare b) = if b == 42 then any_run else (if b == 63 then any_byte else literal b)
 item_of (quoted c) = literal c
 item_of (a_set text) = one_of (set_bytes text)
 
+-- The sign is a bare `$` (expect(1), expect).
 abbrev pub is_dollar : Sign → Bool
 is_dollar (bare b) = b == 36
 is_dollar (quoted c) = false
 is_dollar (a_set text) = false
 
--- whether the last sign is a bare `$`
+-- Whether the last sign is a bare `$` (expect(1), expect).
 abbrev pub ends_in_dollar : List Sign → Bool
 ends_in_dollar [] = false
 ends_in_dollar (s ∷ []) = is_dollar s
 ends_in_dollar (s ∷ t ∷ ss) = ends_in_dollar (t ∷ ss)
 
--- whether a text begins with `^`
+-- Whether a text begins with `^` (expect(1), expect).
 abbrev pub begins_in_caret : List ℕ → Bool
 begins_in_caret [] = false
 begins_in_caret (b ∷ t) = b == 94
 
--- a text without a `^` at its beginning
+-- A text without a `^` at its beginning (expect(1), expect).
 abbrev pub after_caret : List ℕ → List ℕ
 after_caret [] = []
 after_caret (b ∷ t) = if b == 94 then t else b ∷ t
 
--- the signs without a bare `$` at their end
+-- The signs without a bare `$` at their end (expect(1), expect).
 abbrev pub before_dollar : List Sign → List Sign
 before_dollar all = if ends_in_dollar all then take (length all - 1) all else all
 
--- a glob of expect: `^` as first byte and `$` as last item tie it and are no items (expect(1), expect; in detail this project's own rule)
+-- A glob of expect: `^` as first byte and `$` as last item tie it and are no items (expect(1),
+-- expect; in detail this project's own rule).
 abbrev pub glob : List ℕ → Reading
 glob text =
     let all = signs (after_caret text) in
-    record { items = map item_of (before_dollar all); at_start = begins_in_caret text; at_end = ends_in_dollar all }
+    record {
+      items = map item_of (before_dollar all);
+      at_start = begins_in_caret text;
+      at_end = ends_in_dollar all;
+    }
 
--- a glob of string match: it is tied nowhere, and `^` and `$` are bytes as any other (string(n), match)
+-- A glob of string match: it is tied nowhere, and `^` and `$` are bytes as any other (string(n),
+-- match).
 abbrev pub plain : List ℕ → Reading
 plain text = record { items = map item_of (signs text); at_start = false; at_end = false }
 
--- an exact pattern: its items are its bytes (expect(1), expect -ex)
+-- An exact pattern: its items are its bytes (expect(1), expect -ex).
 abbrev pub exact : List ℕ → Reading
 exact text = record { items = map literal text; at_start = false; at_end = false }

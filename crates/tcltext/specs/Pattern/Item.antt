@@ -1,14 +1,16 @@
 -- What a pattern is: its items, and where it is tied to the window.
 use Rattle.std.specs.Prelude.{ℕ, List, Bool}
 
--- what one item of a pattern takes: that byte, any one byte, one byte of a set, any run of bytes (string(n), match)
+-- What one item of a pattern takes: that byte, any one byte, one byte of a set, any run of bytes
+-- (string(n), match).
 pub data Item : Type 0 where
   literal : ℕ → Item
   any_byte : Item
   one_of : List ℕ → Item
   any_run : Item
 
--- a pattern as read: its items, and whether it is tied to the window's beginning and to its end (expect(1), "^" and "$")
+-- A pattern as read: its items, and whether it is tied to the window's beginning and to its end
+-- (expect(1), "^" and "$").
 pub record Reading : Type 0 where
   pub items : List Item
   pub at_start : Bool

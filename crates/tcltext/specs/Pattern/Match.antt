@@ -2,19 +2,21 @@
 use Rattle.std.specs.Prelude.{◌≡◌, ℕ, ◌≤◌, IsTrue, List, [], ◌∷◌, ◌++◌, length, Contains, slice_range}
 use Rattle.tcltext.specs.Pattern.Item.{Item, literal, any_byte, one_of, any_run, Reading}
 
--- t is a piece that the item takes (string(n), match)
+-- t is a piece that the item takes (string(n), match).
 abbrev pub IsPiece : Item → List ℕ → Type 0
 IsPiece (literal c) t = t ≡ c ∷ []
 IsPiece any_byte t = (b : ℕ) × (t ≡ b ∷ [])
 IsPiece (one_of bytes) t = (b : ℕ) × (t ≡ b ∷ []) × Contains bytes b
 IsPiece any_run t = Unit {0}
 
--- t is a joining of pieces, one an item in order (string(n), match)
+-- t is a joining of pieces, one an item in order (string(n), match).
 abbrev pub Whole : List Item → List ℕ → Type 0
 Whole [] t = t ≡ []
-Whole (item ∷ items) t = (piece rest : List ℕ) × (t ≡ piece ++ rest) × IsPiece item piece × Whole items rest
+Whole (item ∷ items) t =
+    (piece rest : List ℕ) × (t ≡ piece ++ rest) × IsPiece item piece × Whole items rest
 
--- the pattern takes the window's bytes from s up to e (expect(1), expect; in detail this project's own rule)
+-- The pattern takes the window's bytes from s up to e (expect(1), expect; in detail this project's
+-- own rule).
 pub record Sits (p : Reading) (window : List ℕ) (s e : ℕ) : Type 0 where
   pub ordered : s ≤ e
   pub within : e ≤ length window
@@ -22,12 +24,12 @@ pub record Sits (p : Reading) (window : List ℕ) (s e : ℕ) : Type 0 where
   pub at_start : IsTrue p.at_start → s ≡ 0
   pub at_end : IsTrue p.at_end → e ≡ length window
 
--- the least start, and at that start the greatest end (this project's own rule)
+-- The least start, and at that start the greatest end (this project's own rule).
 pub record IsFound (p : Reading) (window : List ℕ) (s e : ℕ) : Type 0 where
   pub sits : Sits p window s e
   pub least_start : (s' e' : ℕ) → Sits p window s' e' → s ≤ s'
   pub greatest_end : (e' : ℕ) → Sits p window s e' → e' ≤ e
 
--- the pattern sits nowhere in the window
+-- The pattern sits nowhere in the window (this project's own rule).
 abbrev pub SitsNowhere : Reading → List ℕ → Type 0
 SitsNowhere p window = (s e : ℕ) → ¬ Sits p window s e

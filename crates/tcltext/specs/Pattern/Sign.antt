@@ -3,7 +3,7 @@ use Rattle.tcltext.specs.Pattern.Glob.{Sign as GlobSign, bare, quoted, a_set}
 use Rattle.tcltext.specs.declared.pattern.read.Sign.{Sign}
 use Rattle.tcltext.specs.declared.pattern.read.Sign.TheVariants.{Bare, Quoted, Set}
 
--- the sign that a value of the code stands for
+-- The sign that a value of the code stands for (this project's own rule).
 abbrev pub sign_of : Sign → GlobSign
 sign_of (Bare b) = bare b
 sign_of (Quoted b) = quoted b

@@ -2,8 +2,9 @@
 
 ghost use Rattle.std.specs.Prelude.{◌≡◌, ◌<◌, ◌≤◌, ◌+◌, false, length, IfOk};
 ghost use Rattle.tcltext.specs.White.{ends_element};
-ghost use Rattle.tcltext.specs.Elements.{stops, next, opening, in_braces, in_quotes, bare};
-ghost use Rattle.tcltext.specs.Seen.{seen, seen_opening};
+ghost use Rattle.tcltext.specs.Style.{stops};
+ghost use Rattle.tcltext.specs.Elements.{next, opening, in_braces, in_quotes, bare};
+ghost use Rattle.tcltext.specs.Seen.{seen, seen_opening, style_of};
 ghost use Rattle.tcltext.specs.Reads.{IsShorter, OpensShorter, ReadsSpelled, ReadsElement};
 
 use super::ListFault;
@@ -41,7 +42,7 @@ pub(crate) enum Opening<'a> {
 }
 
 fn stops(style: Style, c: u8) -> bool
-    ensures { result ≡ stops style c }
+    ensures { result ≡ stops (style_of style) c }
 {
     match style {
         Style::Bare => is_white(c),
@@ -50,7 +51,7 @@ fn stops(style: Style, c: u8) -> bool
 }
 
 fn next(style: Style, text: &[u8]) -> Piece<'_>
-    ensures piece { seen result ≡ next style text.now }
+    ensures piece { seen result ≡ next (style_of style) text.now }
     ensures shorter { IsShorter result (length text.now) }
 {
     match text {
@@ -75,7 +76,8 @@ fn open(text: &[u8]) -> Opening<'_>
     }
 }
 
-/// Reads one element at the front of a text that begins with no white: its bytes, and the text behind it.
+/// Reads one element at the front of a text that begins with no white: its bytes, and the text
+/// behind it.
 pub(crate) fn read<A: Allocator>(alloc: A, text: &[u8]) -> Result<(Vec<u8, A>, &[u8]), ListFault>
     requires { ends_element text.now ≡ false }
     ensures element { ReadsElement (opening text.now) result }
@@ -130,7 +132,7 @@ fn read_spelled<A: Allocator>(
     style: Style,
     text: &[u8],
 ) -> Result<(Vec<u8, A>, &[u8]), ListFault>
-    ensures bytes { ReadsSpelled style text.now result }
+    ensures bytes { ReadsSpelled (style_of style) text.now result }
     ensures shorter { IfOk result (λ r. length r.0.items + length r.1.now ≤ length text.now) }
     ensures moves { IfOk result (λ r. length r.0.items ≡ 0 → r.1.now ≡ text.now) }
 {

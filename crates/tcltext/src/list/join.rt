@@ -1,17 +1,18 @@
 //! Writing a list as a text.
 
-ghost use Rattle.std.specs.Prelude.{◌≡◌, ◌++◌, IfOk, OnOk};
+ghost use Rattle.std.specs.Prelude.{◌≡◌, [], ◌∷◌, ◌++◌, if◌then◌else◌, IfOk, OnOk};
 ghost use Rattle.tcltext.specs.Canonical.{canonical, written, is_special, is_comment, is_bare, is_braceable, escape_name, escaped_bytes, pairs_up};
 ghost use Rattle.std.specs.List.{list_any};
 ghost use Rattle.tcltext.specs.Elements.{IsList};
 ghost use Rattle.tcltext.specs.Seen.{texts};
 
+use crate::value::Value;
 use crate::white::is_white;
 use memory::NoMemory;
 use std::alloc::Allocator;
 
-/// The canonical text of a list: its elements with a blank between them, each bare where it can be, else in braces where it
-/// can be, else with backslashes (list(n)).
+/// The canonical text of a list: its elements with a blank between them, each bare where it can be,
+/// else in braces where it can be, else with backslashes (list(n)).
 ///
 /// Takes time and memory in the length of the text.
 pub fn join_list<A: Allocator>(alloc: A, list: &[Vec<u8, A>]) -> Result<Vec<u8, A>, NoMemory>
@@ -21,17 +22,50 @@ pub fn join_list<A: Allocator>(alloc: A, list: &[Vec<u8, A>]) -> Result<Vec<u8, 
     let mut text = Vec::new(alloc);
     let mut first = true;
     for element in list {
-        if !first {
-            text.push(b' ')?;
-        }
-        write(&mut text, first, element)?;
+        push_next(&mut text, first, element)?;
         first = false;
     }
     Ok(text)
 }
 
-// Writes an element behind a text.
-fn write<A: Allocator>(text: &mut Vec<u8, A>, first: bool, element: &[u8]) -> Result<(), NoMemory>
+/// The canonical text of a list of values, as [`join_list`] writes it (list(n)).
+pub fn join_values<A: Allocator>(alloc: A, list: &[Value<A>]) -> Result<Vec<u8, A>, NoMemory>
+    ensures canonical { IfOk result (λ t. t.items ≡ canonical list.now) }
+    ensures reads_back { IfOk result (λ t. IsList list.now t.items) }
+{
+    let mut text = Vec::new(alloc);
+    let mut first = true;
+    for element in list {
+        push_next(&mut text, first, element.as_slice())?;
+        first = false;
+    }
+    Ok(text)
+}
+
+// Writes an element behind a text, and a blank before it where it is not the first.
+fn push_next<A: Allocator>(
+    text: &mut Vec<u8, A>,
+    first: bool,
+    element: &[u8],
+) -> Result<(), NoMemory>
+    ensures { OnOk result (text.new.items ≡
+        text.old.items ++ ((if first then [] else 32 ∷ []) ++ written first element.now)) }
+{
+    if !first {
+        text.push(b' ')?;
+    }
+    push_element(text, first, element)
+}
+
+/// Writes the spelling of an element behind a text; a blank before it is the caller's (list(n)).
+///
+/// `first` says that the element is the list's first, where a `#` may not stand bare. After an
+/// `Err` the text may have a part of the spelling.
+pub fn push_element<A: Allocator>(
+    text: &mut Vec<u8, A>,
+    first: bool,
+    element: &[u8],
+) -> Result<(), NoMemory>
     ensures { OnOk result (text.new.items ≡ text.old.items ++ written first element.now) }
 {
     if is_bare(first, element) {

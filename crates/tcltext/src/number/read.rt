@@ -8,8 +8,9 @@ ghost use Rattle.tcltext.specs.Numbers.{small, then_white, digits_behind, some_d
 use crate::digit;
 use crate::white::skip_white;
 
-/// The whole number that a text is: white, an optional sign, decimal digits or `0x`, `0o`, `0b` or `0` with digits, white
-/// (expr(n), operands). `None` where the text is no numeral, or its number isn't within 64 bits.
+/// The whole number that a text is: white, an optional sign, decimal digits or `0x`, `0o`, `0b` or
+/// `0` with digits, white (expr(n), operands). `None` where the text is no numeral, or its number
+/// isn't within 64 bits.
 ///
 /// Takes no memory, and time in the length of the text.
 pub fn read_int(text: &[u8]) -> Option<i64>

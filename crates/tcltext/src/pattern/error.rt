@@ -5,9 +5,9 @@ use thiserror::Error;
 /// Why a text was not made a pattern.
 #[derive(Clone, Copy, Debug, PartialEq, Eq, Error)]
 pub enum PatternError {
-    /// Memory was refused (5).
+    /// Memory was refused, as this refusal says (5).
     #[error("no memory")]
-    NoMemory,
+    NoMemory(NoMemory),
     /// The text has more than 1,000,000 bytes (7).
     #[error("pattern too long")]
     TooLong,
@@ -17,9 +17,9 @@ impl From<NoMemory> for PatternError {
     ghost use Rattle.std.specs.Prelude.{◌≡◌};
     ghost use Rattle.tcltext.specs.declared.pattern.error.PatternError.TheVariants.{NoMemory};
 
-    ghost from_gives = { λ _ error. error ≡ NoMemory };
+    ghost from_gives = { λ refused error. error ≡ NoMemory refused };
 
-    fn from(_error: NoMemory) -> PatternError {
-        PatternError::NoMemory
+    fn from(refused: NoMemory) -> PatternError {
+        PatternError::NoMemory(refused)
     }
 }

@@ -1,10 +1,11 @@
 //! Reads the text of a glob.
-ghost use Rattle.std.specs.Prelude.{◌≡◌, ◌<◌, ◌≤◌, ◌∷◌, [], length, map, IfOk, MatchOption};
+ghost use Rattle.std.specs.Prelude.{◌≡◌, ◌<◌, ◌≤◌, ◌∷◌, [], length, map, if◌then◌else◌, IfOk, MatchOption};
 ghost use Rattle.tcltext.specs.Pattern.Glob.{signs, signs_in_set, item_of, bare, is_dollar, ends_in_dollar, before_dollar, begins_in_caret, after_caret};
-ghost use Rattle.tcltext.specs.Pattern.Runs.{items_of, item_of_token};
-ghost use Rattle.tcltext.specs.Pattern.Item.{literal};
+ghost use Rattle.tcltext.specs.Pattern.Runs.{items_of_runs, item_of_token};
+ghost use Rattle.tcltext.specs.Pattern.Item.{any_run};
 ghost use Rattle.tcltext.specs.Pattern.Sign.{sign_of};
 
+use crate::pattern::run::{Run, Runs};
 use crate::pattern::set::read_set;
 use crate::pattern::token::Token;
 use memchr::memchr;
@@ -13,6 +14,7 @@ use std::alloc::Allocator;
 use std::boxed::Box;
 
 /// What stands next in the text of a glob.
+#[derive(Drop)]
 pub enum Sign<'a> {
     /// A byte.
     Bare(u8),
@@ -22,29 +24,46 @@ pub enum Sign<'a> {
     Set(&'a [u8]),
 }
 
-/// The items of a glob's text, and whether its last sign is a bare `$`.
-pub fn read_tokens<A: Allocator + Copy>(
+/// The runs of a glob's text, and whether its last sign is a bare `$`, which is left out of them
+/// where it may tie.
+pub fn read_runs<A: Allocator + Copy>(
     alloc: A,
     text: &[u8],
-) -> Result<(Vec<Token<A>, A>, bool), NoMemory>
-    ensures items { IfOk result (λ read. items_of read.0.items ≡ map item_of (signs text.now)) }
+    may_tie: bool,
+) -> Result<(Runs<A>, bool), NoMemory>
+    ensures items { let all = signs text.now in IfOk result (λ read.
+        items_of_runs read.0 ≡ map item_of (if may_tie then before_dollar all else all)) }
     ensures dollar { IfOk result (λ read. read.1 ≡ ends_in_dollar (signs text.now)) }
 {
-    let mut tokens = Vec::new(alloc);
-    let mut ends_in_dollar = false;
+    let mut starred = Vec::new(alloc);
+    let mut last = Run::Text(Vec::new(alloc));
+    let mut dollar = false;
     let mut rest = text;
     while let Some((sign, after)) = next_sign(rest) {
-        ends_in_dollar = is_dollar(&sign);
-        tokens.push(token_of(alloc, sign)?)?;
+        dollar = is_dollar(&sign);
+        if may_tie && dollar && after.is_empty() {
+            break;
+        }
+        match token_of(alloc, sign)? {
+            Some(token) => last = last.with(alloc, token)?,
+            None => {
+                starred.push(last)?;
+                last = Run::Text(Vec::new(alloc));
+            }
+        }
         rest = after;
     }
-    Ok((tokens, ends_in_dollar))
+    Ok((Runs { starred, last }, dollar))
 }
 
 /// The sign at the beginning of the text, and what stands behind it.
 fn next_sign(text: &[u8]) -> Option<(Sign<'_>, &[u8])>
-    ensures sign { MatchOption result (text.now ≡ []) (λ read. signs text.now ≡ sign_of read.0 ∷ signs read.1.now) }
-    ensures shorter { MatchOption result (text.now ≡ []) (λ read. length read.1.now < length text.now) }
+    ensures sign { MatchOption result
+        (text.now ≡ [])
+        (λ read. signs text.now ≡ sign_of read.0 ∷ signs read.1.now) }
+    ensures shorter { MatchOption result
+        (text.now ≡ [])
+        (λ read. length read.1.now < length text.now) }
 {
     match text {
         [] => None,
@@ -54,41 +73,18 @@ fn next_sign(text: &[u8]) -> Option<(Sign<'_>, &[u8])>
     }
 }
 
-/// The token of a sign.
-fn token_of<A: Allocator>(alloc: A, sign: Sign<'_>) -> Result<Token<A>, NoMemory>
-    ensures { IfOk result (λ token. item_of_token token ≡ item_of (sign_of sign.entry)) }
+/// The token of a sign; none of a `*`.
+fn token_of<A: Allocator>(alloc: A, sign: Sign<'_>) -> Result<Option<Token<A>>, NoMemory>
+    ensures { IfOk result (λ read. MatchOption read
+        (item_of (sign_of sign.entry) ≡ any_run)
+        (λ token. item_of_token token ≡ item_of (sign_of sign.entry))) }
 {
     match sign {
-        Sign::Bare(byte) => Ok(bare_token(byte)),
-        Sign::Quoted(byte) => Ok(Token::Literal(byte)),
-        Sign::Set(text) => Ok(Token::Set(Box::new(alloc, read_set(text))?)),
+        Sign::Bare(b'*') => Ok(None),
+        Sign::Bare(b'?') => Ok(Some(Token::AnyByte)),
+        Sign::Bare(byte) | Sign::Quoted(byte) => Ok(Some(Token::Literal(byte))),
+        Sign::Set(text) => Ok(Some(Token::Set(Box::new(alloc, read_set(text))?))),
     }
-}
-
-/// The token of a byte that no backslash stands before.
-fn bare_token<A: Allocator>(byte: u8) -> Token<A>
-    ensures { item_of_token result ≡ item_of (bare byte) }
-{
-    match byte {
-        b'*' => Token::AnyRun,
-        b'?' => Token::AnyByte,
-        _ => Token::Literal(byte),
-    }
-}
-
-/// The items of a glob's text without a bare `$` at its end, and whether one stands there.
-pub fn read_tied_tokens<A: Allocator + Copy>(
-    alloc: A,
-    text: &[u8],
-) -> Result<(Vec<Token<A>, A>, bool), NoMemory>
-    ensures items { IfOk result (λ read. items_of read.0.items ≡ map item_of (before_dollar (signs text.now))) }
-    ensures dollar { IfOk result (λ read. read.1 ≡ ends_in_dollar (signs text.now)) }
-{
-    let (mut tokens, tied) = read_tokens(alloc, text)?;
-    if tied {
-        tokens.truncate(tokens.len().saturating_sub(1));
-    }
-    Ok((tokens, tied))
 }
 
 /// Whether the text begins with `^`, and what stands behind it, or the whole text.
@@ -118,18 +114,4 @@ fn is_dollar(sign: &Sign<'_>) -> bool
     ensures { result ≡ is_dollar (sign_of sign.now) }
 {
     matches!(sign, Sign::Bare(b'$'))
-}
-
-/// A token for each byte of the text.
-pub fn literal_tokens<A: Allocator + Copy>(
-    alloc: A,
-    text: &[u8],
-) -> Result<Vec<Token<A>, A>, NoMemory>
-    ensures { IfOk result (λ tokens. items_of tokens.items ≡ map literal text.now) }
-{
-    let mut tokens = Vec::with_capacity(alloc, text.len())?;
-    for byte in text {
-        tokens.push(Token::Literal(*byte))?;
-    }
-    Ok(tokens)
 }

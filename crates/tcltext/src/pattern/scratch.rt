@@ -7,8 +7,11 @@ use std::marker::{Model, PhantomData};
 
 /// The room of a search: how many bytes a window may have.
 ///
-/// The search keeps no table, so that the room is a number alone. It bounds the number of steps, which fits 64 bits for
-/// each pattern and each window with room.
+/// Callers name the room that their windows may need before they search. A search needs no memory
+/// of its own, so the room is a number alone, which [`Pattern::find`] holds its callers to: with
+/// it, the steps of each search fit 64 bits.
+///
+/// [`Pattern::find`]: crate::Pattern::find
 #[derive(Drop)]
 pub struct Scratch<A: Allocator> {
     room: u32,

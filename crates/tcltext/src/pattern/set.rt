@@ -24,8 +24,12 @@ fn no_bytes() -> [bool; 256]
 
 /// The ends of the range at the beginning of a set's text, and what stands behind it.
 fn next_range(text: &[u8]) -> Option<(u8, u8, &[u8])>
-    ensures range { MatchOption result (text.now ≡ []) (λ read. ranges text.now ≡ (read.0, read.1) ∷ ranges read.2.now) }
-    ensures shorter { MatchOption result (text.now ≡ []) (λ read. length read.2.now < length text.now) }
+    ensures range { MatchOption result
+        (text.now ≡ [])
+        (λ read. ranges text.now ≡ (read.0, read.1) ∷ ranges read.2.now) }
+    ensures shorter { MatchOption result
+        (text.now ≡ [])
+        (λ read. length read.2.now < length text.now) }
 {
     match text {
         [] => None,
@@ -36,8 +40,8 @@ fn next_range(text: &[u8]) -> Option<(u8, u8, &[u8])>
 
 /// Marks the bytes from one end of a range to the other, which stand in either order.
 fn mark(table: &mut [bool; 256], one: u8, other: u8)
-    ensures { (b : ℕ) → b < 256 →
-        slice_index_or table.new b false ≡ (slice_index_or table.old b false || is_within b (one, other)) }
+    ensures { (b : ℕ) → b < 256 → slice_index_or table.new b false ≡
+        (slice_index_or table.old b false || is_within b (one, other)) }
 {
     let low = one.min(other) as usize;
     let high = one.max(other) as usize;

@@ -1,10 +1,10 @@
-//! One item of a pattern, as the search tests it.
+//! One item of a pattern that takes one byte, as the search tests it.
 ghost use Rattle.std.specs.Prelude.{◌↔◌, IsTrue};
 
 use std::alloc::Allocator;
 use std::boxed::Box;
 
-/// What an item of a pattern takes.
+/// Which byte an item takes.
 #[derive(Drop)]
 pub enum Token<A: Allocator> {
     /// That byte.
@@ -13,14 +13,12 @@ pub enum Token<A: Allocator> {
     AnyByte,
     /// A byte that the table marks.
     Set(Box<[bool; 256], A>),
-    /// Any run of bytes.
-    AnyRun,
 }
 
 impl<A: Allocator> Token<A> {
     ghost use Rattle.tcltext.specs.Pattern.Runs.{Takes, item_of_token};
 
-    /// Whether the item takes this one byte; one that takes a run of bytes does not.
+    /// Whether the item takes this byte.
     pub fn takes(&self, byte: u8) -> bool
         ensures { IsTrue result ↔ Takes (item_of_token self.now) byte }
     {
@@ -28,7 +26,6 @@ impl<A: Allocator> Token<A> {
             Token::Literal(literal) => byte == *literal,
             Token::AnyByte => true,
             Token::Set(table) => table[byte as usize],
-            Token::AnyRun => false,
         }
     }
 }

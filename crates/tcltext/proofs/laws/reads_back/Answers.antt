@@ -8,4 +8,4 @@ pub returns-clause-alone : goal.returns-clause-alone
 returns-clause-alone c = written.reads_back_alone
 
 pub returns-clause-sound : goal.returns-clause-sound
-returns-clause-sound c = written.written_has_no_fault
+returns-clause-sound c = written.written_has_no_flaw

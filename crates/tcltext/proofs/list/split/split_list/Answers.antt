@@ -1,6 +1,6 @@
-use Rattle.std.proofs.Common.{sym, subst}
+use Rattle.std.proofs.Common.{◌∙◌, ap, sym, subst}
 use Rattle.tcltext.specs.Seen.{texts}
-use Rattle.tcltext.proofs.Elements.{ListSoFar, list_begins, after_element, list_ends, skipped_is, passed_on, split_fault, none_left, some_left}
+use Rattle.tcltext.proofs.Elements.{ListSoFar, list_begins, after_element, texts_push, list_ends, skipped_is, passed_on, split_fault, none_left, some_left}
 use Rattle.tcltext.proofs.list.split.split_list.Goals as goal
 
 pub loop-rest-init : goal.loop-rest-init
@@ -13,18 +13,18 @@ loop-rest-init g c = record {
 pub read-requires : goal.read-requires
 read-requires g c = c.loop-rest.invariant.begins (some_left _ c.loop-rest-test.ensures)
 
-pub returns-in_err-element : goal.returns-in_err-element
-returns-in_err-element g c =
+pub returns-in_err-element-clause-fault : goal.returns-in_err-element-clause-fault
+returns-in_err-element-clause-fault g c =
     split_fault c.args.text.now c.loop-rest.rest.now (texts c.loop-rest.elements.items) _ _ c.loop-rest.invariant.list c.loop-rest.invariant.skipped c.in_err-element.ensures.element
     (passed_on c.from_residual.result _ c.from_residual.ensures.1)
 
 pub loop-rest-preserved : goal.loop-rest-preserved
 loop-rest-preserved g c = record {
-  list = after_element c.args.text.now c.loop-rest.rest.now c.in_ok-element.behind.now _ c.loop-rest.elements.items _ c.in_ok-element.element c.loop-rest.invariant.list c.loop-rest.invariant.skipped
-      c.in_ok-element.ensures.element c.in_ok-push.ensures.items c.skip_white-rest-in-loop-rest.ensures.rest;
+  list = after_element c.args.text.now c.loop-rest.rest.now c.in_ok-element.behind.now _ (texts c.loop-rest.elements.items) _ c.in_ok-element.element.items c.loop-rest.invariant.list c.loop-rest.invariant.skipped
+      c.in_ok-element.ensures.element (ap texts c.in_ok-push.ensures.items ∙ texts_push c.loop-rest.elements.items c.in_ok-element.element) c.skip_white-rest-in-loop-rest.ensures.rest;
   skipped = skipped_is c.in_ok-element.behind.now _ c.skip_white-rest-in-loop-rest.ensures.rest;
   begins = c.skip_white-rest-in-loop-rest.ensures.begins;
 }
 
-pub returns : goal.returns
-returns g c = list_ends c.args.text.now c.loop-rest.rest.now (texts c.loop-rest.elements.items) c.loop-rest.invariant.list (none_left _ c.loop-rest-test.ensures)
+pub returns-clause-list : goal.returns-clause-list
+returns-clause-list g c = list_ends c.args.text.now c.loop-rest.rest.now (texts c.loop-rest.elements.items) c.loop-rest.invariant.list (none_left _ c.loop-rest-test.ensures)

@@ -1,60 +1,70 @@
-use Rattle.std.proofs.Common.{◌≡◌, ℕ, List, ◌+◌, ◌*◌, ◌∷◌, length, drop, sym, subst, arith}
-use Rattle.std.proofs.lemmas.List.{length-map}
+use Rattle.std.proofs.Common.{◌≡◌, ℕ, List, ◌+◌, ◌*◌, ◌≤◌, ◌∷◌, ◌++◌, length, drop, refl, ap, sym, subst, arith}
 use Rattle.tcltext.specs.Pattern.Item.{Item, any_run}
-use Rattle.tcltext.specs.Pattern.Runs.{items_of, item_of_token, Leaves}
+use Rattle.tcltext.specs.Pattern.Runs.{items_of_run, starred_items, Leaves, IsFurthest}
 use Rattle.tcltext.proofs.Patterns.Finds.{none_furthest, last_is_furthest, none_inside}
 use Rattle.tcltext.proofs.Patterns.Stars.{first_serves, first_joins}
-use Rattle.tcltext.proofs.Patterns.Items.{items_of-starred, steps_of_parts}
+use Rattle.tcltext.proofs.Patterns.Items.{IsFixed-run, starred_items-cons, starred_items-none, steps_of_parts}
 use Rattle.tcltext.proofs.pattern.search.furthest_end.Goals as goal
-
-pub returns-in_err-last-clause-end : goal.returns-in_err-last-clause-end
-returns-in_err-last-clause-end g c =
-    let split = rw c.in_default.is at c.split_at_star.ensures.split in
-    rw c.from_residual.ensures
-    (none_furthest (items_of c.args.tokens.now) (items_of c.split_at_star.result.0.now) c.args.window.now c.args.place c.loop-more.from (length c.split_at_star.result.0.now) c.args.tied
-    c.split_at_star.ensures.fixed (sym (length-map c.split_at_star.result.0.now item_of_token)) c.loop-more.invariant.inside
-    (λ u leaves. subst (λ x. Leaves (any_run ∷ items_of x) (drop c.loop-more.from c.args.window.now) u) split (c.loop-more.invariant.to u leaves))
-    c.in_err-last.ensures.place)
-
-pub returns-in_default-clause-end : goal.returns-in_default-clause-end
-returns-in_default-clause-end g c =
-    let split = rw c.in_default.is at c.split_at_star.ensures.split in
-    let place = c.in_ok-last.ensures.place in
-    last_is_furthest (items_of c.args.tokens.now) (items_of c.split_at_star.result.0.now) c.args.window.now c.args.place c.loop-more.from (length c.split_at_star.result.0.now) c.in_ok-last.last c.args.tied
-    c.split_at_star.ensures.fixed (sym (length-map c.split_at_star.result.0.now item_of_token)) c.loop-more.invariant.inside
-    (λ u leaves. subst (λ x. Leaves (any_run ∷ items_of x) (drop c.loop-more.from c.args.window.now) u) split (c.loop-more.invariant.to u leaves))
-    (λ u leaves. c.loop-more.invariant.back u (subst (λ x. Leaves (any_run ∷ items_of x) (drop c.loop-more.from c.args.window.now) u) (sym split) leaves))
-    place.0 place.1.0 place.1.1 place.2
 
 pub returns-in_err-from-clause-end : goal.returns-in_err-from-clause-end
 returns-in_err-from-clause-end g c =
-    let split = rw c.in-Some.is at c.split_at_star.ensures.split in
-    let items = items_of-starred c.loop-more.rest.now c.split_at_star.result.0.now c.in-Some.more.now split in
-    rw c.from_residual-in_err-from.ensures
-    (none_inside (items_of c.args.tokens.now) (items_of c.split_at_star.result.0.now) (items_of c.in-Some.more.now) c.args.window.now c.args.place c.loop-more.from c.args.tied
-    c.split_at_star.ensures.fixed c.loop-more.invariant.inside
-    (λ u leaves. subst (λ (x : List Item). Leaves (any_run ∷ x) (drop c.loop-more.from c.args.window.now) u) items (c.loop-more.invariant.to u leaves))
+    let last = items_of_run c.args.last.now in
+    let run = c.in-Some.run'.now in
+    let more = c.in-Some.more.now in
+    let items = starred_items-cons c.loop-run.rest.now more run last c.in-Some.ensures.cases.0 in
+    rw c.from_residual.ensures
+    (none_inside (starred_items c.args.inner.now last) (items_of_run run) (starred_items more last) c.args.window.now c.args.place c.loop-run.from c.args.tied
+    (IsFixed-run run) c.loop-run.invariant.inside
+    (λ u leaves. subst (λ (x : List Item). Leaves (any_run ∷ x) (drop c.loop-run.from c.args.window.now) u) items (c.loop-run.invariant.to u leaves))
     c.in_err-from.ensures.place)
 
-pub loop-more-preserved : goal.loop-more-preserved
-loop-more-preserved g c =
-    let split = rw c.in-Some.is at c.split_at_star.ensures.split in
-    let items = items_of-starred c.loop-more.rest.now c.split_at_star.result.0.now c.in-Some.more.now split in
+pub loop-run-preserved : goal.loop-run-preserved
+loop-run-preserved g c =
+    let last = items_of_run c.args.last.now in
+    let run = items_of_run c.in-Some.run'.now in
+    let more = starred_items c.in-Some.more.now last in
+    let items = starred_items-cons c.loop-run.rest.now c.in-Some.more.now c.in-Some.run'.now last c.in-Some.ensures.cases.0 in
+    let fixed = IsFixed-run c.in-Some.run'.now in
     let first = c.in_ok-from.ensures.place in
     let q = c.in_ok-from.field-0 in
-    let run = items_of c.split_at_star.result.0.now in
     let w = c.args.window.now in
-    let size : length run ≡ length c.split_at_star.result.0.now = length-map c.split_at_star.result.0.now item_of_token in
-    let next : q + length run ≡ q + length c.split_at_star.result.0.now = omega arith in
+    let wide : ℕ = length w + 1 in
+    let next : q + length run ≡ q + c.len.result = ap (λ (n : ℕ). q + n) (sym c.len.ensures) in
+    let whole : length (starred_items c.loop-run.rest.now last) * wide ≡ length (run ++ any_run ∷ more) * wide = ap (λ (x : List Item). length x * wide) items in
+    let counted : c.saturating_add.result ≤ c.loop-run.steps + 1 = omega (arith, c.saturating_add.ensures) in
+    let parts = steps_of_parts run more c.loop-run.steps c.first_place.new.steps (c.first_place.new.steps + length more * wide) wide (omega arith) (omega (arith, c.first_place.ensures.steps)) (omega arith) in
     record {
       inside = omega (arith, first.here.room);
       to = λ u leaves.
-          let starred = subst (λ (x : List Item). Leaves (any_run ∷ x) (drop c.loop-more.from w) u) items (c.loop-more.invariant.to u leaves) in
-          let behind = first_serves run (items_of c.in-Some.more.now) w u c.loop-more.from q c.split_at_star.ensures.fixed first starred in
-          subst (λ (p : ℕ). Leaves (any_run ∷ items_of c.in-Some.more.now) (drop p w) u) next behind;
+          let starred = subst (λ (x : List Item). Leaves (any_run ∷ x) (drop c.loop-run.from w) u) items (c.loop-run.invariant.to u leaves) in
+          let behind = first_serves run more w u c.loop-run.from q fixed first starred in
+          subst (λ (p : ℕ). Leaves (any_run ∷ more) (drop p w) u) next behind;
       back = λ u leaves.
-          let behind = subst (λ (p : ℕ). Leaves (any_run ∷ items_of c.in-Some.more.now) (drop p w) u) (sym next) leaves in
-          let starred = first_joins run (items_of c.in-Some.more.now) w u c.loop-more.from q c.split_at_star.ensures.fixed first behind in
-          c.loop-more.invariant.back u (subst (λ (x : List Item). Leaves (any_run ∷ x) (drop c.loop-more.from w) u) (sym items) starred);
-      steps = omega (arith, steps_of_parts c.loop-more.rest.now c.split_at_star.result.0.now c.in-Some.more.now split c.loop-more.steps c.first_place.new.steps (c.first_place.new.steps + length c.in-Some.more.now * (length w + 1)) (length w + 1) c.first_place.ensures.steps (omega arith), c.loop-more.invariant.steps);
+          let behind = subst (λ (p : ℕ). Leaves (any_run ∷ more) (drop p w) u) (sym next) leaves in
+          let starred = first_joins run more w u c.loop-run.from q fixed first behind in
+          c.loop-run.invariant.back u (subst (λ (x : List Item). Leaves (any_run ∷ x) (drop c.loop-run.from w) u) (sym items) starred);
+      steps = omega (arith, parts, whole, c.loop-run.invariant.steps);
     }
+
+pub returns-in_err-end-clause-end : goal.returns-in_err-end-clause-end
+returns-in_err-end-clause-end g c =
+    let last = items_of_run c.args.last.now in
+    let items = starred_items-none c.loop-run.rest.now last c.in_default.ensures.cases in
+    rw c.from_residual-in_err-end.ensures
+    (none_furthest (starred_items c.args.inner.now last) last c.args.window.now c.args.place c.loop-run.from (length last) c.args.tied
+    (IsFixed-run c.args.last.now) refl c.loop-run.invariant.inside
+    (λ u leaves. subst (λ (x : List Item). Leaves (any_run ∷ x) (drop c.loop-run.from c.args.window.now) u) items (c.loop-run.invariant.to u leaves))
+    c.in_err-end.ensures.place)
+
+pub returns-clause-end : goal.returns-clause-end
+returns-clause-end g c =
+    let last = items_of_run c.args.last.now in
+    let all = starred_items c.args.inner.now last in
+    let items = starred_items-none c.loop-run.rest.now last c.in_default.ensures.cases in
+    let place = c.in_ok-end.ensures.place in
+    subst (λ (n : ℕ). IsFurthest (any_run ∷ all) c.args.tied c.args.window.now c.args.place (c.in_ok-end.end + n)) (sym c.len-2.ensures)
+    (last_is_furthest all last c.args.window.now c.args.place c.loop-run.from (length last) c.in_ok-end.end c.args.tied
+    (IsFixed-run c.args.last.now) refl c.loop-run.invariant.inside
+    (λ u leaves. subst (λ (x : List Item). Leaves (any_run ∷ x) (drop c.loop-run.from c.args.window.now) u) items (c.loop-run.invariant.to u leaves))
+    (λ u leaves. c.loop-run.invariant.back u (subst (λ (x : List Item). Leaves (any_run ∷ x) (drop c.loop-run.from c.args.window.now) u) (sym items) leaves))
+    place.0 place.1.0 place.1.1 place.2)

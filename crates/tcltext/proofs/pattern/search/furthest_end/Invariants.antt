@@ -1,16 +1,19 @@
 use Rattle.std.proofs.Common.{ℕ, List, ◌+◌, ◌*◌, ◌≤◌, ◌∷◌, length, drop}
 use Rattle.tcltext.specs.Pattern.Item.{any_run}
-use Rattle.tcltext.specs.Pattern.Runs.{items_of, Leaves}
+use Rattle.tcltext.specs.Pattern.Runs.{items_of_run, starred_items, Leaves}
 use Rattle.tcltext.proofs.pattern.search.furthest_end.Given as goal
 
--- what the items left leave behind this place, all the items leave behind the first one
-abbrev pub invariant-loop-more : goal.invariant-loop-more
-invariant-loop-more g l = record {
+-- what the runs left leave behind this place, all the runs leave behind the first one
+abbrev pub invariant-loop-run : goal.invariant-loop-run
+invariant-loop-run g l = record {
   inside : l.from ≤ length l.window;
-  to : (u : List ℕ) → Leaves (any_run ∷ items_of l.tokens) (drop l.place l.window) u → Leaves (any_run ∷ items_of l.rest) (drop l.from l.window) u;
-  back : (u : List ℕ) → Leaves (any_run ∷ items_of l.rest) (drop l.from l.window) u → Leaves (any_run ∷ items_of l.tokens) (drop l.place l.window) u;
-  steps : l.steps + length l.rest * (length l.window + 1) ≤ l.initial.steps + length l.tokens * (length l.window + 1);
+  to : (u : List ℕ) → Leaves (any_run ∷ starred_items l.inner (items_of_run l.last)) (drop l.place l.window) u
+      → Leaves (any_run ∷ starred_items l.rest (items_of_run l.last)) (drop l.from l.window) u;
+  back : (u : List ℕ) → Leaves (any_run ∷ starred_items l.rest (items_of_run l.last)) (drop l.from l.window) u
+      → Leaves (any_run ∷ starred_items l.inner (items_of_run l.last)) (drop l.place l.window) u;
+  steps : l.steps + length (starred_items l.rest (items_of_run l.last)) * (length l.window + 1)
+      ≤ l.initial.steps + length (starred_items l.inner (items_of_run l.last)) * (length l.window + 1);
 }
 
-abbrev pub decreases-loop-more : goal.decreases-loop-more
-decreases-loop-more g l = length l.rest
+abbrev pub decreases-loop-run : goal.decreases-loop-run
+decreases-loop-run g l = length l.rest

@@ -1,57 +1,80 @@
-use Rattle.std.proofs.Common.{◌+◌, length, sym, ap}
-use Rattle.std.proofs.lemmas.List.{length-map}
-use Rattle.tcltext.specs.Pattern.Runs.{items_of, item_of_token}
+use Rattle.std.proofs.Common.{◌∙◌, ℕ, ◌+◌, length, refl, sym, ap, subst, arith}
+use Rattle.tcltext.specs.Pattern.Match.{IsFound}
+use Rattle.tcltext.specs.Pattern.Runs.{items_of_run, items_of_runs, starred_items, reading_of}
 use Rattle.tcltext.proofs.Patterns.Finds.{only_nowhere, only_found, start_nowhere, end_nowhere, starred_found}
-use Rattle.tcltext.proofs.Patterns.Items.{items_of-starred, steps_of_parts}
+use Rattle.tcltext.proofs.Patterns.Items.{IsFixed-run, starred_items-cons, starred_items-none, steps_of_parts}
 use Rattle.tcltext.proofs.pattern.search.locate.Goals as goal
 
 pub returns-in_err-start-in-None-clause-found : goal.returns-in_err-start-in-None-clause-found
 returns-in_err-start-in-None-clause-found g c =
-    let split = rw c.in-None.is at c.split_at_star.ensures.split in
+    let runs = c.args.runs.now in
+    let last = items_of_run runs.last in
+    let same = starred_items-none runs.starred.items last (ap length (sym c.deref.ensures.value) ∙ c.in-None.ensures.cases) in
     rw c.from_residual.ensures
-    (only_nowhere (items_of c.args.tokens.now) (items_of c.split_at_star.result.0.now) c.args.ties.start c.args.ties.end c.args.window.now (length c.split_at_star.result.0.now)
-    (ap items_of split) c.split_at_star.ensures.fixed (sym (length-map c.split_at_star.result.0.now item_of_token)) c.in_err-start-in-None.ensures.place)
+    (only_nowhere (items_of_runs runs) last c.args.ties.start c.args.ties.end c.args.window.now (length last) same (IsFixed-run runs.last) refl c.in_err-start-in-None.ensures.place)
 
 pub returns-in_ok-start-in-None-clause-found : goal.returns-in_ok-start-in-None-clause-found
 returns-in_ok-start-in-None-clause-found g c =
-    let split = rw c.in-None.is at c.split_at_star.ensures.split in
+    let runs = c.args.runs.now in
+    let last = items_of_run runs.last in
+    let same = starred_items-none runs.starred.items last (ap length (sym c.deref.ensures.value) ∙ c.in-None.ensures.cases) in
     let place = c.in_ok-start-in-None.ensures.place in
-    only_found (items_of c.args.tokens.now) (items_of c.split_at_star.result.0.now) c.args.ties.start c.args.ties.end c.args.window.now (length c.split_at_star.result.0.now) c.in_ok-start-in-None.start
-    (ap items_of split) c.split_at_star.ensures.fixed (sym (length-map c.split_at_star.result.0.now item_of_token)) place.0 place.1 place.2
+    let start = c.in_ok-start-in-None.start in
+    subst (λ (n : ℕ). IsFound (reading_of runs c.args.ties) c.args.window.now start (start + n)) (sym c.len.ensures)
+    (only_found (items_of_runs runs) last c.args.ties.start c.args.ties.end c.args.window.now (length last) start same (IsFixed-run runs.last) refl place.0 place.1 place.2)
 
 pub returns-in_err-start-in-Some-clause-found : goal.returns-in_err-start-in-Some-clause-found
 returns-in_err-start-in-Some-clause-found g c =
-    let split = rw c.in-Some.is at c.split_at_star.ensures.split in
+    let runs = c.args.runs.now in
+    let last = items_of_run runs.last in
+    let first = c.in-Some.first.now in
+    let inner = c.in-Some.inner.now in
+    let same = starred_items-cons runs.starred.items inner first last (sym c.deref.ensures.value ∙ c.in-Some.ensures.cases.0) in
     rw c.from_residual-in_err-start-in-Some.ensures
-    (start_nowhere (items_of c.args.tokens.now) (items_of c.split_at_star.result.0.now) (items_of c.in-Some.rest.now) c.args.ties.start c.args.ties.end c.args.window.now
-    (items_of-starred c.args.tokens.now c.split_at_star.result.0.now c.in-Some.rest.now split) c.split_at_star.ensures.fixed c.in_err-start-in-Some.ensures.place)
+    (start_nowhere (items_of_runs runs) (items_of_run first) (starred_items inner last) c.args.ties.start c.args.ties.end c.args.window.now same (IsFixed-run first) c.in_err-start-in-Some.ensures.place)
 
 pub returns-in_err-end-in-Some-clause-found : goal.returns-in_err-end-in-Some-clause-found
 returns-in_err-end-in-Some-clause-found g c =
-    let split = rw c.in-Some.is at c.split_at_star.ensures.split in
+    let runs = c.args.runs.now in
+    let last = items_of_run runs.last in
+    let first = c.in-Some.first.now in
+    let inner = c.in-Some.inner.now in
+    let same = starred_items-cons runs.starred.items inner first last (sym c.deref.ensures.value ∙ c.in-Some.ensures.cases.0) in
     rw c.from_residual-in_err-end-in-Some.ensures
-    (end_nowhere (items_of c.args.tokens.now) (items_of c.split_at_star.result.0.now) (items_of c.in-Some.rest.now) c.args.ties.start c.args.ties.end c.args.window.now
-    (length c.split_at_star.result.0.now) c.in_ok-start-in-Some.start
-    (items_of-starred c.args.tokens.now c.split_at_star.result.0.now c.in-Some.rest.now split) c.split_at_star.ensures.fixed
-    (sym (length-map c.split_at_star.result.0.now item_of_token)) c.in_ok-start-in-Some.ensures.place.2 c.in_err-end-in-Some.ensures.end)
+    (end_nowhere (items_of_runs runs) (items_of_run first) (starred_items inner last) c.args.ties.start c.args.ties.end c.args.window.now
+    c.len-in-Some.result c.in_ok-start-in-Some.start same (IsFixed-run first) c.len-in-Some.ensures c.in_ok-start-in-Some.ensures.place.2 c.in_err-end-in-Some.ensures.end)
 
 pub returns-in_err-end-in-Some-clause-steps : goal.returns-in_err-end-in-Some-clause-steps
 returns-in_err-end-in-Some-clause-steps g c =
-    let split = rw c.in-Some.is at c.split_at_star.ensures.split in
-    steps_of_parts c.args.tokens.now c.split_at_star.result.0.now c.in-Some.rest.now split c.args.steps.now c.start_place.new.steps c.furthest_end.new.steps (length c.args.window.now + 1)
-    c.start_place.ensures.steps c.furthest_end.ensures.steps
+    let runs = c.args.runs.now in
+    let last = items_of_run runs.last in
+    let first = c.in-Some.first.now in
+    let inner = c.in-Some.inner.now in
+    let wide : ℕ = length c.args.window.now + 1 in
+    let same = starred_items-cons runs.starred.items inner first last (sym c.deref.ensures.value ∙ c.in-Some.ensures.cases.0) in
+    rw same
+    (steps_of_parts (items_of_run first) (starred_items inner last) c.args.steps.now c.start_place.new.steps c.furthest_end.new.steps wide (omega arith)
+    (omega (arith, c.start_place.ensures.steps)) c.furthest_end.ensures.steps)
 
 pub returns-in_ok-end-in-Some-clause-found : goal.returns-in_ok-end-in-Some-clause-found
 returns-in_ok-end-in-Some-clause-found g c =
-    let split = rw c.in-Some.is at c.split_at_star.ensures.split in
+    let runs = c.args.runs.now in
+    let last = items_of_run runs.last in
+    let first = c.in-Some.first.now in
+    let inner = c.in-Some.inner.now in
+    let same = starred_items-cons runs.starred.items inner first last (sym c.deref.ensures.value ∙ c.in-Some.ensures.cases.0) in
     let start = c.in_ok-start-in-Some.ensures.place in
-    starred_found (items_of c.args.tokens.now) (items_of c.split_at_star.result.0.now) (items_of c.in-Some.rest.now) c.args.ties.start c.args.ties.end c.args.window.now
-    (length c.split_at_star.result.0.now) c.in_ok-start-in-Some.start c.in_ok-end-in-Some.end
-    (items_of-starred c.args.tokens.now c.split_at_star.result.0.now c.in-Some.rest.now split) c.split_at_star.ensures.fixed
-    (sym (length-map c.split_at_star.result.0.now item_of_token)) start.0 start.1 start.2 c.in_ok-end-in-Some.ensures.end
+    starred_found (items_of_runs runs) (items_of_run first) (starred_items inner last) c.args.ties.start c.args.ties.end c.args.window.now
+    c.len-in-Some.result c.in_ok-start-in-Some.start c.in_ok-end-in-Some.end same (IsFixed-run first) c.len-in-Some.ensures start.0 start.1 start.2 c.in_ok-end-in-Some.ensures.end
 
 pub returns-in_ok-end-in-Some-clause-steps : goal.returns-in_ok-end-in-Some-clause-steps
 returns-in_ok-end-in-Some-clause-steps g c =
-    let split = rw c.in-Some.is at c.split_at_star.ensures.split in
-    steps_of_parts c.args.tokens.now c.split_at_star.result.0.now c.in-Some.rest.now split c.args.steps.now c.start_place.new.steps c.furthest_end.new.steps (length c.args.window.now + 1)
-    c.start_place.ensures.steps c.furthest_end.ensures.steps
+    let runs = c.args.runs.now in
+    let last = items_of_run runs.last in
+    let first = c.in-Some.first.now in
+    let inner = c.in-Some.inner.now in
+    let wide : ℕ = length c.args.window.now + 1 in
+    let same = starred_items-cons runs.starred.items inner first last (sym c.deref.ensures.value ∙ c.in-Some.ensures.cases.0) in
+    rw same
+    (steps_of_parts (items_of_run first) (starred_items inner last) c.args.steps.now c.start_place.new.steps c.furthest_end.new.steps wide (omega arith)
+    (omega (arith, c.start_place.ensures.steps)) c.furthest_end.ensures.steps)

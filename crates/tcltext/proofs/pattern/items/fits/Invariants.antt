@@ -1,0 +1,14 @@
+use Rattle.std.proofs.Common.{◌+◌, ◌≤◌, length}
+use Rattle.tcltext.specs.Pattern.Runs.{Fits, items_of}
+use Rattle.tcltext.proofs.pattern.items.fits.Given as goal
+
+-- what is left of the run fits what is left of the text where the whole run fits the whole text
+abbrev pub invariant-loop-tokens : goal.invariant-loop-tokens
+invariant-loop-tokens g l = record {
+  to : Fits (items_of l.run) l.text → Fits (items_of l.tokens) l.bytes;
+  from : Fits (items_of l.tokens) l.bytes → Fits (items_of l.run) l.text;
+  steps : l.steps + length l.tokens ≤ l.initial.steps + length l.run;
+}
+
+abbrev pub decreases-loop-tokens : goal.decreases-loop-tokens
+decreases-loop-tokens g l = length l.tokens

@@ -1,0 +1,16 @@
+use Rattle.std.proofs.Common.{List, ℕ, length, map, drop, sym, subst}
+use Rattle.std.proofs.lemmas.Slice.Eq.{starts_is}
+use Rattle.std.proofs.lemmas.Bool.Decides.{Decides-eqb}
+use Rattle.tcltext.specs.Pattern.Item.{literal}
+use Rattle.tcltext.specs.Pattern.Runs.{Fits}
+use Rattle.tcltext.proofs.Patterns.Texts.{fits_front, front_fits}
+use Rattle.tcltext.proofs.pattern.text.fits.Goals as goal
+
+pub returns-clause-fits : goal.returns-clause-fits
+returns-clause-fits c =
+    let bytes = c.args.bytes.now in
+    let text = c.args.text.now in
+    let parts = starts_is Decides-eqb text bytes c.starts_with.result c.starts_with.ensures.value in (
+      λ t. subst (λ (x : List ℕ). Fits (map literal bytes) x) (sym (parts.0 t)) (fits_front bytes (drop (length bytes) text)),
+      λ fits. parts.1 (drop (length bytes) text) (front_fits bytes text fits),
+    )

@@ -1,0 +1,13 @@
+-- How an element outside braces is spelled (Tcl_SplitList(3)).
+use Rattle.std.specs.Prelude.{ℕ, ◌==◌, Bool}
+use Rattle.tcltext.specs.White.{is_white}
+
+-- A bare element goes up to white, one in quotes up to the next quote (Tcl_SplitList(3)).
+pub data Style : Type 0 where
+  up_to_white : Style
+  up_to_quote : Style
+
+-- The bytes at which an element of this style ends (Tcl_SplitList(3)).
+abbrev pub stops : Style → ℕ → Bool
+stops up_to_white c = is_white c
+stops up_to_quote c = c == 34

@@ -1,0 +1,59 @@
+//! Where bytes that stand for themselves fit in a window.
+ghost use Rattle.std.specs.Prelude.{◌+◌, ◌*◌, ◌≤◌, ◌↔◌, IsTrue, length, map, MatchOption};
+ghost use Rattle.tcltext.specs.Pattern.Item.{literal};
+ghost use Rattle.tcltext.specs.Pattern.Runs.{Fits, IsFirstPlace, IsLastPlace, FitsNowhere};
+
+use memchr::memmem;
+
+/// Whether the bytes are a front of the text. Each of them counts as one step.
+pub fn fits(bytes: &[u8], text: &[u8], steps: &mut u64) -> bool
+    ensures fits { IsTrue result ↔ Fits (map literal bytes.now) text.now }
+    ensures steps { steps.new ≤ steps.old + length bytes.now }
+{
+    *steps = steps.saturating_add(bytes.len() as u64);
+    text.starts_with(bytes)
+}
+
+/// The first place of the window, at or behind `from`, at which the bytes stand.
+///
+/// Takes time in the length of the window and the bytes. A byte that is passed is one step, and so
+/// is each of the bytes that are found.
+pub fn first_place(bytes: &[u8], window: &[u8], from: usize, steps: &mut u64) -> Option<usize>
+    requires { from ≤ length window.now }
+    ensures place { let items = map literal bytes.now in MatchOption result
+        (FitsNowhere items window.now from)
+        (IsFirstPlace items window.now from) }
+    ensures steps { steps.new ≤ steps.old + length bytes.now * (length window.now + 1) }
+{
+    if bytes.is_empty() {
+        return Some(from);
+    }
+    let behind = &window[from..];
+    let Some(passed) = memmem::find(behind, bytes) else {
+        *steps = steps.saturating_add(behind.len() as u64);
+        return None;
+    };
+    *steps = steps.saturating_add((passed + bytes.len()) as u64);
+    Some(from + passed)
+}
+
+/// The last place of the window, at or behind `from`, at which the bytes stand. Time and steps are
+/// those of [`first_place`].
+pub fn last_place(bytes: &[u8], window: &[u8], from: usize, steps: &mut u64) -> Option<usize>
+    requires { from ≤ length window.now }
+    ensures place { let items = map literal bytes.now in MatchOption result
+        (FitsNowhere items window.now from)
+        (IsLastPlace items window.now from) }
+    ensures steps { steps.new ≤ steps.old + length bytes.now * (length window.now + 1) }
+{
+    if bytes.is_empty() {
+        return Some(window.len());
+    }
+    let behind = &window[from..];
+    let Some(before) = memmem::rfind(behind, bytes) else {
+        *steps = steps.saturating_add(behind.len() as u64);
+        return None;
+    };
+    *steps = steps.saturating_add((behind.len() - before) as u64);
+    Some(from + before)
+}
