@@ -1,8 +1,7 @@
 -- What stands between words and between commands is skipped whole.
 use Rattle.std.proofs.Common.{◌≡◌, ℕ, ◌==◌, ◌||◌, List, [], ◌∷◌, Bool, true, false, if◌then◌else◌, refl, sym, subst}
-use Rattle.tclparse.specs.Context.{ends_script, ends_command, ends_word, is_white, is_separator, is_closing, is_continuation}
+use Rattle.tclparse.specs.Context.{Context, ends_script, ends_command, ends_word, is_white, is_separator, is_closing, is_continuation}
 use Rattle.tclparse.specs.Gap.{Gap, skip_white, skip_gap, between, comment, in_pair, after_comment_byte}
-use Rattle.tclparse.specs.declared.context.Context.{Context}
 
 pub or_false : (s e : Bool) → (s || (e || false)) ≡ s || e
 or_false true e = refl

@@ -1,18 +1,13 @@
 -- What is left of a text behind parts, words and commands is its end.
 use Rattle.std.proofs.Common.{◌≡◌, ℕ, ◌-◌, ◌==◌, ◌&&◌, ◌||◌, List, [], ◌∷◌, ◌++◌, Bool, true, false, Some, None, Ok, Err, if◌then◌else◌, sym, subst, inl, inr, ◌∙◌, append_assoc}
+use Rattle.tclparse.specs.Fault.{Fault, after_brace, after_quote}
 use Rattle.tclparse.specs.Tree.{Parts, no_parts, byte, variable, element, script, Words, no_words, word, Commands, no_commands, command}
-use Rattle.tclparse.specs.Context.{ends_word, is_white, is_separator, is_continuation}
+use Rattle.tclparse.specs.Context.{Context, bracketed, ends_word, is_white, is_separator, is_continuation}
 use Rattle.tclparse.specs.Gap.{Gap, skip_white, skip_gap, between, comment, in_pair, after_comment_byte}
 use Rattle.tcltext.specs.Balanced.{IsPaired}
-use Rattle.tclparse.specs.Piece.{Next, end, fault, a_byte, a_name, an_index, an_element, a_bracket, next}
+use Rattle.tclparse.specs.Piece.{Place, in_word, within_quotes, within_index, Next, end, fault, a_byte, a_name, an_index, an_element, a_bracket, next}
 use Rattle.tclparse.specs.Grammar.{Outcome, Then, EndsAs, bracket_closed, index_closed, quotes_closed, Kind, in_braces, in_quotes, bare, kind, without_prefix, unprefixed, IsBraced, IsWord, IsParts, IsWords, IsCommands}
 use Rattle.tclparse.specs.Spelled.{Joins, Behind, Leaves}
-use Rattle.tclparse.specs.declared.tree.Fault.{Fault}
-use Rattle.tclparse.specs.declared.tree.Fault.TheVariants.{AfterBrace, AfterQuote}
-use Rattle.tclparse.specs.declared.context.Context.{Context}
-use Rattle.tclparse.specs.declared.context.Context.TheVariants.{Brackets}
-use Rattle.tclparse.specs.declared.piece.Place.{Place}
-use Rattle.tclparse.specs.declared.piece.Place.TheVariants.{Bare, Quotes, Index}
 use Rattle.tclparse.proofs.Spelled.{joins_self, joins_more, joins_trans, joins_if, behind_trans, next_behind, nothing_next}
 
 pub white_joins : (context : Context) (hidden : Bool) (x : List ℕ) → Joins x (skip_white context hidden x)
@@ -67,7 +62,7 @@ ended_leaves false x z f h = tt
 
 pub quotes_leaves : (context : Context) (x : List ℕ) (r : Outcome) → Leaves x r → Leaves x (quotes_closed context r)
 quotes_leaves context x (Ok []) h = tt
-quotes_leaves context x (Ok (c ∷ w)) h = ended_leaves (ends_word context w) x w AfterQuote (joins_behind x w c h)
+quotes_leaves context x (Ok (c ∷ w)) h = ended_leaves (ends_word context w) x w after_quote (joins_behind x w c h)
 quotes_leaves context x (Err f) h = tt
 
 pub then_leaves : (x : List ℕ) (r o : Outcome) (T : Type 0) (M : List ℕ → Type 0) → Leaves x r → Then r T M o → ((w : List ℕ) → M w → Leaves w o) → Leaves x o
@@ -103,14 +98,14 @@ kind_behind (c ∷ x) =
     kind_if (c == 123) (in_braces x) _ (c ∷ x) on (kind_if (c == 34) (in_quotes x) bare (c ∷ x) on tt)
 
 pub braced_leaves : (context : Context) (ps : Parts) (x : List ℕ) (r : Outcome) → IsBraced context ps x r → Leaves x r
-braced_leaves context ps x r (inl h) = subst (Leaves x) (sym h.6) (ended_leaves (ends_word context h.1) x h.1 AfterBrace (paired_joins x h.0 h.1 h.3))
+braced_leaves context ps x r (inl h) = subst (Leaves x) (sym h.6) (ended_leaves (ends_word context h.1) x h.1 after_brace (paired_joins x h.0 h.1 h.3))
 braced_leaves context ps x r (inr h) = fault_leaves x r _ h.2
 
 pub word_leaves : (context : Context) (d : ℕ) (ps : Parts) (w : Kind) (x : List ℕ) (r : Outcome) → KindBehind w x → IsWord context ps (λ place z s. IsParts place d ps z s) w x r
     → ((place : Place) (z : List ℕ) (s : Outcome) → IsParts place d ps z s → Leaves z s) → Leaves x r
 word_leaves context d ps (in_braces z) x r h k parts = leaves_trans x z r h (braced_leaves context ps z r k)
-word_leaves context d ps (in_quotes z) x r h k parts = leaves_trans x z r h (subst (Leaves z) (sym k.2) (quotes_leaves context z k.0 (parts Quotes z k.0 k.1)))
-word_leaves context d ps bare x r h k parts = parts (Bare context) x r k
+word_leaves context d ps (in_quotes z) x r h k parts = leaves_trans x z r h (subst (Leaves z) (sym k.2) (quotes_leaves context z k.0 (parts within_quotes z k.0 k.1)))
+word_leaves context d ps bare x r h k parts = parts (in_word context) x r k
 
 star_if : (b : Bool) (context : Context) (x z : List ℕ) → Joins x z → Joins x (without_prefix context x (if b then Some z else None))
 star_if true context x z h = joins_if (ends_word context z) x x z (joins_self x) h
@@ -135,14 +130,14 @@ mutual
   parts_leave (element n is ps) place d x o (inl h) =
       let on : Joins x h.0 = subst (λ m. Behind m x) h.1 (piece_behind place d x) in
       leaves_trans x h.0 o on (then_leaves h.0 (index_closed h.2) o (ps ≡ no_parts) (λ w. IsParts place d ps w o)
-      (index_leaves h.0 h.2 (parts_leave is Index (d - 1) h.0 h.2 h.3)) h.4 (λ w k. parts_leave ps place d w o k))
+      (index_leaves h.0 h.2 (parts_leave is within_index (d - 1) h.0 h.2 h.3)) h.4 (λ w k. parts_leave ps place d w o k))
   parts_leave (element n is ps) place d x o (inr h) =
       let on : Joins x h.1 = subst (λ m. Behind m x) h.2 (piece_behind place d x) in
       leaves_trans x h.1 o on (parts_leave ps place d h.1 o h.4)
   parts_leave (script cs ps) place d x o h =
       let on : Joins x h.0 = subst (λ m. Behind m x) h.1 (piece_behind place d x) in
       leaves_trans x h.0 o on (then_leaves h.0 (bracket_closed h.2) o (ps ≡ no_parts) (λ w. IsParts place d ps w o)
-      (bracket_leaves h.0 h.2 (commands_leave cs Brackets (d - 1) h.0 h.2 h.3)) h.4 (λ w k. parts_leave ps place d w o k))
+      (bracket_leaves h.0 h.2 (commands_leave cs bracketed (d - 1) h.0 h.2 h.3)) h.4 (λ w k. parts_leave ps place d w o k))
 
   pub words_leave : (ws : Words) (context : Context) (d : ℕ) (x : List ℕ) (o : Outcome) → IsWords context d ws x o → Leaves x o
   words_leave no_words context d x o h = rest_leaves x x o (joins_self x) h.1
@@ -159,3 +154,5 @@ mutual
       let start = skip_gap context between x in
       let first = leaves_trans x start h.1 (gap_joins context between x) (words_leave ws context d start h.1 h.2) in
       then_leaves x h.1 o (cs ≡ no_commands) (λ z. IsCommands context d cs z o) first h.3 (λ z k. commands_leave cs context d z o k)
+
+pub ruleset ends_of_texts = (piece_behind, white_joins, gap_joins, parts_leave, words_leave, commands_leave)

@@ -14,3 +14,4 @@ pub mod Spelling
 pub mod SpelledPieces
 pub mod SpelledTrees
 pub mod SpelledScripts
+pub mod Normal

@@ -1,13 +1,10 @@
 -- The next piece of a word: it takes something of the text, and opens no more than may be open.
 use Rattle.std.proofs.Common.{◌≡◌, ℕ, zero, suc, ◌<◌, ◌≤◌, ◌==◌, List, [], ◌∷◌, length, Bool, true, false, Option, Some, None, Result, Ok, Err, if◌then◌else◌, sym, ap, subst, arith, length-append}
-use Rattle.tclparse.specs.Context.{ends_word}
-use Rattle.tclparse.specs.Variable.{name_at, after_name, until, from, begins_with_colons, holds_colons, element_of}
-use Rattle.tclparse.specs.Piece.{Next, end, fault, a_byte, a_name, an_index, an_element, a_bracket, ends_parts, next_escape, escape_piece, next_bracket, next_index, next_element, next_whole, next_brace, next_plain, next_dollar, next_part, next}
+use Rattle.tclparse.specs.Fault.{Fault}
+use Rattle.tclparse.specs.Context.{Context, ends_word}
+use Rattle.tclparse.specs.Variable.{name_at, after_name, until, from, begins_with_colons, named}
+use Rattle.tclparse.specs.Piece.{Place, in_word, Next, end, fault, a_byte, a_name, an_index, an_element, a_bracket, ends_parts, next_escape, escape_piece, next_bracket, next_index, next_variable, next_named, next_brace, next_plain, next_dollar, next_part, next}
 use Rattle.tclparse.specs.Spelled.{Joins, Behind}
-use Rattle.tclparse.specs.declared.tree.Fault.{Fault}
-use Rattle.tclparse.specs.declared.context.Context.{Context}
-use Rattle.tclparse.specs.declared.piece.Place.{Place}
-use Rattle.tclparse.specs.declared.piece.Place.TheVariants.{Bare}
 use Rattle.tcltext.specs.Escape.{escape}
 use Rattle.tcltext.specs.declared.escape.EscapeNotHere.{EscapeNotHere}
 use Rattle.tclparse.proofs.Spelled.{next_behind, nothing_next}
@@ -68,17 +65,17 @@ pub escape_within : (r : Result (ℕ × List ℕ) EscapeNotHere) (d : ℕ) → W
 escape_within (Ok r) d = tt
 escape_within (Err e) d = tt
 
-pub element_within : (n i z : List ℕ) (d : ℕ) → Within (next_element n i z) d
-element_within [] i z d = tt
-element_within (c ∷ n) i z d = tt
+pub variable_within : (n : List ℕ) (i : Option (List ℕ)) (z : List ℕ) (d : ℕ) → Within (next_variable n i z) d
+variable_within n None z d = tt
+variable_within n (Some i) z d = tt
 
-pub whole_within : (n z : List ℕ) (e : Option (List ℕ × List ℕ)) (d : ℕ) → Within (next_whole n e z) d
-whole_within n z None d = tt
-whole_within n z (Some e) d = element_within e.0 e.1 z d
+pub named_within : (v : Option (List ℕ × Option (List ℕ))) (z : List ℕ) (d : ℕ) → Within (next_named v z) d
+named_within None z d = tt
+named_within (Some v) z d = variable_within v.0 v.1 z d
 
 pub brace_within : (n z : List ℕ) (d : ℕ) → Within (next_brace n z) d
 brace_within n [] d = tt
-brace_within n (c ∷ z) d = within_if (holds_colons n) _ (next_whole n (element_of n) z) d tt (whole_within n z (element_of n) d)
+brace_within n (c ∷ z) d = named_within (named n) z d
 
 pub plain_within : (d : ℕ) (n x z : List ℕ) → Within (next_plain d n x z) d
 plain_within d [] x z = within_if (begins_with_colons x) _ (a_byte 36 x) d tt tt
@@ -121,17 +118,17 @@ pub index_is_piece : (d : ℕ) (n z : List ℕ) → IsPiece (next_index d n z)
 index_is_piece d n [] = tt
 index_is_piece d n (c ∷ z) = piece_if (c == 40) _ (a_name n (c ∷ z)) (piece_if (d == 0) _ (an_index n z) tt tt) tt
 
-pub element_is_piece : (n i z : List ℕ) → IsPiece (next_element n i z)
-element_is_piece [] i z = tt
-element_is_piece (c ∷ n) i z = tt
+pub variable_is_piece : (n : List ℕ) (i : Option (List ℕ)) (z : List ℕ) → IsPiece (next_variable n i z)
+variable_is_piece n None z = tt
+variable_is_piece n (Some i) z = tt
 
-pub whole_is_piece : (n z : List ℕ) (e : Option (List ℕ × List ℕ)) → IsPiece (next_whole n e z)
-whole_is_piece n z None = tt
-whole_is_piece n z (Some e) = element_is_piece e.0 e.1 z
+pub named_is_piece : (v : Option (List ℕ × Option (List ℕ))) (z : List ℕ) → IsPiece (next_named v z)
+named_is_piece None z = tt
+named_is_piece (Some v) z = variable_is_piece v.0 v.1 z
 
 pub brace_is_piece : (n z : List ℕ) → IsPiece (next_brace n z)
 brace_is_piece n [] = tt
-brace_is_piece n (c ∷ z) = piece_if (holds_colons n) _ (next_whole n (element_of n) z) tt (whole_is_piece n z (element_of n))
+brace_is_piece n (c ∷ z) = named_is_piece (named n) z
 
 pub plain_is_piece : (d : ℕ) (n x z : List ℕ) → IsPiece (next_plain d n x z)
 plain_is_piece d [] x z = piece_if (begins_with_colons x) _ (a_byte 36 x) tt tt
@@ -148,6 +145,6 @@ part_is_piece d c x =
     piece_if (c == 92) (next_escape x) _ (escape_piece_is (escape x)) (piece_if (c == 36) (next_dollar d x) _ (dollar_is_piece d x)
     (piece_if (c == 91) (next_bracket d x) (a_byte c x) (piece_if (d == 0) _ (a_bracket x) tt tt) tt))
 
-pub bare_is_piece : (context : Context) (d : ℕ) (x : List ℕ) → ends_word context x ≡ false → IsPiece (next (Bare context) d x)
+pub bare_is_piece : (context : Context) (d : ℕ) (x : List ℕ) → ends_word context x ≡ false → IsPiece (next (in_word context) d x)
 bare_is_piece context d [] h = absurd (cc)
 bare_is_piece context d (c ∷ x) h = subst (λ b. IsPiece (if b then end else next_part d (c ∷ x))) (sym h) (part_is_piece d c x)

@@ -4,11 +4,9 @@ use Rattle.tcltext.specs.Digit.{digit_value, is_digit}
 use Rattle.tcltext.specs.Escape.{escape, byte_number, hexadecimal_byte}
 use Rattle.tcltext.specs.Escape as of_escape
 use Rattle.tcltext.specs.declared.escape.EscapeNotHere.{EscapeNotHere}
-use Rattle.tclparse.specs.Variable.{name_at, after_name, is_name, until, from, begins_with_colons, holds_colons, element_of}
-use Rattle.tclparse.specs.Piece.{Next, end, fault, a_byte, a_name, an_index, an_element, a_bracket, ends_parts, escape_piece, next_escape, next_bracket, next_index, next_element, next_whole, next_brace, next_plain, next_dollar, next_part, next}
+use Rattle.tclparse.specs.Variable.{name_at, after_name, is_name, until, from, begins_with_colons, named}
+use Rattle.tclparse.specs.Piece.{Place, in_word, within_quotes, within_index, Next, end, fault, a_byte, a_name, an_index, an_element, a_bracket, ends_parts, escape_piece, next_escape, next_bracket, next_index, next_variable, next_named, next_brace, next_plain, next_dollar, next_part, next}
 use Rattle.tclparse.specs.Spelled.{Joins, Behind}
-use Rattle.tclparse.specs.declared.piece.Place.{Place}
-use Rattle.tclparse.specs.declared.piece.Place.TheVariants.{Bare, Quotes, Index}
 
 pub joins_self : (x : List ℕ) → Joins x x
 joins_self x = ([], refl)
@@ -84,17 +82,17 @@ index_behind d n [] = joins_self []
 index_behind d n (c ∷ z) =
     behind_if (c == 40) _ (a_name n (c ∷ z)) (c ∷ z) (behind_if (d == 0) _ (an_index n z) (c ∷ z) tt (joins_more c z z (joins_self z))) (joins_self (c ∷ z))
 
-element_behind : (n i z : List ℕ) → Behind (next_element n i z) z
-element_behind [] i z = tt
-element_behind (c ∷ n) i z = joins_self z
+variable_behind : (n : List ℕ) (i : Option (List ℕ)) (z : List ℕ) → Behind (next_variable n i z) z
+variable_behind n None z = joins_self z
+variable_behind n (Some i) z = joins_self z
 
-whole_behind : (n z : List ℕ) (e : Option (List ℕ × List ℕ)) → Behind (next_whole n e z) z
-whole_behind n z None = joins_self z
-whole_behind n z (Some e) = element_behind e.0 e.1 z
+named_behind : (v : Option (List ℕ × Option (List ℕ))) (z : List ℕ) → Behind (next_named v z) z
+named_behind None z = tt
+named_behind (Some v) z = variable_behind v.0 v.1 z
 
 brace_behind : (n z : List ℕ) → Behind (next_brace n z) z
 brace_behind n [] = tt
-brace_behind n (c ∷ z) = behind_if (holds_colons n) _ (next_whole n (element_of n) z) (c ∷ z) tt (behind_trans (next_whole n (element_of n) z) (c ∷ z) z (joins_more c z z (joins_self z)) (whole_behind n z (element_of n)))
+brace_behind n (c ∷ z) = behind_trans (next_named (named n) z) (c ∷ z) z (joins_more c z z (joins_self z)) (named_behind (named n) z)
 
 plain_behind : (d : ℕ) (n x z : List ℕ) → Joins x z → Behind (next_plain d n x z) x
 plain_behind d [] x z h = behind_if (begins_with_colons x) _ (a_byte 36 x) x tt (joins_self x)
@@ -119,6 +117,6 @@ pub next_behind : (place : Place) (d c : ℕ) (x : List ℕ) → Behind (next pl
 next_behind place d c x = behind_if (ends_parts place (c ∷ x)) end (next_part d (c ∷ x)) x tt (part_behind d c x)
 
 pub nothing_next : (place : Place) (d : ℕ) → next place d [] ≡ end
-nothing_next (Bare context) d = refl
-nothing_next Quotes d = refl
-nothing_next Index d = refl
+nothing_next (in_word context) d = refl
+nothing_next within_quotes d = refl
+nothing_next within_index d = refl

@@ -5,12 +5,10 @@ use Rattle.tcltext.specs.declared.escape.EscapeNotHere.{EscapeNotHere}
 use Rattle.tcltext.proofs.Pairing.{same_pair}
 use Rattle.tclparse.specs.Tree.{no_parts, bytes_then}
 use Rattle.tclparse.specs.Context.{is_white, is_separator, is_closing, is_continuation}
-use Rattle.tclparse.specs.Variable.{name_at, after_name, is_name, until, from, begins_with_colons, holds_colons, is_byte, ends_with, index_of, element_of}
-use Rattle.tclparse.specs.Piece.{Next, end, fault, a_byte, a_name, an_index, an_element, a_bracket, ends_parts, escape_piece, next_bracket, next_index, next_element, next_whole, next_brace, next_plain, next_dollar, next_part, next_escape, next}
+use Rattle.tclparse.specs.Variable.{name_at, after_name, is_name, until, from, begins_with_colons, holds_colons, is_byte, ends_with, index_of, element_of, element_named, named_as}
+use Rattle.tclparse.specs.Piece.{Place, in_word, within_quotes, within_index, Next, end, fault, a_byte, a_name, an_index, an_element, a_bracket, ends_parts, escape_piece, next_bracket, next_index, next_named, next_brace, next_plain, next_dollar, next_part, next_escape, next}
 use Rattle.tclparse.specs.Spelled.{Behind}
 use Rattle.tclparse.specs.Spelling.{Begins, SpellsByte, IsName, SpellsVariable, SpellsWhole}
-use Rattle.tclparse.specs.declared.piece.Place.{Place}
-use Rattle.tclparse.specs.declared.piece.Place.TheVariants.{Bare, Quotes, Index}
 use Rattle.tclparse.proofs.Spelled.{next_behind}
 use Rattle.tclparse.proofs.Spelling.{if_known, equal_if}
 
@@ -40,9 +38,9 @@ no_backslash true h = absurd (cc)
 no_backslash false h = refl
 
 ends_one : (place : Place) (c : ℕ) (x : List ℕ) → (c == 92) ≡ false → ends_parts place (c ∷ x) ≡ false → ends_parts place (c ∷ []) ≡ false
-ends_one (Bare context) c x n h = one_ends (is_white context c) (is_separator context c) (is_closing context c) (is_continuation c x) (is_continuation c []) (no_backslash (c == 92) n) h
-ends_one Quotes c x n h = h
-ends_one Index c x n h = h
+ends_one (in_word context) c x n h = one_ends (is_white context c) (is_separator context c) (is_closing context c) (is_continuation c x) (is_continuation c []) (no_backslash (c == 92) n) h
+ends_one within_quotes c x n h = h
+ends_one within_index c x n h = h
 
 neither : (a b : Bool) → a ≡ false → b ≡ false → (a || b) ≡ false
 neither true b h k = h
@@ -119,22 +117,24 @@ element_joined n p h = until_joined 40 n ∙ index_joined (until 40 n) (from 40 
 braces_close : (n z : List ℕ) → 36 ∷ 123 ∷ (n ++ 125 ∷ z) ≡ (36 ∷ 123 ∷ (n ++ 125 ∷ [])) ++ z
 braces_close n z = ap (λ l. 36 ∷ 123 ∷ l) (sym (append_assoc n (125 ∷ []) z))
 
-element_spelled : (place : Place) (m i n z : List ℕ) → n ≡ m ++ 40 ∷ (i ++ 41 ∷ []) → from 125 n ≡ [] → IsSpelled place (next_element m i z) (36 ∷ 123 ∷ (n ++ 125 ∷ z))
+element_spelled : (place : Place) (m i n z : List ℕ) → n ≡ m ++ 40 ∷ (i ++ 41 ∷ []) → from 125 n ≡ []
+    → IsSpelled place (next_named (element_named m i) z) (36 ∷ 123 ∷ (n ++ 125 ∷ z))
 element_spelled place [] i n z e k = tt
 element_spelled place (c ∷ m) i n z e k =
     let whole = (c ∷ m) ++ 40 ∷ (i ++ 41 ∷ []) in
     subst (λ l. IsSpelled place (an_element (c ∷ m) i z) (36 ∷ 123 ∷ (l ++ 125 ∷ z))) (sym e)
     (36 ∷ 123 ∷ (whole ++ 125 ∷ []), braces_close whole z, (i, refl, subst (λ l. from 125 l ≡ []) e k, refl))
 
-whole_spelled : (place : Place) (n z : List ℕ) (o : Option (List ℕ × List ℕ)) → element_of n ≡ o → from 125 n ≡ [] → IsSpelled place (next_whole n o z) (36 ∷ 123 ∷ (n ++ 125 ∷ z))
-whole_spelled place n z None e k = (36 ∷ 123 ∷ (n ++ 125 ∷ []), braces_close n z, inr (k, refl))
-whole_spelled place n z (Some p) e k = element_spelled place p.0 p.1 n z (element_joined n p e) k
+named_spelled : (place : Place) (n z : List ℕ) (o : Option (List ℕ × List ℕ)) → element_of n ≡ o → from 125 n ≡ []
+    → IsSpelled place (next_named (named_as n o) z) (36 ∷ 123 ∷ (n ++ 125 ∷ z))
+named_spelled place n z None e k = (36 ∷ 123 ∷ (n ++ 125 ∷ []), braces_close n z, inr (k, refl))
+named_spelled place n z (Some p) e k = element_spelled place p.0 p.1 n z (element_joined n p e) k
 
 brace_spelled : (place : Place) (n z : List ℕ) → from 125 n ≡ [] → FirstIs 125 z → IsSpelled place (next_brace n z) (36 ∷ 123 ∷ (n ++ z))
 brace_spelled place n [] k f = tt
 brace_spelled place n (c ∷ z) k f =
-    if_known (λ m. IsSpelled place m (36 ∷ 123 ∷ (n ++ c ∷ z))) (holds_colons n) _ (next_whole n (element_of n) z) (λ e. tt)
-    (λ e. subst (λ b. IsSpelled place (next_whole n (element_of n) z) (36 ∷ 123 ∷ (n ++ b ∷ z))) (sym f) (whole_spelled place n z (element_of n) refl k))
+    if_known (λ m. IsSpelled place (next_named m z) (36 ∷ 123 ∷ (n ++ c ∷ z))) (holds_colons n) None (named_as n (element_of n)) (λ e. tt)
+    (λ e. subst (λ b. IsSpelled place (next_named (named_as n (element_of n)) z) (36 ∷ 123 ∷ (n ++ b ∷ z))) (sym f) (named_spelled place n z (element_of n) refl k))
 
 -- a name behind a dollar
 index_spelled : (place : Place) (d : ℕ) (n z : List ℕ) → IsName n → IsSpelled place (next_index d n z) (36 ∷ (n ++ z))
@@ -170,7 +170,7 @@ part_spelled : (place : Place) (d c : ℕ) (x : List ℕ) → ends_parts place (
 part_spelled place d c x h =
     let whole = c ∷ x in
     if_known (λ m. IsSpelled place m whole) (c == 92) (next_escape x) _
-    (λ e. subst (λ b. IsSpelled place (next_escape x) (b ∷ x)) (sym (equal_if c 92 e)) (escape_spelled place x (escape x) refl (next_behind Quotes 0 92 x)))
+    (λ e. subst (λ b. IsSpelled place (next_escape x) (b ∷ x)) (sym (equal_if c 92 e)) (escape_spelled place x (escape x) refl (next_behind within_quotes 0 92 x)))
     (λ n. if_known (λ m. IsSpelled place m whole) (c == 36) (next_dollar d x) _
     (λ e. let dollar = equal_if c 36 e in subst (λ b. IsSpelled place (next_dollar d x) (b ∷ x)) (sym dollar) (dollar_spelled place d x (subst (λ b. ends_parts place (b ∷ x) ≡ false) dollar h)))
     (λ m. if_known (λ m. IsSpelled place m whole) (c == 91) (next_bracket d x) (a_byte c x)
@@ -178,9 +178,9 @@ part_spelled place d c x h =
     (λ k. byte_spelled place c x n k h)))
 
 nothing_ends : (place : Place) → ends_parts place [] ≡ true
-nothing_ends (Bare context) = refl
-nothing_ends Quotes = refl
-nothing_ends Index = refl
+nothing_ends (in_word context) = refl
+nothing_ends within_quotes = refl
+nothing_ends within_index = refl
 
 behind_end : (place : Place) (d : ℕ) (x : List ℕ) → ends_parts place x ≡ false → IsSpelled place (next_part d x) x
 behind_end place d [] h = nothing_ends place

@@ -1,15 +1,14 @@
 -- A whole text is the spelling of its tree, or of the commands before its fault.
 use Rattle.std.proofs.Common.{◌≡◌, ℕ, List, [], ◌++◌, false, Some, None, Ok, Err, refl, ap, subst, inl, inr, ◌∙◌, append-nil, ◌⊎◌}
+use Rattle.tclparse.specs.Fault.{Fault}
+use Rattle.tclparse.specs.Piece.{Place}
+use Rattle.tclparse.specs.Context.{Context, whole_script, argument}
 use Rattle.tclparse.specs.Tree.{Words, Commands, no_commands, command, with_last}
 use Rattle.tclparse.specs.Gap.{skip_white, skip_gap, between}
 use Rattle.tclparse.specs.Grammar.{Outcome, Then, IsWords, IsCommands, IsScript, IsArgument}
 use Rattle.tclparse.specs.Spelling.{IsWhiteText, no_gap, IsLastComment, IsTail, SpellsParts, SpellsWords, SpellsCommands, Begins, BeginsWhole}
-use Rattle.tclparse.specs.declared.tree.Fault.{Fault}
-use Rattle.tclparse.specs.declared.context.Context.{Context}
-use Rattle.tclparse.specs.declared.context.Context.TheVariants.{Script, Argument}
 use Rattle.tclparse.specs.Tree.{Parts}
 use Rattle.tclparse.specs.Grammar.{IsParts}
-use Rattle.tclparse.specs.declared.piece.Place.{Place}
 use Rattle.tclparse.proofs.Spelling.{white_spelled, gap_spelled}
 use Rattle.tclparse.proofs.SpelledTrees.{parts_spelled, words_spelled, commands_spelled, commands_join, gap_whole}
 
@@ -26,15 +25,15 @@ script_tail : (t : List ℕ) → IsTail t [] → (t ≡ []) ⊎ IsLastComment t
 script_tail t (inl e) = inl e
 script_tail t (inr h) = inr h.1
 
-pub script_is : (cs : Commands) (x : List ℕ) → IsScript cs None x → (s t : List ℕ) × (x ≡ s ++ t) × SpellsCommands Script cs s × ((t ≡ []) ⊎ IsLastComment t)
+pub script_is : (cs : Commands) (x : List ℕ) → IsScript cs None x → (s t : List ℕ) × (x ≡ s ++ t) × SpellsCommands whole_script cs s × ((t ≡ []) ⊎ IsLastComment t)
 script_is cs x h =
-    let all = commands_begin Script 100 cs x [] h in
+    let all = commands_begin whole_script 100 cs x [] h in
     (all.0, all.1, all.2 ∙ ap (λ l. all.0 ++ l) (append-nil all.1), all.3, script_tail all.1 all.4)
 
-pub argument_is : (ws : Words) (x : List ℕ) → IsArgument ws None x → (g s : List ℕ) × (x ≡ g ++ s) × IsWhiteText Argument g × SpellsWords Argument ws s
+pub argument_is : (ws : Words) (x : List ℕ) → IsArgument ws None x → (g s : List ℕ) × (x ≡ g ++ s) × IsWhiteText argument g × SpellsWords argument ws s
 argument_is ws x h =
-    let gap = white_spelled Argument x in
-    let all = words_begin Argument 100 ws (skip_white Argument false x) [] h in
+    let gap = white_spelled argument x in
+    let all = words_begin argument 100 ws (skip_white argument false x) [] h in
     (gap.0, all.0, gap.1 ∙ ap (λ l. gap.0 ++ l) (all.1 ∙ append-nil all.0), gap.2, all.2)
 
 -- where a command has the fault, those before it were read
@@ -58,7 +57,9 @@ before_fault (command vs cs) ws context d x f h =
     (rest.0, commands_join context vs cs x start more.0 rest.0 gap first.0 first.1 rest.1, rest.2)
 
 pub faulty_script_is : (cs : Commands) (f : Fault) (x : List ℕ) → IsScript cs (Some f) x
-    → (s z : List ℕ) × (x ≡ s ++ z) × SpellsCommands Script cs s × (ws : Words) × IsCommands Script 100 (command ws no_commands) z (Err f)
+    → (s z : List ℕ) × (x ≡ s ++ z) × SpellsCommands whole_script cs s × (ws : Words) × IsCommands whole_script 100 (command ws no_commands) z (Err f)
 faulty_script_is cs f x h =
-    let all = before_fault cs h.0 Script 100 x f h.1 in
+    let all = before_fault cs h.0 whole_script 100 x f h.1 in
     (all.1.0, all.0, all.1.1, all.1.2, h.0, all.2)
+
+pub ruleset spelled = (white_spelled, gap_spelled, parts_begin, words_begin, commands_begin, script_is, faulty_script_is, argument_is)

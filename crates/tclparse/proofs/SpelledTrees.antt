@@ -1,17 +1,12 @@
 -- A text that is read as parts, words or commands begins with a spelling of them.
 use Rattle.std.proofs.Common.{◌≡◌, ℕ, ◌-◌, ◌==◌, ◌&&◌, List, [], ◌∷◌, ◌++◌, Bool, true, false, Some, None, Ok, Err, if◌then◌else◌, refl, sym, ap, subst, inl, inr, ◌∙◌, append_assoc, ◌⊎◌}
+use Rattle.tclparse.specs.Fault.{Fault, after_brace, after_quote}
 use Rattle.tclparse.specs.Tree.{Parts, no_parts, byte, variable, element, script, Words, no_words, word, Commands, no_commands, command}
-use Rattle.tclparse.specs.Context.{ends_script, ends_command, ends_word}
+use Rattle.tclparse.specs.Context.{Context, bracketed, ends_script, ends_command, ends_word}
 use Rattle.tclparse.specs.Gap.{skip_white, skip_gap, between}
-use Rattle.tclparse.specs.Piece.{Next, end, fault, a_byte, a_name, an_index, an_element, a_bracket, ends_parts, next}
+use Rattle.tclparse.specs.Piece.{Place, in_word, within_quotes, within_index, Next, end, fault, a_byte, a_name, an_index, an_element, a_bracket, ends_parts, next}
 use Rattle.tclparse.specs.Grammar.{Outcome, Then, EndsAs, bracket_closed, index_closed, quotes_closed, Kind, in_braces, in_quotes, bare, kind, is_prefix, without_prefix, expands, unprefixed, IsBraced, IsWord, IsParts, IsWords, IsCommands}
 use Rattle.tclparse.specs.Spelling.{IsWhiteText, IsGapText, IsName, IsTail, SpellsWhole, SpellsBody, prefixed, AreParted, SpellsParts, SpellsWords, SpellsCommands, Begins, BeginsWhole}
-use Rattle.tclparse.specs.declared.tree.Fault.{Fault}
-use Rattle.tclparse.specs.declared.tree.Fault.TheVariants.{AfterBrace, AfterQuote}
-use Rattle.tclparse.specs.declared.context.Context.{Context}
-use Rattle.tclparse.specs.declared.context.Context.TheVariants.{Brackets}
-use Rattle.tclparse.specs.declared.piece.Place.{Place}
-use Rattle.tclparse.specs.declared.piece.Place.TheVariants.{Bare, Quotes, Index}
 use Rattle.tclparse.proofs.Gaps.{white_begins}
 use Rattle.tclparse.proofs.Spelling.{if_known, equal_if, both, white_spelled, gap_spelled}
 use Rattle.tclparse.proofs.SpelledPieces.{IsSpelled, piece_spelled}
@@ -43,7 +38,7 @@ ended_open false w z f h = absurd (cc)
 pub quotes_open : (context : Context) (r : Outcome) (z : List ℕ) → Ok z ≡ quotes_closed context r → (c : ℕ) × (r ≡ Ok (c ∷ z)) × (ends_word context z ≡ true)
 quotes_open context (Ok []) z h = absurd (cc)
 quotes_open context (Ok (c ∷ w)) z h =
-    let open_ : (w ≡ z) × (ends_word context w ≡ true) = ended_open (ends_word context w) w z AfterQuote h in
+    let open_ : (w ≡ z) × (ends_word context w ≡ true) = ended_open (ends_word context w) w z after_quote h in
     (c, ap (λ l. Ok (c ∷ l)) open_.0, subst (λ l. ends_word context l ≡ true) open_.0 open_.1)
 quotes_open context (Err f) z h = absurd (cc)
 
@@ -74,9 +69,9 @@ closed : (f s : List ℕ) (c : ℕ) (w : List ℕ) → f ++ (s ++ c ∷ w) ≡ (
 closed f s c w = ap (λ l. f ++ l) (sym (append_assoc s (c ∷ []) w)) ∙ sym (append_assoc f (s ++ c ∷ []) w)
 
 abbrev IsIndexed : List ℕ → Parts → List ℕ → Type 0
-IsIndexed n is p = (i : List ℕ) × IsName n × (p ≡ (36 ∷ n) ++ 40 ∷ (i ++ 41 ∷ [])) × SpellsParts Index is i
+IsIndexed n is p = (i : List ℕ) × IsName n × (p ≡ (36 ∷ n) ++ 40 ∷ (i ++ 41 ∷ [])) × SpellsParts within_index is i
 
-indexed : (n : List ℕ) (is : Parts) (x y w : List ℕ) (c : ℕ) → IsName n × (x ≡ 36 ∷ (n ++ 40 ∷ y)) → PartsAre Index is y (c ∷ w) → Begins (IsIndexed n is) x w
+indexed : (n : List ℕ) (is : Parts) (x y w : List ℕ) (c : ℕ) → IsName n × (x ≡ 36 ∷ (n ++ 40 ∷ y)) → PartsAre within_index is y (c ∷ w) → Begins (IsIndexed n is) x w
 indexed n is x y w c k h =
     let i = h.0.0 in
     let close = equal_if c 41 h.1 in
@@ -86,15 +81,15 @@ indexed n is x y w c k h =
     ((36 ∷ n) ++ 40 ∷ (i ++ 41 ∷ []), joined ∙ bytes, (i, k.0, refl, h.0.2))
 
 abbrev IsBracketed : Commands → List ℕ → Type 0
-IsBracketed cs p = (s : List ℕ) × (p ≡ 91 ∷ (s ++ 93 ∷ [])) × SpellsCommands Brackets cs s
+IsBracketed cs p = (s : List ℕ) × (p ≡ 91 ∷ (s ++ 93 ∷ [])) × SpellsCommands bracketed cs s
 
 -- with a text behind it no comment goes up to the text's end
 tail_none : (t w : List ℕ) (c : ℕ) → IsTail t (c ∷ w) → t ≡ []
 tail_none t w c (inl e) = e
 tail_none t w c (inr h) = let e = h.0 in absurd (cc)
 
-bracketed : (cs : Commands) (x y w : List ℕ) (c : ℕ) → x ≡ 91 ∷ y → CommandsAre Brackets cs y (c ∷ w) → Begins (IsBracketed cs) x w
-bracketed cs x y w c k h =
+between_brackets : (cs : Commands) (x y w : List ℕ) (c : ℕ) → x ≡ 91 ∷ y → CommandsAre bracketed cs y (c ∷ w) → Begins (IsBracketed cs) x w
+between_brackets cs x y w c k h =
     let s = h.0.0 in
     let close = equal_if c 93 h.1 in
     let none = tail_none h.0.1 w c h.0.4 in
@@ -129,7 +124,7 @@ BodyIs context ps x z = Begins (λ t. SpellsBody context ps (λ place s. SpellsP
 braced_spelled : (context : Context) (ps : Parts) (x y z : List ℕ) → x ≡ 123 ∷ y → IsBraced context ps y (Ok z) → BodyIs context ps x z
 braced_spelled context ps x y z k (inl h) =
     let content = h.0 in
-    let open_ = ended_open (ends_word context h.1) h.1 z AfterBrace h.6 in
+    let open_ = ended_open (ends_word context h.1) h.1 z after_brace h.6 in
     let joined : x ≡ (123 ∷ (content ++ 125 ∷ [])) ++ z = k ∙ ap (λ l. 123 ∷ l) (h.3.0 ∙ ap (λ l. content ++ 125 ∷ l) open_.0 ∙ sym (append_assoc content (125 ∷ []) z)) in
     ((123 ∷ (content ++ 125 ∷ []), joined, inl (content, h.2, refl, h.3.1, h.4, h.5)), subst (λ l. ends_word context l ≡ true) open_.0 open_.1)
 braced_spelled context ps x y z k (inr h) = absurd (cc (h.2))
@@ -140,13 +135,13 @@ body_spelled context d ps (in_braces y) x z e k h parts = braced_spelled context
 body_spelled context d ps (in_quotes y) x z e k h parts =
     let open_ = quotes_open context h.0 z h.2 in
     let c = open_.0 in
-    let inside : PartsAre Quotes ps y (c ∷ z) = parts Quotes y (c ∷ z) (subst (λ r. IsParts Quotes d ps y r) open_.1 h.1) in
+    let inside : PartsAre within_quotes ps y (c ∷ z) = parts within_quotes y (c ∷ z) (subst (λ r. IsParts within_quotes d ps y r) open_.1 h.1) in
     let s = inside.0.0 in
     let joined : x ≡ (34 ∷ (s ++ 34 ∷ [])) ++ z =
     k ∙ ap (λ l. 34 ∷ l) (inside.0.1 ∙ ap (λ b. s ++ b ∷ z) (equal_if c 34 inside.1) ∙ sym (append_assoc s (34 ∷ []) z)) in
     ((34 ∷ (s ++ 34 ∷ []), joined, inr (inl (s, refl, inside.0.2))), open_.2)
 body_spelled context d ps bare x z e k h parts =
-    let inside : PartsAre (Bare context) ps x z = parts (Bare context) x z h in
+    let inside : PartsAre (in_word context) ps x z = parts (in_word context) x z h in
     ((inside.0.0, inside.0.1, inr (inr (bare_front inside.0.0 z (ap kind (sym inside.0.1) ∙ e), inside.0.2))), inside.1)
 
 -- a word that is expanded, or not, and its prefix
@@ -230,7 +225,7 @@ mutual
   parts_spelled (element n is ps) place d x z (inl h) =
       let more = then_more (index_closed h.2) (ps ≡ no_parts) (λ w. IsParts place d ps w (Ok z)) z h.4 in
       let open_ = index_open h.2 more.0 more.1 in
-      let inner = parts_spelled is Index (d - 1) h.0 (open_.0 ∷ more.0) (subst (λ r. IsParts Index (d - 1) is h.0 r) open_.1 h.3) in
+      let inner = parts_spelled is within_index (d - 1) h.0 (open_.0 ∷ more.0) (subst (λ r. IsParts within_index (d - 1) is h.0 r) open_.1 h.3) in
       let at : IsSpelled place (an_index n h.0) x = subst (λ m. IsSpelled place m x) h.1 (piece_spelled place d x) in
       let here = indexed n is x h.0 more.0 open_.0 at inner in
       let rest = parts_spelled ps place d more.0 z more.2 in
@@ -243,10 +238,10 @@ mutual
   parts_spelled (script cs ps) place d x z h =
       let more = then_more (bracket_closed h.2) (ps ≡ no_parts) (λ w. IsParts place d ps w (Ok z)) z h.4 in
       let open_ = bracket_open h.2 more.0 more.1 in
-      let inner = commands_spelled cs Brackets (d - 1) h.0 (open_.0 ∷ more.0) (subst (λ r. IsCommands Brackets (d - 1) cs h.0 r) open_.1 h.3) in
+      let inner = commands_spelled cs bracketed (d - 1) h.0 (open_.0 ∷ more.0) (subst (λ r. IsCommands bracketed (d - 1) cs h.0 r) open_.1 h.3) in
       let at : IsSpelled place (a_bracket h.0) x = subst (λ m. IsSpelled place m x) h.1 (piece_spelled place d x) in
       let rest = parts_spelled ps place d more.0 z more.2 in
-      (begins_both (IsBracketed cs) (λ t. SpellsParts place ps t) x more.0 z (bracketed cs x h.0 more.0 open_.0 at inner) rest.0, rest.1)
+      (begins_both (IsBracketed cs) (λ t. SpellsParts place ps t) x more.0 z (between_brackets cs x h.0 more.0 open_.0 at inner) rest.0, rest.1)
 
   pub words_spelled : (ws : Words) (context : Context) (d : ℕ) (x z : List ℕ) → IsWords context d ws x (Ok z) → WordsAre context ws x z
   words_spelled no_words context d x z h = let same : x ≡ z = ok_is x z (Ok z) refl h.1 in (([], same, refl), subst (λ l. ends_command context l ≡ true) same h.0)

@@ -1,11 +1,9 @@
 -- What is skipped between words and commands is white, separators, continued lines and comments.
 use Rattle.std.proofs.Common.{◌≡◌, ℕ, ◌==◌, ◌&&◌, ◌||◌, List, [], ◌∷◌, ◌++◌, Bool, true, false, if◌then◌else◌, refl, sym, ap, subst, inl, inr, ◌∙◌, ◌⊎◌, append_assoc, append-nil}
 use Rattle.std.proofs.lemmas.Bool.Decides.{eqb_tells}
-use Rattle.tclparse.specs.Context.{is_white, is_separator, is_continuation}
+use Rattle.tclparse.specs.Context.{Context, whole_script, bracketed, argument, is_white, is_separator, is_continuation}
 use Rattle.tclparse.specs.Gap.{Gap, skip_white, skip_gap, between, comment, in_pair}
 use Rattle.tclparse.specs.Spelling.{IsWhiteText, no_white, white, white_line, IsComment, no_comment, comment_byte, comment_pair, IsGapText, no_gap, gap_byte, gap_line, gap_comment, IsLastComment, Begins, BeginsWhole}
-use Rattle.tclparse.specs.declared.context.Context.{Context}
-use Rattle.tclparse.specs.declared.context.Context.TheVariants.{Script, Brackets, Argument}
 
 -- either way, and the test is known
 pub if_known : {A : Type 0} (P : A → Type 0) (b : Bool) (y z : A) → (b ≡ true → P y) → (b ≡ false → P z) → P (if b then y else z)
@@ -115,9 +113,9 @@ abbrev After : Context → List ℕ → List ℕ → Gap → Type 0
 After context x y gap = InComment context x (skip_gap context gap y)
 
 newline_skipped : (context : Context) (x : List ℕ) → skip_gap context between (10 ∷ x) ≡ skip_gap context between x
-newline_skipped Script x = refl
-newline_skipped Brackets x = refl
-newline_skipped Argument x = refl
+newline_skipped whole_script x = refl
+newline_skipped bracketed x = refl
+newline_skipped argument x = refl
 
 mutual
   pub gap_spelled : (context : Context) (x : List ℕ) → Gapped context x (skip_gap context between x)

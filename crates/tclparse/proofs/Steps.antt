@@ -2,22 +2,22 @@
 use Rattle.std.proofs.Common.{◌≡◌, ℕ, ◌-◌, List, [], ◌∷◌, ◌++◌, length, ◌<◌, true, false, Result, Ok, Err, Vec, refl, sym, ap, subst, ◌∙◌, inl, inr}
 use Rattle.std.specs.Borrow.{Bor}
 use Rattle.std.specs.declared.rc.Rc.{Rc}
+use Rattle.tclparse.specs.Fault.{Fault}
 use Rattle.tclparse.specs.Tree.{Parts, no_parts, byte, variable, element, script, Words, no_words, word, Commands, no_commands, command, bytes_then, with_last}
-use Rattle.tclparse.specs.Context.{ends_command, ends_script}
+use Rattle.tclparse.specs.Context.{Context, ends_command, ends_script}
 use Rattle.tclparse.specs.Gap.{skip_white, skip_gap, between}
-use Rattle.tclparse.specs.Piece.{a_byte, a_name, an_index, an_element, a_bracket, next}
+use Rattle.tclparse.specs.Piece.{Place, a_byte, a_name, an_index, an_element, a_bracket, next}
 use Rattle.tclparse.specs.Grammar.{Outcome, Then, bracket_closed, index_closed, expands, unprefixed, IsParts, IsWords, IsCommands}
+use Rattle.tclparse.specs.Seen.{fault_of}
 use Rattle.tclparse.specs.Reads.{Read, IsBody, IsOneWord, IsBracket, IsIndex, ReadsElement, ReadsParts, ReadsBracket, ReadsBody, ReadsWord, ReadsWords}
+use Rattle.tclparse.specs.Normal.{form_of, other}
 use Rattle.tclparse.specs.View.{part_view, word_view, parts_then, words_then, commands_then}
-use Rattle.tclparse.specs.declared.tree.Fault.{Fault}
-use Rattle.tclparse.specs.declared.context.Context.{Context}
-use Rattle.tclparse.specs.declared.piece.Place.{Place}
 use Rattle.tclparse.specs.declared.tree.Part.{Part}
 use Rattle.tclparse.specs.declared.tree.Part.TheViews.{roll-Command}
 use Rattle.tclparse.specs.declared.tree.Word.{Word}
 use Rattle.tclparse.specs.declared.tree.Command.{Command}
-use Rattle.tclparse.specs.declared.read.ReadError.{ReadError}
-use Rattle.tclparse.specs.declared.read.ReadError.TheVariants as error
+use Rattle.tclparse.specs.declared.error.ReadError.{ReadError}
+use Rattle.tclparse.specs.declared.error.ReadError.TheVariants as error
 use Rattle.tclparse.proofs.Trees.{parts_push, words_push, commands_push, bytes_push, commands_last, view_of_command}
 
 -- What was read of the text x, with y left: whatever completes y completes x.
@@ -51,9 +51,9 @@ pub after_part : {A : Type 0} (place : Place) (d : ℕ) (x y z : List ℕ) (p : 
 after_part place d x y z p front ps qs rs bs cs so_far one is ended pushed none t o h =
     subst (λ q. IsParts place d q x o) (sym (pushed_part p (front t) t ps qs rs bs cs ended (is t) pushed none)) (so_far (front t) o (one t o h))
 
--- The part r.0 stands at the front of the text y and leaves r.1, less than y; front is what it puts before the parts after it.
+-- The part r.0, which is no literal, stands at the front of the text y and leaves r.1, less than y; front is what it puts before the parts after it.
 abbrev pub StandsAt : {A : Type 0} → Place → ℕ → List ℕ → Part A × Bor (List ℕ) → Type 0
-StandsAt place d y r = (front : Parts → Parts) × PartsSoFar place d y r.1.now front × ((t : Parts) → part_view r.0 t ≡ front t) × (length r.1.now < length y)
+StandsAt place d y r = (front : Parts → Parts) × PartsSoFar place d y r.1.now front × ((t : Parts) → part_view r.0 t ≡ front t) × (length r.1.now < length y) × (form_of r.0 ≡ other)
 
 -- what each piece puts before the parts after it
 pub name_part : (place : Place) (d : ℕ) (y z n : List ℕ) → a_name n z ≡ next place d y → PartsSoFar place d y z (variable n)
@@ -94,8 +94,8 @@ index_fault place d x y w n f ps bs so_far e found =
 
 pub index_error : {A : Type 0} (place : Place) (d : ℕ) (x y w n : List ℕ) (e : ReadError) (ps : List (Part A)) (bs : List ℕ) (r : Read A (Part A))
     → PartsSoFar place d x y (λ t. parts_then ps (bytes_then bs t)) → an_index n w ≡ next place d y → ReadsElement {A = A} n (d - 1) w (Err e) → r ≡ Err e → ReadsParts place d x r
-index_error place d x y w n error.Memory ps bs r so_far at h is = subst (ReadsParts place d x) (sym is) tt
-index_error place d x y w n (error.Fault f) ps bs r so_far at h is = subst (ReadsParts place d x) (sym is) (index_fault place d x y w n f ps bs so_far at h)
+index_error place d x y w n (error.Memory refusal) ps bs r so_far at h is = subst (ReadsParts place d x) (sym is) tt
+index_error place d x y w n (error.Fault f) ps bs r so_far at h is = subst (ReadsParts place d x) (sym is) (index_fault place d x y w n (fault_of f) ps bs so_far at h)
 
 pub after_word : {A : Type 0} (context : Context) (d : ℕ) (x y z u : List ℕ) (w : Word A) (ws vs : List (Word A))
     → WordsSoFar context d x y (words_then ws) → ends_command context y ≡ false → ((t : Words) → IsOneWord context d (word_view w t) t y (Ok z)) → vs ≡ ws ++ w ∷ []
@@ -114,8 +114,8 @@ word_fault context d x y f ws so_far begins found =
 
 pub word_error : {A : Type 0} (context : Context) (d : ℕ) (x y : List ℕ) (e : ReadError) (ws : List (Word A)) (r : Read A (Word A))
     → WordsSoFar context d x y (words_then ws) → ends_command context y ≡ false → ReadsWord {A = A} context d y (Err e) → r ≡ Err e → ReadsWords context d x r
-word_error context d x y error.Memory ws r so_far begins h is = subst (ReadsWords context d x) (sym is) tt
-word_error context d x y (error.Fault f) ws r so_far begins h is = subst (ReadsWords context d x) (sym is) (word_fault context d x y f ws so_far begins h)
+word_error context d x y (error.Memory refusal) ws r so_far begins h is = subst (ReadsWords context d x) (sym is) tt
+word_error context d x y (error.Fault f) ws r so_far begins h is = subst (ReadsWords context d x) (sym is) (word_fault context d x y (fault_of f) ws so_far begins h)
 
 pub words_end : {A : Type 0} (context : Context) (d : ℕ) (x y : List ℕ) (ws : List (Word A))
     → WordsSoFar context d x y (words_then ws) → ends_command context y ≡ true → IsWords context d (words_then ws no_words) x (Ok y)
@@ -124,8 +124,8 @@ words_end context d x y ws so_far ends = so_far no_words (Ok y) (ends, refl)
 -- a word is what stands behind its prefix
 pub body_error : {A : Type 0} (context : Context) (d : ℕ) (x y : List ℕ) (e : ReadError) (r : Result (Word A × Bor (List ℕ)) ReadError)
     → y ≡ unprefixed context x → ReadsBody {A = A} context d y (Err e) → r ≡ Err e → ReadsWord context d x r
-body_error context d x y error.Memory r at h is = subst (ReadsWord context d x) (sym is) tt
-body_error context d x y (error.Fault f) r at h is = subst (ReadsWord context d x) (sym is) (h.0, subst (λ v. IsBody context d h.0 v (Err f)) at h.1)
+body_error context d x y (error.Memory refusal) r at h is = subst (ReadsWord context d x) (sym is) tt
+body_error context d x y (error.Fault f) r at h is = subst (ReadsWord context d x) (sym is) (h.0, subst (λ v. IsBody context d h.0 v (Err (fault_of f))) at h.1)
 
 pub after_command : {A : Type 0} (context : Context) (d : ℕ) (x y s z : List ℕ) (ws : Rc (Vec (Word A) A) A) (cs bs : List (Command A))
     → CommandsSoFar context d x y (commands_then cs) → s ≡ skip_gap context between y → ends_script context s ≡ false → IsWords context d (words_then ws.value.items no_words) s (Ok z)
@@ -150,5 +150,5 @@ command_fault context d x y s f cs so_far skipped begins found =
 -- an error that is passed on
 pub bracket_error : {A : Type 0} (place : Place) (d : ℕ) (x y w : List ℕ) (e : ReadError) (ps : List (Part A)) (bs : List ℕ) (r : Read A (Part A))
     → PartsSoFar place d x y (λ t. parts_then ps (bytes_then bs t)) → a_bracket w ≡ next place d y → ReadsBracket {A = A} (d - 1) w (Err e) → r ≡ Err e → ReadsParts place d x r
-bracket_error place d x y w error.Memory ps bs r so_far at h is = subst (ReadsParts place d x) (sym is) tt
-bracket_error place d x y w (error.Fault f) ps bs r so_far at h is = subst (ReadsParts place d x) (sym is) (script_fault place d x y w f ps bs so_far at h)
+bracket_error place d x y w (error.Memory refusal) ps bs r so_far at h is = subst (ReadsParts place d x) (sym is) tt
+bracket_error place d x y w (error.Fault f) ps bs r so_far at h is = subst (ReadsParts place d x) (sym is) (script_fault place d x y w (fault_of f) ps bs so_far at h)

@@ -20,16 +20,16 @@ join_commands_view : {A : Type 0} → (cs : List (Command A)) (t : Commands) →
 join_commands_view [] t = refl
 join_commands_view (c ∷ cs) t = ap (command (command_view c)) (join_commands_view cs t)
 
-pub view_Literal : {A : Type 0} → (v : Vec ℕ A) (t : Parts) → part_view (Literal v) t ≡ bytes_then v.items t
-view_Literal v t = search (rules, the_lemmas)
+pub view_Literal : (A : Type 0) (v : List ℕ) (t : Parts) → part_view {A = A} (Literal v) t ≡ bytes_then v t
+view_Literal A v t = search (rules, the_lemmas)
 
-pub view_Variable : {A : Type 0} → (v : Vec ℕ A) (t : Parts) → part_view (Variable v) t ≡ variable v.items t
-view_Variable v t = search (rules, the_lemmas)
+pub view_Variable : (A : Type 0) (v : List ℕ) (t : Parts) → part_view {A = A} (Variable v) t ≡ variable v t
+view_Variable A v t = search (rules, the_lemmas)
 
 pub view_Bracket : {A : Type 0} → (cs : Rc (Vec (Command A) A) A) (t : Parts) → part_view (Bracket cs) t ≡ script (commands_then cs.value.items no_commands) t
 view_Bracket cs t = search (rules, the_lemmas, join_commands_view)
 
-pub view_Element : {A : Type 0} → (v : Vec ℕ A) (ps : Rc (Vec (Part A) A) A) (t : Parts) → part_view (Element v ps) t ≡ element v.items (parts_then ps.value.items no_parts) t
+pub view_Element : {A : Type 0} → (v : List ℕ) (ps : Rc (Vec (Part A) A) A) (t : Parts) → part_view (Element v ps) t ≡ element v (parts_then ps.value.items no_parts) t
 view_Element v ps t = search (rules, the_lemmas, join_parts_view)
 
 pub view_Word : {A : Type 0} → (w : Word A) (t : Words) → word_view w t ≡ word (out-Word A w).expands (parts_then (out-Word A w).parts.value.items no_parts) t

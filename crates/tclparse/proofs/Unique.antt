@@ -1,15 +1,11 @@
 -- Each text has one tree.
 use Rattle.std.proofs.Common.{◌≡◌, ℕ, ◌-◌, List, [], false, Option, Some, None, Ok, Err, inl, inr, refl, sym, ap, subst, ◌∙◌, arith}
+use Rattle.tclparse.specs.Fault.{Fault, after_brace}
+use Rattle.tclparse.specs.Context.{Context, whole_script, bracketed, argument}
 use Rattle.tclparse.specs.Tree.{Parts, no_parts, byte, variable, element, script, Words, no_words, word, Commands, no_commands, command, bytes_then, with_last}
 use Rattle.tclparse.specs.Gap.{skip_white, skip_gap, between}
-use Rattle.tclparse.specs.Piece.{Next, end, fault, a_byte, a_name, an_index, an_element, a_bracket, next}
+use Rattle.tclparse.specs.Piece.{Place, in_word, within_quotes, within_index, Next, end, fault, a_byte, a_name, an_index, an_element, a_bracket, next}
 use Rattle.tclparse.specs.Grammar.{Outcome, Then, EndsAs, bracket_closed, index_closed, quotes_closed, word_ended, Kind, in_braces, in_quotes, bare, kind, unprefixed, IsBraced, IsWord, IsParts, IsWords, IsCommands, IsScript, IsArgument}
-use Rattle.tclparse.specs.declared.tree.Fault.{Fault}
-use Rattle.tclparse.specs.declared.tree.Fault.TheVariants.{AfterBrace}
-use Rattle.tclparse.specs.declared.context.Context.{Context}
-use Rattle.tclparse.specs.declared.context.Context.TheVariants.{Script, Brackets, Argument}
-use Rattle.tclparse.specs.declared.piece.Place.{Place}
-use Rattle.tclparse.specs.declared.piece.Place.TheVariants.{Bare, Quotes, Index}
 use Rattle.tcltext.proofs.Pairing.{one_pair}
 use Rattle.tclparse.proofs.Braced.{one_value}
 
@@ -65,7 +61,7 @@ braced_unique : (n : Context) (ps qs : Parts) (x : List ℕ) (r s : Outcome) →
 braced_unique n ps qs x r s (inl h) (inl k) =
     let pair = one_pair x h.0 h.1 k.0 k.1 h.3 k.3 in
     let value = one_value h.2 h.0 k.2 k.0 h.4 k.4 pair.0 in
-    (h.5 ∙ ap (λ v. bytes_then v no_parts) value ∙ sym k.5, h.6 ∙ ap (word_ended n AfterBrace) pair.1 ∙ sym k.6)
+    (h.5 ∙ ap (λ v. bytes_then v no_parts) value ∙ sym k.5, h.6 ∙ ap (word_ended n after_brace) pair.1 ∙ sym k.6)
 braced_unique n ps qs x r s (inl h) (inr k) = absurd (k.0 h.0 h.1 h.3)
 braced_unique n ps qs x r s (inr h) (inl k) = absurd (h.0 k.0 k.1 k.3)
 braced_unique n ps qs x r s (inr h) (inr k) = (h.1 ∙ sym k.1, h.2 ∙ sym k.2)
@@ -75,19 +71,19 @@ word_unique : (n : Context) (d : ℕ) (ps qs : Parts) (w : Kind) (x : List ℕ) 
     → ((place : Place) (z : List ℕ) (o p : Outcome) → IsParts place d ps z o → IsParts place d qs z p → (ps ≡ qs) × (o ≡ p)) → (ps ≡ qs) × (r ≡ s)
 word_unique n d ps qs (in_braces z) x r s h k same = braced_unique n ps qs z r s h k
 word_unique n d ps qs (in_quotes z) x r s h k same =
-    let one = same Quotes z h.0 k.0 h.1 k.1 in
+    let one = same within_quotes z h.0 k.0 h.1 k.1 in
     (one.0, h.2 ∙ ap (quotes_closed n) one.1 ∙ sym k.2)
-word_unique n d ps qs bare x r s h k same = same (Bare n) x r s h k
+word_unique n d ps qs bare x r s h k same = same (in_word n) x r s h k
 
 -- an element, by what its index and the parts after it give
 element_unique : (m n : List ℕ) (is js ps qs : Parts) (place : Place) (d : ℕ) (x : List ℕ) (o p : Outcome)
     → IsParts place d (element m is ps) x o → IsParts place d (element n js qs) x p
-    → ((z : List ℕ) (r s : Outcome) → IsParts Index (d - 1) is z r → IsParts Index (d - 1) js z s → (is ≡ js) × (r ≡ s))
+    → ((z : List ℕ) (r s : Outcome) → IsParts within_index (d - 1) is z r → IsParts within_index (d - 1) js z s → (is ≡ js) × (r ≡ s))
     → ((w : List ℕ) → IsParts place d ps w o → IsParts place d qs w p → (ps ≡ qs) × (o ≡ p))
     → (element m is ps ≡ element n js qs) × (o ≡ p)
 element_unique m n is js ps qs place d x o p (inl h) (inl k) index after =
     let same : (m ≡ n) × (k.0 ≡ h.0) = (cc, cc) in
-    let inner = index h.0 h.2 k.2 h.3 (subst (λ z. IsParts Index (d - 1) js z k.2) same.1 k.3) in
+    let inner = index h.0 h.2 k.2 h.3 (subst (λ z. IsParts within_index (d - 1) js z k.2) same.1 k.3) in
     let rest = then_unique no_parts ps qs (λ t w r. IsParts place d t w r) (index_closed h.2) o p h.4
     (subst (λ r. Then (index_closed r) (qs ≡ no_parts) (λ w. IsParts place d qs w p) p) (sym inner.1) k.4) after in
     (cc (same.0, inner.0, rest.0), rest.1)
@@ -110,10 +106,10 @@ mutual
       let rest = parts_unique ps qs place d h.0 o p h.2 (subst (λ z. IsParts place d qs z p) same.1 k.2) in
       (cc (same.0, rest.0), rest.1)
   parts_unique (element m is ps) (element n js qs) place d x o p h k =
-      element_unique m n is js ps qs place d x o p h k (λ z r s a b. parts_unique is js Index (d - 1) z r s a b) (λ w a b. parts_unique ps qs place d w o p a b)
+      element_unique m n is js ps qs place d x o p h k (λ z r s a b. parts_unique is js within_index (d - 1) z r s a b) (λ w a b. parts_unique ps qs place d w o p a b)
   parts_unique (script bs ps) (script cs qs) place d x o p h k =
       let same : k.0 ≡ h.0 = cc in
-      let inner = commands_unique bs cs Brackets (d - 1) h.0 h.2 k.2 h.3 (subst (λ z. IsCommands Brackets (d - 1) cs z k.2) same k.3) in
+      let inner = commands_unique bs cs bracketed (d - 1) h.0 h.2 k.2 h.3 (subst (λ z. IsCommands bracketed (d - 1) cs z k.2) same k.3) in
       let rest = then_unique no_parts ps qs (λ t w r. IsParts place d t w r) (bracket_closed h.2) o p h.4
       (subst (λ r. Then (bracket_closed r) (qs ≡ no_parts) (λ w. IsParts place d qs w p) p) (sym inner.1) k.4)
       (λ w a b. parts_unique ps qs place d w o p a b) in
@@ -158,19 +154,19 @@ before_last (command vs no_commands) ws = refl
 before_last (command vs (command us cs)) ws = ap (command vs) (before_last (command us cs) ws)
 
 pub one_script : (x : List ℕ) (bs cs : Commands) (f g : Option Fault) → IsScript bs f x → IsScript cs g x → (bs ≡ cs) × (f ≡ g)
-one_script x bs cs None None h k = ((commands_unique bs cs Script 100 x (Ok []) (Ok []) h k).0, refl)
-one_script x bs cs None (Some g) h k = let clash : Ok [] ≡ Err g = (commands_unique bs (with_last cs k.0) Script 100 x (Ok []) (Err g) h k.1).1 in absurd (cc)
-one_script x bs cs (Some f) None h k = let clash : Err f ≡ Ok [] = (commands_unique (with_last bs h.0) cs Script 100 x (Err f) (Ok []) h.1 k).1 in absurd (cc)
+one_script x bs cs None None h k = ((commands_unique bs cs whole_script 100 x (Ok []) (Ok []) h k).0, refl)
+one_script x bs cs None (Some g) h k = let clash : Ok [] ≡ Err g = (commands_unique bs (with_last cs k.0) whole_script 100 x (Ok []) (Err g) h k.1).1 in absurd (cc)
+one_script x bs cs (Some f) None h k = let clash : Err f ≡ Ok [] = (commands_unique (with_last bs h.0) cs whole_script 100 x (Err f) (Ok []) h.1 k).1 in absurd (cc)
 one_script x bs cs (Some f) (Some g) h k =
-    let one = commands_unique (with_last bs h.0) (with_last cs k.0) Script 100 x (Err f) (Err g) h.1 k.1 in
+    let one = commands_unique (with_last bs h.0) (with_last cs k.0) whole_script 100 x (Err f) (Err g) h.1 k.1 in
     let same : f ≡ g = cc (one.1) in
     (sym (before_last bs h.0) ∙ ap without_last one.0 ∙ before_last cs k.0, ap Some same)
 
 pub one_argument : (x : List ℕ) (vs ws : Words) (f g : Option Fault) → IsArgument vs f x → IsArgument ws g x → (vs ≡ ws) × (f ≡ g)
-one_argument x vs ws None None h k = ((words_unique vs ws Argument 100 (skip_white Argument false x) (Ok []) (Ok []) h k).0, refl)
-one_argument x vs ws None (Some g) h k = let clash : Ok [] ≡ Err g = (words_unique vs k.1 Argument 100 (skip_white Argument false x) (Ok []) (Err g) h k.2).1 in absurd (cc)
-one_argument x vs ws (Some f) None h k = let clash : Err f ≡ Ok [] = (words_unique h.1 ws Argument 100 (skip_white Argument false x) (Err f) (Ok []) h.2 k).1 in absurd (cc)
+one_argument x vs ws None None h k = ((words_unique vs ws argument 100 (skip_white argument false x) (Ok []) (Ok []) h k).0, refl)
+one_argument x vs ws None (Some g) h k = let clash : Ok [] ≡ Err g = (words_unique vs k.1 argument 100 (skip_white argument false x) (Ok []) (Err g) h k.2).1 in absurd (cc)
+one_argument x vs ws (Some f) None h k = let clash : Err f ≡ Ok [] = (words_unique h.1 ws argument 100 (skip_white argument false x) (Err f) (Ok []) h.2 k).1 in absurd (cc)
 one_argument x vs ws (Some f) (Some g) h k =
-    let one = words_unique h.1 k.1 Argument 100 (skip_white Argument false x) (Err f) (Err g) h.2 k.2 in
+    let one = words_unique h.1 k.1 argument 100 (skip_white argument false x) (Err f) (Err g) h.2 k.2 in
     let same : f ≡ g = cc (one.1) in
     (h.0 ∙ sym k.0, ap Some same)

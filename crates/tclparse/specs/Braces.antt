@@ -2,12 +2,14 @@
 use Rattle.std.specs.Prelude.{◌≡◌, ℕ, ◌==◌, List, [], ◌∷◌, false}
 use Rattle.tcltext.specs.Escape.{skip_blanks}
 
--- IsValue v x: v is the value of the content x of a word in braces (Tcl(n), rule 6). Nothing is nothing; a byte that is no backslash is itself,
--- and so is a backslash at the end; a backslash and another byte than a newline both stay; a backslash and a newline, with the blanks and
--- tabs behind them, are one blank.
+-- IsValue v x: v is the value of the content x of a word in braces (Tcl(n), rule 6). Nothing is
+-- nothing; a byte that is no backslash is itself, and so is a backslash at the end; a backslash and
+-- another byte than a newline both stay; a backslash and a newline, with the blanks and tabs behind
+-- them, are one blank.
 pub data IsValue : List ℕ → List ℕ → Type 0 where
   nothing : IsValue [] []
   a_byte : (c : ℕ) (v x : List ℕ) → (c == 92) ≡ false → IsValue v x → IsValue (c ∷ v) (c ∷ x)
   a_last_backslash : IsValue (92 ∷ []) (92 ∷ [])
-  a_pair : (c : ℕ) (v x : List ℕ) → (c == 10) ≡ false → IsValue v x → IsValue (92 ∷ c ∷ v) (92 ∷ c ∷ x)
+  a_pair : (c : ℕ) (v x : List ℕ) → (c == 10) ≡ false → IsValue v x
+      → IsValue (92 ∷ c ∷ v) (92 ∷ c ∷ x)
   a_continued_line : (v x : List ℕ) → IsValue v (skip_blanks x) → IsValue (32 ∷ v) (92 ∷ 10 ∷ x)

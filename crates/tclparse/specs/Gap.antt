@@ -1,15 +1,18 @@
 -- What stands between words and between commands.
 use Rattle.std.specs.Prelude.{ℕ, ◌==◌, ◌||◌, List, [], ◌∷◌, Bool, true, false, if◌then◌else◌}
-use Rattle.tclparse.specs.declared.context.Context.{Context}
-use Rattle.tclparse.specs.Context.{is_white, is_separator, is_continuation}
+use Rattle.tclparse.specs.Context.{Context, is_white, is_separator, is_continuation}
 
--- Words are parted by white and by continued lines (Tcl(n), rules 3 and 9). So much of the text is skipped; hidden: a backslash stood before this newline.
+-- Words are parted by white and by continued lines (Tcl(n), rules 3 and 9). So much of the text is
+-- skipped; hidden: a backslash stood before this newline.
 abbrev pub skip_white : Context → Bool → List ℕ → List ℕ
 skip_white context hidden [] = []
 skip_white context true (c ∷ x) = skip_white context false x
-skip_white context false (c ∷ x) = if is_white context c then skip_white context false x else (if is_continuation c x then skip_white context true x else (c ∷ x))
+skip_white context false (c ∷ x) =
+    if is_white context c then skip_white context false x else
+    (if is_continuation c x then skip_white context true x else (c ∷ x))
 
--- Where the text between two commands stands: outside a comment, in one, or behind a backslash in one.
+-- Where the text between two commands stands: outside a comment, in one, or there behind a
+-- backslash.
 pub data Gap : Type 0 where
   between : Gap
   comment : Gap
@@ -19,11 +22,13 @@ pub data Gap : Type 0 where
 abbrev pub after_comment_byte : ℕ → Gap
 after_comment_byte c = if c == 10 then between else (if c == 92 then in_pair else comment)
 
--- Before a command stand white, separators, continued lines and comments (Tcl(n), rules 1, 3, 9 and 10). So much of the text is skipped.
+-- Before a command stand white, separators, continued lines and comments (Tcl(n), rules 1, 3, 9 and
+-- 10). So much of the text is skipped.
 abbrev pub skip_gap : Context → Gap → List ℕ → List ℕ
 skip_gap context gap [] = []
 skip_gap context in_pair (c ∷ x) = skip_gap context comment x
 skip_gap context comment (c ∷ x) = skip_gap context (after_comment_byte c) x
 skip_gap context between (c ∷ x) =
     if is_white context c || is_separator context c then skip_gap context between x else
-    (if c == 35 then skip_gap context comment x else (if is_continuation c x then skip_gap context between x else (c ∷ x)))
+    (if c == 35 then skip_gap context comment x else
+    (if is_continuation c x then skip_gap context between x else (c ∷ x)))

@@ -1,5 +1,7 @@
+pub mod Fault
 pub mod Tree
 pub mod View
+pub mod Normal
 pub mod Context
 pub mod Gap
 pub mod Variable
@@ -7,6 +9,7 @@ pub mod Braces
 pub mod Piece
 pub mod Grammar
 pub mod Seen
+pub mod Error
 pub mod Reads
 pub mod Spelled
 pub mod Spelling

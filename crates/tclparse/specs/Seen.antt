@@ -1,18 +1,49 @@
 -- What the answers of the code stand for.
-use Rattle.std.specs.Prelude.{ℕ, ◌<◌, List, length, Option, Some, None, Result, Ok, Err}
+use Rattle.std.specs.Prelude.{ℕ, ◌<◌, List, length, Option, Some, None, option_map, Result, Ok, Err}
 use Rattle.std.specs.Borrow.{Bor}
-use Rattle.tclparse.specs.Piece.{Next, end, fault, a_byte, a_name, an_index, an_element, a_bracket}
+use Rattle.tclparse.specs.Piece.{Place, in_word, within_quotes, within_index, Next, end, fault, a_byte, a_name, an_index, an_element, a_bracket}
 use Rattle.tclparse.specs.Grammar.{Outcome, Kind, in_braces, in_quotes, bare}
-use Rattle.tclparse.specs.declared.tree.Fault as the_fault
+use Rattle.tclparse.specs.Fault as fault_is
+use Rattle.tclparse.specs.Context.{Context, whole_script, bracketed, argument}
+use Rattle.tclparse.specs.declared.fault.Fault as the_fault
+use Rattle.tclparse.specs.declared.fault.Fault.TheVariants as the
+use Rattle.tclparse.specs.declared.context.Context as the_context
+use Rattle.tclparse.specs.declared.context.Context.TheVariants as stands_in
+use Rattle.tclparse.specs.declared.piece.Place as the_place
+use Rattle.tclparse.specs.declared.piece.Place.TheVariants as stands
+use Rattle.tclparse.specs.declared.name.Name as the_name
 use Rattle.tclparse.specs.declared.word.Opening.{Opening}
 use Rattle.tclparse.specs.declared.word.Opening.TheVariants as opens
 use Rattle.tclparse.specs.declared.piece.Piece.{Piece}
 use Rattle.tclparse.specs.declared.piece.Piece.TheVariants.{End, Fault, Byte, Name, Index, Element, Bracket}
 
+-- a fault
+abbrev pub fault_of : the_fault.Fault → fault_is.Fault
+fault_of the.OpenBrace = fault_is.open_brace
+fault_of the.OpenBracket = fault_is.open_bracket
+fault_of the.OpenQuote = fault_is.open_quote
+fault_of the.AfterBrace = fault_is.after_brace
+fault_of the.AfterQuote = fault_is.after_quote
+fault_of the.TooDeep = fault_is.too_deep
+fault_of the.EscapeNotHere = fault_is.escape_not_here
+fault_of the.BadVariable = fault_is.bad_variable
+
+-- what the words of a text stand in
+abbrev pub context_of : the_context.Context → Context
+context_of stands_in.Script = whole_script
+context_of stands_in.Brackets = bracketed
+context_of stands_in.Argument = argument
+
+-- where the parts of a word stand
+abbrev pub place_of : the_place.Place → Place
+place_of (stands.Bare context) = in_word (context_of context)
+place_of stands.Quotes = within_quotes
+place_of stands.Index = within_index
+
 -- a piece with the texts that its slices hold
 abbrev pub seen : Piece → Next
 seen End = end
-seen (Fault f) = fault f
+seen (Fault f) = fault (fault_of f)
 seen (Byte b z) = a_byte b z.now
 seen (Name n z) = a_name n.now z.now
 seen (Index n z) = an_index n.now z.now
@@ -54,10 +85,14 @@ abbrev pub element_seen : Option (Bor (List ℕ) × Bor (List ℕ)) → Option (
 element_seen None = None
 element_seen (Some r) = Some (r.0.now, r.1.now)
 
+-- the name of a variable or of an element, with the texts that its slices hold
+abbrev pub name_seen : the_name.Name → List ℕ × Option (List ℕ)
+name_seen n = (n.name.now, option_map (λ i. i.now) n.index)
+
 -- a reader's answer as an outcome
 abbrev pub outcome : Result (Bor (List ℕ)) the_fault.Fault → Outcome
 outcome (Ok z) = Ok z.now
-outcome (Err f) = Err f
+outcome (Err f) = Err (fault_of f)
 
 -- how a word begins
 abbrev pub opening : Opening → Kind

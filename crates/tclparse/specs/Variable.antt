@@ -4,7 +4,9 @@ use Rattle.tclparse.specs.Context.{begins_with}
 
 -- an ASCII letter or digit, or an underscore (Tcl(n), rule 8)
 abbrev pub is_name : ℕ → Bool
-is_name c = (nat_le 97 c && nat_le c 122) || ((nat_le 65 c && nat_le c 90) || ((nat_le 48 c && nat_le c 57) || (c == 95)))
+is_name c =
+    (nat_le 97 c && nat_le c 122) || ((nat_le 65 c && nat_le c 90)
+    || ((nat_le 48 c && nat_le c 57) || (c == 95)))
 
 -- the longest name at the front, and what follows it
 abbrev pub name_at : List ℕ → List ℕ
@@ -51,3 +53,19 @@ index_of (c ∷ x) = if ends_with 41 x then Some (take (length x - 1) x) else No
 -- the array and the index of a name of the form a(i) (Tcl(n), rule 8)
 abbrev pub element_of : List ℕ → Option (List ℕ × List ℕ)
 element_of n = option_map (λ i. (until 40 n, i)) (index_of (from 40 n))
+
+-- An element needs a name before its parenthesis (this project's own rule).
+abbrev pub element_named : List ℕ → List ℕ → Option (List ℕ × Option (List ℕ))
+element_named [] i = None
+element_named (c ∷ n) i = Some (c ∷ n, Some i)
+
+-- a name by its form: one of an element, or else the whole of it
+abbrev pub named_as : List ℕ → Option (List ℕ × List ℕ) → Option (List ℕ × Option (List ℕ))
+named_as n None = Some (n, None)
+named_as n (Some e) = element_named e.0 e.1
+
+-- The variable, or the array and the index, that a whole name stands for, as in ${name} and in set
+-- name (Tcl(n), rule 8; set(n)). A name that holds the mark of a namespace stands for none (this
+-- project's own rule).
+abbrev pub named : List ℕ → Option (List ℕ × Option (List ℕ))
+named n = if holds_colons n then None else named_as n (element_of n)

@@ -21,11 +21,12 @@ abbrev pub join_commands : List Words → Commands → Commands
 join_commands [] t = t
 join_commands (w ∷ ws) t = command w (join_commands ws t)
 
--- one level, with each value inside already seen as its tree; a part or a word is seen as what it puts before those after it
+-- one level, with each value inside already seen as its tree; a part or a word is seen as what it
+-- puts before those after it
 abbrev pub part_step : {A : Type 0} → Part-F A (Parts → Parts) Words (Words → Words) → Parts → Parts
-part_step (Part-F.Literal v) t = bytes_then v.items t
-part_step (Part-F.Variable v) t = variable v.items t
-part_step (Part-F.Element v ps) t = element v.items (join_parts ps.value.items no_parts) t
+part_step (Part-F.Literal v) t = bytes_then v t
+part_step (Part-F.Variable v) t = variable v t
+part_step (Part-F.Element v ps) t = element v (join_parts ps.value.items no_parts) t
 part_step (Part-F.Bracket cs) t = script (join_commands cs.value.items no_commands) t
 
 abbrev pub word_step : {A : Type 0} → Word-F A (Parts → Parts) Words (Words → Words) → Words → Words
@@ -42,7 +43,8 @@ abbrev pub word_view : {A : Type 0} → Word A → Words → Words
 word_view {A} = fold-Word A (Parts → Parts) Words (Words → Words) part_step command_step word_step
 
 abbrev pub command_view : {A : Type 0} → Command A → Words
-command_view {A} = fold-Command A (Parts → Parts) Words (Words → Words) part_step command_step word_step
+command_view {A} =
+    fold-Command A (Parts → Parts) Words (Words → Words) part_step command_step word_step
 
 -- several of them, before what follows
 abbrev pub parts_then : {A : Type 0} → List (Part A) → Parts → Parts

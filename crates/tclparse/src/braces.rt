@@ -3,14 +3,15 @@
 ghost use Rattle.std.specs.Prelude.{IfOk};
 ghost use Rattle.tclparse.specs.Braces.{IsValue};
 
-use std::alloc::{AllocError, Allocator};
+use memory::NoMemory;
+use std::alloc::Allocator;
 use tcltext::escape::skip_blanks;
 
 /// The value of a word in braces with this text between them.
-pub(crate) fn fold_lines<A: Allocator>(alloc: A, text: &[u8]) -> Result<Vec<u8, A>, AllocError>
+pub(crate) fn fold_lines<A: Allocator>(alloc: A, text: &[u8]) -> Result<Vec<u8, A>, NoMemory>
     ensures { IfOk result (λ v. IsValue v.items text.now) }
 {
-    let mut value = Vec::new(alloc);
+    let mut value = Vec::with_capacity(alloc, text.len())?;
     let mut bytes = text;
     while let [c, rest @ ..] = bytes {
         match rest {

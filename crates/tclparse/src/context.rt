@@ -2,6 +2,7 @@
 
 ghost use Rattle.std.specs.Prelude.{◌≡◌};
 ghost use Rattle.tclparse.specs.Context.{begins_with, is_white, is_separator, is_closing, ends_script, ends_command, ends_word};
+ghost use Rattle.tclparse.specs.Seen.{context_of};
 
 /// What the words of a text stand in.
 #[derive(Clone, Copy)]
@@ -26,7 +27,7 @@ pub(crate) fn begins_with(byte: u8, text: &[u8]) -> bool
 
 /// Whether the byte parts words.
 pub(crate) fn is_white(context: Context, c: u8) -> bool
-    ensures { result ≡ is_white context c }
+    ensures { result ≡ is_white (context_of context) c }
 {
     let is_blank = c == b' ' || c == b'\t' || c == 11 || c == 12 || c == b'\r';
     match context {
@@ -37,7 +38,7 @@ pub(crate) fn is_white(context: Context, c: u8) -> bool
 
 /// Whether the byte parts commands.
 pub(crate) fn is_separator(context: Context, c: u8) -> bool
-    ensures { result ≡ is_separator context c }
+    ensures { result ≡ is_separator (context_of context) c }
 {
     match context {
         Context::Argument => false,
@@ -46,7 +47,7 @@ pub(crate) fn is_separator(context: Context, c: u8) -> bool
 }
 
 fn is_closing(context: Context, c: u8) -> bool
-    ensures { result ≡ is_closing context c }
+    ensures { result ≡ is_closing (context_of context) c }
 {
     match context {
         Context::Brackets => c == b']',
@@ -56,7 +57,7 @@ fn is_closing(context: Context, c: u8) -> bool
 
 /// Whether the script ends here.
 pub(crate) fn ends_script(context: Context, text: &[u8]) -> bool
-    ensures { result ≡ ends_script context text.now }
+    ensures { result ≡ ends_script (context_of context) text.now }
 {
     match text {
         [] => true,
@@ -66,7 +67,7 @@ pub(crate) fn ends_script(context: Context, text: &[u8]) -> bool
 
 /// Whether a command ends here.
 pub(crate) fn ends_command(context: Context, text: &[u8]) -> bool
-    ensures { result ≡ ends_command context text.now }
+    ensures { result ≡ ends_command (context_of context) text.now }
 {
     match text {
         [] => true,
@@ -76,7 +77,7 @@ pub(crate) fn ends_command(context: Context, text: &[u8]) -> bool
 
 /// Whether a word ends here.
 pub(crate) fn ends_word(context: Context, text: &[u8]) -> bool
-    ensures { result ≡ ends_word context text.now }
+    ensures { result ≡ ends_word (context_of context) text.now }
 {
     match text {
         [] => true,

@@ -3,13 +3,15 @@
 ghost use Rattle.std.specs.Prelude.{◌≡◌, ◌≤◌, length, false, true};
 ghost use Rattle.tclparse.specs.Context.{ends_script, ends_command, ends_word};
 ghost use Rattle.tclparse.specs.Gap.{skip_white, skip_gap, between, comment, in_pair};
+ghost use Rattle.tclparse.specs.Seen.{context_of};
 
 use crate::context::{Context, begins_with, is_separator, is_white};
 
 /// The text behind the white at its beginning.
 pub(crate) fn skip_white(context: Context, text: &[u8]) -> &[u8]
-    ensures rest { result.now ≡ skip_white context false text.now }
-    ensures begins { ends_word context result.now ≡ ends_command context result.now }
+    ensures rest { result.now ≡ skip_white (context_of context) false text.now }
+    ensures begins { ends_word (context_of context) result.now
+        ≡ ends_command (context_of context) result.now }
     ensures shorter { length result.now ≤ length text.now }
 {
     let mut bytes = text;
@@ -31,7 +33,8 @@ pub(crate) fn skip_white(context: Context, text: &[u8]) -> &[u8]
 
 // The text from the end of a comment on.
 fn skip_comment(context: Context, text: &[u8]) -> &[u8]
-    ensures rest { skip_gap context between result.now ≡ skip_gap context comment text.now }
+    ensures rest { skip_gap (context_of context) between result.now
+        ≡ skip_gap (context_of context) comment text.now }
     ensures shorter { length result.now ≤ length text.now }
 {
     let mut bytes = text;
@@ -51,8 +54,9 @@ fn skip_comment(context: Context, text: &[u8]) -> &[u8]
 
 /// The text from the first word of the next command on, or from the end of the script.
 pub(crate) fn skip_gap(context: Context, text: &[u8]) -> &[u8]
-    ensures rest { result.now ≡ skip_gap context between text.now }
-    ensures begins { ends_word context result.now ≡ ends_script context result.now }
+    ensures rest { result.now ≡ skip_gap (context_of context) between text.now }
+    ensures begins { ends_word (context_of context) result.now
+        ≡ ends_script (context_of context) result.now }
     ensures shorter { length result.now ≤ length text.now }
 {
     let mut bytes = text;

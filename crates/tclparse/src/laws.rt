@@ -1,22 +1,22 @@
 //! Laws of the grammar, each the contract of a function that does nothing.
 
 ghost use Rattle.std.specs.Prelude.{◌≡◌, ℕ, List, [], ◌++◌, ◌⊎◌, Bool, false, Option, None, Some, Ok, Err};
+ghost use Rattle.tclparse.specs.Fault.{Fault};
+ghost use Rattle.tclparse.specs.Context.{Context, whole_script, argument};
 ghost use Rattle.tclparse.specs.Tree.{Parts, Words, Commands, no_commands, command};
 ghost use Rattle.tclparse.specs.Grammar.{Outcome, IsParts, IsWords, IsCommands, IsScript, IsArgument};
 ghost use Rattle.tclparse.specs.Gap.{Gap, skip_white, skip_gap, between};
-ghost use Rattle.tclparse.specs.Piece.{next};
+ghost use Rattle.tclparse.specs.Piece.{Place, next};
 ghost use Rattle.tclparse.specs.Spelled.{Joins, Behind, Leaves};
 ghost use Rattle.tclparse.specs.Spelling.{IsWhiteText, IsGapText, IsLastComment, Begins, BeginsWhole, SpellsParts, SpellsWords, SpellsCommands};
-ghost use Rattle.tclparse.specs.declared.tree.Fault.{Fault};
-ghost use Rattle.tclparse.specs.declared.context.Context.{Context};
-ghost use Rattle.tclparse.specs.declared.context.Context.TheVariants.{Script, Argument};
-ghost use Rattle.tclparse.specs.declared.piece.Place.{Place};
 
 /// Each text has a tree, as a script and as a braced argument.
 #[tactic(auto, using(crate::proofs::Exists::each_script, crate::proofs::Exists::each_argument))]
 pub fn each_text_has_a_tree()
-    ensures scripts { (text : List ℕ) → (commands : Commands) × (fault : Option Fault) × IsScript commands fault text }
-    ensures arguments { (text : List ℕ) → (words : Words) × (fault : Option Fault) × IsArgument words fault text }
+    ensures scripts { (text : List ℕ) → (commands : Commands) × (fault : Option Fault)
+        × IsScript commands fault text }
+    ensures arguments { (text : List ℕ) → (words : Words) × (fault : Option Fault)
+        × IsArgument words fault text }
 {}
 
 /// No text has two trees, as a script or as a braced argument.
@@ -28,43 +28,56 @@ pub fn no_text_has_two_trees()
         → IsArgument a f text → IsArgument b g text → (a ≡ b) × (f ≡ g) }
 {}
 
-/// What is left of a text behind a piece of a word, behind what stands between words and between commands, and so behind
-/// parts, words and commands, is an end of that text. Of the bytes before that end `texts_are_spellings` speaks.
-#[tactic(auto, using(crate::proofs::Joined::piece_behind, crate::proofs::Joined::white_joins, crate::proofs::Joined::gap_joins, crate::proofs::Joined::parts_leave, crate::proofs::Joined::words_leave, crate::proofs::Joined::commands_leave))]
+/// What is left of a text behind a piece of a word, behind what stands between words and between
+/// commands, and so behind parts, words and commands, is an end of that text. Of the bytes before
+/// that end `texts_are_spellings` speaks.
+#[tactic(auto, using(crate::proofs::Joined::ends_of_texts))]
 pub fn spellings_join()
-    ensures pieces { (place : Place) (depth : ℕ) (text : List ℕ) → Behind (next place depth text) text }
-    ensures white { (context : Context) (hidden : Bool) (text : List ℕ) → Joins text (skip_white context hidden text) }
-    ensures gaps { (context : Context) (gap : Gap) (text : List ℕ) → Joins text (skip_gap context gap text) }
+    ensures pieces { (place : Place) (depth : ℕ) (text : List ℕ)
+        → Behind (next place depth text) text }
+    ensures white { (context : Context) (hidden : Bool) (text : List ℕ)
+        → Joins text (skip_white context hidden text) }
+    ensures gaps { (context : Context) (gap : Gap) (text : List ℕ)
+        → Joins text (skip_gap context gap text) }
     ensures parts { (place : Place) (depth : ℕ) (parts : Parts) (text : List ℕ) (o : Outcome)
         → IsParts place depth parts text o → Leaves text o }
     ensures words { (context : Context) (depth : ℕ) (words : Words) (text : List ℕ) (o : Outcome)
         → IsWords context depth words text o → Leaves text o }
-    ensures commands { (context : Context) (depth : ℕ) (commands : Commands) (text : List ℕ) (o : Outcome)
-        → IsCommands context depth commands text o → Leaves text o }
+    ensures commands { (context : Context) (depth : ℕ) (commands : Commands)
+        (text : List ℕ) (o : Outcome) → IsCommands context depth commands text o → Leaves text o }
 {}
 
-/// A text that is read as a tree is the spelling of that tree, and then what is left: bytes by themselves or by escapes, variables,
-/// elements and scripts in brackets; words in braces, in quotes or bare, `{*}` before those that are expanded, white between
-/// them; commands, with what ends a command between them. So a whole script is its commands, and then nothing or a comment
-/// up to the text's end; where it has a fault, its commands, and then what begins with the command that has the fault; and a
-/// braced argument is white and its words. Not each spelling is read as its tree: an escape and a name take what they can.
-#[tactic(auto, using(crate::proofs::Spelling::white_spelled, crate::proofs::Spelling::gap_spelled, crate::proofs::SpelledScripts::parts_begin, crate::proofs::SpelledScripts::words_begin, crate::proofs::SpelledScripts::commands_begin, crate::proofs::SpelledScripts::script_is, crate::proofs::SpelledScripts::faulty_script_is, crate::proofs::SpelledScripts::argument_is))]
+/// A text that is read as a tree is the spelling of that tree, and then what is left: bytes by
+/// themselves or by escapes, variables, elements and scripts in brackets; words in braces, in
+/// quotes or bare, `{*}` before those that are expanded, white between them; commands, with what
+/// ends a command between them. So a whole script is its commands, and then nothing or a comment up
+/// to the text's end; where it has a fault, its commands, and then what begins with the command
+/// that has the fault; and a braced argument is white and its words. Not each spelling is read as
+/// its tree: an escape and a name take what they can.
+#[tactic(auto, using(crate::proofs::SpelledScripts::spelled))]
 pub fn texts_are_spellings()
     ensures white { (context : Context) (text : List ℕ)
         → Begins (λ s. IsWhiteText context s) text (skip_white context false text) }
     ensures gaps { (context : Context) (text : List ℕ)
         → BeginsWhole (λ s. IsGapText context s) text (skip_gap context between text) }
     ensures parts { (place : Place) (depth : ℕ) (parts : Parts) (text rest : List ℕ)
-        → IsParts place depth parts text (Ok rest) → Begins (λ s. SpellsParts place parts s) text rest }
+        → IsParts place depth parts text (Ok rest)
+        → Begins (λ s. SpellsParts place parts s) text rest }
     ensures words { (context : Context) (depth : ℕ) (words : Words) (text rest : List ℕ)
-        → IsWords context depth words text (Ok rest) → Begins (λ s. SpellsWords context words s) text rest }
+        → IsWords context depth words text (Ok rest)
+        → Begins (λ s. SpellsWords context words s) text rest }
     ensures commands { (context : Context) (depth : ℕ) (commands : Commands) (text rest : List ℕ)
-        → IsCommands context depth commands text (Ok rest) → BeginsWhole (λ s. SpellsCommands context commands s) text rest }
+        → IsCommands context depth commands text (Ok rest)
+        → BeginsWhole (λ s. SpellsCommands context commands s) text rest }
     ensures scripts { (commands : Commands) (text : List ℕ) → IsScript commands None text
-        → (spelling tail : List ℕ) × (text ≡ spelling ++ tail) × SpellsCommands Script commands spelling × ((tail ≡ []) ⊎ IsLastComment tail) }
-    ensures faulty_scripts { (commands : Commands) (fault : Fault) (text : List ℕ) → IsScript commands (Some fault) text
-        → (spelling rest : List ℕ) × (text ≡ spelling ++ rest) × SpellsCommands Script commands spelling
-        × (last : Words) × IsCommands Script 100 (command last no_commands) rest (Err fault) }
+        → (spelling tail : List ℕ) × (text ≡ spelling ++ tail)
+        × SpellsCommands whole_script commands spelling × ((tail ≡ []) ⊎ IsLastComment tail) }
+    ensures faulty_scripts { (commands : Commands) (fault : Fault) (text : List ℕ)
+        → IsScript commands (Some fault) text
+        → (spelling rest : List ℕ) × (text ≡ spelling ++ rest)
+        × SpellsCommands whole_script commands spelling
+        × (last : Words) × IsCommands whole_script 100 (command last no_commands) rest (Err fault) }
     ensures arguments { (words : Words) (text : List ℕ) → IsArgument words None text
-        → (white spelling : List ℕ) × (text ≡ white ++ spelling) × IsWhiteText Argument white × SpellsWords Argument words spelling }
+        → (white spelling : List ℕ) × (text ≡ white ++ spelling) × IsWhiteText argument white
+        × SpellsWords argument words spelling }
 {}

@@ -1,22 +1,26 @@
-//! The grammar of scripts: a text is read into commands of words of parts, up to its end or its first fault.
+//! The grammar of scripts: a text is read into commands of words of parts, up to its end or its
+//! first fault.
 #![tactic(auto)]
 
 mod braces;
 mod context;
+mod error;
+mod fault;
 mod gap;
 pub mod laws;
+mod name;
 mod piece;
 mod read;
 mod script;
+mod shared;
 mod tree;
 mod variable;
 mod word;
 mod words;
 
+pub use fault::Fault;
+pub use name::{Name, variable_name};
 pub use read::MAX_OPEN;
 pub use script::Script;
-pub use tree::{Command, Fault, Part, Word};
+pub use tree::{Command, Part, Word};
 pub use words::Words;
-
-#[cfg(test)]
-mod tests;

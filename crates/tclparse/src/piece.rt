@@ -2,10 +2,10 @@
 
 ghost use Rattle.std.specs.Prelude.{◌≡◌, ◌+◌, length, false};
 ghost use Rattle.tclparse.specs.Piece.{ends_parts, next, next_escape, next_bracket, next_dollar};
-ghost use Rattle.tclparse.specs.Seen.{seen, IsShorter, OpensWithin, IsNotEnd};
+ghost use Rattle.tclparse.specs.Seen.{place_of, seen, IsShorter, OpensWithin, IsNotEnd};
 
 use crate::context::{Context, ends_word};
-use crate::tree::Fault;
+use crate::fault::Fault;
 use crate::variable::dollar;
 use tcltext::escape;
 
@@ -39,7 +39,7 @@ pub enum Piece<'a> {
 }
 
 fn ends_parts(place: Place, text: &[u8]) -> bool
-    ensures { result ≡ ends_parts place text.now }
+    ensures { result ≡ ends_parts (place_of place) text.now }
 {
     match place {
         Place::Bare(context) => ends_word(context, text),
@@ -83,10 +83,10 @@ fn bracket(depth: u32, text: &[u8]) -> Piece<'_>
 
 /// The next piece of a word, where so many brackets and indexes more may be open.
 pub(crate) fn next(place: Place, depth: u32, text: &[u8]) -> Piece<'_>
-    ensures piece { seen result ≡ next place depth text.now }
+    ensures piece { seen result ≡ next (place_of place) depth text.now }
     ensures shorter { IsShorter result (length text.now) }
     ensures within { OpensWithin result depth }
-    ensures moves { ends_parts place text.now ≡ false → IsNotEnd result }
+    ensures moves { ends_parts (place_of place) text.now ≡ false → IsNotEnd result }
 {
     if ends_parts(place, text) {
         return Piece::End;

@@ -3,91 +3,62 @@
 ghost use Rattle.std.specs.Prelude.{◌≡◌, ℕ, ◌<◌, ◌≤◌, length, [], false, true, IfOk, OnOk, Ok, Err};
 ghost use Rattle.tclparse.specs.Tree.{Parts, no_parts, element, Words, Commands, no_commands, bytes_then};
 ghost use Rattle.tclparse.specs.View.{part_view, parts_then, words_then, commands_then};
+ghost use Rattle.tclparse.specs.Normal.{other, form_of, is_normal_word, AreNormalParts, AreNormalWords, AreNormalCommand, AreNormalCommands, EndsLiteral};
 ghost use Rattle.tclparse.specs.Context.{ends_script, ends_command, ends_word};
 ghost use Rattle.tclparse.specs.Piece.{ends_parts};
+ghost use Rattle.tclparse.specs.Seen.{context_of, place_of};
 ghost use Rattle.tclparse.specs.Reads.{ReadsParts, ReadsElement, ReadsBracket, ReadsBraced, ReadsBody, ReadsWord, ReadsWords, ReadsTo};
 
 use crate::braces::fold_lines;
 use crate::context::{Context, ends_command, ends_script, ends_word};
+use crate::error::ReadError;
+use crate::fault::Fault;
 use crate::gap::{skip_gap, skip_white};
 use crate::piece::{Piece, Place, next};
-use crate::tree::{Command, Fault, Part, Word};
+use crate::shared::{Shared, shared};
+use crate::tree::{Command, Part, Word};
 use crate::word::{Opening, close_bracket, close_index, close_quotes, open_word, split_prefix};
-use std::alloc::{AllocError, AllocFailed, Allocator};
-use std::rc::Rc;
-use tcltext::braces;
+use memory::NoMemory;
+use std::alloc::Allocator;
+use tcltext::{Value, braces};
 
 /// How many brackets and variable indexes may be open at one place.
 pub const MAX_OPEN: u32 = 100;
 
-/// Why no part of the tree was made.
-#[derive(Clone, Copy, Debug, Drop)]
-pub(crate) enum ReadError {
-    Memory,
-    Fault(Fault),
-}
-
-impl From<AllocError> for ReadError {
-    ghost use Rattle.tclparse.specs.declared.read.ReadError.TheVariants.{Memory};
-
-    ghost from_gives = { λ _ e. e ≡ Memory };
-
-    fn from(_: AllocError) -> Self {
-        ReadError::Memory
-    }
-}
-
-impl<T: Drop> From<AllocFailed<T>> for ReadError {
-    ghost use Rattle.tclparse.specs.declared.read.ReadError.TheVariants.{Memory};
-
-    ghost from_gives = { λ _ e. e ≡ Memory };
-
-    fn from(_: AllocFailed<T>) -> Self {
-        ReadError::Memory
-    }
-}
-
-impl From<Fault> for ReadError {
-    ghost use Rattle.tclparse.specs.declared.read.ReadError.TheVariants.{Fault};
-
-    ghost from_gives = { λ f e. e ≡ Fault f };
-
-    fn from(fault: Fault) -> Self {
-        ReadError::Fault(fault)
-    }
-}
-
-/// A list of the tree, kept alive by whoever stands in it.
-type Shared<T, A> = Rc<Vec<T, A>, A>;
-
 // Makes a part of the bytes so far, if there are any.
-#[tactic(auto, using(crate::proofs::Trees::parts_push, crate::proofs::Trees::view_Literal))]
 fn end_literal<A: Allocator + Copy>(
     alloc: A,
     parts: &mut Vec<Part<A>, A>,
     literal: &mut Vec<u8, A>,
-) -> Result<(), AllocError>
+) -> Result<(), NoMemory>
     ensures empty { OnOk result (literal.new.items ≡ []) }
-    ensures parts { OnOk result ((t : Parts) → parts_then parts.new.items t ≡ parts_then parts.old.items (bytes_then literal.old.items t)) }
+    ensures parts { OnOk result ((t : Parts)
+        → parts_then parts.new.items t ≡ parts_then parts.old.items
+        (bytes_then literal.old.items t)) }
+    ensures forms { OnOk result (EndsLiteral parts.old.items parts.new.items) }
 {
     if !literal.is_empty() {
-        let bytes = std::mem::replace(literal, Vec::new(alloc));
-        parts.push(Part::Literal(bytes))?;
+        let value = Value::from_slice(alloc, literal)?;
+        parts.push(Part::Literal(value))?;
+        literal.clear();
     }
     Ok(())
 }
 
-// The parts that stand for these bytes alone.
+// The parts that stand for this value alone.
 fn literal_parts<A: Allocator + Copy>(
     alloc: A,
-    bytes: Vec<u8, A>,
-) -> Result<Shared<Part<A>, A>, AllocError>
-    ensures { IfOk result (λ ps. (t : Parts) → parts_then ps.value.items t ≡ bytes_then bytes.items t) }
+    value: Value<A>,
+) -> Result<Shared<Part<A>, A>, NoMemory>
+    ensures parts { IfOk result (λ ps. (t : Parts)
+        → parts_then ps.value.items t ≡ bytes_then value t) }
+    ensures normal { IfOk result (λ ps. AreNormalParts ps) }
 {
     let mut parts = Vec::new(alloc);
-    let mut literal = bytes;
-    end_literal(alloc, &mut parts, &mut literal)?;
-    Ok(Rc::new(alloc, parts)?)
+    if !value.as_slice().is_empty() {
+        parts.push(Part::Literal(value))?;
+    }
+    shared(alloc, parts)
 }
 
 // The element of the array of that name at an index that is written out.
@@ -95,11 +66,13 @@ fn literal_element<A: Allocator + Copy>(
     alloc: A,
     name: &[u8],
     index: &[u8],
-) -> Result<Part<A>, AllocError>
-    ensures { IfOk result (λ p. (t : Parts) → part_view p t ≡ element name.now (bytes_then index.now no_parts) t) }
+) -> Result<Part<A>, NoMemory>
+    ensures part { IfOk result (λ p. (t : Parts)
+        → part_view p t ≡ element name.now (bytes_then index.now no_parts) t) }
+    ensures normal { IfOk result (λ p. form_of p ≡ other) }
 {
-    let name = name.to_vec(alloc)?;
-    let index = literal_parts(alloc, index.to_vec(alloc)?)?;
+    let name = Value::from_slice(alloc, name)?;
+    let index = literal_parts(alloc, Value::from_slice(alloc, index)?)?;
     Ok(Part::Element(name, index))
 }
 
@@ -109,7 +82,8 @@ fn read_braces<A: Allocator + Copy>(
     context: Context,
     text: &[u8],
 ) -> Result<(Shared<Part<A>, A>, &[u8]), ReadError>
-    ensures tree { ReadsBraced context text.now result }
+    ensures tree { ReadsBraced (context_of context) text.now result }
+    ensures normal { IfOk result (λ r. AreNormalParts r.0) }
     ensures shorter { IfOk result (λ r. length r.1.now ≤ length text.now) }
 {
     let Some((content, rest)) = braces::split(text) else {
@@ -119,7 +93,8 @@ fn read_braces<A: Allocator + Copy>(
         return Err(ReadError::Fault(Fault::AfterBrace));
     }
     let bytes = fold_lines(alloc, content)?;
-    let parts = literal_parts(alloc, bytes)?;
+    let value = Value::new(alloc, bytes)?;
+    let parts = literal_parts(alloc, value)?;
     Ok((parts, rest))
 }
 
@@ -131,9 +106,11 @@ fn read_parts<A: Allocator + Copy>(
     depth: u32,
     text: &[u8],
 ) -> Result<(Shared<Part<A>, A>, &[u8]), ReadError>
-    ensures tree { ReadsParts place depth text.now result }
+    ensures tree { ReadsParts (place_of place) depth text.now result }
+    ensures normal { IfOk result (λ r. AreNormalParts r.0) }
     ensures shorter { IfOk result (λ r. length r.1.now ≤ length text.now) }
-    ensures moves { ends_parts place text.now ≡ false → IfOk result (λ r. length r.1.now < length text.now) }
+    ensures moves { ends_parts (place_of place) text.now ≡ false
+        → IfOk result (λ r. length r.1.now < length text.now) }
 {
     let mut parts = Vec::new(alloc);
     let mut literal = Vec::new(alloc);
@@ -142,7 +119,8 @@ fn read_parts<A: Allocator + Copy>(
         let (part, rest) = match next(place, depth, bytes) {
             Piece::End => {
                 end_literal(alloc, &mut parts, &mut literal)?;
-                return Ok((Rc::new(alloc, parts)?, bytes));
+                let parts = shared(alloc, parts)?;
+                return Ok((parts, bytes));
             }
             Piece::Fault(fault) => return Err(ReadError::Fault(fault)),
             Piece::Byte(c, rest) => {
@@ -150,7 +128,7 @@ fn read_parts<A: Allocator + Copy>(
                 bytes = rest;
                 continue;
             }
-            Piece::Name(name, rest) => (Part::Variable(name.to_vec(alloc)?), rest),
+            Piece::Name(name, rest) => (Part::Variable(Value::from_slice(alloc, name)?), rest),
             Piece::Index(name, inner) => read_element(alloc, depth - 1, name, inner)?,
             Piece::Element(name, index, rest) => (literal_element(alloc, name, index)?, rest),
             Piece::Bracket(inner) => read_bracket(alloc, depth - 1, inner)?,
@@ -161,7 +139,8 @@ fn read_parts<A: Allocator + Copy>(
     }
 }
 
-// An element of the array of that name whose index stands behind an open parenthesis, and the text behind the index's end.
+// An element of the array of that name whose index stands behind an open parenthesis, and the text
+// behind the index's end.
 #[cycle(read)]
 fn read_element<'a, A: Allocator + Copy>(
     alloc: A,
@@ -170,9 +149,10 @@ fn read_element<'a, A: Allocator + Copy>(
     text: &'a [u8],
 ) -> Result<(Part<A>, &'a [u8]), ReadError>
     ensures tree { ReadsElement name.now depth text.now result }
+    ensures normal { IfOk result (λ r. form_of r.0 ≡ other) }
     ensures shorter { IfOk result (λ r. length r.1.now ≤ length text.now) }
 {
-    let name = name.to_vec(alloc)?;
+    let name = Value::from_slice(alloc, name)?;
     let (index, end) = read_parts(alloc, Place::Index, depth, text)?;
     let rest = close_index(end)?;
     Ok((Part::Element(name, index), rest))
@@ -186,6 +166,7 @@ fn read_bracket<A: Allocator + Copy>(
     text: &[u8],
 ) -> Result<(Part<A>, &[u8]), ReadError>
     ensures tree { ReadsBracket depth text.now result }
+    ensures normal { IfOk result (λ r. form_of r.0 ≡ other) }
     ensures shorter { IfOk result (λ r. length r.1.now ≤ length text.now) }
 {
     let (commands, end) = read_commands(alloc, Context::Brackets, depth, text)?;
@@ -201,8 +182,9 @@ fn read_body<A: Allocator + Copy>(
     depth: u32,
     text: &[u8],
 ) -> Result<(Shared<Part<A>, A>, &[u8]), ReadError>
-    requires { ends_word context text.now ≡ false }
-    ensures tree { ReadsBody context depth text.now result }
+    requires { ends_word (context_of context) text.now ≡ false }
+    ensures tree { ReadsBody (context_of context) depth text.now result }
+    ensures normal { IfOk result (λ r. AreNormalParts r.0) }
     ensures shorter { IfOk result (λ r. length r.1.now < length text.now) }
 {
     match open_word(text) {
@@ -223,8 +205,9 @@ fn read_word<A: Allocator + Copy>(
     depth: u32,
     text: &[u8],
 ) -> Result<(Word<A>, &[u8]), ReadError>
-    requires { ends_word context text.now ≡ false }
-    ensures tree { ReadsWord context depth text.now result }
+    requires { ends_word (context_of context) text.now ≡ false }
+    ensures tree { ReadsWord (context_of context) depth text.now result }
+    ensures normal { IfOk result (λ r. is_normal_word r.0 ≡ true) }
     ensures shorter { IfOk result (λ r. length r.1.now < length text.now) }
 {
     let (expands, body) = split_prefix(context, text);
@@ -240,11 +223,16 @@ pub(crate) fn read_words<A: Allocator + Copy>(
     depth: u32,
     text: &[u8],
 ) -> Result<(Shared<Word<A>, A>, &[u8]), ReadError>
-    requires begins { ends_word context text.now ≡ ends_command context text.now }
-    ensures tree { ReadsWords context depth text.now result }
+    requires begins { ends_word (context_of context) text.now
+        ≡ ends_command (context_of context) text.now }
+    ensures tree { ReadsWords (context_of context) depth text.now result }
+    ensures normal { IfOk result (λ r. AreNormalWords r.0) }
+    ensures command { ends_command (context_of context) text.now ≡ false
+        → IfOk result (λ r. AreNormalCommand r.0) }
     ensures shorter { IfOk result (λ r. length r.1.now ≤ length text.now) }
-    ensures moves { ends_command context text.now ≡ false → IfOk result (λ r. length r.1.now < length text.now) }
-    ensures ends { IfOk result (λ r. ends_command context r.1.now ≡ true) }
+    ensures moves { ends_command (context_of context) text.now ≡ false
+        → IfOk result (λ r. length r.1.now < length text.now) }
+    ensures ends { IfOk result (λ r. ends_command (context_of context) r.1.now ≡ true) }
 {
     let mut words = Vec::new(alloc);
     let mut bytes = text;
@@ -253,7 +241,7 @@ pub(crate) fn read_words<A: Allocator + Copy>(
         words.push(word)?;
         bytes = skip_white(context, rest);
     }
-    let words = Rc::new(alloc, words)?;
+    let words = shared(alloc, words)?;
     Ok((words, bytes))
 }
 
@@ -264,17 +252,20 @@ pub(crate) fn read_commands<A: Allocator + Copy>(
     context: Context,
     depth: u32,
     text: &[u8],
-) -> Result<(Shared<Command<A>, A>, Result<&[u8], Fault>), AllocError>
-    ensures tree { IfOk result (λ r. ReadsTo context depth (commands_then r.0.value.items no_commands) text.now r.1) }
+) -> Result<(Shared<Command<A>, A>, Result<&[u8], Fault>), NoMemory>
+    ensures tree { IfOk result (λ r. ReadsTo (context_of context) depth
+        (commands_then r.0.value.items no_commands) text.now r.1) }
+    ensures normal { IfOk result (λ r. AreNormalCommands r.0) }
     ensures shorter { IfOk result (λ r. IfOk r.1 (λ z. length z.now ≤ length text.now)) }
-    ensures ends { IfOk result (λ r. IfOk r.1 (λ z. ends_script context z.now ≡ true)) }
+    ensures ends { IfOk result (λ r. IfOk r.1
+        (λ z. ends_script (context_of context) z.now ≡ true)) }
 {
     let mut commands = Vec::new(alloc);
     let mut bytes = text;
     loop {
         let start = skip_gap(context, bytes);
         if ends_script(context, start) {
-            let commands = Rc::new(alloc, commands)?;
+            let commands = shared(alloc, commands)?;
             return Ok((commands, Ok(start)));
         }
         match read_words(alloc, context, depth, start) {
@@ -283,10 +274,10 @@ pub(crate) fn read_commands<A: Allocator + Copy>(
                 bytes = rest;
             }
             Err(ReadError::Fault(fault)) => {
-                let commands = Rc::new(alloc, commands)?;
+                let commands = shared(alloc, commands)?;
                 return Ok((commands, Err(fault)));
             }
-            Err(ReadError::Memory) => return Err(AllocError),
+            Err(ReadError::Memory(refusal)) => return Err(refusal),
         }
     }
 }

@@ -2,27 +2,7 @@
 
 use std::alloc::Allocator;
 use std::rc::Rc;
-
-/// Why a text is no script. A text has at most one fault, the first from the left.
-#[derive(Clone, Copy, Debug, PartialEq, Eq, Drop)]
-pub enum Fault {
-    /// The text ends in a word that began with `{`.
-    OpenBrace,
-    /// The text ends in a script that began with `[`.
-    OpenBracket,
-    /// The text ends in a word that began with `"`.
-    OpenQuote,
-    /// A word goes on behind its closing `}`.
-    AfterBrace,
-    /// A word goes on behind its closing `"`.
-    AfterQuote,
-    /// More brackets and indexes are open at one place than [`MAX_OPEN`](crate::MAX_OPEN).
-    TooDeep,
-    /// `\u` or `\U`.
-    EscapeNotHere,
-    /// A `$` with a name that no variable has here, or whose index or brace does not end.
-    BadVariable,
-}
+use tcltext::Value;
 
 /// One command: its words. There is at least one.
 #[cycle(tree)]
@@ -44,12 +24,13 @@ pub struct Word<A: Allocator> {
 #[cycle(tree)]
 #[derive(Drop)]
 pub enum Part<A: Allocator> {
-    /// Bytes that stand for themselves, escapes replaced. No two stand side by side.
-    Literal(Vec<u8, A>),
+    /// Bytes that stand for themselves, escapes replaced: at least one, and no two literals stand
+    /// side by side.
+    Literal(Value<A>),
     /// `$name` or `${name}`.
-    Variable(Vec<u8, A>),
+    Variable(Value<A>),
     /// `$name(index)` or `${name(index)}`.
-    Element(Vec<u8, A>, Rc<Vec<Part<A>, A>, A>),
+    Element(Value<A>, Rc<Vec<Part<A>, A>, A>),
     /// `[script]`. A fault in it is that of the whole text, so it has none of its own.
     Bracket(Rc<Vec<Command<A>, A>, A>),
 }

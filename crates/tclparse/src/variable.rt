@@ -1,13 +1,13 @@
 //! What stands behind a `$`.
 
-ghost use Rattle.std.specs.Prelude.{◌≡◌, ◌+◌, ◌≤◌, length, option_map, IfSome};
-ghost use Rattle.tclparse.specs.Variable.{is_name, name_at, after_name, until, from, holds_colons, begins_with_colons, ends_with, element_of};
+ghost use Rattle.std.specs.Prelude.{◌≡◌, ◌+◌, ◌≤◌, length};
+ghost use Rattle.tclparse.specs.Variable.{is_name, name_at, after_name};
 ghost use Rattle.tclparse.specs.Piece.{next_dollar, next_name, next_braced};
-ghost use Rattle.tclparse.specs.Seen.{seen, IsShorter, OpensWithin, IsNotEnd, element_seen};
+ghost use Rattle.tclparse.specs.Seen.{seen, IsShorter, OpensWithin, IsNotEnd};
 
-use crate::context::begins_with;
+use crate::fault::Fault;
+use crate::name::{Name, begins_with_colons, split_before, variable_name};
 use crate::piece::Piece;
-use crate::tree::Fault;
 
 fn is_name(c: u8) -> bool
     ensures { result ≡ is_name c }
@@ -28,68 +28,6 @@ fn split_name(text: &[u8]) -> (&[u8], &[u8])
     text.split_at(len)
 }
 
-// The bytes before the first such byte, and the text from it on.
-fn split_before(byte: u8, text: &[u8]) -> (&[u8], &[u8])
-    ensures front { result.0.now ≡ until byte text.now }
-    ensures rest { result.1.now ≡ from byte text.now }
-    ensures shorter { length result.1.now ≤ length text.now }
-{
-    let mut len = 0;
-    while len < text.len() && text[len] != byte {
-        len += 1;
-    }
-    text.split_at(len)
-}
-
-fn begins_with_colons(text: &[u8]) -> bool
-    ensures { result ≡ begins_with_colons text.now }
-{
-    match text {
-        [c, rest @ ..] => *c == b':' && begins_with(b':', rest),
-        [] => false,
-    }
-}
-
-// Whether the name is one of a namespace.
-fn holds_colons(name: &[u8]) -> bool
-    ensures { result ≡ holds_colons name.now }
-{
-    let mut bytes = name;
-    while let [_, rest @ ..] = bytes {
-        if begins_with_colons(bytes) {
-            return true;
-        }
-        bytes = rest;
-    }
-    false
-}
-
-fn ends_with(byte: u8, text: &[u8]) -> bool
-    ensures { result ≡ ends_with byte text.now }
-{
-    match text.last() {
-        Some(c) => *c == byte,
-        None => false,
-    }
-}
-
-// The array and the index of a name of the form `a(i)`.
-fn split_element(name: &[u8]) -> Option<(&[u8], &[u8])>
-    ensures { element_seen result ≡ element_of name.now }
-{
-    let (array, rest) = split_before(b'(', name);
-    match rest {
-        [_, index @ ..] => {
-            if ends_with(b')', index) {
-                Some((array, &index[..index.len() - 1]))
-            } else {
-                None
-            }
-        }
-        [] => None,
-    }
-}
-
 // What the name between braces stands for, with that text behind them.
 fn braced<'a>(name: &'a [u8], rest: &'a [u8]) -> Piece<'a>
     ensures piece { seen result ≡ next_braced name.now rest.now }
@@ -97,18 +35,15 @@ fn braced<'a>(name: &'a [u8], rest: &'a [u8]) -> Piece<'a>
     ensures within { OpensWithin result 0 }
     ensures moves { IsNotEnd result }
 {
-    if holds_colons(name) {
-        return Piece::Fault(Fault::BadVariable);
-    }
-    match split_element(name) {
-        Some((array, index)) => {
-            if array.is_empty() {
-                Piece::Fault(Fault::BadVariable)
-            } else {
-                Piece::Element(array, index, rest)
-            }
-        }
-        None => Piece::Name(name, rest),
+    match variable_name(name) {
+        Err(fault) => Piece::Fault(fault),
+        Ok(Name { name, index: None }) => Piece::Name(name, rest),
+        Ok(
+            Name {
+                name,
+                index: Some(index),
+            },
+        ) => Piece::Element(name, index, rest),
     }
 }
 
@@ -134,7 +69,8 @@ fn named<'a>(depth: u32, name: &'a [u8], rest: &'a [u8]) -> Piece<'a>
     }
 }
 
-/// What stands at a `$` with that text behind it, where so many brackets and indexes more may be open.
+/// What stands at a `$` with that text behind it, where so many brackets and indexes more may be
+/// open.
 pub(crate) fn dollar(depth: u32, text: &[u8]) -> Piece<'_>
     ensures piece { seen result ≡ next_dollar depth text.now }
     ensures shorter { IsShorter result (length text.now + 1) }

@@ -3,10 +3,10 @@
 ghost use Rattle.std.specs.Prelude.{◌≡◌, ◌≤◌, ◌<◌, length, false, Ok, IfOk};
 ghost use Rattle.tclparse.specs.Context.{ends_word};
 ghost use Rattle.tclparse.specs.Grammar.{kind, expands, unprefixed, bracket_closed, index_closed, quotes_closed};
-ghost use Rattle.tclparse.specs.Seen.{opening, OpensShorter, outcome};
+ghost use Rattle.tclparse.specs.Seen.{context_of, opening, OpensShorter, outcome};
 
 use crate::context::{Context, ends_word};
-use crate::tree::Fault;
+use crate::fault::Fault;
 
 /// What a word's first byte opens, and the text behind it.
 pub(crate) enum Opening<'a> {
@@ -29,9 +29,10 @@ pub(crate) fn open_word(text: &[u8]) -> Opening<'_>
 
 /// Whether `{*}` stands before the word that begins here, and the text of the word without it.
 pub(crate) fn split_prefix(context: Context, text: &[u8]) -> (bool, &[u8])
-    ensures expands { result.0 ≡ expands context text.now }
-    ensures rest { result.1.now ≡ unprefixed context text.now }
-    ensures begins { ends_word context text.now ≡ false → ends_word context result.1.now ≡ false }
+    ensures expands { result.0 ≡ expands (context_of context) text.now }
+    ensures rest { result.1.now ≡ unprefixed (context_of context) text.now }
+    ensures begins { ends_word (context_of context) text.now ≡ false
+        → ends_word (context_of context) result.1.now ≡ false }
     ensures shorter { length result.1.now ≤ length text.now }
 {
     match text {
@@ -48,7 +49,7 @@ pub(crate) fn split_prefix(context: Context, text: &[u8]) -> (bool, &[u8])
 
 /// Where a word is read up to its closing quote: the text behind it.
 pub(crate) fn close_quotes(context: Context, text: &[u8]) -> Result<&[u8], Fault>
-    ensures rest { outcome result ≡ quotes_closed context (Ok text.now) }
+    ensures rest { outcome result ≡ quotes_closed (context_of context) (Ok text.now) }
     ensures shorter { IfOk result (λ z. length z.now ≤ length text.now) }
 {
     match text {

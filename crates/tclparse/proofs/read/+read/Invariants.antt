@@ -1,8 +1,11 @@
-use Rattle.std.proofs.Common.{◌≡◌, ◌≤◌, ◌+◌, ◌*◌, length, false}
+use Rattle.std.proofs.Common.{◌≡◌, ◌≤◌, ◌+◌, ◌*◌, [], length, map, true, false}
+use Rattle.tclparse.specs.Normal.{all_yes, is_normal_word, is_normal_command}
+use Rattle.tclparse.proofs.Normal.{IsOpen}
 use Rattle.tclparse.specs.Tree.{Parts, Words, Commands, bytes_then}
 use Rattle.tclparse.specs.View.{parts_then, words_then, commands_then}
 use Rattle.tclparse.specs.Context.{ends_command, ends_word}
 use Rattle.tclparse.specs.Piece.{ends_parts}
+use Rattle.tclparse.specs.Seen.{context_of, place_of}
 use Rattle.tclparse.specs.Grammar.{Outcome, IsParts, IsWords, IsCommands}
 use Rattle.tclparse.proofs.read.+read.Given as goal
 
@@ -30,9 +33,10 @@ decreases-read_bracket g l = 7 * l.depth + 6
 -- Whatever comes of the rest of the text, what was read stands before it.
 abbrev pub invariant-read_parts-loop-alloc : goal.invariant-read_parts-loop-alloc
 invariant-read_parts-loop-alloc g l = record {
-  tree : (t : Parts) (o : Outcome) → IsParts l.place l.depth t l.bytes o → IsParts l.place l.depth (parts_then l.parts.items (bytes_then l.literal.items t)) l.text o;
+  tree : (t : Parts) (o : Outcome) → IsParts (place_of l.place) l.depth t l.bytes o → IsParts (place_of l.place) l.depth (parts_then l.parts.items (bytes_then l.literal.items t)) l.text o;
   shorter : length l.bytes ≤ length l.text;
-  moves : ends_parts l.place l.text ≡ false → length l.text ≤ length l.bytes → l.bytes ≡ l.text;
+  moves : ends_parts (place_of l.place) l.text ≡ false → length l.text ≤ length l.bytes → l.bytes ≡ l.text;
+  normal : IsOpen l.parts.items;
 }
 
 abbrev pub decreases-read_parts-loop-alloc : goal.decreases-read_parts-loop-alloc
@@ -40,10 +44,12 @@ decreases-read_parts-loop-alloc g l = length l.bytes
 
 abbrev pub invariant-read_words-loop-context : goal.invariant-read_words-loop-context
 invariant-read_words-loop-context g l = record {
-  tree : (t : Words) (o : Outcome) → IsWords l.context l.depth t l.bytes o → IsWords l.context l.depth (words_then l.words.items t) l.text o;
-  begins : ends_word l.context l.bytes ≡ ends_command l.context l.bytes;
+  tree : (t : Words) (o : Outcome) → IsWords (context_of l.context) l.depth t l.bytes o → IsWords (context_of l.context) l.depth (words_then l.words.items t) l.text o;
+  begins : ends_word (context_of l.context) l.bytes ≡ ends_command (context_of l.context) l.bytes;
   shorter : length l.bytes ≤ length l.text;
   moves : length l.text ≤ length l.bytes → l.bytes ≡ l.text;
+  normal : all_yes (map is_normal_word l.words.items) ≡ true;
+  some : l.words.items ≡ [] → l.bytes ≡ l.text;
 }
 
 abbrev pub decreases-read_words-loop-context : goal.decreases-read_words-loop-context
@@ -51,8 +57,9 @@ decreases-read_words-loop-context g l = length l.bytes
 
 abbrev pub invariant-read_commands-loop-context : goal.invariant-read_commands-loop-context
 invariant-read_commands-loop-context g l = record {
-  tree : (t : Commands) (o : Outcome) → IsCommands l.context l.depth t l.bytes o → IsCommands l.context l.depth (commands_then l.commands.items t) l.text o;
+  tree : (t : Commands) (o : Outcome) → IsCommands (context_of l.context) l.depth t l.bytes o → IsCommands (context_of l.context) l.depth (commands_then l.commands.items t) l.text o;
   shorter : length l.bytes ≤ length l.text;
+  normal : all_yes (map is_normal_command l.commands.items) ≡ true;
 }
 
 abbrev pub decreases-read_commands-loop-context : goal.decreases-read_commands-loop-context

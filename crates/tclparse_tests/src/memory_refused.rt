@@ -1,9 +1,8 @@
 //! Each request for memory is refused in turn.
 
-use crate::{Script, Words};
-use memory::NoMemory;
 use refusal::Refusing;
 use std::test::Fail;
+use tclparse::{Script, Words};
 
 const TEXT: &[u8] = b"a {b c} \"d $e(f[g]) ${h(i)}\"; {*}$j [k \\n]; {l";
 
@@ -19,9 +18,6 @@ fn answers_no_memory_where_a_script_gets_none(rt: HostRuntime) -> Result<(), Fai
         let read = Script::read(heap, TEXT);
         let refused = heap.refused() > before;
         assert_eq!(&rt; read.is_err(), refused, "with request {n} refused");
-        if let Err(error) = &read {
-            assert_eq!(&rt; *error, NoMemory);
-        }
     }
     heap.refuse_none();
     assert_eq!(rt; Script::read(heap, TEXT)?.commands.len(), 2);

@@ -1,12 +1,10 @@
 //! Long and deep texts. Each is read in time linear in its length, or the test would not end.
 
-use crate::{Fault, Script, Words};
 use std::alloc::{AllocError, Global};
 use std::test::Fail;
+use tclparse::{Fault, Script, Words};
 
-const LONG: usize = 10_000_000;
-
-const MANY: usize = 1_000_000;
+const LONG: usize = 1_000_000;
 
 // The piece so many times over.
 fn repeated(alloc: Global, piece: &[u8], times: usize) -> Result<Vec<u8>, AllocError> {
@@ -100,7 +98,7 @@ fn reads_many_of_one_byte(rt: HostRuntime) -> Result<(), Fail> {
         (b"\x00\xff", None),
     ];
     for (piece, fault) in rows {
-        let text = repeated(rt.alloc(), piece, MANY)?;
+        let text = repeated(rt.alloc(), piece, LONG)?;
         assert_eq!(&rt;
             Script::read(rt.alloc(), &text)?.fault,
             *fault,

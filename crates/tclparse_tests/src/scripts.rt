@@ -1,10 +1,10 @@
 //! Each rule of a script's grammar at least once.
 
-use super::show::reads;
-use crate::{Fault, Script};
+use crate::show::reads;
 use std::alloc::Global;
 use std::process::Abort;
 use std::test::Fail;
+use tclparse::{Fault, Script};
 
 fn all_read(rt: &impl Abort, alloc: Global, rows: &[(&[u8], &[u8])]) -> Result<(), Fail> {
     for (text, want) in rows {

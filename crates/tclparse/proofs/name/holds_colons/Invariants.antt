@@ -1,6 +1,6 @@
 use Rattle.std.proofs.Common.{◌≡◌, length}
 use Rattle.tclparse.specs.Variable.{holds_colons}
-use Rattle.tclparse.proofs.variable.holds_colons.Given as goal
+use Rattle.tclparse.proofs.name.holds_colons.Given as goal
 
 abbrev pub invariant-loop-bytes : goal.invariant-loop-bytes
 invariant-loop-bytes l = holds_colons l.bytes ≡ holds_colons l.name

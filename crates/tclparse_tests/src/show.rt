@@ -1,23 +1,23 @@
 //! A tree as a text to compare: each word in `<` and `>`, `*` before one that is expanded, `;` behind each command.
 //! A variable is `${name}`, an element `$name(index)`, a script stands in `[` and `]`.
 
-use crate::{Command, Fault, Part, Script, Word, Words};
 use std::alloc::{AllocError, Global};
 use std::process::Abort;
 use std::test::Fail;
+use tclparse::{Command, Fault, Part, Script, Word, Words};
 
 #[cycle(show)]
 fn show_part(out: &mut Vec<u8>, part: &Part<Global>) -> Result<(), AllocError> {
     match part {
-        Part::Literal(bytes) => out.extend_from_slice(bytes)?,
+        Part::Literal(bytes) => out.extend_from_slice(bytes.as_slice())?,
         Part::Variable(name) => {
             out.extend_from_slice(b"${")?;
-            out.extend_from_slice(name)?;
+            out.extend_from_slice(name.as_slice())?;
             out.push(b'}')?;
         }
         Part::Element(name, index) => {
             out.push(b'$')?;
-            out.extend_from_slice(name)?;
+            out.extend_from_slice(name.as_slice())?;
             out.push(b'(')?;
             show_parts(out, index)?;
             out.push(b')')?;

@@ -1,8 +1,8 @@
 //! Braced arguments of `expect`.
 
-use super::show::reads_words;
-use crate::Fault;
+use crate::show::reads_words;
 use std::test::Fail;
+use tclparse::Fault;
 
 #[test]
 fn reads_the_words_of_one_command(rt: HostRuntime) -> Result<(), Fail> {

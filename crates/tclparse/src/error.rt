@@ -1,0 +1,43 @@
+//! Why a reader made no part of the tree.
+
+use crate::fault::Fault;
+use memory::NoMemory;
+use std::alloc::AllocFailed;
+
+/// Why no part of the tree was made: memory was refused, or the text has a fault.
+#[derive(Clone, Copy, Debug, Drop)]
+pub(crate) enum ReadError {
+    Memory(NoMemory),
+    Fault(Fault),
+}
+
+impl From<NoMemory> for ReadError {
+    ghost use Rattle.tclparse.specs.Error.{IsMemory};
+
+    ghost from_gives = { λ _ error. IsMemory error };
+
+    fn from(refusal: NoMemory) -> Self {
+        ReadError::Memory(refusal)
+    }
+}
+
+impl<T: Drop> From<AllocFailed<T>> for ReadError {
+    ghost use Rattle.tclparse.specs.Error.{IsMemory};
+
+    ghost from_gives = { λ _ error. IsMemory error };
+
+    fn from(refusal: AllocFailed<T>) -> Self {
+        ReadError::Memory(NoMemory::from(refusal))
+    }
+}
+
+impl From<Fault> for ReadError {
+    ghost use Rattle.std.specs.Prelude.{◌≡◌};
+    ghost use Rattle.tclparse.specs.declared.error.ReadError.TheVariants.{Fault};
+
+    ghost from_gives = { λ fault error. error ≡ Fault fault };
+
+    fn from(fault: Fault) -> Self {
+        ReadError::Fault(fault)
+    }
+}
