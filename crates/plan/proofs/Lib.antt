@@ -1,0 +1,10 @@
+pub mod Answers
+pub mod Counted
+pub mod Exact
+pub mod Falls
+pub mod Finished
+pub mod Joined
+pub mod Kept
+pub mod Load
+pub mod Paid
+pub mod Settled

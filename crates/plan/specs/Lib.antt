@@ -1,0 +1,10 @@
+pub mod Answers
+pub mod Countdown
+pub mod Exact
+pub mod Finished
+pub mod Joined
+pub mod Kept
+pub mod Load
+pub mod Paid
+pub mod Plan
+pub mod Runs
