@@ -1,0 +1,5 @@
+mod Entries
+mod Frames
+mod Innermost
+mod Keys
+mod Reach

@@ -1,0 +1,4 @@
+pub mod Pairs
+pub mod Scopes
+pub mod ScopeError
+pub mod Stored

@@ -1,0 +1,106 @@
+//! What a variable holds: a text or an array.
+ghost use Rattle.std.specs.Prelude.{◌≡◌, Some, None, Ok, Err, IfOk, OnOk, IfErr, OnErr, option_copied, length};
+ghost use Rattle.tclstate.specs.Scopes.{value_of, changed, reduced, elements_of};
+ghost use Rattle.tclstate.specs.ScopeError.{HasTrouble, HasTroubleOrRefusal};
+ghost use Rattle.tclstate.specs.Pairs.{keys_of};
+ghost use Rattle.tclstate.specs.Stored.{variable_of};
+
+use crate::error::ScopeError;
+use crate::table::{Table, element, keys, new_table, put_element, remove_element};
+use memory::NoMemory;
+use std::alloc::Allocator;
+use tcltext::Value;
+
+/// A text or an array.
+#[derive(Drop)]
+pub enum Content<A: Allocator> {
+    Text(Value<A>),
+    Array(Table<Value<A>, A>),
+}
+
+impl<A: Allocator> Content<A> {
+    /// The text, or the element at an index.
+    pub fn get(&self, index: Option<&[u8]>) -> Result<&Value<A>, ScopeError>
+        ensures value { IfOk result (λ value.
+            value_of (Some (variable_of self.now)) (option_copied index.entry) ≡ Ok value.now) }
+        ensures trouble { IfErr result (λ e.
+            HasTrouble e (value_of (Some (variable_of self.now)) (option_copied index.entry))) }
+    {
+        match (self, index) {
+            (Content::Text(value), None) => Ok(value),
+            (Content::Text(_), Some(_)) => Err(ScopeError::NotArray),
+            (Content::Array(_), None) => Err(ScopeError::IsArray),
+            (Content::Array(elements), Some(index)) => element(elements, index),
+        }
+    }
+
+    /// How many elements there are, none in a text.
+    pub fn size(&self) -> usize
+        ensures { result ≡ length (elements_of (Some (variable_of self.now))) }
+    {
+        match self {
+            Content::Text(_) => 0,
+            Content::Array(elements) => elements.len(),
+        }
+    }
+
+    /// Removes the element at an index.
+    pub fn remove_element(&mut self, index: &[u8]) -> Result<(), ScopeError>
+        ensures ok { OnOk result
+            (reduced (Some (variable_of self.old)) index.now ≡ Ok (variable_of self.new)) }
+        ensures trouble { IfErr result
+            (λ e. HasTrouble e (reduced (Some (variable_of self.old)) index.now)) }
+        ensures unchanged { OnErr result (variable_of self.new ≡ variable_of self.old) }
+    {
+        match self {
+            Content::Text(_) => Err(ScopeError::NotArray),
+            Content::Array(elements) => remove_element(elements, index),
+        }
+    }
+}
+
+impl<A: Allocator + Copy> Content<A> {
+    /// A new variable: a text, or an array with one element.
+    pub fn new(alloc: A, index: Option<&[u8]>, value: Value<A>) -> Result<Content<A>, NoMemory>
+        ensures { IfOk result
+            (λ made. changed None (option_copied index.entry) value ≡ Ok (variable_of made)) }
+    {
+        match index {
+            None => Ok(Content::Text(value)),
+            Some(index) => {
+                let mut elements = new_table(alloc);
+                put_element(&mut elements, alloc, index, value)?;
+                Ok(Content::Array(elements))
+            }
+        }
+    }
+
+    /// The indexes of the elements, in order; none of a text.
+    pub fn names(&self, alloc: A) -> Result<Vec<Value<A>, A>, NoMemory>
+        ensures { IfOk result
+            (λ names. names.items ≡ keys_of (elements_of (Some (variable_of self.now)))) }
+    {
+        match self {
+            Content::Text(_) => Ok(Vec::new(alloc)),
+            Content::Array(elements) => keys(elements, alloc),
+        }
+    }
+
+    /// Overwrites the text, or writes the element at an index.
+    pub fn set(&mut self, alloc: A, index: Option<&[u8]>, value: Value<A>) -> Result<(), ScopeError>
+        ensures ok { OnOk result
+            (changed (Some (variable_of self.old)) (option_copied index.entry) value
+            ≡ Ok (variable_of self.new)) }
+        ensures trouble { IfErr result (λ e. HasTroubleOrRefusal e
+            (changed (Some (variable_of self.old)) (option_copied index.entry) value)) }
+        ensures unchanged { OnErr result (variable_of self.new ≡ variable_of self.old) }
+    {
+        match (self, index) {
+            (Content::Text(text), None) => *text = value,
+            (Content::Text(_), Some(_)) => return Err(ScopeError::NotArray),
+            (Content::Array(_), None) => return Err(ScopeError::IsArray),
+            (Content::Array(elements), Some(index)) => put_element(elements, alloc, index, value)?,
+        }
+        Ok(())
+    }
+}

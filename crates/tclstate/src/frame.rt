@@ -1,0 +1,189 @@
+//! The variables of a procedure that runs.
+ghost use Rattle.std.specs.Prelude.{◌≡◌, ◌∷◌, [], List, None, Some, Ok, OnOk, IfErr, OnErr, option_copied};
+ghost use Rattle.std.specs.Option.{option_map};
+ghost use Rattle.tclstate.specs.Pairs.{found, put};
+ghost use Rattle.tclstate.specs.Scopes as spec;
+ghost use Rattle.tclstate.specs.ScopeError.{HasTrouble, HasTroubleOrRefusal};
+
+use crate::content::Content;
+use crate::error::ScopeError;
+use crate::globals::Globals;
+use crate::local::Local;
+use crate::table::{Table, new_table};
+use memory::NoMemory;
+use std::alloc::Allocator;
+use std::marker::Model;
+use tcltext::Value;
+
+/// The names of one procedure that runs, in the order in which they were first set.
+#[derive(Drop)]
+pub struct LocalFrame<A: Allocator> {
+    variables: Table<Local<A>, A>,
+}
+
+impl<A: Allocator> Model for LocalFrame<A> {
+    ghost use Rattle.tclstate.specs.Scopes.{Frame};
+
+    ghost Value = { Frame };
+
+    ghost use Rattle.tclstate.specs.Stored.{locals_of};
+
+    ghost view = { λ f. locals_of f.variables.entries };
+}
+
+impl<A: Allocator> LocalFrame<A> {
+    ghost use Rattle.tclstate.specs.Stored.{local_of};
+
+    /// What a name stands for.
+    pub fn get(&self, name: &[u8]) -> Option<&Local<A>>
+        ensures { option_map local_of (option_copied result) ≡ found self.now name.now }
+    {
+        self.variables.get(name)
+    }
+
+    /// Whether a name is linked to the global of that name.
+    fn is_link(&self, name: &[u8]) -> bool
+        ensures { result ≡ spec.is_link (found self.now name.now) }
+    {
+        match self.variables.get(name) {
+            Some(Local::Link) => true,
+            Some(Local::Own(_)) => false,
+            None => false,
+        }
+    }
+
+    /// Removes a name; of a link, the global, and the link stays.
+    pub fn remove(&mut self, globals: &mut Globals<A>, name: &[u8]) -> Result<(), ScopeError>
+        ensures ok { OnOk result ((outer : List spec.Frame) →
+            spec.removed (spec.scopes (self.old ∷ outer) globals.old) name.now None
+            ≡ Ok (spec.scopes (self.new ∷ outer) globals.new)) }
+        ensures trouble { IfErr result (λ e. (outer : List spec.Frame) → HasTrouble e
+            (spec.removed (spec.scopes (self.old ∷ outer) globals.old) name.now None)) }
+        ensures unchanged { OnErr result (self.new ≡ self.old) }
+        ensures unchanged_globals { OnErr result (globals.new ≡ globals.old) }
+    {
+        if self.is_link(name) {
+            return globals.remove(name);
+        }
+        match self.variables.shift_remove(name) {
+            Some(_) => {}
+            None => return Err(ScopeError::NoVariable),
+        }
+        Ok(())
+    }
+
+    /// Removes the element of a name at an index; of a link, the global's.
+    pub fn remove_element(
+        &mut self,
+        globals: &mut Globals<A>,
+        name: &[u8],
+        index: &[u8],
+    ) -> Result<(), ScopeError>
+        ensures ok { OnOk result ((outer : List spec.Frame) →
+            spec.removed (spec.scopes (self.old ∷ outer) globals.old) name.now (Some index.now)
+            ≡ Ok (spec.scopes (self.new ∷ outer) globals.new)) }
+        ensures trouble { IfErr result (λ e. (outer : List spec.Frame) → HasTrouble e
+            (spec.removed (spec.scopes (self.old ∷ outer) globals.old) name.now (Some index.now))) }
+        ensures unchanged { OnErr result (self.new ≡ self.old) }
+        ensures unchanged_globals { OnErr result (globals.new ≡ globals.old) }
+    {
+        let Some(local) = self.variables.get_mut(name) else {
+            return Err(ScopeError::NoVariable);
+        };
+        local.remove_element(globals, name, index)
+    }
+}
+
+impl<A: Allocator + Copy> LocalFrame<A> {
+    ghost use Rattle.tclstate.specs.Stored.{local_of};
+
+    /// A frame without names, which takes no memory.
+    pub fn new(alloc: A) -> LocalFrame<A>
+        ensures { result ≡ [] }
+    {
+        LocalFrame {
+            variables: new_table(alloc),
+        }
+    }
+
+    /// Writes a name, or the element at an index; of a link, the global.
+    pub fn set(
+        &mut self,
+        globals: &mut Globals<A>,
+        alloc: A,
+        name: &[u8],
+        index: Option<&[u8]>,
+        value: Value<A>,
+    ) -> Result<(), ScopeError>
+        ensures ok { OnOk result ((outer : List spec.Frame) →
+            spec.written (spec.scopes (self.old ∷ outer) globals.old) name.now (option_copied index.entry) value
+            ≡ Ok (spec.scopes (self.new ∷ outer) globals.new)) }
+        ensures trouble { IfErr result (λ e. (outer : List spec.Frame) → HasTroubleOrRefusal e
+            (spec.written (spec.scopes (self.old ∷ outer) globals.old) name.now (option_copied index.entry) value)) }
+        ensures unchanged { OnErr result (self.new ≡ self.old) }
+        ensures unchanged_globals { OnErr result (globals.new ≡ globals.old) }
+    {
+        match self.variables.get_mut(name) {
+            Some(local) => local.set(globals, alloc, name, index, value),
+            None => {
+                let content = Content::new(alloc, index, value)?;
+                self.put(alloc, name, Local::Own(content))?;
+                Ok(())
+            }
+        }
+    }
+
+    /// Makes a name an array, which an array is already; of a link, the global.
+    pub fn make_array(
+        &mut self,
+        globals: &mut Globals<A>,
+        alloc: A,
+        name: &[u8],
+    ) -> Result<(), ScopeError>
+        ensures ok { OnOk result ((outer : List spec.Frame) →
+            spec.with_array (spec.scopes (self.old ∷ outer) globals.old) name.now
+            ≡ Ok (spec.scopes (self.new ∷ outer) globals.new)) }
+        ensures trouble { IfErr result (λ e. (outer : List spec.Frame) → HasTroubleOrRefusal e
+            (spec.with_array (spec.scopes (self.old ∷ outer) globals.old) name.now)) }
+        ensures unchanged { OnErr result (self.new ≡ self.old) }
+        ensures unchanged_globals { OnErr result (globals.new ≡ globals.old) }
+    {
+        match self.variables.get(name) {
+            Some(Local::Own(Content::Text(_))) => Err(ScopeError::NotArray),
+            Some(Local::Own(Content::Array(_))) => Ok(()),
+            Some(Local::Link) => globals.make_array(alloc, name),
+            None => {
+                self.put(alloc, name, Local::Own(Content::Array(new_table(alloc))))?;
+                Ok(())
+            }
+        }
+    }
+
+    /// Links a name to the global of that name. A local of that name is dropped, and the link goes
+    /// last; a link that is there stays.
+    pub fn link(&mut self, alloc: A, name: &[u8]) -> Result<(), NoMemory>
+        ensures ok { OnOk result ((outer : List spec.Frame) (globals : spec.Frame) →
+            spec.linked (spec.scopes (self.old ∷ outer) globals) name.now
+            ≡ spec.scopes (self.new ∷ outer) globals) }
+        ensures unchanged { OnErr result (self.new ≡ self.old) }
+    {
+        if self.is_link(name) {
+            return Ok(());
+        }
+        let key = Vec::from_slice(alloc, name)?;
+        self.variables.reserve(1)?;
+        self.variables.shift_remove(name);
+        self.variables.insert(key, Local::Link)?;
+        Ok(())
+    }
+
+    /// Puts a name, which goes last where it is not there.
+    fn put(&mut self, alloc: A, name: &[u8], local: Local<A>) -> Result<(), NoMemory>
+        ensures ok { OnOk result (self.new ≡ put self.old name.now (local_of local)) }
+        ensures unchanged { OnErr result (self.new ≡ self.old) }
+    {
+        let key = Vec::from_slice(alloc, name)?;
+        self.variables.insert(key, local)?;
+        Ok(())
+    }
+}

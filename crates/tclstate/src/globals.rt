@@ -1,0 +1,131 @@
+//! The global variables.
+ghost use Rattle.std.specs.Prelude.{◌≡◌, [], Ok, OnOk, IfErr, OnErr, option_copied};
+ghost use Rattle.std.specs.Option.{option_map};
+ghost use Rattle.tclstate.specs.Pairs.{found, put};
+ghost use Rattle.tclstate.specs.Scopes.{frame_written, frame_without, frame_with_array};
+ghost use Rattle.tclstate.specs.ScopeError.{HasTrouble, HasTroubleOrRefusal};
+
+use crate::content::Content;
+use crate::error::ScopeError;
+use crate::table::{Table, new_table};
+use memory::NoMemory;
+use std::alloc::Allocator;
+use std::marker::Model;
+use tcltext::Value;
+
+/// The names of the global frame, in the order in which they were first set. None of them is a link.
+#[derive(Drop)]
+pub struct Globals<A: Allocator> {
+    variables: Table<Content<A>, A>,
+}
+
+impl<A: Allocator> Model for Globals<A> {
+    ghost use Rattle.tclstate.specs.Scopes.{Frame};
+
+    ghost Value = { Frame };
+
+    ghost use Rattle.tclstate.specs.Stored.{globals_of};
+
+    ghost view = { λ g. globals_of g.variables.entries };
+}
+
+impl<A: Allocator> Globals<A> {
+    ghost use Rattle.tclstate.specs.Stored.{variable_of};
+
+    /// What a name stands for.
+    pub fn get(&self, name: &[u8]) -> Option<&Content<A>>
+        ensures { option_map variable_of (option_copied result) ≡ found self.now name.now }
+    {
+        self.variables.get(name)
+    }
+
+    /// Removes a name.
+    pub fn remove(&mut self, name: &[u8]) -> Result<(), ScopeError>
+        ensures ok { OnOk result (frame_without name.now None self.old ≡ Ok self.new) }
+        ensures trouble { IfErr result (λ e. HasTrouble e (frame_without name.now None self.old)) }
+        ensures unchanged { OnErr result (self.new ≡ self.old) }
+    {
+        match self.variables.shift_remove(name) {
+            Some(_) => {}
+            None => return Err(ScopeError::NoVariable),
+        }
+        Ok(())
+    }
+
+    /// Removes the element of a name at an index.
+    pub fn remove_element(&mut self, name: &[u8], index: &[u8]) -> Result<(), ScopeError>
+        ensures ok { OnOk result (frame_without name.now (Some index.now) self.old ≡ Ok self.new) }
+        ensures trouble { IfErr result
+            (λ e. HasTrouble e (frame_without name.now (Some index.now) self.old)) }
+        ensures unchanged { OnErr result (self.new ≡ self.old) }
+    {
+        let Some(content) = self.variables.get_mut(name) else {
+            return Err(ScopeError::NoVariable);
+        };
+        content.remove_element(index)
+    }
+}
+
+impl<A: Allocator + Copy> Globals<A> {
+    ghost use Rattle.tclstate.specs.Stored.{variable_of};
+
+    /// No names, which takes no memory.
+    pub fn new(alloc: A) -> Globals<A>
+        ensures { result ≡ [] }
+    {
+        Globals {
+            variables: new_table(alloc),
+        }
+    }
+
+    /// Writes a name, or the element at an index.
+    pub fn set(
+        &mut self,
+        alloc: A,
+        name: &[u8],
+        index: Option<&[u8]>,
+        value: Value<A>,
+    ) -> Result<(), ScopeError>
+        ensures ok { OnOk result
+            (frame_written name.now (option_copied index.entry) value self.old ≡ Ok self.new) }
+        ensures trouble { IfErr result (λ e. HasTroubleOrRefusal e
+            (frame_written name.now (option_copied index.entry) value self.old)) }
+        ensures unchanged { OnErr result (self.new ≡ self.old) }
+    {
+        match self.variables.get_mut(name) {
+            Some(content) => content.set(alloc, index, value),
+            None => {
+                let content = Content::new(alloc, index, value)?;
+                self.put(alloc, name, content)?;
+                Ok(())
+            }
+        }
+    }
+
+    /// Makes a name an array, which an array is already.
+    pub fn make_array(&mut self, alloc: A, name: &[u8]) -> Result<(), ScopeError>
+        ensures ok { OnOk result (frame_with_array name.now self.old ≡ Ok self.new) }
+        ensures trouble { IfErr result
+            (λ e. HasTroubleOrRefusal e (frame_with_array name.now self.old)) }
+        ensures unchanged { OnErr result (self.new ≡ self.old) }
+    {
+        match self.variables.get(name) {
+            Some(Content::Text(_)) => Err(ScopeError::NotArray),
+            Some(Content::Array(_)) => Ok(()),
+            None => {
+                self.put(alloc, name, Content::Array(new_table(alloc)))?;
+                Ok(())
+            }
+        }
+    }
+
+    /// Puts a name, which goes last where it is not there.
+    fn put(&mut self, alloc: A, name: &[u8], content: Content<A>) -> Result<(), NoMemory>
+        ensures ok { OnOk result (self.new ≡ put self.old name.now (variable_of content)) }
+        ensures unchanged { OnErr result (self.new ≡ self.old) }
+    {
+        let key = Vec::from_slice(alloc, name)?;
+        self.variables.insert(key, content)?;
+        Ok(())
+    }
+}

@@ -1,0 +1,66 @@
+//! What a name stands for in a procedure that runs.
+ghost use Rattle.std.specs.Prelude.{◌≡◌, Some, Ok, OnOk, IfErr, OnErr, option_copied};
+ghost use Rattle.tclstate.specs.Scopes.{changed, reduced, frame_written, frame_without};
+ghost use Rattle.tclstate.specs.ScopeError.{HasTrouble, HasTroubleOrRefusal};
+ghost use Rattle.tclstate.specs.Stored.{local_of, reached};
+
+use crate::content::Content;
+use crate::error::ScopeError;
+use crate::globals::Globals;
+use std::alloc::Allocator;
+use tcltext::Value;
+
+/// A local variable, or a link to the global of its name.
+#[derive(Drop)]
+pub enum Local<A: Allocator> {
+    Own(Content<A>),
+    Link,
+}
+
+impl<A: Allocator> Local<A> {
+    /// Removes the element at an index; of a link, the global's.
+    pub fn remove_element(
+        &mut self,
+        globals: &mut Globals<A>,
+        name: &[u8],
+        index: &[u8],
+    ) -> Result<(), ScopeError>
+        ensures ok { OnOk result
+            (reached (λ v. reduced (Some v) index.now) (frame_without name.now (Some index.now)) (local_of self.old) globals.old
+            ≡ Ok (local_of self.new, globals.new)) }
+        ensures trouble { IfErr result (λ e. HasTrouble e
+            (reached (λ v. reduced (Some v) index.now) (frame_without name.now (Some index.now)) (local_of self.old) globals.old)) }
+        ensures unchanged { OnErr result (local_of self.new ≡ local_of self.old) }
+        ensures unchanged_globals { OnErr result (globals.new ≡ globals.old) }
+    {
+        match self {
+            Local::Own(content) => content.remove_element(index),
+            Local::Link => globals.remove_element(name, index),
+        }
+    }
+}
+
+impl<A: Allocator + Copy> Local<A> {
+    /// Writes the variable, or the element at an index; of a link, the global.
+    pub fn set(
+        &mut self,
+        globals: &mut Globals<A>,
+        alloc: A,
+        name: &[u8],
+        index: Option<&[u8]>,
+        value: Value<A>,
+    ) -> Result<(), ScopeError>
+        ensures ok { OnOk result
+            (reached (λ v. changed (Some v) (option_copied index.entry) value) (frame_written name.now (option_copied index.entry) value) (local_of self.old) globals.old
+            ≡ Ok (local_of self.new, globals.new)) }
+        ensures trouble { IfErr result (λ e. HasTroubleOrRefusal e
+            (reached (λ v. changed (Some v) (option_copied index.entry) value) (frame_written name.now (option_copied index.entry) value) (local_of self.old) globals.old)) }
+        ensures unchanged { OnErr result (local_of self.new ≡ local_of self.old) }
+        ensures unchanged_globals { OnErr result (globals.new ≡ globals.old) }
+    {
+        match self {
+            Local::Own(content) => content.set(alloc, index, value),
+            Local::Link => globals.set(alloc, name, index, value),
+        }
+    }
+}

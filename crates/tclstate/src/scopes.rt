@@ -1,0 +1,236 @@
+//! Scopes: the variables of a script and of the procedures that run.
+ghost use Rattle.std.specs.Prelude.{◌≡◌, ◌<◌, None, Some, Ok, IfOk, OnOk, IfErr, OnErr, option_copied, length};
+ghost use Rattle.std.specs.Option.{option_map};
+ghost use Rattle.tclstate.specs.Scopes as spec;
+ghost use Rattle.tclstate.specs.ScopeError.{HasTrouble, HasTroubleOrRefusal};
+
+use crate::content::Content;
+use crate::error::ScopeError;
+use crate::frame::LocalFrame;
+use crate::globals::Globals;
+use crate::local::Local;
+use memory::NoMemory;
+use std::alloc::Allocator;
+use std::marker::Model;
+use tcltext::Value;
+
+/// The variables of a script: those of the global frame, and those of each procedure that runs
+/// (Tcl(n), variables; proc(n); global(n)).
+///
+/// The current frame is that of the innermost procedure, else the global one. A look-up takes one
+/// hash, in a procedure a second one for a name that is linked to a global.
+#[derive(Drop)]
+pub struct Scopes<A: Allocator> {
+    locals: Vec<LocalFrame<A>, A>,
+    globals: Globals<A>,
+}
+
+impl<A: Allocator> Model for Scopes<A> {
+    ghost use Rattle.tclstate.specs.Scopes as definition;
+    ghost use Rattle.std.specs.Prelude.{reverse};
+
+    ghost Value = { definition.Scopes };
+
+    ghost view = { λ s. definition.scopes (reverse s.locals.items) s.globals };
+}
+
+impl<A: Allocator> Scopes<A> {
+    ghost use Rattle.tclstate.specs.Stored.{variable_of};
+
+    /// What a name means.
+    fn variable(&self, name: &[u8]) -> Option<&Content<A>>
+        ensures { option_map variable_of (option_copied result) ≡ spec.variable self.now name.now }
+    {
+        let Some(frame) = self.locals.last() else {
+            return self.globals.get(name);
+        };
+        match frame.get(name) {
+            Some(Local::Own(content)) => Some(content),
+            Some(Local::Link) => self.globals.get(name),
+            None => None,
+        }
+    }
+
+    /// The text of a name, or of its element at an index (set(n)).
+    ///
+    /// # Errors
+    /// `NoVariable` where the name means nothing, `IsArray` where it means an array and there is no
+    /// index; with an index `NotArray` where it means a text, `NoElement` where the array has no
+    /// such element.
+    pub fn get(&self, name: &[u8], index: Option<&[u8]>) -> Result<&Value<A>, ScopeError>
+        ensures value { IfOk result
+            (λ value. spec.read self.now name.now (option_copied index.entry) ≡ Ok value.now) }
+        ensures trouble { IfErr result
+            (λ e. HasTrouble e (spec.read self.now name.now (option_copied index.entry))) }
+    {
+        match self.variable(name) {
+            Some(content) => content.get(index),
+            None => Err(ScopeError::NoVariable),
+        }
+    }
+
+    /// The same in the global frame.
+    ///
+    /// # Errors
+    /// Those of [`get`](Scopes::get).
+    pub fn get_global(&self, name: &[u8], index: Option<&[u8]>) -> Result<&Value<A>, ScopeError>
+        ensures value { IfOk result
+            (λ value. spec.read_global self.now name.now (option_copied index.entry) ≡ Ok value.now) }
+        ensures trouble { IfErr result
+            (λ e. HasTrouble e (spec.read_global self.now name.now (option_copied index.entry))) }
+    {
+        match self.globals.get(name) {
+            Some(content) => content.get(index),
+            None => Err(ScopeError::NoVariable),
+        }
+    }
+
+    /// Removes a name, or its element at an index; the rest closes up (unset(n)). Through a link
+    /// the global is removed, and the link stays.
+    ///
+    /// # Errors
+    /// `NoVariable` where the name means nothing; with an index `NotArray` where it means a text,
+    /// `NoElement` where the array has no such element.
+    pub fn unset(&mut self, name: &[u8], index: Option<&[u8]>) -> Result<(), ScopeError>
+        ensures ok { OnOk result
+            (spec.removed self.old name.now (option_copied index.entry) ≡ Ok self.new) }
+        ensures trouble { IfErr result
+            (λ e. HasTrouble e (spec.removed self.old name.now (option_copied index.entry))) }
+        ensures unchanged { OnErr result (self.new ≡ self.old) }
+    {
+        match index {
+            Some(index) => self.remove_element(name, index),
+            None => self.remove(name),
+        }
+    }
+
+    /// Removes a name.
+    fn remove(&mut self, name: &[u8]) -> Result<(), ScopeError>
+        ensures ok { OnOk result (spec.removed self.old name.now None ≡ Ok self.new) }
+        ensures trouble { IfErr result (λ e. HasTrouble e (spec.removed self.old name.now None)) }
+        ensures unchanged { OnErr result (self.new ≡ self.old) }
+    {
+        match self.locals.last_mut() {
+            Some(frame) => frame.remove(&mut self.globals, name),
+            None => self.globals.remove(name),
+        }
+    }
+
+    /// Removes the element of a name at an index.
+    fn remove_element(&mut self, name: &[u8], index: &[u8]) -> Result<(), ScopeError>
+        ensures ok { OnOk result
+            (spec.removed self.old name.now (Some index.now) ≡ Ok self.new) }
+        ensures trouble { IfErr result
+            (λ e. HasTrouble e (spec.removed self.old name.now (Some index.now))) }
+        ensures unchanged { OnErr result (self.new ≡ self.old) }
+    {
+        match self.locals.last_mut() {
+            Some(frame) => frame.remove_element(&mut self.globals, name, index),
+            None => self.globals.remove_element(name, index),
+        }
+    }
+
+    /// The number of an array's elements, 0 for a name that means no array (array(n), array size).
+    pub fn size(&self, name: &[u8]) -> usize
+        ensures { result ≡ spec.size_of self.now name.now }
+    {
+        match self.variable(name) {
+            Some(content) => content.size(),
+            None => 0,
+        }
+    }
+
+    /// Ends the innermost procedure's frame (proc(n)).
+    pub fn pop_frame(&mut self)
+        requires { 0 < length self.old.locals }
+        ensures { self.new ≡ spec.popped self.old }
+    {
+        self.locals.pop();
+    }
+}
+
+impl<A: Allocator + Copy> Scopes<A> {
+    /// No names, at the top level. Takes no memory.
+    pub fn new(alloc: A) -> Scopes<A>
+        ensures { result ≡ spec.empty }
+    {
+        Scopes {
+            locals: Vec::new(alloc),
+            globals: Globals::new(alloc),
+        }
+    }
+
+    /// Writes a name, or its element at an index, and makes what is absent (set(n); array(n)). What is there is
+    /// overwritten in place and takes no memory; what is new goes last.
+    ///
+    /// # Errors
+    /// `IsArray` where the name means an array and there is no index, `NotArray` where it means a
+    /// text and there is one, and `NoMemory`.
+    pub fn set(
+        &mut self,
+        alloc: A,
+        name: &[u8],
+        index: Option<&[u8]>,
+        value: Value<A>,
+    ) -> Result<(), ScopeError>
+        ensures ok { OnOk result
+            (spec.written self.old name.now (option_copied index.entry) value ≡ Ok self.new) }
+        ensures trouble { IfErr result (λ e. HasTroubleOrRefusal e
+            (spec.written self.old name.now (option_copied index.entry) value)) }
+        ensures unchanged { OnErr result (self.new ≡ self.old) }
+    {
+        match self.locals.last_mut() {
+            Some(frame) => frame.set(&mut self.globals, alloc, name, index, value),
+            None => self.globals.set(alloc, name, index, value),
+        }
+    }
+
+    /// Makes a name an array, which an array is already (array(n), array set).
+    ///
+    /// # Errors
+    /// `NotArray` where the name means a text, and `NoMemory`.
+    pub fn make_array(&mut self, alloc: A, name: &[u8]) -> Result<(), ScopeError>
+        ensures ok { OnOk result (spec.with_array self.old name.now ≡ Ok self.new) }
+        ensures trouble { IfErr result
+            (λ e. HasTroubleOrRefusal e (spec.with_array self.old name.now)) }
+        ensures unchanged { OnErr result (self.new ≡ self.old) }
+    {
+        match self.locals.last_mut() {
+            Some(frame) => frame.make_array(&mut self.globals, alloc, name),
+            None => self.globals.make_array(alloc, name),
+        }
+    }
+
+    /// Links a name of the innermost procedure to the global of that name (global(n)). A local of that name is
+    /// dropped, and the link goes last; a link that is there stays. At the top level nothing
+    /// changes.
+    pub fn link_global(&mut self, alloc: A, name: &[u8]) -> Result<(), NoMemory>
+        ensures ok { OnOk result (self.new ≡ spec.linked self.old name.now) }
+        ensures unchanged { OnErr result (self.new ≡ self.old) }
+    {
+        let Some(frame) = self.locals.last_mut() else {
+            return Ok(());
+        };
+        frame.link(alloc, name)
+    }
+
+    /// The indexes of an array, in order; none for a name that means no array (array(n), array
+    /// names).
+    pub fn names(&self, alloc: A, name: &[u8]) -> Result<Vec<Value<A>, A>, NoMemory>
+        ensures { IfOk result (λ names. names.items ≡ spec.names_of self.now name.now) }
+    {
+        match self.variable(name) {
+            Some(content) => content.names(alloc),
+            None => Ok(Vec::new(alloc)),
+        }
+    }
+
+    /// Begins the frame of a procedure, which has no names yet (proc(n)).
+    pub fn push_frame(&mut self, alloc: A) -> Result<(), NoMemory>
+        ensures ok { OnOk result (self.new ≡ spec.pushed self.old) }
+        ensures unchanged { OnErr result (self.new ≡ self.old) }
+    {
+        self.locals.push(LocalFrame::new(alloc))?;
+        Ok(())
+    }
+}
