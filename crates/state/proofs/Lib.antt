@@ -1,0 +1,5 @@
+pub mod Lists
+pub mod Tables
+pub mod Places
+pub mod Spelled
+pub mod Stored

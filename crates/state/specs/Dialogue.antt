@@ -1,0 +1,76 @@
+-- Dialogues with the world: what a part of a run does, from a state on.
+use Rattle.std.specs.Prelude.{ℕ, zero, suc, List, Bool, true, false, if◌then◌else◌}
+use Rattle.acts.specs.Deed.{Deed, Reply}
+use Rattle.acts.specs.Deed as said
+use Rattle.acts.specs.Fits.{fits}
+use Rattle.acts.specs.Flaw.{Flaw, text_of}
+use Rattle.plan.specs.Plan.{Plan, Ends, Asks}
+use Rattle.state.specs.Outcome.{Code, Error, Stop, Outcome, Gives, Leaves, Stops}
+use Rattle.state.specs.Outcome as stop
+use Rattle.state.specs.Piece.{Piece, Text, Tree}
+use Rattle.state.specs.Status.{Status, counted}
+
+-- a plan over the pieces, the states, the outcomes, the acts and the texts of a run
+abbrev pub Dialogue : Type 0 → Type 0
+Dialogue X = Plan Piece Status Outcome Deed Reply Text Tree X
+
+-- what a part of a run does: it leaves a state and an outcome
+abbrev pub Course : Type 0
+Course = Dialogue (Status × Outcome)
+
+-- it is over with a value
+abbrev pub gives : List ℕ → Status → Course
+gives value s = Ends (s, Gives value)
+
+-- it is over with an error, whose value is the error's text (Tcl(n), return codes)
+abbrev pub raises : Flaw → Status → Course
+raises flaw s = Ends (s, Leaves Error (text_of flaw))
+
+-- it stops the whole run
+abbrev pub stops : Stop → Status → Course
+stops stop s = Ends (s, Stops stop)
+
+-- goes on where there is a value; every other outcome is passed on (Tcl(n), return codes)
+abbrev pub on_value : (Status → List ℕ → Course) → Status → Outcome → Course
+on_value next s (Gives value) = next s value
+on_value next s (Leaves code value) = Ends (s, Leaves code value)
+on_value next s (Stops stop) = Ends (s, Stops stop)
+
+-- takes a tick, where one is left; else the run stops (this project's own rule)
+abbrev pub tick_of : ℕ → Status → (Status → Course) → Course
+tick_of zero s next = stops stop.Limit s
+tick_of (suc left) s next = next (record s { left = left })
+
+-- the same, of the ticks that the state has left
+abbrev pub tick : Status → (Status → Course) → Course
+tick s next = tick_of s.left s next
+
+-- the world had no more answers
+abbrev pub is_no_more : Reply → Bool
+is_no_more said.NoMore = true
+is_no_more _ = false
+
+-- a dialogue goes on by an answer that fits; without one, or with another, the whole run stops, so
+-- that what follows an act never meets an answer that does not fit (this project's own rule)
+abbrev pub judged : {X : Type 0} → (Stop → X) → Deed → ℕ → Reply → Dialogue X → Dialogue X
+judged stopped deed number reply next =
+    if is_no_more reply then Ends (stopped stop.NoMore)
+    else if fits deed reply then next
+    else Ends (stopped (stop.BadAnswer number))
+
+-- what a stop leaves
+abbrev pub stopping : Status → Stop → Status × Outcome
+stopping s stop = (s, Stops stop)
+
+-- what an answer to the act comes to, once the act is counted
+abbrev pub replied : Deed → Status → (Status → Reply → Course) → Reply → Course
+replied deed s next reply = judged (stopping s) deed s.acts reply (next s reply)
+
+-- an act, and what is done with its answer
+abbrev pub ask : Deed → Status → (Status → Reply → Course) → Course
+ask deed s next = Asks deed (replied deed (counted s) next)
+
+-- after a write; a write that failed stops the run (this project's own rule)
+abbrev pub written : (Status → Course) → Status → Reply → Course
+written next s (said.Failed sent) = stops stop.WriterFailed s
+written next s _ = next s

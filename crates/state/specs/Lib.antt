@@ -1,0 +1,11 @@
+pub mod Outcome
+pub mod Status
+pub mod Piece
+pub mod Dialogue
+pub mod Variables
+pub mod Rows
+pub mod Tables
+pub mod View
+pub mod Leaf
+pub mod Arguments
+pub mod Stores

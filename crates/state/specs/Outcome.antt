@@ -1,0 +1,24 @@
+-- How a part of a run ends.
+use Rattle.std.specs.Prelude.{ℕ, ℤ, List}
+
+-- the codes other than ok (Tcl(n), return codes); the last one is that of exp_continue (expect(1))
+pub data Code : Type 0 where
+  Error : Code
+  Return : Code
+  Break : Code
+  Continue : Code
+  Again : Code
+
+-- what ends the whole run (this project's own rule; exit(n))
+pub data Stop : Type 0 where
+  Exit : (status : ℤ) → Stop
+  Limit : Stop
+  WriterFailed : Stop
+  BadAnswer : (number : ℕ) → Stop
+  NoMore : Stop
+
+-- a part ends with a value, with another code and a value, or with a stop (Tcl(n), return codes)
+pub data Outcome : Type 0 where
+  Gives : (value : List ℕ) → Outcome
+  Leaves : (code : Code) (value : List ℕ) → Outcome
+  Stops : (stop : Stop) → Outcome

@@ -1,0 +1,81 @@
+-- The variables of a script, as commands read and write them.
+use Rattle.std.specs.Prelude.{ℕ, ℤ, List, [], ◌∷◌, ◌++◌, codes, Option, Some, None, Result, Ok, Err, Bool, true, false, if◌then◌else◌}
+use Rattle.std.specs.Str.{bytes_eq}
+use Rattle.acts.specs.declared.id.Id.{Id}
+use Rattle.acts.specs.Flaw.{Flaw}
+use Rattle.acts.specs.Flaw as flaw
+use Rattle.acts.specs.Id.{id_text}
+use Rattle.tcltext.specs.Numbers.{numeral, is_in_range}
+use Rattle.tclstate.specs.Scopes.{Scopes, Trouble, NoVariable, IsArray, NotArray, NoElement, read, read_global, written}
+use Rattle.state.specs.Dialogue.{Course, raises}
+use Rattle.state.specs.Status.{Peer, Status, opened}
+
+-- a name as a script asks for it: `a`, or `a(i)` (Tcl(n), rule 8)
+abbrev pub spelled : List ℕ → Option (List ℕ) → List ℕ
+spelled name None = name
+spelled name (Some index) = name ++ 40 ∷ index ++ 41 ∷ []
+
+-- the error of a variable that is not read or written (set(n))
+abbrev pub flaw_of_trouble : Trouble → List ℕ → Flaw
+flaw_of_trouble NoVariable name = flaw.NoVariable name
+flaw_of_trouble IsArray name = flaw.IsArray name
+flaw_of_trouble NotArray name = flaw.NotArray name
+flaw_of_trouble NoElement name = flaw.NoElement name
+
+-- the value of a variable, and on with it (set(n))
+abbrev pub found : Result (List ℕ) Trouble → List ℕ → Status → (List ℕ → Course) → Course
+found (Ok value) name s next = next value
+found (Err trouble) name s next = raises (flaw_of_trouble trouble name) s
+
+-- a variable is read, and on with its value (set(n))
+abbrev pub reads : List ℕ → Option (List ℕ) → Status → (List ℕ → Course) → Course
+reads name index s next = found (read s.scopes name index) (spelled name index) s next
+
+-- a variable is written, and on; one that is not is the script's error (set(n))
+abbrev pub stored : Result Scopes Trouble → List ℕ → Status → (Status → Course) → Course
+stored (Ok scopes) name s next = next (record s { scopes = scopes })
+stored (Err trouble) name s next = raises (flaw_of_trouble trouble name) s
+
+-- a variable is written, and on where it could be (set(n))
+abbrev pub writes : List ℕ → Option (List ℕ) → List ℕ → Status → (Status → Course) → Course
+writes name index value s next =
+    stored (written s.scopes name index value) (spelled name index) s next
+
+-- the first of two values
+abbrev pub first_of : Result (List ℕ) Trouble → Result (List ℕ) Trouble → Option (List ℕ)
+first_of (Ok value) other = Some value
+first_of (Err trouble) (Ok value) = Some value
+first_of (Err trouble) (Err other) = None
+
+-- what a variable that Expect's commands read holds: sought in the local scope, then in the global
+-- one; an array counts as unset (expect(1), introduction)
+abbrev pub consulted : Scopes → List ℕ → Option (List ℕ)
+consulted scopes name = first_of (read scopes name None) (read_global scopes name None)
+
+-- the open id that a text spells (expect(1), spawn)
+abbrev pub named : List Peer → List ℕ → Option Id
+named [] text = None
+named (p ∷ ps) text = if bytes_eq text (id_text p.id.0) then Some p.id else named ps text
+
+-- on with the open id that the text spells; an id that is not open is named as it stands
+abbrev pub on_open : Option Id → List ℕ → Status → (Id → Course) → Course
+on_open None text s next = raises (flaw.NotOpen (Some text)) s
+on_open (Some id) text s next = next id
+
+-- on with the open id that a variable names, where it is set (expect(1), spawn)
+abbrev pub on_named : Option (List ℕ) → Status → (Id → Course) → Course
+on_named None s next = raises (flaw.NotOpen None) s
+on_named (Some text) s next = on_open (named (opened s.peers) text) text s next
+
+-- on with the id in force, which the variable spawn_id names (expect(1), spawn)
+abbrev pub with_current : Status → (Id → Course) → Course
+with_current s next = on_named (consulted s.scopes (codes "spawn_id")) s next
+
+-- a number that 64 bits hold
+abbrev pub kept : Option ℤ → Option ℤ
+kept None = None
+kept (Some n) = if is_in_range n then Some n else None
+
+-- the whole number within 64 bits that a text is (expr(n), operands)
+abbrev pub whole_of : List ℕ → Option ℤ
+whole_of text = kept (numeral text)

@@ -1,0 +1,54 @@
+//! How far a command that runs no script has come.
+
+ghost use Rattle.std.specs.Prelude.{◌≡◌, [], IfOk};
+ghost use Rattle.acts.specs.Flaw.{flaw_of, text_of};
+ghost use Rattle.state.specs.Leaf.{HasOutcome, raised};
+ghost use Rattle.state.specs.Outcome as outcome;
+ghost use Rattle.state.specs.View.{stop_of};
+
+use crate::outcome::{Code, Leave, Outcome, Stop};
+use acts::{Act, Fault, NoMemory};
+use std::alloc::Allocator;
+use tcltext::Value;
+
+/// How far a command has come that runs no script; `W` is what it does with the answers to its
+/// acts.
+#[derive(Drop)]
+pub enum Leaf<A: Allocator, W: Drop> {
+    /// It is over.
+    Has(Outcome<A>),
+    /// An act waits for its answer.
+    Asks(Act<A>, W),
+}
+
+/// The command is over with a value.
+pub fn gives<A: Allocator, W: Drop>(value: Value<A>) -> Leaf<A, W>
+    ensures { HasOutcome result (outcome.Gives value) }
+{
+    Leaf::Has(Ok(value))
+}
+
+/// The command is over with the empty value.
+pub fn empty<A: Allocator, W: Drop>() -> Leaf<A, W>
+    ensures { HasOutcome result (outcome.Gives []) }
+{
+    Leaf::Has(Ok(Value::empty()))
+}
+
+/// The command is over with an error.
+pub fn raises<A: Allocator + Copy, W: Drop>(
+    alloc: A,
+    fault: &Fault<A>,
+) -> Result<Leaf<A, W>, NoMemory>
+    ensures { IfOk result (λ leaf. HasOutcome leaf (raised fault.now)) }
+{
+    let text = Value::new(alloc, fault.text(alloc)?)?;
+    Ok(Leaf::Has(Err(Leave::Coded(Code::Error, text))))
+}
+
+/// The whole run stops.
+pub fn stops<A: Allocator, W: Drop>(stop: Stop) -> Leaf<A, W>
+    ensures { HasOutcome result (outcome.Stops (stop_of stop)) }
+{
+    Leaf::Has(Err(Leave::Stopped(stop)))
+}

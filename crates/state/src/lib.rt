@@ -1,0 +1,14 @@
+//! What every command stands on: the state of a run, how its parts end, how far a command has come.
+#![tactic(auto)]
+
+pub mod arguments;
+pub mod leaf;
+pub mod outcome;
+pub mod state;
+pub mod table;
+pub mod variables;
+
+pub use leaf::Leaf;
+pub use outcome::{Code, Leave, Outcome, Stop};
+pub use state::State;
+pub use table::{Selection, Table};

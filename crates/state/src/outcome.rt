@@ -1,0 +1,46 @@
+//! How a part of a run ends.
+
+use std::alloc::Allocator;
+use tcltext::Value;
+
+/// The codes with which a part ends that has no plain value (Tcl(n), return codes).
+#[derive(Clone, Copy, Debug, PartialEq, Eq)]
+pub enum Code {
+    /// 1: an error, whose value is its text.
+    Error,
+    /// 2: the procedure or script around it returns.
+    Return,
+    /// 3: the loop around it ends.
+    Break,
+    /// 4: the loop around it goes on with its next turn.
+    Continue,
+    /// 5: the `expect` around it goes on (expect(1), exp_continue).
+    Again,
+}
+
+/// What stops a whole run.
+#[derive(Clone, Copy, Debug, PartialEq, Eq)]
+pub enum Stop {
+    /// The script asked for this status (exit(n)).
+    Exit(i64),
+    /// All ticks were used.
+    Limit,
+    /// A write failed.
+    WriterFailed,
+    /// The answer of this number does not fit its act.
+    BadAnswer(u64),
+    /// The world had no more answers.
+    NoMore,
+}
+
+/// How a part ends that does not go on with a value.
+#[derive(Drop)]
+pub enum Leave<A: Allocator> {
+    /// With another code than ok, and a value.
+    Coded(Code, Value<A>),
+    /// The whole run stops.
+    Stopped(Stop),
+}
+
+/// How a part ends: with a value or otherwise.
+pub type Outcome<A> = Result<Value<A>, Leave<A>>;

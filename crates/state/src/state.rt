@@ -1,0 +1,20 @@
+//! What a run keeps between acts.
+
+use crate::table::Table;
+use std::alloc::Allocator;
+use tclstate::Scopes;
+
+/// What a run keeps between acts.
+#[derive(Drop)]
+pub struct State<A: Allocator> {
+    /// The variables.
+    pub scopes: Scopes<A>,
+    /// The open ids with their match buffers.
+    pub table: Table<A>,
+    /// The number of the next id, where one is left.
+    pub next: Option<u64>,
+    /// The ticks that are left.
+    pub left: u64,
+    /// The acts so far.
+    pub acts: u64,
+}
