@@ -1,0 +1,74 @@
+-- The words of a command, one after the other.
+use Rattle.std.proofs.Common.{◌≡◌, ◌∙◌, ℕ, suc, ◌+◌, ◌<◌, List, [], ◌++◌, length, drop, get_or, Bool, true, Option, Some, None, IfSome, Result, Ok, Err, IfOk, sym, ap, subst, add-one, drop-cons}
+use Rattle.std.specs.Prelude.{IsSomeAnd}
+use Rattle.acts.specs.declared.fault.Fault.{Fault}
+use Rattle.acts.specs.Flaw.{flaw_of}
+use Rattle.tcltext.specs.Flaw as list
+use Rattle.tcltext.specs.Elements.{IsList, HasFlaw}
+use Rattle.tclparse.specs.Tree.{Words, no_words}
+use Rattle.tclparse.specs.View.{word_view, words_then, parts_of}
+use Rattle.tclparse.specs.declared.tree.Word.{Word, out-Word}
+use Rattle.tclparse.proofs.Trees.{view_Word}
+use Rattle.state.specs.Dialogue.{Course, raises}
+use Rattle.state.specs.Piece.{ListText}
+use Rattle.state.specs.Status.{Status}
+use Rattle.words.specs.Gathering.{Adds, taken}
+use Rattle.words.specs.Reaches.{Reaches, here, reads}
+use Rattle.words.specs.Words.{parts, words, expanded, flaw_of_list}
+use Rattle.words.proofs.Reaches.{same_reaches}
+
+module _ {A : Type 0} (ws : List (Word A)) where
+  -- the words from a place on
+  abbrev pub left : ℕ → Words
+  left i = words_then (drop i ws) no_words
+
+  -- they are the one there and those behind it
+  pub at_word : (i : ℕ) (w : Word A) → i < length ws → w ≡ get_or ws i w →
+      (levels : ℕ) (values : List (List ℕ)) (s : Status)
+      (call : Status → List (List ℕ) → Course) →
+      words levels (left i) values s call
+      ≡ parts levels (parts_of (out-Word A w).parts) [] s
+      (taken levels (out-Word A w).expands (left (i + 1)) values call)
+  at_word i w lt is levels values s call =
+      ap (λ x. words levels x values s call)
+      (ap (λ vs. words_then vs no_words) (drop-cons ws i w lt)
+      ∙ ap (λ v. word_view v (left (suc i))) (sym is)
+      ∙ ap (λ j. word_view w (left j)) (sym (add-one i))
+      ∙ view_Word w (left (i + 1)))
+
+-- a value behind {*} that is a list gives its elements
+pub list_reaches : (value : List ℕ) (elements : List (List ℕ)) (s : Status)
+    (next : List (List ℕ) → Course) → IsList elements value →
+    Reaches (expanded true value s next) (next elements)
+list_reaches value elements s next is =
+    reads {text = ListText value} (Ok elements) is here
+
+-- one that is none raises the error that is told
+pub flaw_reaches : {A : Type 0} (value : List ℕ) (o : Option list.Flaw) (fault : Fault A)
+    (s : Status) (next : List (List ℕ) → Course) → IfSome o (λ why. HasFlaw why value) →
+    IsSomeAnd o (λ why. flaw_of fault ≡ flaw_of_list why) →
+    Reaches (expanded true value s next) (raises (flaw_of fault) s)
+flaw_reaches value None fault s next has told = absurd told
+flaw_reaches value (Some why) fault s next has told =
+    reads {text = ListText value} (Err why) has
+    (same_reaches (ap (λ f. raises f s) (sym told)))
+
+-- what holds of a value holds of another where the one gives the other
+pub on_ok : {X E : Type 0} (r : Result X E) (P Q : X → Type 0) → ((x : X) → P x → Q x) →
+    IfOk r P → IfOk r Q
+on_ok (Ok x) P Q each holds = each x holds
+on_ok (Err e) P Q each holds = holds
+
+-- what the words that a value stands for come to that were put behind the values, or were not
+pub added : {A : Type 0} (told : Option (Fault A)) (expands : Bool) (value : List ℕ)
+    (old new : List (List ℕ)) → told ≡ None → Adds told expands value old new →
+    (s : Status) (next : List (List ℕ) → Course) →
+    Reaches (expanded expands value s (λ more. next (old ++ more))) (next new)
+added told expands value old new is adds = subst (λ f. Adds f expands value old new) is adds
+
+pub not_added : {A : Type 0} (told : Option (Fault A)) (fault : Fault A) (expands : Bool)
+    (value : List ℕ) (old new : List (List ℕ)) → told ≡ Some fault →
+    Adds told expands value old new → (s : Status) (next : List (List ℕ) → Course) →
+    Reaches (expanded expands value s next) (raises (flaw_of fault) s)
+not_added told fault expands value old new is adds =
+    subst (λ f. Adds f expands value old new) is adds

@@ -1,0 +1,9 @@
+use Rattle.std.proofs.Common.{[], ◌∷◌}
+use Rattle.words.proofs.Levels.{more_around}
+use Rattle.words.proofs.word.enclosed.Goals as goal
+
+pub returns : goal.returns
+returns g c = λ levels next.
+    let word = c.args.word in
+    more_around levels word.inner word.outer.items (c.args.outer ∷ []) c.push_back.new.self.items
+    next c.in_ok-push_back.ensures.items

@@ -1,0 +1,52 @@
+-- What is done with the words of a command that are substituted up to a script in one of them.
+use Rattle.std.specs.Prelude.{◌≡◌, ℕ, List, ◌++◌, drop, Bool, Option, Some, None, IsSomeAnd}
+use Rattle.acts.specs.declared.fault.Fault.{Fault}
+use Rattle.acts.specs.Flaw.{flaw_of}
+use Rattle.tcltext.specs.declared.list.fault.ListFault.{ListFault}
+use Rattle.tcltext.specs.Seen as list
+use Rattle.tclparse.specs.Tree.{Words, no_words}
+use Rattle.tclparse.specs.View.{words_then, commands_of}
+use Rattle.state.specs.Dialogue.{Course, raises}
+use Rattle.state.specs.Status.{Status}
+use Rattle.words.specs.declared.gathering.Gathering.{Gathering}
+use Rattle.words.specs.declared.gathering.Gathered.{Gathered}
+use Rattle.words.specs.declared.gathering.Gathered.TheVariants as gathered
+use Rattle.words.specs.Words.{nested, flaw_of_list, expanded, words}
+use Rattle.words.specs.Reaches.{Reaches}
+use Rattle.words.specs.View.{resumed}
+
+-- on with the value of a word, and with the words behind it
+abbrev pub taken : ℕ → Bool → Words → List (List ℕ) → (Status → List (List ℕ) → Course) →
+    Status → List ℕ → Course
+taken levels expands ws values call = λ s value.
+    expanded expands value s (λ more. words levels ws (values ++ more) s call)
+
+-- on with the value of the script that was met in a word of a command
+abbrev pub gathering_on : {A : Type 0} → ℕ → Gathering A → (Status → List (List ℕ) → Course) →
+    Status → List ℕ → Course
+gathering_on levels g call =
+    resumed levels g.word
+    (taken levels g.expands (words_then (drop g.next g.words.value.items) no_words) g.values.items
+    call)
+
+-- what the words of a command come to: their values, a script in one of them, or the script's error
+abbrev pub course_of_gathered : {A : Type 0} → ℕ → Gathered A →
+    (Status → List (List ℕ) → Course) → Status → Course
+course_of_gathered levels (gathered.Values values) call s = call s values.items
+course_of_gathered levels (gathered.Script commands gathering) call s =
+    nested levels (commands_of commands) s (gathering_on levels gathering call)
+course_of_gathered levels (gathered.Fault fault) call s = raises (flaw_of fault) s
+
+-- the script's error tells why a text is no list
+abbrev pub TellsFlaw : {A : Type 0} → Fault A → ListFault → Type 0
+TellsFlaw told fault = IsSomeAnd (list.flaw_of fault) (λ why. flaw_of told ≡ flaw_of_list why)
+
+-- the words that a word's value stands for are put behind the values, or the script has this error
+abbrev pub Adds : {A : Type 0} → Option (Fault A) → Bool → List ℕ → List (List ℕ) →
+    List (List ℕ) → Type 0
+Adds None expands value old new =
+    (s : Status) (next : List (List ℕ) → Course) →
+    Reaches (expanded expands value s (λ more. next (old ++ more))) (next new)
+Adds (Some fault) expands value old new =
+    (s : Status) (next : List (List ℕ) → Course) →
+    Reaches (expanded expands value s next) (raises (flaw_of fault) s)

@@ -1,0 +1,51 @@
+-- What is done with a word that is evaluated up to a script, and with the words of a command.
+use Rattle.std.specs.Prelude.{◌≡◌, ℕ, List, [], ◌∷◌, ◌++◌, drop, Option, Some, None}
+use Rattle.acts.specs.declared.fault.Fault.{Fault}
+use Rattle.acts.specs.Flaw.{flaw_of}
+use Rattle.tclparse.specs.Tree.{Parts, no_parts}
+use Rattle.tclparse.specs.View.{parts_then, commands_of}
+use Rattle.state.specs.Dialogue.{Course, raises}
+use Rattle.state.specs.Status.{Status}
+use Rattle.state.specs.Variables.{reads}
+use Rattle.words.specs.declared.word.Rest.{Rest}
+use Rattle.words.specs.declared.word.Outer.{Outer}
+use Rattle.words.specs.declared.word.OpenWord.{OpenWord}
+use Rattle.words.specs.declared.word.Met.{Met}
+use Rattle.words.specs.declared.word.Met.TheVariants as met
+use Rattle.words.specs.Words.{nested, parts}
+
+-- the parts that are left of a word or of an index
+abbrev pub rest_of : {A : Type 0} → Rest A → Parts
+rest_of r = parts_then (drop r.next r.parts.value.items) no_parts
+
+-- on with the value of an index: the element is read, and then come the indexes and the word around
+-- it, the innermost first (Tcl(n), rule 8)
+abbrev pub after : {A : Type 0} →
+    ℕ → List (Outer A) → (Status → List ℕ → Course) → Status → List ℕ → Course
+after levels [] next = next
+after levels (o ∷ os) next = λ s index.
+    reads o.array (Some index) s (λ value.
+    parts levels (rest_of o.rest) (o.rest.bytes ++ value) s (after levels os next))
+
+-- on with the value of the script that was met in a word
+abbrev pub resumed : {A : Type 0} →
+    ℕ → OpenWord A → (Status → List ℕ → Course) → Status → List ℕ → Course
+resumed levels word next = λ s value.
+    parts levels (rest_of word.inner) (word.inner.bytes ++ value) s
+    (after levels word.outer.items next)
+
+-- what a word comes to: its value, a script in it, or the script's error
+abbrev pub course_of_met : {A : Type 0} →
+    ℕ → Met A → (Status → List ℕ → Course) → Status → Course
+course_of_met levels (met.Value value) next s = next s value
+course_of_met levels (met.Script commands word) next s =
+    nested levels (commands_of commands) s (resumed levels word next)
+course_of_met levels (met.Fault fault) next s = raises (flaw_of fault) s
+
+-- the value that a variable has is put behind the bytes, or the script has this error
+abbrev pub Appends : {A : Type 0} →
+    Option (Fault A) → List ℕ → List ℕ → List ℕ → Option (List ℕ) → Status → Type 0
+Appends None old new name index s =
+    (next : List ℕ → Course) → reads name index s (λ value. next (old ++ value)) ≡ next new
+Appends (Some fault) old new name index s =
+    (next : List ℕ → Course) → reads name index s next ≡ raises (flaw_of fault) s

@@ -1,0 +1,182 @@
+//! The words of a command: each is substituted, in order, up to a script in one of them (Tcl(n),
+//! rules 2 and 5).
+
+ghost use Rattle.std.specs.Prelude.{◌≡◌, ℕ, List, [], ◌∷◌, ◌++◌, drop, IfOk};
+ghost use Rattle.state.specs.Dialogue.{Course};
+ghost use Rattle.state.specs.Status.{Status};
+ghost use Rattle.tclparse.specs.Tree.{no_words};
+ghost use Rattle.tclparse.specs.View.{words_of, words_then};
+ghost use Rattle.words.specs.Words.{words as meant};
+ghost use Rattle.words.specs.Reaches.{Reaches};
+ghost use Rattle.words.specs.Gathering.{Adds, TellsFlaw, course_of_gathered, gathering_on, taken};
+ghost use Rattle.words.specs.View.{course_of_met};
+
+use crate::word::{Met, OpenWord, begin as begin_word};
+use acts::{Fault, NoMemory};
+use std::alloc::Allocator;
+use std::rc::Rc;
+use tclparse::{Command, Word};
+use tclstate::Scopes;
+use tcltext::{ListFault, Value, split_values};
+
+/// A command whose words are substituted up to a script in one of them: the values so far, that
+/// word, and the words behind it.
+#[derive(Drop)]
+pub struct Gathering<A: Allocator> {
+    words: Rc<Vec<Word<A>, A>, A>,
+    next: usize,
+    values: Vec<Value<A>, A>,
+    expands: bool,
+    word: OpenWord<A>,
+}
+
+/// What the words of a command come to.
+#[derive(Drop)]
+pub enum Gathered<A: Allocator> {
+    /// The values of all words.
+    Values(Vec<Value<A>, A>),
+    /// A script, whose value goes into a word.
+    Script(Rc<Vec<Command<A>, A>, A>, Gathering<A>),
+    /// A variable is not read, or the value behind `{*}` is no list.
+    Fault(Fault<A>),
+}
+
+/// Why a text is no list, as the script's error (list(n)).
+fn no_list<A: Allocator>(fault: ListFault) -> Result<Fault<A>, NoMemory>
+    ensures { IfOk result (λ told. TellsFlaw told fault) }
+{
+    match fault {
+        ListFault::OpenBrace => Ok(Fault::ListOpenBrace),
+        ListFault::OpenQuote => Ok(Fault::ListOpenQuote),
+        ListFault::AfterBrace => Ok(Fault::ListAfterBrace),
+        ListFault::AfterQuote => Ok(Fault::ListAfterQuote),
+        ListFault::EscapeNotHere => Ok(Fault::EscapeNotHere),
+        ListFault::NoMemory(refusal) => Err(refusal),
+    }
+}
+
+/// Adds the words that a word's value stands for: itself, or behind `{*}` its elements. Answers the
+/// script's error where these are to be had from no list.
+fn add_words<A: Allocator + Copy>(
+    alloc: A,
+    expands: bool,
+    value: Value<A>,
+    values: &mut Vec<Value<A>, A>,
+) -> Result<Option<Fault<A>>, NoMemory>
+    ensures { IfOk result (λ fault. Adds fault expands value values.old.items values.new.items) }
+{
+    if !expands {
+        values.push(value)?;
+        return Ok(None);
+    }
+    match split_values(alloc, value.as_slice()) {
+        Ok(mut elements) => {
+            values.append(&mut elements)?;
+            Ok(None)
+        }
+        Err(fault) => Ok(Some(no_list(fault)?)),
+    }
+}
+
+/// Substitutes the words from the next one on, up to a script.
+fn gather<A: Allocator + Copy>(
+    words: Rc<Vec<Word<A>, A>, A>,
+    mut next: usize,
+    mut values: Vec<Value<A>, A>,
+    alloc: A,
+    scopes: &Scopes<A>,
+) -> Result<Gathered<A>, NoMemory>
+    ensures { (levels : ℕ) (s : Status) (call : Status → List (List ℕ) → Course) →
+        s.scopes ≡ scopes.now → IfOk result (λ gathered. Reaches
+        (meant levels (words_then (drop next words.value.items) no_words) values.items s call)
+        (course_of_gathered levels gathered call s)) }
+{
+    let list: &Vec<Word<A>, A> = &words;
+    'words: while next < list.len() {
+        let word = &list[next];
+        let expands = word.expands;
+        let met = begin_word(&word.parts, alloc, scopes)?;
+        next += 1;
+        match met {
+            Met::Value(value) => {
+                if let Some(fault) = add_words(alloc, expands, value, &mut values)? {
+                    return Ok(Gathered::Fault(fault));
+                }
+                continue;
+            }
+            Met::Script(commands, word) => {
+                let gathering = Gathering {
+                    words,
+                    next,
+                    values,
+                    expands,
+                    word,
+                };
+                return Ok(Gathered::Script(commands, gathering));
+            }
+            Met::Fault(fault) => return Ok(Gathered::Fault(fault)),
+        }
+    }
+    Ok(Gathered::Values(values))
+}
+
+/// Substitutes the words of a command, up to a script in one of them. Where there is none, memory
+/// is asked for the list of values, and for words of several parts.
+///
+/// # Errors
+/// `NoMemory` where memory is refused.
+pub fn begin<A: Allocator + Copy>(
+    alloc: A,
+    scopes: &Scopes<A>,
+    words: Rc<Vec<Word<A>, A>, A>,
+) -> Result<Gathered<A>, NoMemory>
+    ensures { (levels : ℕ) (s : Status) (call : Status → List (List ℕ) → Course) →
+        s.scopes ≡ scopes.now → IfOk result (λ gathered. Reaches
+        (meant levels (words_of words) [] s call) (course_of_gathered levels gathered call s)) }
+{
+    let values = Vec::with_capacity(alloc, words.len())?;
+    gather(words, 0, values, alloc, scopes)
+}
+
+/// Goes on with the value of the script that was met, up to the next one.
+///
+/// # Errors
+/// `NoMemory` where memory is refused.
+pub fn resume<A: Allocator + Copy>(
+    alloc: A,
+    scopes: &Scopes<A>,
+    gathering: Gathering<A>,
+    value: Value<A>,
+) -> Result<Gathered<A>, NoMemory>
+    ensures { (levels : ℕ) (s : Status) (call : Status → List (List ℕ) → Course) →
+        s.scopes ≡ scopes.now → IfOk result (λ gathered. Reaches
+        (gathering_on levels gathering call s value)
+        (course_of_gathered levels gathered call s)) }
+{
+    let Gathering {
+        words,
+        next,
+        mut values,
+        expands,
+        word,
+    } = gathering;
+    match word.resume(alloc, scopes, &value)? {
+        Met::Value(value) => {
+            if let Some(fault) = add_words(alloc, expands, value, &mut values)? {
+                return Ok(Gathered::Fault(fault));
+            }
+            gather(words, next, values, alloc, scopes)
+        }
+        Met::Script(commands, word) => {
+            let gathering = Gathering {
+                words,
+                next,
+                values,
+                expands,
+                word,
+            };
+            Ok(Gathered::Script(commands, gathering))
+        }
+        Met::Fault(fault) => Ok(Gathered::Fault(fault)),
+    }
+}

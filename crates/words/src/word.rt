@@ -1,0 +1,242 @@
+//! One word: its parts are substituted, up to a script in it (Tcl(n), rules 7 to 9 and 11).
+
+ghost use Rattle.std.specs.Prelude.{◌≡◌, ℕ, List, [], ◌∷◌, ◌++◌, drop, IfOk, option_copied};
+ghost use Rattle.state.specs.Dialogue.{Course};
+ghost use Rattle.state.specs.Status.{Status};
+ghost use Rattle.tclparse.specs.Tree.{no_parts};
+ghost use Rattle.tclparse.specs.View.{parts_of, parts_then};
+ghost use Rattle.words.specs.Words.{parts as substituted};
+ghost use Rattle.words.specs.View.{Appends, after, course_of_met, resumed};
+
+use crate::joined::Joined;
+use acts::{Fault, NoMemory};
+use state::variables::trouble;
+use std::alloc::Allocator;
+use std::collections::VecDeque;
+use std::rc::Rc;
+use tclparse::{Command, Part};
+use tclstate::Scopes;
+use tcltext::Value;
+
+/// What is left of a word, or of an index: its parts from the next one on, and the bytes so far.
+#[derive(Drop)]
+pub struct Rest<A: Allocator> {
+    pub parts: Rc<Vec<Part<A>, A>, A>,
+    pub next: usize,
+    pub bytes: Joined<A>,
+}
+
+/// An array whose index is evaluated, and what is left around that element.
+#[derive(Drop)]
+pub struct Outer<A: Allocator> {
+    pub array: Value<A>,
+    pub rest: Rest<A>,
+}
+
+/// A word that is evaluated up to a script in it: what is left behind the script, and around that
+/// the indexes and the word in which it stands, the innermost first.
+#[derive(Drop)]
+pub struct OpenWord<A: Allocator> {
+    pub inner: Rest<A>,
+    pub outer: VecDeque<Outer<A>, A>,
+}
+
+/// What the evaluation of a word comes to.
+#[derive(Drop)]
+pub enum Met<A: Allocator> {
+    /// The word's value.
+    Value(Value<A>),
+    /// A script, whose value goes into the word.
+    Script(Rc<Vec<Command<A>, A>, A>, OpenWord<A>),
+    /// A variable is not read.
+    Fault(Fault<A>),
+}
+
+/// Puts the value of a variable behind the bytes, or answers the script's error.
+fn append_variable<A: Allocator + Copy>(
+    alloc: A,
+    scopes: &Scopes<A>,
+    name: &[u8],
+    index: Option<&[u8]>,
+    bytes: &mut Joined<A>,
+) -> Result<Option<Fault<A>>, NoMemory>
+    ensures { (s : Status) → s.scopes ≡ scopes.now → IfOk result (λ fault.
+        Appends fault bytes.old bytes.new name.now (option_copied index.entry) s) }
+{
+    match scopes.get(name, index) {
+        Ok(value) => {
+            bytes.push(value)?;
+            Ok(None)
+        }
+        Err(error) => Ok(Some(trouble(alloc, error, name, index)?)),
+    }
+}
+
+/// A word in which a script was met, inside an element's index.
+fn enclosed<A: Allocator + Copy>(
+    mut word: OpenWord<A>,
+    outer: Outer<A>,
+) -> Result<OpenWord<A>, NoMemory>
+    ensures { IfOk result (λ whole. (levels : ℕ) (next : Status → List ℕ → Course) →
+        resumed levels whole next ≡ resumed levels word (after levels (outer ∷ []) next)) }
+{
+    word.outer.push_back(outer)?;
+    Ok(word)
+}
+
+/// Substitutes the parts from the next one on, up to a script.
+fn run<A: Allocator + Copy>(
+    parts: &Rc<Vec<Part<A>, A>, A>,
+    mut next: usize,
+    mut bytes: Joined<A>,
+    alloc: A,
+    scopes: &Scopes<A>,
+) -> Result<Met<A>, NoMemory>
+    ensures { (levels : ℕ) (s : Status) (k : Status → List ℕ → Course) → s.scopes ≡ scopes.now →
+        IfOk result (λ met.
+        substituted levels (parts_then (drop next parts.now.value.items) no_parts) bytes s k
+        ≡ course_of_met levels met k s) }
+{
+    let list: &Vec<Part<A>, A> = parts;
+    'parts: while next < list.len() {
+        let part = &list[next];
+        next += 1;
+        match part {
+            Part::Literal(value) => {
+                bytes.push(value)?;
+                continue;
+            }
+            Part::Variable(name) => {
+                if let Some(fault) = append_variable(
+                    alloc,
+                    scopes,
+                    name.as_slice(),
+                    None,
+                    &mut bytes,
+                )? {
+                    return Ok(Met::Fault(fault));
+                }
+                continue;
+            }
+            Part::Element(array, index) => {
+                let value = match run(index, 0, Joined::new(alloc), alloc, scopes)? {
+                    Met::Value(value) => value,
+                    Met::Script(commands, word) => {
+                        let rest = Rest {
+                            parts: parts.clone()?,
+                            next,
+                            bytes,
+                        };
+                        let array = array.share()?;
+                        let whole = enclosed(word, Outer { array, rest })?;
+                        return Ok(Met::Script(commands, whole));
+                    }
+                    Met::Fault(fault) => return Ok(Met::Fault(fault)),
+                };
+                let index = Some(value.as_slice());
+                if let Some(fault) = append_variable(
+                    alloc,
+                    scopes,
+                    array.as_slice(),
+                    index,
+                    &mut bytes,
+                )? {
+                    return Ok(Met::Fault(fault));
+                }
+                continue;
+            }
+            Part::Bracket(commands) => {
+                let commands = commands.clone()?;
+                let inner = Rest {
+                    parts: parts.clone()?,
+                    next,
+                    bytes,
+                };
+                let outer = VecDeque::new(alloc);
+                return Ok(Met::Script(commands, OpenWord { inner, outer }));
+            }
+        }
+    }
+    Ok(Met::Value(bytes.finish(alloc)?))
+}
+
+/// Substitutes the parts of a word, up to a script in it.
+pub fn begin<A: Allocator + Copy>(
+    parts: &Rc<Vec<Part<A>, A>, A>,
+    alloc: A,
+    scopes: &Scopes<A>,
+) -> Result<Met<A>, NoMemory>
+    ensures { (levels : ℕ) (s : Status) (k : Status → List ℕ → Course) → s.scopes ≡ scopes.now →
+        IfOk result (λ met.
+        substituted levels (parts_of parts.now) [] s k ≡ course_of_met levels met k s) }
+{
+    run(parts, 0, Joined::new(alloc), alloc, scopes)
+}
+
+/// Goes on with the value of an index: reads the element, and substitutes what is left around it.
+fn leave_index<A: Allocator + Copy>(
+    outer: Outer<A>,
+    alloc: A,
+    scopes: &Scopes<A>,
+    index: &Value<A>,
+) -> Result<Met<A>, NoMemory>
+    ensures { (levels : ℕ) (s : Status) (k : Status → List ℕ → Course) → s.scopes ≡ scopes.now →
+        IfOk result (λ met.
+        after levels (outer ∷ []) k s index.now ≡ course_of_met levels met k s) }
+{
+    let Outer { array, rest } = outer;
+    let Rest {
+        parts,
+        next,
+        mut bytes,
+    } = rest;
+    let index = Some(index.as_slice());
+    if let Some(fault) = append_variable(alloc, scopes, array.as_slice(), index, &mut bytes)? {
+        return Ok(Met::Fault(fault));
+    }
+    run(&parts, next, bytes, alloc, scopes)
+}
+
+/// A word in which a script was met, inside these further indexes.
+fn enclosed_by_all<A: Allocator + Copy>(
+    mut word: OpenWord<A>,
+    mut outer: VecDeque<Outer<A>, A>,
+) -> Result<OpenWord<A>, NoMemory>
+    ensures { IfOk result (λ whole. (levels : ℕ) (next : Status → List ℕ → Course) →
+        resumed levels whole next ≡ resumed levels word (after levels outer.items next)) }
+{
+    word.outer.append(&mut outer)?;
+    Ok(word)
+}
+
+impl<A: Allocator + Copy> OpenWord<A> {
+    /// Goes on with the value of the script that was met, up to the next one.
+    pub fn resume(self, alloc: A, scopes: &Scopes<A>, value: &Value<A>) -> Result<Met<A>, NoMemory>
+        ensures { (levels : ℕ) (s : Status) (k : Status → List ℕ → Course) →
+            s.scopes ≡ scopes.now →
+            IfOk result (λ met. resumed levels self k s value.now ≡ course_of_met levels met k s) }
+    {
+        let OpenWord { inner, mut outer } = self;
+        let Rest {
+            parts,
+            next,
+            mut bytes,
+        } = inner;
+        bytes.push(value)?;
+        let mut met = run(&parts, next, bytes, alloc, scopes)?;
+        'levels: loop {
+            match met {
+                Met::Value(index) => {
+                    let Some(around) = outer.pop_front() else {
+                        return Ok(Met::Value(index));
+                    };
+                    met = leave_index(around, alloc, scopes, &index)?;
+                }
+                Met::Script(commands, word) => {
+                    return Ok(Met::Script(commands, enclosed_by_all(word, outer)?));
+                }
+                Met::Fault(fault) => return Ok(Met::Fault(fault)),
+            }
+        }
+    }
+}
