@@ -1,0 +1,4 @@
+//! The commands on lists.
+#![tactic(auto)]
+
+pub mod list;

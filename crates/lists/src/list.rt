@@ -1,0 +1,31 @@
+//! `list ..` (list(n)).
+
+ghost use Rattle.std.specs.Prelude.{◌≡◌, ◌≤◌, IfOk};
+ghost use Rattle.lists.specs.List as definition;
+ghost use Rattle.state.specs.Leaf.{Shows};
+ghost use Rattle.state.specs.Status.{Status};
+ghost use Rattle.state.specs.View.{FitsState};
+
+use acts::NoMemory;
+use state::leaf::gives;
+use state::{Leaf, State};
+use std::alloc::Allocator;
+use tcltext::{Value, join_values};
+
+/// What waits for the answer to an act: `list` makes none.
+#[derive(Clone, Copy, Debug, PartialEq, Eq)]
+pub enum Waits {}
+
+/// Gives the list of the words, in its canonical text.
+pub fn begin<A: Allocator + Copy>(
+    alloc: A,
+    state: &mut State<A>,
+    args: &[Value<A>],
+) -> Result<Leaf<A, Waits>, NoMemory>
+    ensures shows { (s : Status) → FitsState state.old s →
+        IfOk result (λ leaf. Shows definition.next_of leaf state.new (definition.list args.now s)) }
+    ensures left { state.new.left ≤ state.old.left }
+{
+    let text = join_values(alloc, args)?;
+    Ok(gives(Value::new(alloc, text)?))
+}

@@ -1,0 +1,4 @@
+//! The commands that read and write variables.
+#![tactic(auto)]
+
+pub mod set;

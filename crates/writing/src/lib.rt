@@ -1,0 +1,4 @@
+//! The commands that write to standard output and standard error.
+#![tactic(auto)]
+
+pub mod puts;
