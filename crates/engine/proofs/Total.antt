@@ -102,7 +102,7 @@ module _ {A : Type 0} where
       record { history = a.history; ending = a.ending; allowed = (refl, a.allowed) }
   phase_total (phase.Closes act c) answer fs s may ok = absurd may
   phase_total (phase.Over end) answer fs s may ok = absurd may
-  phase_total phase.Refused answer fs s may ok = absurd ok
+  phase_total (phase.Refused refusal) answer fs s may ok = absurd ok
 
 run_if : (b : Bool) (text : List ℕ) (limit : ℕ) → Allowed (RunIf b text limit)
 run_if true text limit = let f = follow (closing (Raises (text_of flaw.NotInThisStage)) (initial limit)) in record { history = f.history; ending = f.end; allowed = f.follows }

@@ -42,14 +42,14 @@ module _ {A : Type 0} where
   none_asked (phase.Asks act waiting) = refl
   none_asked (phase.Closes act c) = refl
   none_asked (phase.Over end) = refl
-  none_asked phase.Refused = refl
+  none_asked (phase.Refused refusal) = refl
 
   pub not_refused : (p : Phase A) → IsTold p → NotRefused p
   not_refused (phase.Has o) told = tt
   not_refused (phase.Asks act waiting) told = tt
   not_refused (phase.Closes act c) told = tt
   not_refused (phase.Over end) told = tt
-  not_refused phase.Refused told = told
+  not_refused (phase.Refused refusal) told = told
 
   -- the act that a step lends is the one that is asked
   pub record Asked (p : Phase A) (act : Act A) (answer : Answer A) : Type 0 where
@@ -61,14 +61,14 @@ module _ {A : Type 0} where
   asked (phase.Asks own waiting) act answer is = record { pair = ap (λ (a : Act A). let h : History = (deed_of a, reply_of answer) ∷ [] in h) is; holds = λ holds. rw (← is) holds }
   asked (phase.Closes own c) act answer is = record { pair = ap (λ (a : Act A). let h : History = (deed_of a, reply_of answer) ∷ [] in h) is; holds = λ holds. rw (← is) holds }
   asked (phase.Over end) act answer is = absurd is
-  asked phase.Refused act answer is = absurd is
+  asked (phase.Refused refusal) act answer is = absurd is
 
   over_ends : (p : Phase A) (end : End A) (fs : List (Frame A)) (s : Status) → end_of p ≡ Some end → PhaseRuns p fs s [] (ending_of end)
   over_ends (phase.Has o) end fs s is = absurd (cc)
   over_ends (phase.Asks act waiting) end fs s is = absurd (cc)
   over_ends (phase.Closes act c) end fs s is = absurd (cc)
   over_ends (phase.Over own) end fs s is = let same : own ≡ end = cc in (refl, ap ending_of (sym same))
-  over_ends phase.Refused end fs s is = absurd (cc)
+  over_ends (phase.Refused refusal) end fs s is = absurd (cc)
 
 module _ {A W : Type 0} {Step : W → Deed → Reply → W → Type 0} where
   -- the first call

@@ -18,7 +18,7 @@ use Rattle.engine.specs.Step.{StepIs}
 -- answer in front, and what is given is the act that is asked or the end
 pub record Went {A : Type 0} (old : Session A) (answer : Option (Answer A)) (r : Result (Step A) NoMemory) (new : Session A) : Type 0 where
   pub runs : IfOk r (λ s. (h : History) (e : Ending) → Runs new h e → Runs old (answered_so old answer ++ h) e)
-  pub tells : MatchResult r (λ s. StepIs s new.phase) (λ _. IsRefused new)
+  pub tells : MatchResult r (λ s. StepIs s new.phase) (λ refusal. IsRefused refusal new)
   pub sound : IsSound old → IfOk r (λ _. IsSound new)
   pub holds : PhaseHolds old.phase → PhaseHolds new.phase
   pub again : GivesAgain StepIs old.phase r

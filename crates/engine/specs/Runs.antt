@@ -1,6 +1,7 @@
 -- The runs that a session allows, as its callers see them.
 use Rattle.std.specs.Prelude.{◌≡◌, ℕ, Option, Some, None}
 use Rattle.acts.specs.declared.answer.Answer.{Answer}
+use Rattle.memory.specs.declared.NoMemory.{NoMemory}
 use Rattle.acts.specs.History.{History}
 use Rattle.engine.specs.declared.end.End.{End}
 use Rattle.engine.specs.declared.phase.Phase.{Phase}
@@ -24,15 +25,15 @@ answered_so session answer = answered_in session.phase answer
 abbrev pub owed_by : {A : Type 0} → Session A → ℕ
 owed_by session = owed session.phase session.state
 
-abbrev pub IsRefused : {A : Type 0} → Session A → Type 0
-IsRefused session = session.phase ≡ phase.Refused
+abbrev pub IsRefused : {A : Type 0} → NoMemory → Session A → Type 0
+IsRefused refusal session = session.phase ≡ phase.Refused refusal
 
 abbrev pub end_of : {A : Type 0} → Phase A → Option (End A)
 end_of (phase.Over end) = Some end
 end_of (phase.Has o) = None
 end_of (phase.Asks act waiting) = None
 end_of (phase.Closes act c) = None
-end_of phase.Refused = None
+end_of (phase.Refused refusal) = None
 
 -- the end that was given, if any
 abbrev pub has_end : {A : Type 0} → Session A → Option (End A)

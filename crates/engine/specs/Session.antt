@@ -1,5 +1,5 @@
 -- The runs that a session allows.
-use Rattle.std.specs.Prelude.{◌≡◌, ℕ, ◌+◌, List, [], ◌∷◌, ◌++◌, map, reverse, drop, length, Option, Some, None, Result, IsOkAnd, IsErr}
+use Rattle.std.specs.Prelude.{◌≡◌, ℕ, ◌+◌, List, [], ◌∷◌, ◌++◌, map, reverse, drop, length, Option, Some, None, Result, Err, IsOkAnd}
 use Rattle.std.specs.declared.vec.Vec.{Vec}
 use Rattle.memory.specs.declared.NoMemory.{NoMemory}
 use Rattle.acts.specs.Deed.{Deed, Reply, deed_of, reply_of}
@@ -82,7 +82,7 @@ IsClosing (phase.Closes act c) s course = course ≡ closing_of (deed_of act) c 
 IsClosing (phase.Over end) s course = course ≡ Ends (ending_of end)
 IsClosing (phase.Has o) s course = ⊥
 IsClosing (phase.Asks act waiting) s course = ⊥
-IsClosing phase.Refused s course = ⊥
+IsClosing (phase.Refused refusal) s course = ⊥
 
 -- the acts with their answers and the end that are still allowed, from a state that fits
 abbrev pub PhaseRuns : {A : Type 0} → Phase A → List (Frame A) → Status → History → Ending → Type 0
@@ -90,7 +90,7 @@ PhaseRuns (phase.Has o) fs s h e = After fs s (outcome_of o) h e
 PhaseRuns (phase.Asks act waiting) fs s h e = PlainThen (plain_of (now.Asks act waiting) s) (After fs) h e
 PhaseRuns (phase.Closes act c) fs s h e = Follows (closing_of (deed_of act) c s) h e
 PhaseRuns (phase.Over end) fs s h e = (h ≡ []) × (e ≡ ending_of end)
-PhaseRuns phase.Refused fs s h e = ⊥
+PhaseRuns (phase.Refused refusal) fs s h e = ⊥
 
 -- for some state that the code's fits, what is at hand now leads on as what was there before
 pub record Leads {A : Type 0} (p : Phase A) (fs : List (Frame A)) (state : State A) (Before : History → Ending → Type 0) : Type 0 where
@@ -118,7 +118,7 @@ answered_in (phase.Asks act waiting) None = []
 answered_in (phase.Closes act c) None = []
 answered_in (phase.Has o) answer = []
 answered_in (phase.Over end) answer = []
-answered_in phase.Refused answer = []
+answered_in (phase.Refused refusal) answer = []
 
 -- the acts that may follow at most
 abbrev pub owed : {A : Type 0} → Phase A → State A → ℕ
@@ -126,7 +126,7 @@ owed (phase.Has o) state = 1 + worth state
 owed (phase.Asks act waiting) state = 1 + pending_of waiting + worth state
 owed (phase.Closes act c) state = 1 + length state.table.entries.items
 owed (phase.Over end) state = 0
-owed phase.Refused state = 0
+owed (phase.Refused refusal) state = 0
 
 -- these and the acts so far
 abbrev pub total : {A : Type 0} → Phase A → State A → ℕ
@@ -134,7 +134,7 @@ total (phase.Has o) state = state.acts + owed (phase.Has o) state
 total (phase.Asks act waiting) state = state.acts + owed (phase.Asks act waiting) state
 total (phase.Closes act c) state = state.acts + owed (phase.Closes act c) state
 total (phase.Over end) state = 0
-total phase.Refused state = 0
+total (phase.Refused refusal) state = 0
 
 -- an act is asked, or the run is over
 abbrev pub IsTold : {A : Type 0} → Phase A → Type 0
@@ -142,7 +142,7 @@ IsTold (phase.Has o) = ⊥
 IsTold (phase.Asks act waiting) = Unit {0}
 IsTold (phase.Closes act c) = Unit {0}
 IsTold (phase.Over end) = Unit {0}
-IsTold phase.Refused = ⊥
+IsTold (phase.Refused refusal) = ⊥
 
 -- the rows of a wait that is asked hold at most their max
 abbrev pub PhaseHolds : {A : Type 0} → Phase A → Type 0
@@ -150,7 +150,7 @@ PhaseHolds (phase.Has o) = Unit {0}
 PhaseHolds (phase.Asks act waiting) = Holds (deed_of act)
 PhaseHolds (phase.Closes act c) = Holds (deed_of act)
 PhaseHolds (phase.Over end) = Unit {0}
-PhaseHolds phase.Refused = Unit {0}
+PhaseHolds (phase.Refused refusal) = Unit {0}
 
 -- memory may be refused here: not where an act waits for its answer, or the run is over
 abbrev pub MayFail : {A : Type 0} → Phase A → Option (Answer A) → Type 0
@@ -159,12 +159,12 @@ MayFail (phase.Asks act waiting) None = ⊥
 MayFail (phase.Asks act waiting) (Some answer) = Unit {0}
 MayFail (phase.Closes act c) answer = ⊥
 MayFail (phase.Over end) answer = ⊥
-MayFail phase.Refused answer = Unit {0}
+MayFail (phase.Refused refusal) answer = Unit {0}
 
 -- an end is given again, and a refusal stays; IsEnd says of what is given that it is that end
 abbrev pub GivesAgain : {A X : Type 0} → (X → Phase A → Type 0) → Phase A → Result X NoMemory → Type 0
 GivesAgain IsEnd (phase.Over end) r = IsOkAnd r (λ x. IsEnd x (phase.Over end))
-GivesAgain IsEnd phase.Refused r = IsErr r
+GivesAgain IsEnd (phase.Refused refusal) r = r ≡ Err refusal
 GivesAgain IsEnd _ r = Unit {0}
 
 abbrev pub NotRefused : {A : Type 0} → Phase A → Type 0
@@ -172,4 +172,4 @@ NotRefused (phase.Has o) = Unit {0}
 NotRefused (phase.Asks act waiting) = Unit {0}
 NotRefused (phase.Closes act c) = Unit {0}
 NotRefused (phase.Over end) = Unit {0}
-NotRefused phase.Refused = ⊥
+NotRefused (phase.Refused refusal) = ⊥

@@ -12,7 +12,7 @@ AsksFor (phase.Asks own waiting) act = own ≡ act
 AsksFor (phase.Closes own c) act = own ≡ act
 AsksFor (phase.Has o) act = ⊥
 AsksFor (phase.Over end) act = ⊥
-AsksFor phase.Refused act = ⊥
+AsksFor (phase.Refused refusal) act = ⊥
 
 -- the act that is asked, or the end
 abbrev pub StepIs : {A : Type 0} → Step A → Phase A → Type 0

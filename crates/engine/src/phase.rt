@@ -4,7 +4,7 @@ use crate::closing::Closing;
 use crate::course::Waiting;
 use crate::end::End;
 use crate::outcome::Outcome;
-use acts::Act;
+use acts::{Act, NoMemory};
 use std::alloc::Allocator;
 
 /// Where a session stands.
@@ -19,5 +19,5 @@ pub enum Phase<A: Allocator> {
     /// The run is over.
     Over(End<A>),
     /// Memory was refused.
-    Refused,
+    Refused(NoMemory),
 }

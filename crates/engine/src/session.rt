@@ -96,14 +96,23 @@ impl<A: Allocator + Copy> Session<A> {
         ensures owes { IfOk result (λ _. length (answered_so self.old answer) + owed_by self.new ≤ owed_by self.old) }
         ensures told { IfOk result (λ _. IsTold self.new.phase) }
         ensures holds { PhaseHolds self.old.phase → IfOk result (λ _. PhaseHolds self.new.phase) }
-        ensures refused { IfErr result (λ _. IsRefused self.new) }
+        ensures refused { IfErr result (λ refusal. IsRefused refusal self.new) }
         ensures fails { IfErr result (λ _. MayFail self.old.phase answer) }
         ensures again { GivesAgain (λ _ end. self.new.phase ≡ end) self.old.phase result }
     {
         let alloc = *self.frames.allocator();
-        let phase = mem::replace(&mut self.phase, Phase::Refused);
-        self.phase = forward(alloc, &mut self.frames, &mut self.state, phase, answer)?;
-        Ok(())
+        // What stands there while the session goes on; nothing sees it.
+        let phase = mem::replace(&mut self.phase, Phase::Over(End::NoMore));
+        match forward(alloc, &mut self.frames, &mut self.state, phase, answer) {
+            Ok(phase) => {
+                self.phase = phase;
+                Ok(())
+            }
+            Err(refusal) => {
+                self.phase = Phase::Refused(refusal);
+                Err(refusal)
+            }
+        }
     }
 
     /// The act that is asked, or the end.
@@ -114,7 +123,7 @@ impl<A: Allocator + Copy> Session<A> {
         match &self.phase {
             Phase::Asks(act, _) | Phase::Closes(act, _) => Step::Act(act),
             Phase::Over(end) => Step::End(end),
-            Phase::Has(_) | Phase::Refused => unreachable!(),
+            Phase::Has(_) | Phase::Refused(_) => unreachable!(),
         }
     }
 
@@ -132,7 +141,7 @@ impl<A: Allocator + Copy> Session<A> {
             Phase::Has(_) => None,
             Phase::Asks(_, _) => None,
             Phase::Closes(_, _) => None,
-            Phase::Refused => None,
+            Phase::Refused(_) => None,
         }
     }
 }
@@ -189,6 +198,6 @@ fn forward<A: Allocator + Copy>(
             None => Ok(Phase::Closes(act, closing)),
         },
         Phase::Over(end) => Ok(Phase::Over(end)),
-        Phase::Refused => Err(NoMemory),
+        Phase::Refused(refusal) => Err(refusal),
     }
 }

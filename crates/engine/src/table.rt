@@ -1,13 +1,13 @@
 //! The open ids, each with its match buffer.
 
-ghost use Rattle.std.specs.Prelude.{◌≡◌, ℕ, ◌+◌, ◌≤◌, ◌==◌, ◌∷◌, ◌++◌, [], List, length, nat_le, position, IfOk, OnOk, MatchBool, MatchOption, is_some, if◌then◌else◌, None, Some};
+ghost use Rattle.std.specs.Prelude.{◌≡◌, ℕ, ◌+◌, ◌≤◌, ◌==◌, ◌≢◌, ◌∷◌, ◌++◌, [], List, length, nat_le, position, IfOk, OnOk, MatchBool, MatchOption, is_some, if◌then◌else◌, None, Some};
 ghost use Rattle.engine.specs.Status.{Peer, journal_of, recorded, without, is_open};
 ghost use Rattle.engine.specs.Tables.{FirstCloses, FitsAll, Takes, IsWithin, Misses, Selects};
 ghost use Rattle.engine.specs.Turn.{first_place, without_nulls, row_of};
 ghost use Rattle.matchbuf.specs.Journal.{Record, Arrived, Consumed, Sized, Fits, window, place_after};
 
 use acts::{Id, NoMemory, Row};
-use matchbuf::MatchBuf;
+use matchbuf::{MatchBuf, MatchBufError};
 use memchr::memmem;
 use std::alloc::Allocator;
 
@@ -68,7 +68,7 @@ impl<A: Allocator + Copy> Table<A> {
     {
         let buffer = match MatchBuf::new(alloc, FIRST_SIZE) {
             Ok(buffer) => buffer,
-            Err(_) => return Err(NoMemory),
+            Err(error) => return Err(refusal_of(error)),
         };
         self.entries.push(Entry { id, buffer })?;
         Ok(())
@@ -176,4 +176,14 @@ fn remove_nulls<A: Allocator>(bytes: &mut Vec<u8, A>)
     ensures { bytes.new.items ≡ without_nulls bytes.old.items }
 {
     bytes.retain(|b| *b != 0);
+}
+
+/// Why a buffer of the first size was not made: that size is allowed, so memory was refused.
+fn refusal_of(error: MatchBufError) -> NoMemory
+    requires { error ≢ MatchBufError.Size }
+{
+    match error {
+        MatchBufError::NoMemory(refusal) => refusal,
+        MatchBufError::Size => unreachable!(),
+    }
 }
