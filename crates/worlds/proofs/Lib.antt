@@ -1,8 +1,3 @@
-mod Cuts
-mod Digits
-mod Faults
+mod Consumed
 mod Limits
-mod Lines
 mod Plays
-mod Records
-mod Sinks

@@ -24,4 +24,5 @@ IsScript name = (rest : List ℕ) → name ≡ codes "-" ++ rest → rest ≡ []
 -- a call replays a record on a script, for so many ticks
 abbrev pub IsCall : List (List ℕ) → List ℕ → ℕ → List ℕ → Type 0
 IsCall words replay ticks script =
-    (limit : Option (List ℕ)) × AreWords words replay limit script × AreTicks limit ticks × IsScript script
+    (limit : Option (List ℕ)) × AreWords words replay limit script
+    × AreTicks limit ticks × IsScript script

@@ -1,12 +1,14 @@
 -- The statuses of the program, and its lines on standard error (this project's own).
-use Rattle.std.specs.Prelude.{ℕ, pos, unsigned_abs, List, [], ◌++◌, Result, Ok, Err, codes, decimal}
+use Rattle.std.specs.Prelude.{ℕ, Bool, true, false, pos, unsigned_abs, List, [], ◌++◌, Result, Ok, Err, codes, decimal}
 use Rattle.std.specs.Borrow.{Bor}
 use Rattle.std.specs.Int.{int_rem_euclid}
 use Rattle.memory.specs.declared.NoMemory.{NoMemory as Refusal}
 use Rattle.engine.specs.declared.end.End.{End}
 use Rattle.engine.specs.declared.end.End.TheVariants as end
-use Rattle.worlds.specs.declared.record.RecordFault.{RecordFault}
-use Rattle.worlds.specs.declared.record.RecordFault.TheVariants as fault
+use Rattle.worlds.specs.declared.input.Unread.{Unread}
+use Rattle.worlds.specs.declared.input.Unread.TheVariants as unread
+use Rattle.records.specs.declared.record.RecordFault.{RecordFault}
+use Rattle.records.specs.declared.record.RecordFault.TheVariants as fault
 use Rattle.worlds.specs.declared.status.Outcome.{Outcome}
 use Rattle.worlds.specs.declared.status.Outcome.TheVariants.{Exit, ScriptError, Usage, CannotOpen, Limit, OutputFailed, UnfitAnswer, NoMoreAnswers, BadRecord, NoMemory}
 
@@ -18,13 +20,28 @@ run_outcome (Ok end.Limit) = Limit
 run_outcome (Ok end.WriterFailed) = OutputFailed
 run_outcome (Ok (end.BadAnswer number)) = UnfitAnswer number
 run_outcome (Ok end.NoMore) = NoMoreAnswers
-run_outcome (Err refusal) = NoMemory
+run_outcome (Err refusal) = NoMemory refusal
+
+-- the end of a run under replay: a writer that has failed is the outcome whatever else ended it
+abbrev pub end_outcome : {A : Type 0} → Bool → Result (End A) Refusal → Outcome
+end_outcome true ended = OutputFailed
+end_outcome false ended = run_outcome ended
+
+-- a file of this name that was not read
+abbrev pub file_outcome : Bor (List ℕ) → Unread → Outcome
+file_outcome name unread.Refused = CannotOpen name
+file_outcome name (unread.NoMemory refusal) = NoMemory refusal
+
+-- the words of a call that were not read
+abbrev pub words_outcome : Unread → Outcome
+words_outcome unread.Refused = Usage
+words_outcome (unread.NoMemory refusal) = NoMemory refusal
 
 -- a record of this name that was not read: a missing header is its line 1
 abbrev pub fault_outcome : Bor (List ℕ) → RecordFault → Outcome
 fault_outcome name fault.Header = BadRecord name 1
 fault_outcome name (fault.Line line) = BadRecord name line
-fault_outcome name fault.NoMemory = NoMemory
+fault_outcome name (fault.NoMemory refusal) = NoMemory refusal
 
 -- a script's number modulo 256, and else the number of the kind of its end
 abbrev pub status_of : Outcome → ℕ
@@ -37,17 +54,19 @@ status_of OutputFailed = 4
 status_of (UnfitAnswer number) = 5
 status_of NoMoreAnswers = 5
 status_of (BadRecord name line) = 5
-status_of NoMemory = 6
+status_of (NoMemory refusal) = 6
 
 -- the line with its newline, and nothing where there is none
 abbrev pub line_of : Outcome → List ℕ
 line_of (Exit number) = []
 line_of ScriptError = []
-line_of Usage = codes "usage: rx [-c cmds]... [--replay F | --record F] [--limit N] [[-f] file [args]]\n"
+line_of Usage =
+    codes "usage: rx [-c cmds]... [--replay F | --record F] [--limit N] [[-f] file [args]]\n"
 line_of (CannotOpen name) = codes "rx: cannot open " ++ name.now ++ codes "\n"
 line_of Limit = codes "rx: command limit reached\n"
 line_of OutputFailed = codes "rx: output failed\n"
 line_of (UnfitAnswer number) = codes "rx: answer " ++ decimal number ++ codes " does not fit\n"
 line_of NoMoreAnswers = codes "rx: no more answers\n"
-line_of (BadRecord name line) = codes "rx: bad record " ++ name.now ++ codes " at line " ++ decimal line ++ codes "\n"
-line_of NoMemory = codes "rx: no memory\n"
+line_of (BadRecord name line) =
+    codes "rx: bad record " ++ name.now ++ codes " at line " ++ decimal line ++ codes "\n"
+line_of (NoMemory refusal) = codes "rx: no memory\n"

@@ -11,8 +11,8 @@ use std::alloc::Allocator;
 /// How many ticks a run may take where no argument says so.
 const DEFAULT_TICKS: u64 = 10_000_000;
 
-/// What a call of the program asks for: the record and the script, by the names of their files, and how
-/// long the run may go on.
+/// What a call of the program asks for: the record and the script, by the names of their files, and
+/// how long the run may go on.
 #[derive(Clone, Copy, Debug)]
 pub struct Arguments<'a> {
     pub replay: &'a [u8],
@@ -31,8 +31,10 @@ struct Words<'a> {
 impl<'a> Arguments<'a> {
     /// Reads the words of a call: `--replay F [--limit N] file`, the options in any order.
     pub fn read<A: Allocator>(words: &'a [Vec<u8, A>]) -> Option<Arguments<'a>>
-        ensures call { IfSome result (λ call. IsCall (texts words.entry.now) call.replay.now call.limits.ticks call.script.now) }
-        ensures none { IfNone result ((replay script : List ℕ) (ticks : ℕ) → IsCall (texts words.entry.now) replay ticks script → ⊥) }
+        ensures call { IfSome result (λ call.
+            IsCall (texts words.entry.now) call.replay.now call.limits.ticks call.script.now) }
+        ensures none { IfNone result ((replay script : List ℕ) (ticks : ℕ)
+            → ¬ IsCall (texts words.entry.now) replay ticks script) }
     {
         let words = words_of(words)?;
         let limits = limits_of(words.limit)?;
@@ -49,8 +51,10 @@ impl<'a> Arguments<'a> {
 
 /// The words of a call, before they are looked into.
 fn words_of<'a, A: Allocator>(words: &'a [Vec<u8, A>]) -> Option<Words<'a>>
-    ensures words { IfSome result (λ found. AreWords (texts words.entry.now) found.replay.now (option_copied found.limit) found.script.now) }
-    ensures none { IfNone result ((replay script : List ℕ) (limit : Option (List ℕ)) → AreWords (texts words.entry.now) replay limit script → ⊥) }
+    ensures words { IfSome result (λ found. AreWords (texts words.entry.now)
+        found.replay.now (option_copied found.limit) found.script.now) }
+    ensures none { IfNone result ((replay script : List ℕ) (limit : Option (List ℕ))
+        → ¬ AreWords (texts words.entry.now) replay limit script) }
 {
     if let Some((replay, rest)) = take_option(words, b"--replay") {
         let (limit, rest) = match take_option(rest, b"--limit") {
@@ -79,8 +83,10 @@ fn take_option<'a, A: Allocator>(
     words: &'a [Vec<u8, A>],
     name: &[u8],
 ) -> Option<(&'a [u8], &'a [Vec<u8, A>])>
-    ensures taken { IfSome result (λ found. texts words.entry.now ≡ name.now ∷ found.0.now ∷ texts found.1.now) }
-    ensures none { IfNone result ((value : List ℕ) (rest : List (List ℕ)) → texts words.entry.now ≢ name.now ∷ value ∷ rest) }
+    ensures taken { IfSome result (λ found.
+        texts words.entry.now ≡ name.now ∷ found.0.now ∷ texts found.1.now) }
+    ensures none { IfNone result ((value : List ℕ) (rest : List (List ℕ))
+        → texts words.entry.now ≢ name.now ∷ value ∷ rest) }
 {
     let (first, rest) = words.split_first()?;
     let (value, rest) = rest.split_first()?;
@@ -123,58 +129,4 @@ fn is_script(word: &[u8]) -> bool
     ensures { IsTrue result ↔ IsScript word.now }
 {
     !word.starts_with(b"-") || word.len() == 1
-}
-
-#[cfg(test)]
-mod tests {
-    use super::*;
-    use std::test::Fail;
-
-    /// What the words of a text, cut at blanks, ask for.
-    fn shown(rt: &HostRuntime, text: &str) -> Result<String, Fail> {
-        let mut words = Vec::new(rt.alloc());
-        for word in text.split(' ') {
-            words.push(Vec::from_slice(rt.alloc(), word.as_bytes())?)?;
-        }
-        let Some(call) = Arguments::read(&words) else {
-            return Ok(String::from_str(rt.alloc(), "usage")?);
-        };
-        let replay = std::str::from_utf8(call.replay)?;
-        let script = std::str::from_utf8(call.script)?;
-        let ticks = call.limits.ticks;
-        Ok(format!(in rt.alloc(); "{replay} {ticks} {script}")?)
-    }
-
-    #[test]
-    fn reads_calls(rt: HostRuntime) -> Result<(), Fail> {
-        for (words, call) in [
-            ("--replay r s", "r 10000000 s"),
-            ("--replay r --limit 1 s", "r 1 s"),
-            ("--limit 1000000000000 --replay r s", "r 1000000000000 s"),
-            ("--replay --limit --limit 5 -", "--limit 5 -"),
-            ("--replay - s", "- 10000000 s"),
-            ("", "usage"),
-            ("s", "usage"),
-            ("--replay r", "usage"),
-            ("--replay r -s", "usage"),
-            ("--replay r --", "usage"),
-            ("--replay r s t", "usage"),
-            ("--replay r --replay q s", "usage"),
-            ("--limit 1 s", "usage"),
-            ("--limit 1 --limit 2 --replay r s", "usage"),
-            ("--replay r --limit 0 s", "usage"),
-            ("--replay r --limit 01 s", "usage"),
-            ("--replay r --limit +1 s", "usage"),
-            ("--replay r --limit 1000000000001 s", "usage"),
-            ("--replay r --limit 18446744073709551617 s", "usage"),
-            ("--replay r --limit 1", "usage"),
-            ("--record r s", "usage"),
-            ("-c x --replay r s", "usage"),
-            ("--replay r -f s", "usage"),
-        ] {
-            let found = shown(&rt, words)?;
-            assert_eq!(rt; found.as_str(), call, "{words}");
-        }
-        Ok(())
-    }
 }

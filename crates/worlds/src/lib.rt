@@ -1,18 +1,15 @@
-//! Worlds that perform a run's acts, the records that a run is replayed from, and the program.
+//! Worlds that perform a run's acts, and the program.
 #![tactic(auto)]
 
 pub mod arguments;
-mod cut;
-mod line;
+pub mod input;
 pub mod play;
 pub mod program;
-pub mod record;
 pub mod replay;
-pub mod sink;
 pub mod status;
 
 pub use arguments::Arguments;
-pub use record::{RecordFault, read_record};
+pub use input::Unread;
+pub use records::{Counted, RecordFault, Sink, Writer, put_all, read_record};
 pub use replay::Replay;
-pub use sink::{Counted, Sink, put_all};
 pub use status::Outcome;

@@ -1,14 +1,14 @@
 //! How a call of the program ends: its status, and its line on standard error.
 
 ghost use Rattle.std.specs.Prelude.{◌≡◌, ◌++◌, decimal};
-ghost use Rattle.worlds.specs.Sink.{Takes};
-ghost use Rattle.worlds.specs.Status.{fault_outcome, line_of, run_outcome, status_of};
+ghost use Rattle.records.specs.Sink.{Takes};
+ghost use Rattle.worlds.specs.Status.{end_outcome, fault_outcome, file_outcome, line_of, run_outcome, status_of, words_outcome};
 
-use crate::record::RecordFault;
-use crate::sink::{Sink, put_all};
+use crate::input::Unread;
 use acts::NoMemory;
 use engine::End;
 use itoa::Buffer;
+use records::{RecordFault, Sink, put_all};
 use std::alloc::Allocator;
 
 /// The line of a call with other arguments.
@@ -37,7 +37,7 @@ pub enum Outcome<'a> {
     /// The record of this name is none, by its line of this number.
     BadRecord { name: &'a [u8], line: u64 },
     /// Memory was refused.
-    NoMemory,
+    NoMemory(NoMemory),
 }
 
 impl<'a> Outcome<'a> {
@@ -52,7 +52,7 @@ impl<'a> Outcome<'a> {
             Ok(End::WriterFailed) => Outcome::OutputFailed,
             Ok(End::BadAnswer(number)) => Outcome::UnfitAnswer(*number),
             Ok(End::NoMore) => Outcome::NoMoreAnswers,
-            Err(_) => Outcome::NoMemory,
+            Err(refusal) => Outcome::NoMemory(*refusal),
         }
     }
 
@@ -63,7 +63,41 @@ impl<'a> Outcome<'a> {
         match fault {
             RecordFault::Header => Outcome::BadRecord { name, line: 1 },
             RecordFault::Line(line) => Outcome::BadRecord { name, line },
-            RecordFault::NoMemory => Outcome::NoMemory,
+            RecordFault::NoMemory(refusal) => Outcome::NoMemory(refusal),
+        }
+    }
+
+    /// How a run under replay ended: by the fault of a writer, whatever else ended it.
+    pub fn of_end<A: Allocator>(
+        writer_failed: bool,
+        ended: &Result<End<A>, NoMemory>,
+    ) -> Outcome<'a>
+        ensures { result ≡ end_outcome writer_failed ended.now }
+    {
+        if writer_failed {
+            Outcome::OutputFailed
+        } else {
+            Outcome::of_run(ended)
+        }
+    }
+
+    /// Why the file of this name was not read.
+    pub fn of_file(name: &'a [u8], fault: Unread) -> Outcome<'a>
+        ensures { result ≡ file_outcome name.entry fault }
+    {
+        match fault {
+            Unread::Refused => Outcome::CannotOpen(name),
+            Unread::NoMemory(refusal) => Outcome::NoMemory(refusal),
+        }
+    }
+
+    /// Why the words of a call were not read.
+    pub fn of_words(fault: Unread) -> Outcome<'a>
+        ensures { result ≡ words_outcome fault }
+    {
+        match fault {
+            Unread::Refused => Outcome::Usage,
+            Unread::NoMemory(refusal) => Outcome::NoMemory(refusal),
         }
     }
 
@@ -78,7 +112,7 @@ impl<'a> Outcome<'a> {
             Outcome::Limit => 3,
             Outcome::OutputFailed => 4,
             Outcome::UnfitAnswer(_) | Outcome::NoMoreAnswers | Outcome::BadRecord { .. } => 5,
-            Outcome::NoMemory => 6,
+            Outcome::NoMemory(_) => 6,
         }
     }
 
@@ -100,7 +134,7 @@ impl<'a> Outcome<'a> {
                 put_parts(err, b"rx: bad record ", name, b" at line ");
                 put_number(err, b"", *line, b"\n");
             }
-            Outcome::NoMemory => put_all(err, b"rx: no memory\n"),
+            Outcome::NoMemory(_) => put_all(err, b"rx: no memory\n"),
         }
     }
 }
@@ -116,58 +150,9 @@ fn put_parts<S: Sink>(sink: &mut S, first: &[u8], second: &[u8], third: &[u8])
 
 /// Puts a number into a sink, between two texts.
 fn put_number<S: Sink>(sink: &mut S, before: &[u8], number: u64, after: &[u8])
-    ensures { Takes S.adds S.has_failed sink.old (before.now ++ decimal number ++ after.now) sink.new }
+    ensures { Takes S.adds S.has_failed sink.old
+        (before.now ++ decimal number ++ after.now) sink.new }
 {
     let mut buffer = Buffer::new();
     put_parts(sink, before, buffer.format(number).as_bytes(), after);
-}
-
-#[cfg(test)]
-mod tests {
-    use super::*;
-    use crate::sink::Counted;
-    use std::test::Fail;
-
-    #[test]
-    fn tells_each_end(rt: HostRuntime) -> Result<(), Fail> {
-        for (outcome, status, line) in [
-            (Outcome::Exit(0), 0, ""),
-            (Outcome::Exit(255), 255, ""),
-            (Outcome::Exit(256), 0, ""),
-            (Outcome::Exit(-1), 255, ""),
-            (Outcome::Exit(i64::MIN), 0, ""),
-            (Outcome::ScriptError, 1, ""),
-            (
-                Outcome::Usage,
-                2,
-                "usage: rx [-c cmds]... [--replay F | --record F] [--limit N] [[-f] file [args]]\n",
-            ),
-            (
-                Outcome::CannotOpen(b"no such"),
-                2,
-                "rx: cannot open no such\n",
-            ),
-            (Outcome::Limit, 3, "rx: command limit reached\n"),
-            (Outcome::OutputFailed, 4, "rx: output failed\n"),
-            (Outcome::UnfitAnswer(12), 5, "rx: answer 12 does not fit\n"),
-            (Outcome::NoMoreAnswers, 5, "rx: no more answers\n"),
-            (
-                Outcome::BadRecord {
-                    name: b"r",
-                    line: 6,
-                },
-                5,
-                "rx: bad record r at line 6\n",
-            ),
-            (Outcome::NoMemory, 6, "rx: no memory\n"),
-        ] {
-            let mut text = Vec::new(rt.alloc());
-            let mut err = Counted::new(&mut text);
-            outcome.write_line(&mut err);
-            assert_eq!(rt; outcome.status(), status, "{outcome:?}");
-            drop(err);
-            assert_eq!(rt; text.as_slice(), line.as_bytes(), "{outcome:?}");
-        }
-        Ok(())
-    }
 }

@@ -1,5 +1,5 @@
 use Rattle.std.proofs.Common.{◌≡◌, ◌++◌, ◌∙◌, decimal, subst}
-use Rattle.worlds.specs.Sink.{Takes}
+use Rattle.records.specs.Sink.{Takes}
 use Rattle.worlds.proofs.status.put_number.Goals as goal
 
 pub returns : goal.returns

@@ -1,5 +1,5 @@
 use Rattle.std.proofs.Common.{◌++◌}
-use Rattle.worlds.proofs.Sinks.{Takes-then}
+use Rattle.records.proofs.Sinks.{Takes-then}
 use Rattle.worlds.proofs.status.put_parts.Goals as goal
 
 pub returns : goal.returns

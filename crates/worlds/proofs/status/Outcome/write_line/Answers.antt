@@ -1,5 +1,5 @@
 use Rattle.std.proofs.Common.{◌++◌, codes, decimal, append_assoc}
-use Rattle.worlds.proofs.Sinks.{Takes-then}
+use Rattle.records.proofs.Sinks.{Takes-then}
 use Rattle.worlds.proofs.status.Outcome.write_line.Goals as goal
 
 pub returns-in-BadRecord : goal.returns-in-BadRecord

@@ -1,0 +1,7 @@
+mod Cuts
+mod Digits
+mod Faults
+mod Lines
+pub mod Records
+pub mod Sinks
+mod Tries

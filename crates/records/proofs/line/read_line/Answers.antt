@@ -1,0 +1,10 @@
+use Rattle.std.proofs.Common.{codes}
+use Rattle.records.proofs.Lines.{no_line, other_text}
+use Rattle.records.proofs.line.read_line.Goals as goal
+
+pub returns-in-None : goal.returns-in-None
+returns-in-None g c =
+    let line = c.args.line.now in
+    no_line line (other_text line (codes "done") _ _ c.eq.ensures c.as_slice.ensures c.if-eq.false)
+    (other_text line (codes "timeout") _ _ c.eq-2.ensures c.as_slice-2.ensures c.if-eq-2.false) c.in_default.ensures.none
+    (rw c.in-None.is at c.in_ok-id.ensures)

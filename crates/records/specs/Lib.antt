@@ -1,0 +1,5 @@
+pub mod Cut
+pub mod Fault
+pub mod Record
+pub mod Sink
+pub mod Tries

@@ -1,0 +1,70 @@
+-- Records: the text of a list of answers (this project's own format).
+use Rattle.std.specs.Prelude.{◌≡◌, ◌≢◌, ◌+◌, ◌^◌, ◌<◌, ◌&&◌, ◌||◌, nat_le, ℕ, Bool, List, [], ◌∷◌, ◌++◌, length, codes, decimal}
+use Rattle.acts.specs.Deed.{Reply}
+use Rattle.acts.specs.Deed as said
+use Rattle.acts.specs.Id.{id_text}
+use Rattle.hex.specs.Hex.{IsBytes, encode_lower}
+
+-- the byte at the end of each line
+abbrev pub newline : ℕ
+newline = 10
+
+-- the first line, with its newline
+abbrev pub header : List ℕ
+header = codes "rx-record 1\n"
+
+-- the line of an answer, without its newline; an answer of another kind has none
+abbrev pub IsLine : Reply → List ℕ → Type 0
+IsLine said.Done line = line ≡ codes "done"
+IsLine (said.Started pid) line = (pid < 2 ^ 64) × (line ≡ codes "started " ++ decimal pid)
+IsLine (said.Arrive id bytes) line =
+    (id.0 < 2 ^ 64) × IsBytes bytes
+    × (line ≡ codes "arrive " ++ (id_text id.0 ++ (codes " " ++ encode_lower bytes)))
+IsLine said.TimedOut line = line ≡ codes "timeout"
+IsLine _ line = ⊥
+
+-- an answer that has a line
+abbrev pub HasLine : Reply → Type 0
+HasLine reply = (line : List ℕ) × IsLine reply line
+
+-- `0` to `9`, or `a` to `f`
+abbrev pub is_lower_digit : ℕ → Bool
+is_lower_digit b = (nat_le 48 b && nat_le b 57) || (nat_le 97 b && nat_le b 102)
+
+-- one line an answer, each ended by a newline, and nothing after the last
+abbrev pub AreLines : List Reply → List ℕ → Type 0
+AreLines [] text = text ≡ []
+AreLines (reply ∷ replies) text =
+    (line rest : List ℕ) × IsLine reply line × (text ≡ line ++ newline ∷ rest)
+    × AreLines replies rest
+
+-- the header, and the lines of the answers
+abbrev pub IsRecord : List Reply → List ℕ → Type 0
+IsRecord replies text = (lines : List ℕ) × (text ≡ header ++ lines) × AreLines replies lines
+
+-- a text that begins with the header line and its newline
+abbrev pub HasHeader : List ℕ → Type 0
+HasHeader text = (rest : List ℕ) × (text ≡ header ++ rest)
+
+-- a text that begins with the line of an answer and its newline
+abbrev pub BeginsWithLine : List ℕ → Type 0
+BeginsWithLine text =
+    (reply : Reply) × (line rest : List ℕ) × IsLine reply line × (text ≡ line ++ newline ∷ rest)
+
+-- the line after so many is the first bad one: after the lines of some answers something is left,
+-- which begins with the line of no answer, or that lacks its newline
+pub record IsBadAfter (count : ℕ) (lines : List ℕ) : Type 0 where
+  pub replies : List Reply
+  pub good : List ℕ
+  pub bad : List ℕ
+  pub whole : lines ≡ good ++ bad
+  pub before : AreLines replies good
+  pub number : length replies ≡ count
+  pub some : bad ≢ []
+  pub none : ¬ BeginsWithLine bad
+
+-- line n of a text, counted from 1 with the header, is its first bad one
+abbrev pub IsFirstBad : List ℕ → ℕ → Type 0
+IsFirstBad text n =
+    (count : ℕ) × (lines : List ℕ) × (n ≡ count + 2) × (text ≡ header ++ lines)
+    × IsBadAfter count lines

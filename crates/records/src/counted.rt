@@ -1,0 +1,109 @@
+//! Sinks over an `io::Write`.
+
+ghost use Rattle.std.specs.Prelude.{◌≡◌, ◌≤◌, ℕ, List, Result, Option, true, false, length, take};
+ghost use Rattle.std.specs.Io.{WritesAtMost};
+ghost use Rattle.std.specs.Io.KnownBytes.{Appends, WriteAppends};
+ghost use Rattle.std.specs.declared.io.Error.{Error};
+ghost use Rattle.records.specs.Sink.{fails_at};
+ghost use Rattle.records.specs.Tries.{Tries};
+
+use crate::sink::Sink;
+use std::io::{self, ErrorKind, Write};
+
+/// An `io::Write`, each of whose writes is a step.
+pub trait Writer {
+    /// The bytes that it holds, where they are known.
+    ghost held: { Self → Option (List ℕ) };
+
+    /// Whether a write of a text may be answered so, and lead from one state to another.
+    ghost writes: { Self → List ℕ → Result ℕ Error → Self → Type 0 };
+
+    /// Writes some bytes from the front of a text, and says how many, as `io::Write::write`.
+    fn write_once(&mut self, text: &[u8]) -> io::Result<usize>
+        ensures within { WritesAtMost result text.now }
+        ensures held { WriteAppends (held self.old) (held self.new) result text.now }
+        ensures writes { writes self.old text.now result self.new };
+}
+
+impl<W: Write> Writer for W {
+    ghost held = { λ writer. W.contents writer };
+
+    ghost writes = { λ before text answer after.
+        WriteAppends (W.contents before) (W.contents after) answer text };
+
+    fn write_once(&mut self, text: &[u8]) -> io::Result<usize> {
+        self.write(text)
+    }
+}
+
+/// A sink over an `io::Write`. It fails at the first write that fails, or that takes nothing of
+/// some bytes; a write that was interrupted is tried again.
+#[derive(Drop)]
+pub struct Counted<W> {
+    writer: W,
+    failed: bool,
+}
+
+impl<W> Counted<W> {
+    /// A sink that has not failed.
+    pub fn new(writer: W) -> Counted<W>
+        ensures writer { result.writer ≡ writer }
+        ensures failed { result.failed ≡ false }
+    {
+        Counted {
+            writer,
+            failed: false,
+        }
+    }
+}
+
+impl<W: Writer> Sink for Counted<W> {
+    ghost adds = { λ before bytes after.
+        Appends (W.held before.writer) (W.held after.writer) bytes };
+
+    ghost has_failed = { λ sink. sink.failed };
+
+    fn put(&mut self, bytes: &[u8]) -> usize
+        ensures within { result ≤ length bytes.now }
+        ensures adds { Appends (W.held self.old.writer) (W.held self.new.writer)
+            (take result bytes.now) }
+        ensures fails { self.new.failed ≡ fails_at self.old.failed bytes.now result }
+
+        // It takes nothing of some bytes only where its writer did.
+        ensures tries { self.old.failed ≡ false
+            → Tries W.writes self.old.writer bytes.now result self.new.writer }
+
+        // To one that has failed nothing is written.
+        ensures kept { self.old.failed ≡ true → self.new ≡ self.old }
+    {
+        if self.failed {
+            return 0;
+        }
+        let taken = write_some(&mut self.writer, bytes);
+        self.failed = taken == 0 && !bytes.is_empty();
+        taken
+    }
+
+    fn failed(&self) -> bool {
+        self.failed
+    }
+}
+
+/// Writes some bytes from the front of a text, and says how many: 0 also where the write fails. A
+/// write that was interrupted is tried again.
+fn write_some<W: Writer>(writer: &mut W, text: &[u8]) -> usize
+    ensures within { result ≤ length text.now }
+    ensures held { Appends (W.held writer.old) (W.held writer.new) (take result text.now) }
+    ensures tries { Tries W.writes writer.old text.now result writer.new }
+{
+    for tries in 0..u64::MAX {
+        match writer.write_once(text) {
+            Ok(taken) => return taken,
+            Err(error) => match error.kind() {
+                ErrorKind::Interrupted => {}
+                _ => return 0,
+            },
+        }
+    }
+    0
+}

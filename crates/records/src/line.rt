@@ -1,0 +1,102 @@
+//! The lines of records.
+
+ghost use Rattle.std.specs.Prelude.{◌≡◌, ◌≢◌, ◌^◌, ◌<◌, ◌∷◌, ◌++◌, ℕ, List, codes, decimal, MatchOption, IfOk, IfSome, IfNone};
+ghost use Rattle.std.specs.List.{list_all};
+ghost use Rattle.acts.specs.Deed.{Reply, reply_of};
+ghost use Rattle.acts.specs.Id.{id_text};
+ghost use Rattle.hex.specs.Hex.{IsBytes, encode_lower};
+ghost use Rattle.records.specs.Cut.{Lacks};
+ghost use Rattle.records.specs.Record.{IsLine, is_lower_digit};
+
+use crate::cut::cut_at;
+use acts::decimal::read_decimal;
+use acts::{Answer, Id, NoMemory};
+use std::alloc::Allocator;
+
+/// The answer whose line this is.
+pub fn read_line<A: Allocator>(alloc: A, line: &[u8]) -> Result<Option<Answer<A>>, NoMemory>
+    ensures { IfOk result (λ found. MatchOption found
+        ((reply : Reply) → IsLine reply line.now → ⊥)
+        (λ answer. IsLine (reply_of answer) line.now)) }
+{
+    if line == b"done".as_slice() {
+        return Ok(Some(Answer::Done));
+    }
+    if line == b"timeout".as_slice() {
+        return Ok(Some(Answer::TimedOut));
+    }
+    if let Some(pid) = read_started(line) {
+        return Ok(Some(Answer::Started(pid)));
+    }
+    match read_arrival(alloc, line)? {
+        Some((id, bytes)) => Ok(Some(Answer::Arrive(id, bytes))),
+        None => Ok(None),
+    }
+}
+
+/// The process number of the line of a program that was started.
+fn read_started(line: &[u8]) -> Option<u64>
+    ensures pid { IfSome result (λ pid. line.now ≡ codes "started " ++ decimal pid) }
+    ensures none { IfNone result ((pid : ℕ)
+        → pid < 2 ^ 64 → line.now ≢ codes "started " ++ decimal pid) }
+{
+    let digits = line.strip_prefix(b"started ")?;
+    read_decimal(digits)
+}
+
+/// The id and the bytes of the line of an arrival.
+fn read_arrival<A: Allocator>(alloc: A, line: &[u8]) -> Result<Option<(Id, Vec<u8, A>)>, NoMemory>
+    ensures { IfOk result (λ found. MatchOption found
+        ((n : ℕ) (bytes : List ℕ) → n < 2 ^ 64 → IsBytes bytes
+        → line.now ≢ codes "arrive " ++ (id_text n ++ (codes " " ++ encode_lower bytes)))
+        (λ arrival. IsBytes arrival.1.items
+        × (line.now ≡ codes "arrive "
+        ++ (id_text arrival.0.0 ++ (codes " " ++ encode_lower arrival.1.items))))) }
+{
+    let Some((name, digits)) = cut_arrival(line) else {
+        return Ok(None);
+    };
+    let Some(id) = Id::read(name) else {
+        return Ok(None);
+    };
+    match read_hex(alloc, digits)? {
+        Some(bytes) => Ok(Some((id, bytes))),
+        None => Ok(None),
+    }
+}
+
+/// The id's name and the digits of the line of an arrival.
+fn cut_arrival(line: &[u8]) -> Option<(&[u8], &[u8])>
+    ensures parts { IfSome result (λ parts.
+        (line.now ≡ codes "arrive " ++ (parts.0.now ++ (codes " " ++ parts.1.now)))
+        × Lacks 32 parts.0.now) }
+    ensures none { IfNone result ((name digits : List ℕ)
+        → line.now ≢ codes "arrive " ++ (name ++ (codes " " ++ digits))) }
+{
+    let rest = line.strip_prefix(b"arrive ")?;
+    cut_at(rest, b' ')
+}
+
+/// The bytes that a text of two lower case digits a byte spells.
+fn read_hex<A: Allocator>(alloc: A, digits: &[u8]) -> Result<Option<Vec<u8, A>>, NoMemory>
+    ensures { IfOk result (λ found. MatchOption found
+        ((bytes : List ℕ) → IsBytes bytes → digits.now ≢ encode_lower bytes)
+        (λ bytes. IsBytes bytes.items × (digits.now ≡ encode_lower bytes.items))) }
+{
+    // The decoder takes upper case digits too.
+    if !are_lower_digits(digits) {
+        return Ok(None);
+    }
+    let mut bytes = vec![in alloc; 0u8; digits.len() / 2]?;
+    match hex::decode_to_slice(digits, bytes.as_mut_slice()) {
+        Ok(()) => Ok(Some(bytes)),
+        Err(_) => Ok(None),
+    }
+}
+
+/// Whether each byte is a digit below ten or a lower case letter up to `f`.
+fn are_lower_digits(text: &[u8]) -> bool
+    ensures { result ≡ list_all is_lower_digit text.now }
+{
+    text.iter().all(|b| matches!(*b, b'0'..=b'9' | b'a'..=b'f'))
+}

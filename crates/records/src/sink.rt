@@ -1,0 +1,44 @@
+//! Destinations of bytes that may fail.
+
+ghost use Rattle.std.specs.Prelude.{◌≡◌, ◌≤◌, ℕ, Bool, List, length, take};
+ghost use Rattle.records.specs.Sink.{Takes, fails_at};
+
+/// A destination of bytes. It takes what it can of each text, and once it could take nothing of one
+/// it has failed.
+pub trait Sink {
+    /// Whether a put may lead from one state to another and add these bytes.
+    ghost adds: { Self → List ℕ → Self → Type 0 };
+
+    /// Whether a sink in this state has failed.
+    ghost has_failed: { Self → Bool };
+
+    /// Takes some bytes from the front of a text, and says how many. It has failed from the first
+    /// time on that it takes none of a text that has some.
+    fn put(&mut self, bytes: &[u8]) -> usize
+        ensures within { result ≤ length bytes.now }
+        ensures adds { adds self.old (take result bytes.now) self.new }
+        ensures fails { has_failed self.new ≡ fails_at (has_failed self.old) bytes.now result };
+
+    /// Whether it has failed.
+    fn failed(&self) -> bool
+        ensures { result ≡ has_failed self.now };
+}
+
+/// Puts a whole text into a sink, piece by piece, as long as it does not fail. A sink that has
+/// failed gets nothing more.
+pub fn put_all<S: Sink>(sink: &mut S, text: &[u8])
+    ensures { Takes S.adds S.has_failed sink.old text.now sink.new }
+{
+    if sink.failed() {
+        return;
+    }
+    let mut rest = text;
+    'text: while !rest.is_empty() {
+        let taken = sink.put(rest);
+        // It has failed now.
+        if taken == 0 {
+            return;
+        }
+        rest = &rest[taken..];
+    }
+}

@@ -1,0 +1,151 @@
+//! What comes from outside: the words of a call, and the bytes of files.
+
+ghost use Rattle.std.specs.Prelude.{◌≡◌, ◌<◌, ◌≤◌, IfOk, IfSome, length, take};
+ghost use Rattle.std.specs.Io.KnownBytes.{Consumes, IsAtEnd};
+ghost use Rattle.worlds.specs.declared.input.Unread.TheVariants as unread;
+
+use acts::NoMemory;
+use std::alloc::{AllocError, Allocator};
+use std::env::FillError;
+use std::fs::{self, Files};
+use std::io::{ErrorKind, Input, Read};
+use std::rt::Env;
+use thiserror::Error;
+
+/// The room that is first made for a word, in bytes.
+const FIRST_ROOM: usize = 256;
+
+/// How often that room is doubled at most: to 2^62 bytes.
+const MOST_DOUBLINGS: u32 = 54;
+
+/// How many bytes of a file are read at a time.
+const CHUNK: usize = 4096;
+
+/// Why bytes from outside were not read.
+#[derive(Clone, Copy, Debug, PartialEq, Eq, Error)]
+pub enum Unread {
+    /// The system does not give them.
+    #[error("not to be read")]
+    Refused,
+    /// Memory was refused.
+    #[error("no memory")]
+    NoMemory(NoMemory),
+}
+
+impl From<NoMemory> for Unread {
+    ghost from_gives = { λ refusal result. result ≡ unread.NoMemory refusal };
+
+    fn from(refusal: NoMemory) -> Unread {
+        Unread::NoMemory(refusal)
+    }
+}
+
+impl From<AllocError> for Unread {
+    fn from(refusal: AllocError) -> Unread {
+        Unread::NoMemory(NoMemory::from(refusal))
+    }
+}
+
+/// The arguments of the program after its name, as bytes.
+pub fn read_words<R: Env, A: Allocator + Copy>(
+    rt: &R,
+    alloc: A,
+) -> Result<Vec<Vec<u8, A>, A>, Unread> {
+    let mut words = Vec::new(alloc);
+    for place in 1..usize::MAX {
+        let Some(word) = read_word(rt, alloc, place)? else {
+            break;
+        };
+        words.push(word).map_err(NoMemory::from)?;
+    }
+    Ok(words)
+}
+
+/// The argument at a place, if there is one. The room for it is doubled until it suffices.
+fn read_word<R: Env, A: Allocator>(
+    rt: &R,
+    alloc: A,
+    place: usize,
+) -> Result<Option<Vec<u8, A>>, Unread> {
+    let mut word = Vec::new(alloc);
+    for doublings in 0..=MOST_DOUBLINGS {
+        word.resize(FIRST_ROOM << doublings, 0)?;
+        match rt.arg(place, &mut word) {
+            Ok(len) => {
+                word.truncate(len);
+                return Ok(Some(word));
+            }
+            Err(FillError::NotPresent) => return Ok(None),
+            Err(FillError::TooLong) => {}
+        }
+    }
+    Err(Unread::Refused)
+}
+
+/// The text of a script; the name `-` is standard input.
+pub fn read_script<R: Files + Input, A: Allocator + Copy>(
+    rt: &R,
+    alloc: A,
+    name: &[u8],
+) -> Result<Vec<u8, A>, Unread> {
+    if name == b"-".as_slice() {
+        read_all(alloc, &mut rt.reader())
+    } else {
+        read_file(rt, alloc, name)
+    }
+}
+
+/// The bytes of a file. A name that is not UTF-8 is refused.
+pub fn read_file<R: Files, A: Allocator + Copy>(
+    rt: &R,
+    alloc: A,
+    name: &[u8],
+) -> Result<Vec<u8, A>, Unread> {
+    let Ok(path) = std::str::from_utf8(name) else {
+        return Err(Unread::Refused);
+    };
+    match fs::open(rt, path) {
+        Ok(mut file) => read_all(alloc, &mut file),
+        Err(_) => Err(Unread::Refused),
+    }
+}
+
+/// All bytes that a reader has left.
+pub fn read_all<A: Allocator + Copy, R: Read>(
+    alloc: A,
+    reader: &mut R,
+) -> Result<Vec<u8, A>, Unread>
+    ensures { IfOk result (λ text. IfSome (R.remaining reader.old) (λ bytes. text.items ≡ bytes)) }
+{
+    let mut text = Vec::new(alloc);
+    let mut chunk = vec![in alloc; 0u8; CHUNK]?;
+    'chunks: for _ in 0..u64::MAX {
+        let taken = read_some(reader, &mut chunk)?;
+        if taken == 0 {
+            return Ok(text);
+        }
+        text.extend_from_slice(&chunk[..taken])?;
+    }
+    Err(Unread::Refused)
+}
+
+/// Reads some bytes to the front of a chunk, and says how many: none only at the end. A read that
+/// was interrupted is tried again.
+fn read_some<R: Read>(reader: &mut R, chunk: &mut [u8]) -> Result<usize, Unread>
+    requires { 0 < length chunk.old }
+    ensures within { IfOk result (λ taken. taken ≤ length chunk.new) }
+    ensures bytes { IfOk result (λ taken.
+        Consumes (R.remaining reader.old) (R.remaining reader.new) (take taken chunk.new)) }
+    ensures end { IfOk result (λ taken. taken ≡ 0 → IsAtEnd (R.remaining reader.new)) }
+{
+    'tries: for _ in 0..u64::MAX {
+        match reader.read(chunk) {
+            Ok(taken) => return Ok(taken),
+            Err(error) => match error.kind() {
+                ErrorKind::Interrupted => {}
+                _ => return Err(Unread::Refused),
+            },
+        }
+    }
+    Err(Unread::Refused)
+}

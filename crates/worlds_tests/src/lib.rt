@@ -1,0 +1,17 @@
+//! Tests of `worlds`, apart from it so that its proofs are not made twice.
+#![tactic(auto)]
+
+#[cfg(test)]
+mod arguments;
+#[cfg(test)]
+mod calls;
+#[cfg(test)]
+mod played;
+#[cfg(test)]
+mod record;
+#[cfg(test)]
+mod replay;
+#[cfg(test)]
+mod status;
+#[cfg(test)]
+mod writers;
