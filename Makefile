@@ -1,9 +1,16 @@
-# make demo   builds rx without its proofs, which is quick, and replays the first example: prints hiok
-# make rx     proves and builds the program to out/rx
-# make test   the gate: every proof from nothing, the must-fail edits, the tests and the programs
-.PHONY: demo rx test clean
+# make demo     builds rx without its proofs, which is quick, and replays the first example: prints hiok
+# make rx       proves and builds the program to out/rx
+# make test     the gate: every proof from nothing, the must-fail edits, the tests and the programs
+# Beside the gate:
+# make house    rules of this repository that the prover does not know, in a moment
+# make rows     runs the rows, and writes how many there are to the stored output of rowtests
+# make edits    the edits of edits/ that the prover must refuse, for the crates that changed (SINCE=COMMIT)
+# make compare  random scripts against tclsh8.6 (SCRIPTS=N, SEED=S)
+.PHONY: demo rx test house rows edits compare clean
 
 FIRST := $(CURDIR)/examples/hello-cat
+SCRIPTS ?= 100000
+SEED ?= 1
 
 demo:
 	@cd crates/rx && rt try --data record=$(FIRST)/record --data script.exp=$(FIRST)/script.exp -- --replay record script.exp
@@ -15,6 +22,20 @@ rx:
 
 test:
 	rt ci
+
+house:
+	tools/house
+
+rows:
+	tools/rows
+
+edits:
+	tools/edits $(SINCE)
+
+# The program runs no row here: rt builds only what it has proved.
+compare:
+	cd crates/rowtests && rt run -- --scripts /dev/null
+	compare/compare --scripts $(SCRIPTS) --seed $(SEED)
 
 clean:
 	rm -rf out crates/*/out
