@@ -13,7 +13,7 @@ use std::alloc::Allocator;
 use tcltext::{Value, join_values};
 
 /// What waits for the answer to an act: `list` makes none.
-#[derive(Clone, Copy, Debug, PartialEq, Eq)]
+#[derive(Clone, Copy)]
 pub enum Waits {}
 
 /// Gives the list of the words, in its canonical text.

@@ -17,7 +17,7 @@ use tclparse::{Name, variable_name};
 use tcltext::Value;
 
 /// What waits for the answer to an act: `set` makes none.
-#[derive(Clone, Copy, Debug, PartialEq, Eq)]
+#[derive(Clone, Copy)]
 pub enum Waits {}
 
 /// Gives the value of a variable, after it is written where a value stands behind its name.
