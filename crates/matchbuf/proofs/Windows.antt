@@ -8,7 +8,7 @@ use Rattle.std.specs.List.{list_all, range_with_len}
 use Rattle.circular_buffer.specs.Buffer.{Buffer, buffer, keep_last}
 use Rattle.matchbuf.specs.Held.{Held, held}
 use Rattle.matchbuf.specs.Journal.{Record, Arrived, Consumed, Sized, history, size_of, IsJournal, moments, spares, remembers, has_come, is_kept, is_visible, visible_places, window, place_after, Fits}
-use Rattle.matchbuf.specs.Laws.{ArrivalsJoin, ConsumptionsTake, SizesKeep, WindowsEnd, VisibleAtEnd, GoneForGood, ShortJournals}
+use Rattle.matchbuf.specs.Laws.{ArrivalsJoin, ConsumptionsTake, SizesKeep, WindowsEnd, VisibleAtEnd, GoneForGood, ShortJournals, WindowsHold}
 
 -- the least place that the record leaves
 abbrev spared_from : Record → ℕ
@@ -122,6 +122,10 @@ floor_le (Sized size ∷ r ∷ j) h = omega (arith, floor_le (r ∷ j) h)
 floor_ge : (j : List Record) → IsJournal j → length (history j) ≤ floor j + size_of j
 floor_ge [] h = absurd h
 floor_ge (r ∷ j) h = omega arith
+
+pub windows_hold : WindowsHold
+windows_hold [] = omega arith
+windows_hold (r ∷ j) = omega (arith, ap length (window_from (r ∷ j)), length-drop (floor (r ∷ j)) (history (r ∷ j)))
 
 length-window : (j : List Record) → IsJournal j → length (window j) + floor j ≡ length (history j)
 length-window j h = omega (arith, ap length (window_from j), length-drop (floor j) (history j), floor_le j h)

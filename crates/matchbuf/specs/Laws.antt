@@ -25,6 +25,10 @@ abbrev pub WindowsEnd : Type 0
 WindowsEnd = (j : List Record) → IsJournal j
     → (window j ≡ keep_last (length (window j)) (history j)) × (length (window j) ≤ size_of j)
 
+-- a window has at most the size, whatever the records; expect(1), match_max
+abbrev pub WindowsHold : Type 0
+WindowsHold = (j : List Record) → length (window j) ≤ size_of j
+
 -- a place is visible exactly where it lies in that end
 abbrev pub VisibleAtEnd : Type 0
 VisibleAtEnd = (j : List Record) (place : ℕ) → IsJournal j

@@ -3,3 +3,5 @@ pub mod Tables
 pub mod Places
 pub mod Spelled
 pub mod Stored
+pub mod Behaves
+pub mod Refused

@@ -8,7 +8,7 @@ use Rattle.plan.specs.Plan.{Plan, Ends, Asks}
 use Rattle.state.specs.Outcome.{Code, Error, Stop, Outcome, Gives, Leaves, Stops}
 use Rattle.state.specs.Outcome as stop
 use Rattle.state.specs.Piece.{Piece, Text, Tree}
-use Rattle.state.specs.Status.{Status, counted}
+use Rattle.state.specs.Status.{Status}
 
 -- a plan over the pieces, the states, the outcomes, the acts and the texts of a run
 abbrev pub Dialogue : Type 0 → Type 0
@@ -52,23 +52,23 @@ is_no_more _ = false
 
 -- a dialogue goes on by an answer that fits; without one, or with another, the whole run stops, so
 -- that what follows an act never meets an answer that does not fit (this project's own rule)
-abbrev pub judged : {X : Type 0} → (Stop → X) → Deed → ℕ → Reply → Dialogue X → Dialogue X
-judged stopped deed number reply next =
+abbrev pub judged : {X : Type 0} → (Stop → X) → Deed → Reply → Dialogue X → Dialogue X
+judged stopped deed reply next =
     if is_no_more reply then Ends (stopped stop.NoMore)
     else if fits deed reply then next
-    else Ends (stopped (stop.BadAnswer number))
+    else Ends (stopped stop.BadAnswer)
 
 -- what a stop leaves
 abbrev pub stopping : Status → Stop → Status × Outcome
 stopping s stop = (s, Stops stop)
 
--- what an answer to the act comes to, once the act is counted
+-- what an answer to the act comes to
 abbrev pub replied : Deed → Status → (Status → Reply → Course) → Reply → Course
-replied deed s next reply = judged (stopping s) deed s.acts reply (next s reply)
+replied deed s next reply = judged (stopping s) deed reply (next s reply)
 
 -- an act, and what is done with its answer
 abbrev pub ask : Deed → Status → (Status → Reply → Course) → Course
-ask deed s next = Asks deed (replied deed (counted s) next)
+ask deed s next = Asks deed (replied deed s next)
 
 -- after a write; a write that failed stops the run (this project's own rule)
 abbrev pub written : (Status → Course) → Status → Reply → Course

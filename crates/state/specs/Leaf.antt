@@ -9,7 +9,7 @@ use Rattle.state.specs.declared.leaf.Leaf.TheVariants as leaf
 use Rattle.state.specs.declared.state.State.{State}
 use Rattle.state.specs.Outcome.{Outcome, Leaves, Error}
 use Rattle.state.specs.Dialogue.{Course, replied}
-use Rattle.state.specs.Status.{Status, counted}
+use Rattle.state.specs.Status.{Status}
 use Rattle.state.specs.View.{FitsState, outcome_of}
 
 -- it has ended, or an act waits for its answer, with which it goes on as next says
@@ -17,7 +17,7 @@ abbrev pub course_of : {A W : Type 0} →
     (W → Deed → Status → Reply → Course) → Leaf A W → Status → Course
 course_of next (leaf.Has outcome) s = Ends (s, outcome_of outcome)
 course_of next (leaf.Asks act waits) s =
-    Asks (deed_of act) (replied (deed_of act) (counted s) (next waits (deed_of act)))
+    Asks (deed_of act) (replied (deed_of act) s (next waits (deed_of act)))
 
 -- for some state that the code's fits, what is at hand is this course
 pub record Shows {A W : Type 0} (next : W → Deed → Status → Reply → Course)

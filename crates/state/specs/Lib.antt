@@ -7,5 +7,6 @@ pub mod Rows
 pub mod Tables
 pub mod View
 pub mod Leaf
+pub mod Behaves
 pub mod Arguments
 pub mod Stores

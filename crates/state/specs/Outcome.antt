@@ -9,12 +9,13 @@ pub data Code : Type 0 where
   Continue : Code
   Again : Code
 
--- what ends the whole run (this project's own rule; exit(n))
+-- what ends the whole run (this project's own rule; exit(n)); the answer that does not fit is the
+-- last one, so that its number is how many there were
 pub data Stop : Type 0 where
   Exit : (status : ℤ) → Stop
   Limit : Stop
   WriterFailed : Stop
-  BadAnswer : (number : ℕ) → Stop
+  BadAnswer : Stop
   NoMore : Stop
 
 -- a part ends with a value, with another code and a value, or with a stop (Tcl(n), return codes)

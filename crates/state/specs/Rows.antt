@@ -1,9 +1,11 @@
 -- What a wait tells of an id, and what becomes of bytes that come.
-use Rattle.std.specs.Prelude.{ℕ, ◌+◌, ◌-◌, ◌/◌, ◌==◌, nat_eq, not, List, [], ◌∷◌, length, filter, Option, Some, None, if◌then◌else◌}
+use Rattle.std.specs.Prelude.{ℕ, ◌+◌, ◌-◌, ◌/◌, ◌==◌, ◌≤◌, nat_eq, not, List, [], ◌∷◌, length, filter, Option, Some, None, if◌then◌else◌}
 use Rattle.std.specs.Option.{option_map}
 use Rattle.std.specs.List.{starts_with}
 use Rattle.acts.specs.declared.id.Id.{Id}
 use Rattle.acts.specs.declared.row.Row.{Row}
+use Rattle.acts.specs.Deed.{Deed}
+use Rattle.acts.specs.Deed as said
 use Rattle.matchbuf.specs.Journal.{Record, window, size_of}
 
 -- the first place at which an exact pattern stands in a window (expect(1), -ex)
@@ -29,3 +31,13 @@ row_of i j = record {
 -- an arrival goes to the buffer without its nulls (expect(1), remove_nulls)
 abbrev pub without_nulls : List ℕ → List ℕ
 without_nulls bytes = filter (λ b. not (b == 0)) bytes
+
+-- each row says that its buffer holds at most its size
+abbrev pub RowsHold : List Row → Type 0
+RowsHold [] = Unit {0}
+RowsHold (row ∷ rows) = (row.held ≤ row.max) × RowsHold rows
+
+-- the rows of a wait do (expect(1), match_max)
+abbrev pub Holds : Deed → Type 0
+Holds (said.Wait rows timer) = RowsHold rows
+Holds _ = Unit {0}

@@ -1,5 +1,5 @@
 -- What the definition of a run keeps between acts.
-use Rattle.std.specs.Prelude.{ℕ, ◌+◌, ◌-◌, ◌==◌, ◌&&◌, Bool, true, false, List, [], ◌∷◌, Option, Some, None, is_some, filter, if◌then◌else◌}
+use Rattle.std.specs.Prelude.{ℕ, ◌==◌, ◌&&◌, Bool, true, false, List, [], ◌∷◌, Option, Some, None, is_some, filter, if◌then◌else◌}
 use Rattle.acts.specs.declared.id.Id.{Id}
 use Rattle.matchbuf.specs.Journal.{Record, Sized}
 use Rattle.tclstate.specs.Scopes.{Scopes}
@@ -31,7 +31,7 @@ pub record Logging : Type 0 where
   pub takes_all : Bool
 
 -- the variables, the procedures, the ids in the order of their numbers, the log settings, the size
--- of later buffers, the number of the next id, the ticks left, the acts so far
+-- of later buffers, the number of the next id, the ticks left
 pub record Status : Type 0 where
   pub scopes : Scopes
   pub procedures : List Procedure
@@ -40,7 +40,6 @@ pub record Status : Type 0 where
   pub size : ℕ
   pub next : ℕ
   pub left : ℕ
-  pub acts : ℕ
 
 -- an id that is just opened, with an empty buffer of 2,000 bytes (expect(1), spawn and match_max)
 abbrev pub fresh : Id → Kind → Peer
@@ -84,7 +83,3 @@ recorded r i (p ∷ ps) =
 abbrev pub closed : Id → List Peer → List Peer
 closed i [] = []
 closed i (p ∷ ps) = if is_open_at i p then record p { is_open = false } ∷ ps else p ∷ closed i ps
-
--- one act more (this project's own rule)
-abbrev pub counted : Status → Status
-counted s = record s { acts = s.acts + 1 }

@@ -26,7 +26,7 @@ abbrev pub stop_of : halted.Stop → Stop
 stop_of (halt.Exit status) = stop.Exit status
 stop_of halt.Limit = stop.Limit
 stop_of halt.WriterFailed = stop.WriterFailed
-stop_of (halt.BadAnswer number) = stop.BadAnswer number
+stop_of halt.BadAnswer = stop.BadAnswer
 stop_of halt.NoMore = stop.NoMore
 
 -- the outcome that one of the code's stands for
@@ -53,4 +53,3 @@ pub record FitsState {A : Type 0} (state : State A) (s : Status) : Type 0 where
   pub size : s.size ≡ 2000
   pub next : IsNext state.next s.next
   pub left : s.left ≡ state.left
-  pub acts : s.acts ≡ state.acts

@@ -27,8 +27,8 @@ pub enum Stop {
     Limit,
     /// A write failed.
     WriterFailed,
-    /// The answer of this number does not fit its act.
-    BadAnswer(u64),
+    /// The last answer does not fit its act.
+    BadAnswer,
     /// The world had no more answers.
     NoMore,
 }

@@ -15,6 +15,4 @@ pub struct State<A: Allocator> {
     pub next: Option<u64>,
     /// The ticks that are left.
     pub left: u64,
-    /// The acts so far.
-    pub acts: u64,
 }

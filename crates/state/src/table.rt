@@ -1,9 +1,9 @@
 //! The open ids, each with its match buffer.
 
-ghost use Rattle.std.specs.Prelude.{◌≡◌, ℕ, ◌≤◌, ◌==◌, ◌≢◌, ◌∷◌, ◌++◌, [], List, length, nat_le, position, IfOk, OnOk, MatchBool, MatchOption, MatchResult, None, Some, false, true};
+ghost use Rattle.std.specs.Prelude.{◌≡◌, ℕ, ◌≤◌, ◌==◌, ◌≢◌, ◌∷◌, ◌++◌, [], List, length, nat_le, position, IfOk, OnOk, OnErr, MatchBool, MatchOption, MatchResult, None, Some, false, true};
 ghost use Rattle.std.specs.Str.{bytes_eq};
 ghost use Rattle.acts.specs.Id.{id_text};
-ghost use Rattle.state.specs.Status.{Peer, Kind, fresh, opened, recorded, closed, is_open};
+ghost use Rattle.state.specs.Status.{Peer, Kind, fresh, opened, journal_of, recorded, closed, is_open};
 ghost use Rattle.state.specs.Tables.{FirstCloses, FitsAll, Takes, Misses, Selects, Looks};
 ghost use Rattle.state.specs.Rows.{first_place, without_nulls, row_of};
 ghost use Rattle.state.specs.Variables as variables;
@@ -106,7 +106,8 @@ impl<A: Allocator + Copy> Table<A> {
     /// Closes the id that was opened first, if one is open.
     pub fn close_first(&mut self) -> Option<Id>
         ensures { (ps : List Peer) → FitsAll self.old.entries.items (opened ps) →
-            MatchOption result (opened ps ≡ []) (λ id. FirstCloses id self.new.entries.items ps) }
+            MatchOption result ((opened ps ≡ []) × FitsAll self.new.entries.items (opened ps))
+            (λ id. FirstCloses id self.new.entries.items ps) }
     {
         if self.entries.is_empty() {
             return None;
@@ -131,8 +132,11 @@ impl<A: Allocator + Copy> Table<A> {
     /// Consumes the first match of an exact pattern and all before it in the window of an id, where
     /// the id is open and the pattern is found. On `Err` the table is unchanged.
     pub fn select(&mut self, alloc: A, id: Id, pattern: &[u8]) -> Result<Selection<A>, NoMemory>
-        ensures { (ps : List Peer) → FitsAll self.old.entries.items (opened ps) →
+        ensures selects { (ps : List Peer) → FitsAll self.old.entries.items (opened ps) →
             IfOk result (λ selection. Selects selection self.new.entries.items id pattern.now ps) }
+        ensures fails { (ps : List Peer) (j : List Record) →
+            FitsAll self.old.entries.items (opened ps) → journal_of ps id ≡ Some j →
+            OnErr result (first_place pattern.now (window j) ≢ None) }
     {
         let Some(place) = self.place(id) else {
             return Ok(Selection::NotOpen);
@@ -164,6 +168,8 @@ impl<A: Allocator> Entry<A> {
         ensures same_id { self.new.id ≡ self.old.id }
         ensures takes { (j : List Record) → Fits j self.old.buffer →
             IfOk result (λ found. Looks found j pattern.now self.new) }
+        ensures fails { (j : List Record) → Fits j self.old.buffer →
+            OnErr result (first_place pattern.now (window j) ≢ None) }
     {
         let window: &[u8] = self.buffer.window();
         let Some(start) = memmem::find(window, pattern) else {

@@ -1,6 +1,7 @@
 use Rattle.std.proofs.Common.{◌≡◌, Some, None, sym, ap, ◌∙◌, take}
 use Rattle.matchbuf.specs.Journal.{window}
 use Rattle.state.proofs.Places.{first_found}
+use Rattle.state.proofs.Refused.{on_err}
 use Rattle.state.proofs.table.Entry.take_match.Goals as goal
 
 pub returns-clause-takes : goal.returns-clause-takes
@@ -20,3 +21,9 @@ returns-in_default-clause-takes g c = λ j fits.
       none = sym (first_found c.args.pattern.now (window j) None (rw (same, c.in_default.is) at c.find.ensures));
       fits = rw c.window-window.follows.holds-at-none fits;
     }
+
+pub returns-in_err-buffer-clause-fails : goal.returns-in_err-buffer-clause-fails
+returns-in_err-buffer-clause-fails g c = λ j fits.
+    let same : c.window-window.result.now ≡ window j = c.window-window.ensures.value ∙ sym fits.bytes in
+    let found = first_found c.args.pattern.now (window j) (Some c.in-Some.start) (rw same at c.in-Some.ensures) in
+    on_err c.from_residual.result (λ none. let never : Some c.in-Some.start ≡ None = found ∙ none in cc)

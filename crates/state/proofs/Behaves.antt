@@ -1,0 +1,140 @@
+-- Commands that behave: how they are put together, and what the laws of all runs ask of them.
+use Rattle.std.proofs.Common.{ℕ, ◌+◌, ◌-◌, ◌≤◌, Bool, true, false, List, Option, Some, None, Result, Ok, Err, if◌then◌else◌, arith}
+use Rattle.acts.specs.declared.id.Id.{Id}
+use Rattle.acts.specs.Deed.{Deed, Reply}
+use Rattle.acts.specs.Deed as said
+use Rattle.acts.specs.Fits.{fits}
+use Rattle.acts.specs.Flaw as flaw
+use Rattle.plan.specs.Finished.{Falls}
+use Rattle.plan.specs.Kept.{Keeps}
+use Rattle.plan.specs.Paid.{Pays}
+use Rattle.plan.specs.Plan.{Ends, Asks, Reads, Calls}
+use Rattle.state.specs.Behaves.{Behaves, worth}
+use Rattle.state.specs.Dialogue.{Course, ask, judged, is_no_more, stopping, written as after_write}
+use Rattle.state.specs.Outcome as stop
+use Rattle.state.specs.Outcome.{Stop}
+use Rattle.state.specs.Piece.{Piece, IsTree}
+use Rattle.state.specs.Rows.{Holds}
+use Rattle.state.specs.Status.{Status}
+use Rattle.state.specs.Variables.{reads, writes, found, stored, on_open, on_named, with_current, named, consulted}
+use Rattle.tclstate.specs.Scopes.{Scopes, Trouble, read, written}
+
+-- with more ticks and more to pay with a course behaves too
+pub more_behaves : (t u had more : ℕ) (c : Course) → t ≤ u → had ≤ more → Behaves t had c →
+    Behaves u more c
+more_behaves t u had more (Ends left) le up behaves =
+    let within = behaves.0 in
+    let kept = behaves.1 in
+    (omega (arith, within), omega (arith, kept))
+more_behaves t u had more (Asks deed next) le up behaves =
+    let one = behaves.0 in (
+      omega (arith, one),
+      behaves.1,
+      λ reply. more_behaves t u (had - 1) (more - 1) (next reply) le (omega arith) (behaves.2 reply),
+    )
+more_behaves t u had more (Reads text next) le up behaves =
+    λ tree is. more_behaves t u had more (next tree) le up (behaves tree is)
+more_behaves t u had more (Calls piece state next) le up behaves = absurd behaves
+
+-- an answer that does not fit, or none, ends the run
+judged_behaves : (t had : ℕ) (s : Status) (next : Course) (none fit : Bool) →
+    s.left ≤ t → worth s ≤ had → Behaves t had next →
+    Behaves t had (if none then Ends (stopping s stop.NoMore)
+    else if fit then next else Ends (stopping s stop.BadAnswer))
+judged_behaves t had s next true fit le paid behaves = (le, paid)
+judged_behaves t had s next false true le paid behaves = behaves
+judged_behaves t had s next false false le paid behaves = (le, paid)
+
+-- an act that is paid for, and what is done with its answer
+pub ask_behaves : (t had : ℕ) (deed : Deed) (s : Status) (next : Status → Reply → Course) →
+    Holds deed → s.left ≤ t → worth s + 1 ≤ had →
+    ((reply : Reply) → Behaves t (had - 1) (next s reply)) → Behaves t had (ask deed s next)
+ask_behaves t had deed s next holds le paid each = (
+  omega arith,
+  holds,
+  λ reply.
+      judged_behaves t (had - 1) s (next s reply) (is_no_more reply) (fits deed reply) le
+      (omega arith) (each reply),
+)
+
+-- one of two courses
+pub if_behaves : (t had : ℕ) (b : Bool) (c d : Course) → Behaves t had c → Behaves t had d →
+    Behaves t had (if b then c else d)
+if_behaves t had true c d one other = one
+if_behaves t had false c d one other = other
+
+-- what is done after a write
+pub written_behaves : (t had : ℕ) (s : Status) (next : Status → Course) (reply : Reply) →
+    s.left ≤ t → worth s ≤ had → Behaves t had (next s) → Behaves t had (after_write next s reply)
+written_behaves t had s next (said.Failed sent) le paid behaves = (le, paid)
+written_behaves t had s next _ le paid behaves = behaves
+
+module _ (t had : ℕ) (s : Status) (le : s.left ≤ t) (paid : worth s ≤ had) where
+  found_behaves : (r : Result (List ℕ) Trouble) (name : List ℕ) (next : List ℕ → Course) →
+      ((v : List ℕ) → Behaves t had (next v)) → Behaves t had (found r name s next)
+  found_behaves (Ok value) name next each = each value
+  found_behaves (Err trouble) name next each = (le, paid)
+
+  -- a variable is read, and on with its value
+  pub reads_behaves : (name : List ℕ) (index : Option (List ℕ)) (next : List ℕ → Course) →
+      ((v : List ℕ) → Behaves t had (next v)) → Behaves t had (reads name index s next)
+  reads_behaves name index next each = found_behaves (read s.scopes name index) _ next each
+
+  stored_behaves : (r : Result Scopes Trouble) (name : List ℕ) (next : Status → Course) →
+      ((scopes : Scopes) → Behaves t had (next (record s { scopes = scopes }))) →
+      Behaves t had (stored r name s next)
+  stored_behaves (Ok scopes) name next each = each scopes
+  stored_behaves (Err trouble) name next each = (le, paid)
+
+  -- a variable is written, and on
+  pub writes_behaves : (name : List ℕ) (index : Option (List ℕ)) (value : List ℕ)
+      (next : Status → Course) →
+      ((scopes : Scopes) → Behaves t had (next (record s { scopes = scopes }))) →
+      Behaves t had (writes name index value s next)
+  writes_behaves name index value next each =
+      stored_behaves (written s.scopes name index value) _ next each
+
+  open_behaves : (o : Option Id) (text : List ℕ) (next : Id → Course) →
+      ((i : Id) → Behaves t had (next i)) → Behaves t had (on_open o text s next)
+  open_behaves None text next each = (le, paid)
+  open_behaves (Some id) text next each = each id
+
+  named_behaves : (o : Option (List ℕ)) (next : Id → Course) →
+      ((i : Id) → Behaves t had (next i)) → Behaves t had (on_named o s next)
+  named_behaves None next each = (le, paid)
+  named_behaves (Some text) next each = open_behaves _ text next each
+
+  -- on with the id in force
+  pub current_behaves : (next : Id → Course) → ((i : Id) → Behaves t had (next i)) →
+      Behaves t had (with_current s next)
+  current_behaves next each = named_behaves _ next each
+
+-- a course that behaves falls
+pub behaves_falls : (rank : Piece → ℕ) (last : Reply) (t r had : ℕ) (c : Course) →
+    Behaves t had c → Falls IsTree (λ (u : Status). u.left) rank last t r c
+behaves_falls rank last t r had (Ends left) behaves = behaves.0
+behaves_falls rank last t r had (Asks deed next) behaves =
+    behaves_falls rank last t r (had - 1) (next last) (behaves.2 last)
+behaves_falls rank last t r had (Reads text next) behaves =
+    λ tree is. behaves_falls rank last t r had (next tree) (behaves tree is)
+behaves_falls rank last t r had (Calls piece state next) behaves = absurd behaves
+
+-- it pays for its acts
+pub behaves_pays : (price : Piece → Status → ℕ) (t had : ℕ) (c : Course) →
+    Behaves t had c → Pays IsTree price worth (λ left. worth left.0) had c
+behaves_pays price t had (Ends left) behaves = behaves.1
+behaves_pays price t had (Asks deed next) behaves =
+    (behaves.0, λ reply. behaves_pays price t (had - 1) (next reply) (behaves.2 reply))
+behaves_pays price t had (Reads text next) behaves =
+    λ tree is. behaves_pays price t had (next tree) (behaves tree is)
+behaves_pays price t had (Calls piece state next) behaves = absurd behaves
+
+-- its waits hold
+pub behaves_keeps : (t had : ℕ) (c : Course) → Behaves t had c →
+    Keeps IsTree (λ (s : Status). Unit {0}) Holds (λ left. Unit {0}) c
+behaves_keeps t had (Ends left) behaves = tt
+behaves_keeps t had (Asks deed next) behaves =
+    (behaves.1, λ reply. behaves_keeps t (had - 1) (next reply) (behaves.2 reply))
+behaves_keeps t had (Reads text next) behaves =
+    λ tree is. behaves_keeps t had (next tree) (behaves tree is)
+behaves_keeps t had (Calls piece state next) behaves = absurd behaves

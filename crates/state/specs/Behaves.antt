@@ -1,0 +1,27 @@
+-- What a command keeps to that runs no script (this project's own rule).
+use Rattle.std.specs.Prelude.{ℕ, ◌+◌, ◌-◌, ◌*◌, ◌≤◌, length, Bool, true, false}
+use Rattle.acts.specs.Deed.{Deed, Reply}
+use Rattle.plan.specs.Plan.{Ends, Asks, Reads, Calls}
+use Rattle.state.specs.Dialogue.{Course}
+use Rattle.state.specs.Piece.{Tree, IsTree}
+use Rattle.state.specs.Rows.{Holds}
+use Rattle.state.specs.Status.{Status, opened}
+
+-- an open log is closed by one act
+abbrev pub closing_of_log : Bool → ℕ
+closing_of_log true = 1
+closing_of_log false = 0
+
+-- the acts that a state can still pay for: three for each tick, and one to close each id and the log
+abbrev pub worth : Status → ℕ
+worth s = 3 * s.left + length (opened s.peers) + closing_of_log s.logging.is_open
+
+-- it runs no script, leaves so many ticks at most, pays for its acts out of what it had and leaves
+-- a state that is worth no more than the rest, and each of its waits holds
+abbrev pub Behaves : ℕ → ℕ → Course → Type 0
+Behaves ticks had (Ends left) = (left.0.left ≤ ticks) × (worth left.0 ≤ had)
+Behaves ticks had (Asks deed next) =
+    (1 ≤ had) × Holds deed × ((reply : Reply) → Behaves ticks (had - 1) (next reply))
+Behaves ticks had (Reads text next) =
+    (tree : Tree text) → IsTree text tree → Behaves ticks had (next tree)
+Behaves ticks had (Calls piece state next) = ⊥
