@@ -1,4 +1,5 @@
 //! The commands on lists.
 #![tactic(auto)]
 
+pub mod laws;
 pub mod list;

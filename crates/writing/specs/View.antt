@@ -1,5 +1,5 @@
 -- How the code's words stand to those of the definition.
-use Rattle.std.specs.Prelude.{ℕ, List, Bool, true, false, if◌then◌else◌}
+use Rattle.std.specs.Prelude.{ℕ, List, Bool, true, false}
 use Rattle.writing.specs.Puts.{Channel, Output, Errors, line_of}
 use Rattle.writing.specs.declared.puts.Channel as named
 use Rattle.writing.specs.declared.puts.Channel.TheVariants as channel

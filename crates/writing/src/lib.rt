@@ -1,4 +1,5 @@
 //! The commands that write to standard output and standard error.
 #![tactic(auto)]
 
+pub mod laws;
 pub mod puts;

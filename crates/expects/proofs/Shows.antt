@@ -1,0 +1,34 @@
+-- What is at hand, where it is known how it came about.
+use Rattle.std.proofs.Common.{◌≡◌, Result, IfOk, sym, ap, ◌∙◌}
+use Rattle.acts.specs.Deed.{Deed, Reply}
+use Rattle.memory.specs.declared.NoMemory.{NoMemory}
+use Rattle.plan.specs.Plan.{Ends}
+use Rattle.state.specs.declared.leaf.Leaf.{Leaf}
+use Rattle.state.specs.declared.leaf.Leaf.TheVariants as leaf
+use Rattle.state.specs.declared.state.State.{State}
+use Rattle.state.specs.Dialogue.{Course}
+use Rattle.state.specs.Leaf.{HasOutcome, Shows}
+use Rattle.state.specs.Outcome.{Outcome}
+use Rattle.state.specs.Status.{Status}
+use Rattle.state.specs.View.{FitsState}
+
+module _ {A W : Type 0} (next : W → Deed → Status → Reply → Course) where
+  -- it is over
+  pub over : {o : Outcome} {s : Status} {state : State A} {course : Course} (l : Leaf A W) →
+      HasOutcome l o → FitsState state s → course ≡ Ends (s, o) → Shows next l state course
+  over {s = s} (leaf.Has x) has fits is = record {
+    status = s;
+    fits = fits;
+    same = is ∙ ap (λ (o : Outcome). let left : Status × Outcome = (s, o) in Ends left) (sym has);
+  }
+  over (leaf.Asks act waits) has fits is = absurd has
+
+  -- the same course under another name
+  pub shows_as : (state : State A) {course other : Course} (l : Leaf A W) → course ≡ other →
+      Shows next l state other → Shows next l state course
+  shows_as state l is shows = rw is shows
+
+  pub shows_ok : (state : State A) {course other : Course} (r : Result (Leaf A W) NoMemory) →
+      course ≡ other → IfOk r (λ l. Shows next l state other) →
+      IfOk r (λ l. Shows next l state course)
+  shows_ok state r is shows = rw is shows

@@ -1,0 +1,3 @@
+pub mod Turn
+pub mod Expect
+pub mod View

@@ -1,0 +1,5 @@
+pub mod SpawnBehaves
+pub mod SendBehaves
+pub mod Shows
+pub mod Launches
+pub mod Runs

@@ -1,0 +1,96 @@
+-- What spawn does.
+use Rattle.std.specs.Prelude.{ℕ, ◌+◌, ◌^◌, nat_le, Bool, true, false, List, [], ◌∷◌, ◌++◌, length, None, codes, decimal, if◌then◌else◌}
+use Rattle.std.specs.Str.{bytes_eq}
+use Rattle.acts.specs.declared.id.Id.{Id}
+use Rattle.acts.specs.Deed.{Deed, Reply}
+use Rattle.acts.specs.Deed as said
+use Rattle.acts.specs.Flaw as flaw
+use Rattle.acts.specs.Id.{id_text}
+use Rattle.state.specs.Arguments.{is_flag}
+use Rattle.state.specs.Dialogue.{Course, gives, raises, ask, written}
+use Rattle.state.specs.Status.{Kind, Process, Status, fresh, opened}
+use Rattle.state.specs.Variables.{writes}
+use Rattle.processes.specs.View.{words_of, words_spawned}
+use Rattle.processes.specs.declared.spawn.Waits.{Waits}
+use Rattle.processes.specs.declared.spawn.Waits.TheVariants as waits
+
+-- the name of a program, which is its first word (expect(1), spawn)
+abbrev pub name_of : List (List ℕ) → List ℕ
+name_of [] = []
+name_of (w ∷ ws) = w
+
+-- an id is opened (expect(1), spawn)
+abbrev pub opens : Id → Kind → Status → Status
+opens i kind s = record s { peers = s.peers ++ fresh i kind ∷ [] }
+
+-- the id of a process is open and in force, and the number of the process is given; where the
+-- variable is not written the id stays open (expect(1), spawn)
+abbrev pub runs : Id → ℕ → Status → Course
+runs i pid s =
+    writes (codes "spawn_id") None (id_text i.0) (opens i (Process pid) s) (gives (decimal pid))
+
+-- what an answer to the start of a program comes to (expect(1), spawn)
+abbrev pub started : Id → List (List ℕ) → Status → Reply → Course
+started i words s (said.Started pid) = runs i pid s
+started i words s _ = raises (flaw.CannotExecute (name_of words)) s
+
+-- a program is started (expect(1), spawn)
+abbrev pub starts : Id → List (List ℕ) → Status → Course
+starts i words s = ask (said.Spawn i words) s (started i words)
+
+-- the words, each after a blank
+abbrev pub after_blanks : List (List ℕ) → List ℕ
+after_blanks [] = []
+after_blanks (w ∷ ws) = 32 ∷ w ++ after_blanks ws
+
+-- the command as it is echoed (expect(1), spawn)
+abbrev pub echo_of : List (List ℕ) → List ℕ
+echo_of words = codes "spawn" ++ after_blanks words ++ 10 ∷ []
+
+-- the next number is used up (this project's own rule)
+abbrev pub numbered : Status → Status
+numbered s = record s { next = s.next + 1 }
+
+-- the id of the next number (this project's own rule)
+abbrev pub next_id : Status → Id
+next_id s = record { 0 = s.next }
+
+-- a program is started under the next number, after its echo where it has one (expect(1), spawn)
+abbrev pub echoes : Bool → List (List ℕ) → Status → Course
+echoes true words s =
+    ask (said.Out (echo_of words)) (numbered s) (written (starts (next_id s) words))
+echoes false words s = starts (next_id s) words (numbered s)
+
+-- at most 64 ids are open, and numbers are below 2^64 (this project's own rule)
+abbrev pub launches : Bool → List (List ℕ) → Status → Course
+launches echo words s =
+    if nat_le 64 (length (opened s.peers)) then raises flaw.TooManyIds s
+    else if nat_le (2 ^ 64) s.next then raises flaw.TooManyIds s
+    else echoes echo words s
+
+-- the flag that keeps a command from being echoed (expect(1), spawn)
+abbrev pub is_noecho : List ℕ → Bool
+is_noecho w = bytes_eq w (codes "-noecho")
+
+-- spawn was given another number of words than it takes (expect(1), spawn)
+abbrev pub wrong_words : Status → Course
+wrong_words s = raises (flaw.WrongArgs (codes "spawn")) s
+
+-- the words behind the flag: the flag does not stand there again, and no other word in its place
+-- would be one (expect(1), spawn)
+abbrev pub spawns : Bool → List (List ℕ) → Status → Course
+spawns echo [] s = wrong_words s
+spawns echo (w ∷ ws) s =
+    if is_noecho w then wrong_words s
+    else if is_flag w then raises (flaw.BadArgument w (codes "spawn")) s
+    else launches echo (w ∷ ws) s
+
+-- spawn ?-noecho? word .. (expect(1), spawn)
+abbrev pub spawn : List (List ℕ) → Status → Course
+spawn [] s = wrong_words s
+spawn (w ∷ ws) s = if is_noecho w then spawns false ws s else spawns true (w ∷ ws) s
+
+-- what follows the answer to an act (expect(1), spawn)
+abbrev pub next_of : {A : Type 0} → Waits A → Deed → Status → Reply → Course
+next_of (waits.Echoed id words) deed = written (starts id (words_of words.items))
+next_of (waits.Started id) deed = started id (words_spawned deed)

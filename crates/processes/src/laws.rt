@@ -1,0 +1,19 @@
+//! What the commands keep to, for the laws of all runs.
+
+ghost use Rattle.std.specs.Prelude.{ℕ, ◌+◌, List};
+ghost use Rattle.processes.specs.Send.{send};
+ghost use Rattle.processes.specs.Spawn.{spawn};
+ghost use Rattle.state.specs.Behaves.{Behaves, worth};
+ghost use Rattle.state.specs.Status.{Status};
+
+/// `spawn` runs no script, uses up no tick, and makes its acts and opens its id out of three.
+#[tactic(auto, using(crate::proofs::SpawnBehaves::spawn_behaves))]
+pub fn spawn_behaves()
+    ensures { (args : List (List ℕ)) (s : Status) → Behaves s.left (worth s + 3) (spawn args s) }
+{}
+
+/// `send` runs no script, uses up no tick, and makes its act out of three.
+#[tactic(auto, using(crate::proofs::SendBehaves::send_behaves))]
+pub fn send_behaves()
+    ensures { (args : List (List ℕ)) (s : Status) → Behaves s.left (worth s + 3) (send args s) }
+{}
