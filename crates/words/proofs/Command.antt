@@ -5,7 +5,7 @@ use Rattle.acts.specs.declared.fault.Fault.{Fault}
 use Rattle.acts.specs.Flaw.{flaw_of}
 use Rattle.tcltext.specs.Flaw as list
 use Rattle.tcltext.specs.Elements.{IsList, HasFlaw}
-use Rattle.tclparse.specs.Tree.{Words, no_words}
+use Rattle.tclparse.specs.Tree.{Words, no_words, word}
 use Rattle.tclparse.specs.View.{word_view, words_then, parts_of}
 use Rattle.tclparse.specs.declared.tree.Word.{Word, out-Word}
 use Rattle.tclparse.proofs.Trees.{view_Word}
@@ -23,6 +23,14 @@ module _ {A : Type 0} (ws : List (Word A)) where
   left i = words_then (drop i ws) no_words
 
   -- they are the one there and those behind it
+  pub next_word : (i : ℕ) (w : Word A) → i < length ws → w ≡ get_or ws i w →
+      left i ≡ word (out-Word A w).expands (parts_of (out-Word A w).parts) (left (i + 1))
+  next_word i w lt is =
+      ap (λ vs. words_then vs no_words) (drop-cons ws i w lt)
+      ∙ ap (λ v. word_view v (left (suc i))) (sym is)
+      ∙ ap (λ j. word_view w (left j)) (sym (add-one i))
+      ∙ view_Word w (left (i + 1))
+
   pub at_word : (i : ℕ) (w : Word A) → i < length ws → w ≡ get_or ws i w →
       (levels : ℕ) (values : List (List ℕ)) (s : Status)
       (call : Status → List (List ℕ) → Course) →
@@ -30,11 +38,7 @@ module _ {A : Type 0} (ws : List (Word A)) where
       ≡ parts levels (parts_of (out-Word A w).parts) [] s
       (taken levels (out-Word A w).expands (left (i + 1)) values call)
   at_word i w lt is levels values s call =
-      ap (λ x. words levels x values s call)
-      (ap (λ vs. words_then vs no_words) (drop-cons ws i w lt)
-      ∙ ap (λ v. word_view v (left (suc i))) (sym is)
-      ∙ ap (λ j. word_view w (left j)) (sym (add-one i))
-      ∙ view_Word w (left (i + 1)))
+      ap (λ x. words levels x values s call) (next_word i w lt is)
 
 -- a value behind {*} that is a list gives its elements
 pub list_reaches : (value : List ℕ) (elements : List (List ℕ)) (s : Status)

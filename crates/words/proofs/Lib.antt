@@ -3,3 +3,4 @@ pub mod Levels
 pub mod Reaches
 pub mod Command
 pub mod Holds
+pub mod Scripts

@@ -18,7 +18,7 @@ use Rattle.state.specs.Status.{Status}
 use Rattle.state.specs.Stores.{IsTold}
 use Rattle.state.specs.Variables.{found, reads, spelled, flaw_of_trouble}
 use Rattle.words.specs.View.{Appends}
-use Rattle.words.specs.Words.{nested, parts}
+use Rattle.words.specs.Words.{parts}
 
 -- a variable that is read gives its value
 pub reads_ok : (s : Status) (scopes : Scopes) (name : List ℕ) (index : Option (List ℕ))
@@ -73,50 +73,30 @@ literal levels (b ∷ v) ps bytes s k =
     literal levels v ps (bytes ++ b ∷ []) s k
     ∙ ap (λ w. parts levels ps w s k) (append_assoc bytes (b ∷ []) v)
 
-module _ {A : Type 0} (ps : List (Part A)) where
-  -- the parts from a place on
-  abbrev pub left : ℕ → Parts
-  left i = parts_then (drop i ps) no_parts
+-- the parts from a place on
+abbrev pub left : {A : Type 0} → List (Part A) → ℕ → Parts
+left ps i = parts_then (drop i ps) no_parts
 
-  -- they are the one there and those behind it
-  next_part : (i : ℕ) (p : Part A) → i < length ps → p ≡ get_or ps i p →
-      left i ≡ part_view p (left (i + 1))
-  next_part i p lt is =
-      ap (λ qs. parts_then qs no_parts) (drop-cons ps i p lt)
-      ∙ ap (λ q. part_view q (left (suc i))) (sym is)
-      ∙ ap (λ j. part_view p (left j)) (sym (add-one i))
+-- they are the one there and those behind it
+pub next_part : {A : Type 0} (ps : List (Part A)) (i : ℕ) (p : Part A) → i < length ps →
+    p ≡ get_or ps i p → left ps i ≡ part_view p (left ps (i + 1))
+next_part ps i p lt is =
+    ap (λ qs. parts_then qs no_parts) (drop-cons ps i p lt)
+    ∙ ap (λ q. part_view q (left ps (suc i))) (sym is)
+    ∙ ap (λ j. part_view p (left ps j)) (sym (add-one i))
 
-  module _ (i : ℕ) (p : Part A) (lt : i < length ps) (is : p ≡ get_or ps i p)
-      (levels : ℕ) (bytes : List ℕ) (s : Status) (k : Status → List ℕ → Course) where
-    seen_as : (q : Parts → Parts) → part_view p (left (i + 1)) ≡ q (left (i + 1)) →
-        parts levels (left i) bytes s k ≡ parts levels (q (left (i + 1))) bytes s k
-    seen_as q view = ap (λ x. parts levels x bytes s k) (next_part i p lt is ∙ view)
+-- a part of each kind, before those behind it
+module _ {A : Type 0} (p : Part A) (rest : Parts) where
+  pub as_literal : (v : List ℕ) → p ≡ Literal v → part_view p rest ≡ bytes_then v rest
+  as_literal v same = ap (λ q. part_view q rest) same ∙ view_Literal A v rest
 
-    pub at_literal : (v : List ℕ) → p ≡ Literal v →
-        parts levels (left i) bytes s k ≡ parts levels (left (i + 1)) (bytes ++ v) s k
-    at_literal v same =
-        seen_as (bytes_then v) (ap (λ q. part_view q (left (i + 1))) same ∙ view_Literal A v _)
-        ∙ literal levels v (left (i + 1)) bytes s k
+  pub as_variable : (name : List ℕ) → p ≡ Variable name → part_view p rest ≡ variable name rest
+  as_variable name same = ap (λ q. part_view q rest) same ∙ view_Variable A name rest
 
-    pub at_variable : (name : List ℕ) → p ≡ Variable name →
-        parts levels (left i) bytes s k
-        ≡ reads name None s (λ value. parts levels (left (i + 1)) (bytes ++ value) s k)
-    at_variable name same =
-        seen_as (variable name) (ap (λ q. part_view q (left (i + 1))) same ∙ view_Variable A name _)
+  pub as_element : (name : List ℕ) (index : Rc (Vec (Part A) A) A) → p ≡ Element name index →
+      part_view p rest ≡ element name (parts_of index) rest
+  as_element name index same = ap (λ q. part_view q rest) same ∙ view_Element name index rest
 
-    pub at_element : (name : List ℕ) (index : Rc (Vec (Part A) A) A) → p ≡ Element name index →
-        parts levels (left i) bytes s k
-        ≡ parts levels (parts_of index) [] s (λ t value.
-        reads name (Some value) t (λ more.
-        parts levels (left (i + 1)) (bytes ++ more) t k))
-    at_element name index same =
-        seen_as (element name (parts_of index))
-        (ap (λ q. part_view q (left (i + 1))) same ∙ view_Element name index _)
-
-    pub at_script : (commands : Rc (Vec (Command A) A) A) → p ≡ Bracket commands →
-        parts levels (left i) bytes s k
-        ≡ nested levels (commands_of commands) s (λ t value.
-        parts levels (left (i + 1)) (bytes ++ value) t k)
-    at_script commands same =
-        seen_as (script (commands_of commands))
-        (ap (λ q. part_view q (left (i + 1))) same ∙ view_Bracket commands _)
+  pub as_script : (commands : Rc (Vec (Command A) A) A) → p ≡ Bracket commands →
+      part_view p rest ≡ script (commands_of commands) rest
+  as_script commands same = ap (λ q. part_view q rest) same ∙ view_Bracket commands rest

@@ -1,11 +1,13 @@
 -- What is done with the words of a command that are substituted up to a script in one of them.
-use Rattle.std.specs.Prelude.{◌≡◌, ℕ, List, ◌++◌, drop, Bool, Option, Some, None, IsSomeAnd}
+use Rattle.std.specs.Prelude.{◌≡◌, ℕ, List, ◌++◌, drop, Bool, Option, Some, None, IsSomeAnd, Vec}
+use Rattle.std.specs.declared.rc.Rc.{Rc}
 use Rattle.acts.specs.declared.fault.Fault.{Fault}
 use Rattle.acts.specs.Flaw.{flaw_of}
 use Rattle.tcltext.specs.declared.list.fault.ListFault.{ListFault}
 use Rattle.tcltext.specs.Seen as list
 use Rattle.tclparse.specs.Tree.{Words, no_words}
 use Rattle.tclparse.specs.View.{words_then, commands_of}
+use Rattle.tclparse.specs.declared.tree.Word.{Word}
 use Rattle.state.specs.Dialogue.{Course, raises}
 use Rattle.state.specs.Status.{Status}
 use Rattle.words.specs.declared.gathering.Gathering.{Gathering}
@@ -14,6 +16,10 @@ use Rattle.words.specs.declared.gathering.Gathered.TheVariants as gathered
 use Rattle.words.specs.Words.{nested, flaw_of_list, expanded, words}
 use Rattle.words.specs.Reaches.{Reaches}
 use Rattle.words.specs.View.{resumed}
+
+-- the words of a command from a place on
+abbrev pub words_from : {A : Type 0} → Rc (Vec (Word A) A) A → ℕ → Words
+words_from ws i = words_then (drop i ws.value.items) no_words
 
 -- on with the value of a word, and with the words behind it
 abbrev pub taken : ℕ → Bool → Words → List (List ℕ) → (Status → List (List ℕ) → Course) →
@@ -26,8 +32,7 @@ abbrev pub gathering_on : {A : Type 0} → ℕ → Gathering A → (Status → L
     Status → List ℕ → Course
 gathering_on levels g call =
     resumed levels g.word
-    (taken levels g.expands (words_then (drop g.next g.words.value.items) no_words) g.values.items
-    call)
+    (taken levels g.expands (words_from g.words g.next) g.values.items call)
 
 -- what the words of a command come to: their values, a script in one of them, or the script's error
 abbrev pub course_of_gathered : {A : Type 0} → ℕ → Gathered A →

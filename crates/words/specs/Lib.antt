@@ -2,3 +2,4 @@ pub mod Words
 pub mod View
 pub mod Reaches
 pub mod Gathering
+pub mod Scripts

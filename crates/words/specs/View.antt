@@ -1,9 +1,11 @@
 -- What is done with a word that is evaluated up to a script, and with the words of a command.
-use Rattle.std.specs.Prelude.{◌≡◌, ℕ, List, [], ◌∷◌, ◌++◌, drop, Option, Some, None}
+use Rattle.std.specs.Prelude.{◌≡◌, ℕ, List, [], ◌∷◌, ◌++◌, drop, Option, Some, None, Vec}
+use Rattle.std.specs.declared.rc.Rc.{Rc}
 use Rattle.acts.specs.declared.fault.Fault.{Fault}
 use Rattle.acts.specs.Flaw.{flaw_of}
 use Rattle.tclparse.specs.Tree.{Parts, no_parts}
 use Rattle.tclparse.specs.View.{parts_then, commands_of}
+use Rattle.tclparse.specs.declared.tree.Part.{Part}
 use Rattle.state.specs.Dialogue.{Course, raises}
 use Rattle.state.specs.Status.{Status}
 use Rattle.state.specs.Variables.{reads}
@@ -14,9 +16,13 @@ use Rattle.words.specs.declared.word.Met.{Met}
 use Rattle.words.specs.declared.word.Met.TheVariants as met
 use Rattle.words.specs.Words.{nested, parts}
 
+-- the parts of a word from a place on
+abbrev pub parts_from : {A : Type 0} → Rc (Vec (Part A) A) A → ℕ → Parts
+parts_from ps i = parts_then (drop i ps.value.items) no_parts
+
 -- the parts that are left of a word or of an index
 abbrev pub rest_of : {A : Type 0} → Rest A → Parts
-rest_of r = parts_then (drop r.next r.parts.value.items) no_parts
+rest_of r = parts_from r.parts r.next
 
 -- on with the value of an index: the element is read, and then come the indexes and the word around
 -- it, the innermost first (Tcl(n), rule 8)
@@ -41,6 +47,12 @@ course_of_met levels (met.Value value) next s = next s value
 course_of_met levels (met.Script commands word) next s =
     nested levels (commands_of commands) s (resumed levels word next)
 course_of_met levels (met.Fault fault) next s = raises (flaw_of fault) s
+
+-- what a part of a word comes to: those behind it follow, or this is met in it
+abbrev pub course_of_part : {A : Type 0} →
+    ℕ → Option (Met A) → Course → (Status → List ℕ → Course) → Status → Course
+course_of_part levels None behind next s = behind
+course_of_part levels (Some met) behind next s = course_of_met levels met next s
 
 -- the value that a variable has is put behind the bytes, or the script has this error
 abbrev pub Appends : {A : Type 0} →

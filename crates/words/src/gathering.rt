@@ -8,7 +8,8 @@ ghost use Rattle.tclparse.specs.Tree.{no_words};
 ghost use Rattle.tclparse.specs.View.{words_of, words_then};
 ghost use Rattle.words.specs.Words.{words as meant};
 ghost use Rattle.words.specs.Reaches.{Reaches};
-ghost use Rattle.words.specs.Gathering.{Adds, TellsFlaw, course_of_gathered, gathering_on, taken};
+ghost use Rattle.words.specs.Gathering.{Adds, TellsFlaw, course_of_gathered, gathering_on, taken, words_from};
+ghost use Rattle.words.specs.Scripts.{HasFewer, scripts_left, scripts_of};
 ghost use Rattle.words.specs.View.{course_of_met};
 
 use crate::word::{Met, OpenWord, begin as begin_word};
@@ -86,23 +87,22 @@ fn gather<A: Allocator + Copy>(
     alloc: A,
     scopes: &Scopes<A>,
 ) -> Result<Gathered<A>, NoMemory>
-    ensures { (levels : ℕ) (s : Status) (call : Status → List (List ℕ) → Course) →
+    ensures reaches { (levels : ℕ) (s : Status) (call : Status → List (List ℕ) → Course) →
         s.scopes ≡ scopes.now → IfOk result (λ gathered. Reaches
         (meant levels (words_then (drop next words.value.items) no_words) values.items s call)
         (course_of_gathered levels gathered call s)) }
+    ensures fewer { IfOk result (λ found. HasFewer found (scripts_of (words_from words next))) }
 {
     let list: &Vec<Word<A>, A> = &words;
     'words: while next < list.len() {
         let word = &list[next];
         let expands = word.expands;
-        let met = begin_word(&word.parts, alloc, scopes)?;
         next += 1;
-        match met {
+        match begin_word(&word.parts, alloc, scopes)? {
             Met::Value(value) => {
                 if let Some(fault) = add_words(alloc, expands, value, &mut values)? {
                     return Ok(Gathered::Fault(fault));
                 }
-                continue;
             }
             Met::Script(commands, word) => {
                 let gathering = Gathering {
@@ -148,10 +148,11 @@ pub fn resume<A: Allocator + Copy>(
     gathering: Gathering<A>,
     value: Value<A>,
 ) -> Result<Gathered<A>, NoMemory>
-    ensures { (levels : ℕ) (s : Status) (call : Status → List (List ℕ) → Course) →
+    ensures reaches { (levels : ℕ) (s : Status) (call : Status → List (List ℕ) → Course) →
         s.scopes ≡ scopes.now → IfOk result (λ gathered. Reaches
         (gathering_on levels gathering call s value)
         (course_of_gathered levels gathered call s)) }
+    ensures fewer { IfOk result (λ gathered. HasFewer gathered (scripts_left gathering)) }
 {
     let Gathering {
         words,

@@ -1,18 +1,21 @@
 //! One word: its parts are substituted, up to a script in it (Tcl(n), rules 7 to 9 and 11).
 
-ghost use Rattle.std.specs.Prelude.{◌≡◌, ℕ, List, [], ◌∷◌, ◌++◌, drop, IfOk, option_copied};
+ghost use Rattle.std.specs.Prelude.{◌≡◌, ◌≤◌, ◌+◌, ℕ, List, [], ◌∷◌, ◌++◌, drop, Some, IfOk, IfSome, MatchOption, option_copied};
 ghost use Rattle.state.specs.Dialogue.{Course};
 ghost use Rattle.state.specs.Status.{Status};
+ghost use Rattle.state.specs.Variables.{reads};
 ghost use Rattle.tclparse.specs.Tree.{no_parts};
-ghost use Rattle.tclparse.specs.View.{parts_of, parts_then};
+ghost use Rattle.tclparse.specs.View.{part_view, parts_of, parts_then};
 ghost use Rattle.words.specs.Words.{parts as substituted};
-ghost use Rattle.words.specs.View.{Appends, after, course_of_met, resumed};
+ghost use Rattle.words.specs.Scripts.{MeetsFewer, scripts_around, scripts_behind, scripts_in};
+ghost use Rattle.words.specs.View.{Appends, after, course_of_met, course_of_part, parts_from, rest_of, resumed};
 
 use crate::joined::Joined;
 use acts::{Fault, NoMemory};
 use state::variables::trouble;
 use std::alloc::Allocator;
 use std::collections::VecDeque;
+use std::mem;
 use std::rc::Rc;
 use tclparse::{Command, Part};
 use tclstate::Scopes;
@@ -72,19 +75,117 @@ fn append_variable<A: Allocator + Copy>(
     }
 }
 
+/// What is left of a word behind a part, with the bytes so far, which are taken.
+fn rest_behind<A: Allocator + Copy>(
+    parts: &Rc<Vec<Part<A>, A>, A>,
+    next: usize,
+    bytes: &mut Joined<A>,
+    alloc: A,
+) -> Result<Rest<A>, NoMemory>
+    ensures parts { IfOk result (λ rest. rest_of rest ≡ parts_from parts.now next) }
+    ensures bytes { IfOk result (λ rest. rest.bytes ≡ bytes.old) }
+{
+    let parts = parts.clone()?;
+    let bytes = mem::replace(bytes, Joined::new(alloc));
+    Ok(Rest { parts, next, bytes })
+}
+
 /// A word in which a script was met, inside an element's index.
 fn enclosed<A: Allocator + Copy>(
     mut word: OpenWord<A>,
     outer: Outer<A>,
 ) -> Result<OpenWord<A>, NoMemory>
-    ensures { IfOk result (λ whole. (levels : ℕ) (next : Status → List ℕ → Course) →
+    ensures goes_on { IfOk result (λ whole. (levels : ℕ) (next : Status → List ℕ → Course) →
         resumed levels whole next ≡ resumed levels word (after levels (outer ∷ []) next)) }
+    ensures scripts { IfOk result (λ whole.
+        scripts_behind whole ≡ scripts_behind word + scripts_in (rest_of outer.rest)) }
 {
     word.outer.push_back(outer)?;
     Ok(word)
 }
 
+/// Goes on with what an element's index comes to: puts the element's value behind the bytes, or
+/// answers what is met: a script in the index, or the script's error.
+fn append_element<A: Allocator + Copy>(
+    index: Met<A>,
+    array: &Value<A>,
+    parts: &Rc<Vec<Part<A>, A>, A>,
+    next: usize,
+    bytes: &mut Joined<A>,
+    alloc: A,
+    scopes: &Scopes<A>,
+) -> Result<Option<Met<A>>, NoMemory>
+    ensures goes_on { (levels : ℕ) (s : Status) (k : Status → List ℕ → Course) →
+        s.scopes ≡ scopes.now → let rest = parts_from parts.now next in IfOk result (λ stop.
+        course_of_met levels index (λ t value. reads array.now (Some value) t
+        (λ more. substituted levels rest (bytes.old ++ more) t k)) s
+        ≡ course_of_part levels stop (substituted levels rest bytes.new s k) k s) }
+    ensures fewer { (n : ℕ) → MeetsFewer index n → IfOk result (λ stop. IfSome stop (λ met.
+        MeetsFewer met (n + scripts_in (parts_from parts.now next)))) }
+{
+    match index {
+        Met::Value(value) => {
+            let index = Some(value.as_slice());
+            if let Some(fault) = append_variable(alloc, scopes, array.as_slice(), index, bytes)? {
+                return Ok(Some(Met::Fault(fault)));
+            }
+            Ok(None)
+        }
+        Met::Script(commands, word) => {
+            let rest = rest_behind(parts, next, bytes, alloc)?;
+            let array = array.share()?;
+            let whole = enclosed(word, Outer { array, rest })?;
+            Ok(Some(Met::Script(commands, whole)))
+        }
+        Met::Fault(fault) => Ok(Some(Met::Fault(fault))),
+    }
+}
+
+/// Puts the value of a part behind the bytes, or answers what is met in it: a script, or the
+/// script's error.
+#[cycle(substitute)]
+fn append_part<A: Allocator + Copy>(
+    part: &Part<A>,
+    parts: &Rc<Vec<Part<A>, A>, A>,
+    next: usize,
+    bytes: &mut Joined<A>,
+    alloc: A,
+    scopes: &Scopes<A>,
+) -> Result<Option<Met<A>>, NoMemory>
+    ensures goes_on { (levels : ℕ) (s : Status) (k : Status → List ℕ → Course) →
+        s.scopes ≡ scopes.now → let rest = parts_from parts.now next in IfOk result (λ stop.
+        substituted levels (part_view part.now rest) bytes.old s k
+        ≡ course_of_part levels stop (substituted levels rest bytes.new s k) k s) }
+    ensures fewer { let rest = parts_from parts.now next in
+        let all = scripts_in (part_view part.now rest) in IfOk result (λ stop.
+        MatchOption stop (scripts_in rest ≤ all) (λ met. MeetsFewer met all)) }
+{
+    match part {
+        Part::Literal(value) => {
+            bytes.push(value)?;
+            Ok(None)
+        }
+        Part::Variable(name) => {
+            if let Some(fault) = append_variable(alloc, scopes, name.as_slice(), None, bytes)? {
+                return Ok(Some(Met::Fault(fault)));
+            }
+            Ok(None)
+        }
+        Part::Element(array, index) => {
+            let index = run(index, 0, Joined::new(alloc), alloc, scopes)?;
+            append_element(index, array, parts, next, bytes, alloc, scopes)
+        }
+        Part::Bracket(commands) => {
+            let commands = commands.clone()?;
+            let inner = rest_behind(parts, next, bytes, alloc)?;
+            let outer = VecDeque::new(alloc);
+            Ok(Some(Met::Script(commands, OpenWord { inner, outer })))
+        }
+    }
+}
+
 /// Substitutes the parts from the next one on, up to a script.
+#[cycle(substitute)]
 fn run<A: Allocator + Copy>(
     parts: &Rc<Vec<Part<A>, A>, A>,
     mut next: usize,
@@ -92,69 +193,18 @@ fn run<A: Allocator + Copy>(
     alloc: A,
     scopes: &Scopes<A>,
 ) -> Result<Met<A>, NoMemory>
-    ensures { (levels : ℕ) (s : Status) (k : Status → List ℕ → Course) → s.scopes ≡ scopes.now →
-        IfOk result (λ met.
+    ensures goes_on { (levels : ℕ) (s : Status) (k : Status → List ℕ → Course) →
+        s.scopes ≡ scopes.now → IfOk result (λ met.
         substituted levels (parts_then (drop next parts.now.value.items) no_parts) bytes s k
         ≡ course_of_met levels met k s) }
+    ensures fewer { IfOk result (λ met. MeetsFewer met (scripts_in (parts_from parts.now next))) }
 {
     let list: &Vec<Part<A>, A> = parts;
     'parts: while next < list.len() {
         let part = &list[next];
         next += 1;
-        match part {
-            Part::Literal(value) => {
-                bytes.push(value)?;
-                continue;
-            }
-            Part::Variable(name) => {
-                if let Some(fault) = append_variable(
-                    alloc,
-                    scopes,
-                    name.as_slice(),
-                    None,
-                    &mut bytes,
-                )? {
-                    return Ok(Met::Fault(fault));
-                }
-                continue;
-            }
-            Part::Element(array, index) => {
-                let value = match run(index, 0, Joined::new(alloc), alloc, scopes)? {
-                    Met::Value(value) => value,
-                    Met::Script(commands, word) => {
-                        let rest = Rest {
-                            parts: parts.clone()?,
-                            next,
-                            bytes,
-                        };
-                        let array = array.share()?;
-                        let whole = enclosed(word, Outer { array, rest })?;
-                        return Ok(Met::Script(commands, whole));
-                    }
-                    Met::Fault(fault) => return Ok(Met::Fault(fault)),
-                };
-                let index = Some(value.as_slice());
-                if let Some(fault) = append_variable(
-                    alloc,
-                    scopes,
-                    array.as_slice(),
-                    index,
-                    &mut bytes,
-                )? {
-                    return Ok(Met::Fault(fault));
-                }
-                continue;
-            }
-            Part::Bracket(commands) => {
-                let commands = commands.clone()?;
-                let inner = Rest {
-                    parts: parts.clone()?,
-                    next,
-                    bytes,
-                };
-                let outer = VecDeque::new(alloc);
-                return Ok(Met::Script(commands, OpenWord { inner, outer }));
-            }
+        if let Some(met) = append_part(part, parts, next, &mut bytes, alloc, scopes)? {
+            return Ok(met);
         }
     }
     Ok(Met::Value(bytes.finish(alloc)?))
@@ -166,9 +216,10 @@ pub fn begin<A: Allocator + Copy>(
     alloc: A,
     scopes: &Scopes<A>,
 ) -> Result<Met<A>, NoMemory>
-    ensures { (levels : ℕ) (s : Status) (k : Status → List ℕ → Course) → s.scopes ≡ scopes.now →
-        IfOk result (λ met.
+    ensures goes_on { (levels : ℕ) (s : Status) (k : Status → List ℕ → Course) →
+        s.scopes ≡ scopes.now → IfOk result (λ met.
         substituted levels (parts_of parts.now) [] s k ≡ course_of_met levels met k s) }
+    ensures fewer { IfOk result (λ met. MeetsFewer met (scripts_in (parts_of parts.now))) }
 {
     run(parts, 0, Joined::new(alloc), alloc, scopes)
 }
@@ -180,9 +231,10 @@ fn leave_index<A: Allocator + Copy>(
     scopes: &Scopes<A>,
     index: &Value<A>,
 ) -> Result<Met<A>, NoMemory>
-    ensures { (levels : ℕ) (s : Status) (k : Status → List ℕ → Course) → s.scopes ≡ scopes.now →
-        IfOk result (λ met.
+    ensures goes_on { (levels : ℕ) (s : Status) (k : Status → List ℕ → Course) →
+        s.scopes ≡ scopes.now → IfOk result (λ met.
         after levels (outer ∷ []) k s index.now ≡ course_of_met levels met k s) }
+    ensures fewer { IfOk result (λ met. MeetsFewer met (scripts_in (rest_of outer.rest))) }
 {
     let Outer { array, rest } = outer;
     let Rest {
@@ -202,8 +254,10 @@ fn enclosed_by_all<A: Allocator + Copy>(
     mut word: OpenWord<A>,
     mut outer: VecDeque<Outer<A>, A>,
 ) -> Result<OpenWord<A>, NoMemory>
-    ensures { IfOk result (λ whole. (levels : ℕ) (next : Status → List ℕ → Course) →
+    ensures goes_on { IfOk result (λ whole. (levels : ℕ) (next : Status → List ℕ → Course) →
         resumed levels whole next ≡ resumed levels word (after levels outer.items next)) }
+    ensures scripts { IfOk result (λ whole.
+        scripts_behind whole ≡ scripts_behind word + scripts_around outer.items) }
 {
     word.outer.append(&mut outer)?;
     Ok(word)
@@ -212,9 +266,10 @@ fn enclosed_by_all<A: Allocator + Copy>(
 impl<A: Allocator + Copy> OpenWord<A> {
     /// Goes on with the value of the script that was met, up to the next one.
     pub fn resume(self, alloc: A, scopes: &Scopes<A>, value: &Value<A>) -> Result<Met<A>, NoMemory>
-        ensures { (levels : ℕ) (s : Status) (k : Status → List ℕ → Course) →
+        ensures goes_on { (levels : ℕ) (s : Status) (k : Status → List ℕ → Course) →
             s.scopes ≡ scopes.now →
             IfOk result (λ met. resumed levels self k s value.now ≡ course_of_met levels met k s) }
+        ensures fewer { IfOk result (λ met. MeetsFewer met (scripts_behind self)) }
     {
         let OpenWord { inner, mut outer } = self;
         let Rest {

@@ -1,17 +1,22 @@
-use Rattle.std.proofs.Common.{◌≡◌, ℕ, List, ◌-◌, length}
+use Rattle.std.proofs.Common.{◌≡◌, ◌≤◌, ℕ, List, ◌-◌, length}
 use Rattle.state.specs.Dialogue.{Course}
 use Rattle.state.specs.Status.{Status}
 use Rattle.words.specs.Reaches.{Reaches}
+use Rattle.words.specs.Scripts.{scripts_of}
 use Rattle.words.specs.Words.{words}
 use Rattle.words.proofs.Command.{left}
 use Rattle.words.proofs.gathering.gather.Given as goal
 
--- the words that are left are reached from all
+-- the words that are left are reached from all, and have no more scripts
 abbrev pub invariant-words : goal.invariant-words
-invariant-words g l =
-    (levels : ℕ) (s : Status) (call : Status → List (List ℕ) → Course) → s.scopes ≡ l.scopes →
-    Reaches (words levels (left l.fn.words.value.items l.fn.next) l.fn.values.items s call)
-    (words levels (left l.list.items l.next) l.values.items s call)
+invariant-words g l = record {
+  reaches : (levels : ℕ) (s : Status) (call : Status → List (List ℕ) → Course) →
+      s.scopes ≡ l.scopes →
+      Reaches (words levels (left l.fn.words.value.items l.fn.next) l.fn.values.items s call)
+      (words levels (left l.list.items l.next) l.values.items s call);
+  within : scripts_of (left l.list.items l.next)
+      ≤ scripts_of (left l.fn.words.value.items l.fn.next);
+}
 
 abbrev pub decreases-words : goal.decreases-words
 decreases-words g l = length l.list.items - l.next

@@ -1,14 +1,16 @@
-use Rattle.std.proofs.Common.{◌∙◌, ap}
+use Rattle.std.proofs.Common.{◌∙◌, ap, subst, arith}
 use Rattle.words.specs.Gathering.{course_of_gathered, gathering_on, taken}
 use Rattle.words.specs.Reaches.{Reaches}
+use Rattle.words.specs.Scripts.{HasFewer, MeetsFewer, scripts_behind, scripts_left, scripts_of}
 use Rattle.words.specs.View.{course_of_met}
 use Rattle.words.specs.Words.{words}
 use Rattle.words.proofs.Command.{left, added, on_ok}
 use Rattle.words.proofs.Reaches.{same_reaches, then_reaches}
+use Rattle.words.proofs.Scripts.{has_more}
 use Rattle.words.proofs.gathering.resume.Goals as goal
 
-pub returns-in-Value : goal.returns-in-Value
-returns-in-Value g c = λ levels s call same.
+pub returns-in-Value-clause-reaches : goal.returns-in-Value-clause-reaches
+returns-in-Value-clause-reaches g c = λ levels s call same.
     let gathering = c.args.gathering in
     let ws = left gathering.words.value.items gathering.next in
     let old = gathering.values.items in
@@ -19,26 +21,43 @@ returns-in-Value g c = λ levels s call same.
     (λ gathered. Reaches (gathering_on levels gathering call s c.args.value)
     (course_of_gathered levels gathered call s))
     (λ gathered reach. then_reaches
-    (same_reaches (c.in_ok-value.ensures levels s on same
+    (same_reaches (c.in_ok-value.ensures.goes_on levels s on same
     ∙ ap (λ met. course_of_met levels met on s) c.in-Value.is))
     (then_reaches
     (added c.in_ok-fault-in-Value.field-0 gathering.expands c.in-Value.value old new
     c.in_default.is c.in_ok-fault-in-Value.ensures s (λ vs. words levels ws vs s call))
     reach))
-    (c.gather.ensures levels s call same)
+    (c.gather.ensures.reaches levels s call same)
 
-pub returns-in-Script : goal.returns-in-Script
-returns-in-Script g c = λ levels s call same.
+pub returns-in-Script-clause-reaches : goal.returns-in-Script-clause-reaches
+returns-in-Script-clause-reaches g c = λ levels s call same.
     let gathering = c.args.gathering in
     let on = taken levels gathering.expands
     (left gathering.words.value.items gathering.next) gathering.values.items call in
-    same_reaches (c.in_ok-value.ensures levels s on same
+    same_reaches (c.in_ok-value.ensures.goes_on levels s on same
     ∙ ap (λ met. course_of_met levels met on s) c.in-Script.is)
 
-pub returns : goal.returns
-returns g c = λ levels s call same.
+pub returns-clause-reaches : goal.returns-clause-reaches
+returns-clause-reaches g c = λ levels s call same.
     let gathering = c.args.gathering in
     let on = taken levels gathering.expands
     (left gathering.words.value.items gathering.next) gathering.values.items call in
-    same_reaches (c.in_ok-value.ensures levels s on same
+    same_reaches (c.in_ok-value.ensures.goes_on levels s on same
     ∙ ap (λ met. course_of_met levels met on s) c.in-Fault.is)
+
+pub returns-in-Value-clause-fewer : goal.returns-in-Value-clause-fewer
+returns-in-Value-clause-fewer g c =
+    let gathering = c.args.gathering in
+    let behind = scripts_of (left gathering.words.value.items gathering.next) in
+    on_ok c.gather.result (λ gathered. HasFewer gathered behind)
+    (λ gathered. HasFewer gathered (scripts_left gathering))
+    (λ gathered fewer. has_more gathered behind (scripts_left gathering) fewer (omega arith))
+    c.gather.ensures.fewer
+
+pub returns-in-Script-clause-fewer : goal.returns-in-Script-clause-fewer
+returns-in-Script-clause-fewer g c =
+    omega (
+      arith,
+      subst (λ it. MeetsFewer it (scripts_behind c.args.gathering.word)) c.in-Script.is
+          c.in_ok-value.ensures.fewer,
+    )

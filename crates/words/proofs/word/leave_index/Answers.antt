@@ -6,8 +6,8 @@ use Rattle.words.proofs.Command.{on_ok}
 use Rattle.words.proofs.Steps.{appended, not_appended}
 use Rattle.words.proofs.word.leave_index.Goals as goal
 
-pub returns-in-Some : goal.returns-in-Some
-returns-in-Some g c = λ levels s k same.
+pub returns-in-Some-clause-goes_on : goal.returns-in-Some-clause-goes_on
+returns-in-Some-clause-goes_on g c = λ levels s k same.
     let outer = c.args.outer in
     let more = λ (value : List ℕ).
     parts levels (rest_of outer.rest) (outer.rest.bytes ++ value) s k in
@@ -17,8 +17,8 @@ returns-in-Some g c = λ levels s k same.
     c.append_variable.new.bytes c.as_slice-2.result.now (Some c.as_slice.result.now) s c.in-Some.is
     (c.in_ok-fault.ensures s same) more
 
-pub returns : goal.returns
-returns g c = λ levels s k same.
+pub returns-clause-goes_on : goal.returns-clause-goes_on
+returns-clause-goes_on g c = λ levels s k same.
     let outer = c.args.outer in
     let more = λ (value : List ℕ).
     parts levels (rest_of outer.rest) (outer.rest.bytes ++ value) s k in
@@ -31,4 +31,4 @@ returns g c = λ levels s k same.
     (c.in_ok-fault.ensures s same) on in
     on_ok c.run.result (λ met. on c.append_variable.new.bytes ≡ course_of_met levels met k s)
     (λ met. reads outer.array (Some c.args.index.now) s more ≡ course_of_met levels met k s)
-    (λ met ran. read ∙ ran) (c.run.ensures levels s k same)
+    (λ met ran. read ∙ ran) (c.run.ensures.goes_on levels s k same)
