@@ -1,0 +1,32 @@
+-- Each command behaves.
+use Rattle.std.proofs.Common.{ℕ, ◌+◌, List, [], ◌∷◌, Option, Some, None, arith}
+use Rattle.commands.specs.Builtin as builtin
+use Rattle.commands.specs.Builtin.{Builtin}
+use Rattle.commands.specs.Commands.{named, does, called, command}
+use Rattle.expects.proofs.Behaves.{expect_behaves}
+use Rattle.lists.proofs.Behaves.{list_behaves}
+use Rattle.processes.proofs.SendBehaves.{send_behaves}
+use Rattle.processes.proofs.SpawnBehaves.{spawn_behaves}
+use Rattle.state.specs.Behaves.{Behaves, worth}
+use Rattle.state.specs.Status.{Status}
+use Rattle.variables.proofs.Behaves.{set_behaves}
+use Rattle.writing.proofs.Behaves.{puts_behaves}
+
+does_behaves : (builtin : Builtin) (args : List (List ℕ)) (s : Status) →
+    Behaves s.left (worth s + 3) (does builtin args s)
+does_behaves builtin.Puts args s = puts_behaves args s
+does_behaves builtin.List args s = list_behaves args s
+does_behaves builtin.Set args s = set_behaves args s
+does_behaves builtin.Spawn args s = spawn_behaves args s
+does_behaves builtin.Send args s = send_behaves args s
+does_behaves builtin.Expect args s = expect_behaves args s
+
+called_behaves : (o : Option Builtin) (name : List ℕ) (args : List (List ℕ)) (s : Status) →
+    Behaves s.left (worth s + 3) (called o name args s)
+called_behaves (Some found) name args s = does_behaves found args s
+called_behaves None name args s = (omega arith, omega arith)
+
+pub command_behaves : (s : Status) (words : List (List ℕ)) →
+    Behaves s.left (worth s + 3) (command s words)
+command_behaves s [] = (omega arith, omega arith)
+command_behaves s (name ∷ args) = called_behaves (named name) name args s

@@ -1,0 +1,24 @@
+use Rattle.std.proofs.Common.{◌∙◌, ap}
+use Rattle.commands.specs.Commands.{does}
+use Rattle.commands.specs.View.{builtin_of}
+use Rattle.commands.proofs.table.call.Goals as goal
+
+pub returns-in_ok-begin-in-Spawn-clause-shows : goal.returns-in_ok-begin-in-Spawn-clause-shows
+returns-in_ok-begin-in-Spawn-clause-shows g c = λ s fits.
+    let shown = c.in_ok-begin-in-Spawn.ensures.shows s fits in record {
+      status = shown.status;
+      fits = shown.fits;
+      same =
+          ap (λ builtin. does (builtin_of builtin) c.args.args.now s) c.in-Spawn.is
+          ∙ shown.same ∙ c.from_spawn.ensures shown.status;
+    }
+
+pub returns-in_ok-begin-in-Expect-clause-shows : goal.returns-in_ok-begin-in-Expect-clause-shows
+returns-in_ok-begin-in-Expect-clause-shows g c = λ s fits.
+    let shown = c.in_ok-begin-in-Expect.ensures.shows s fits in record {
+      status = shown.status;
+      fits = shown.fits;
+      same =
+          ap (λ builtin. does (builtin_of builtin) c.args.args.now s) c.in-Expect.is
+          ∙ shown.same ∙ c.from_expect.ensures shown.status;
+    }

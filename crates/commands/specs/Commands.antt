@@ -1,0 +1,45 @@
+-- Which command a name has, and what it does.
+use Rattle.std.specs.Prelude.{ℕ, List, [], ◌∷◌, codes, Option, Some, None, if◌then◌else◌}
+use Rattle.std.specs.Str.{bytes_eq}
+use Rattle.acts.specs.Flaw as flaw
+use Rattle.commands.specs.Builtin as builtin
+use Rattle.commands.specs.Builtin.{Builtin}
+use Rattle.state.specs.Dialogue.{Course, gives, raises}
+use Rattle.state.specs.Status.{Status}
+use Rattle.expects.specs.Expect.{expect}
+use Rattle.lists.specs.List.{list}
+use Rattle.processes.specs.Send.{send}
+use Rattle.processes.specs.Spawn.{spawn}
+use Rattle.variables.specs.Set.{set}
+use Rattle.writing.specs.Puts.{puts}
+
+-- the command of a name
+abbrev pub named : List ℕ → Option Builtin
+named name =
+    if bytes_eq name (codes "puts") then Some builtin.Puts
+    else if bytes_eq name (codes "list") then Some builtin.List
+    else if bytes_eq name (codes "set") then Some builtin.Set
+    else if bytes_eq name (codes "spawn") then Some builtin.Spawn
+    else if bytes_eq name (codes "send") then Some builtin.Send
+    else if bytes_eq name (codes "expect") then Some builtin.Expect
+    else None
+
+-- what a command does with the words behind its name
+abbrev pub does : Builtin → List (List ℕ) → Status → Course
+does builtin.Puts args s = puts args s
+does builtin.List args s = list args s
+does builtin.Set args s = set args s
+does builtin.Spawn args s = spawn args s
+does builtin.Send args s = send args s
+does builtin.Expect args s = expect args s
+
+-- the command that a name has; a name without one is the script's error (Tcl(n), rule 2)
+abbrev pub called : Option Builtin → List ℕ → List (List ℕ) → Status → Course
+called (Some found) name args s = does found args s
+called None name args s = raises (flaw.InvalidCommand name) s
+
+-- a command by its words, of which the first names it; where there are none, nothing is done
+-- (Tcl(n), rules 1, 2 and 5)
+abbrev pub command : Status → List (List ℕ) → Course
+command s [] = gives [] s
+command s (name ∷ args) = called (named name) name args s

@@ -1,0 +1,38 @@
+-- How the commands of the code, and what waits in them, stand to those of the definition.
+use Rattle.std.specs.Prelude.{◌≡◌}
+use Rattle.acts.specs.Deed.{Deed, Reply}
+use Rattle.commands.specs.Builtin as meant
+use Rattle.commands.specs.Builtin.{Builtin}
+use Rattle.commands.specs.declared.table.Builtin as named
+use Rattle.commands.specs.declared.table.Builtin.TheVariants as builtin
+use Rattle.commands.specs.declared.waits.Waits.{Waits}
+use Rattle.commands.specs.declared.waits.Waits.TheVariants as waits
+use Rattle.state.specs.declared.leaf.Leaf.{Leaf}
+use Rattle.state.specs.Dialogue.{Course}
+use Rattle.state.specs.Leaf.{course_of}
+use Rattle.state.specs.Status.{Status}
+use Rattle.expects.specs.Expect as expect
+use Rattle.processes.specs.Send as send
+use Rattle.processes.specs.Spawn as spawn
+use Rattle.writing.specs.Puts as puts
+
+-- the command that one of the code's stands for
+abbrev pub builtin_of : named.Builtin → Builtin
+builtin_of builtin.Puts = meant.Puts
+builtin_of builtin.List = meant.List
+builtin_of builtin.Set = meant.Set
+builtin_of builtin.Spawn = meant.Spawn
+builtin_of builtin.Send = meant.Send
+builtin_of builtin.Expect = meant.Expect
+
+-- what follows the answer to an act of a command
+abbrev pub next_of : {A : Type 0} → Waits A → Deed → Status → Reply → Course
+next_of (waits.Puts own) = puts.next_of own
+next_of (waits.Spawn own) = spawn.next_of own
+next_of (waits.Send own) = send.next_of own
+next_of (waits.Expect own) = expect.next_of own
+
+-- what is at hand of one command is the same course as one of all commands
+abbrev pub IsLifted : {A W : Type 0} →
+    (W → Deed → Status → Reply → Course) → Leaf A W → Leaf A (Waits A) → Type 0
+IsLifted own leaf lifted = (s : Status) → course_of own leaf s ≡ course_of next_of lifted s

@@ -1,0 +1,9 @@
+//! The commands of all families by their names.
+#![tactic(auto)]
+
+pub mod laws;
+mod table;
+mod waits;
+
+pub use table::{answered, begin};
+pub use waits::Waits;

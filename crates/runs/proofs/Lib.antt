@@ -1,0 +1,7 @@
+pub mod Trees
+pub mod Paid
+pub mod Kept
+pub mod Finite
+pub mod Whole
+pub mod Numbered
+pub mod AllRuns

@@ -1,0 +1,46 @@
+-- What holds of all runs.
+use Rattle.std.specs.Prelude.{◌≡◌, ℕ, ◌≤◌, List, [], ◌∷◌, ◌++◌, length}
+use Rattle.acts.specs.Deed.{Deed, Reply}
+use Rattle.acts.specs.History.{History}
+use Rattle.plan.specs.Answers.{GoAlike, answers}
+use Rattle.runs.specs.Bounds.{Goes, most_acts}
+use Rattle.runs.specs.Ending.{Ending}
+use Rattle.runs.specs.Run.{Run, HoldsThroughout}
+
+-- in all runs of one script, its arguments and a limit each event depends on the answers before it
+-- alone
+abbrev pub AnswersLead : Type 0
+AnswersLead =
+    (text : List ℕ) (args : List (List ℕ)) (limit : ℕ) (h k : History) (e f : Ending) →
+    Run text args limit h e → Run text args limit k f → GoAlike h e k f
+
+-- two runs of one script, its arguments and a limit that give the same answers are one
+abbrev pub AnswersDecide : Type 0
+AnswersDecide =
+    (text : List ℕ) (args : List (List ℕ)) (limit : ℕ) (h k : History) (e f : Ending) →
+    Run text args limit h e → Run text args limit k f →
+    answers h ≡ answers k → (h ≡ k) × (e ≡ f)
+
+-- a run has so many acts at most
+abbrev pub ActsAreBounded : Type 0
+ActsAreBounded =
+    (text : List ℕ) (args : List (List ℕ)) (limit : ℕ) (h : History) (e : Ending) →
+    Run text args limit h e → length h ≤ most_acts limit
+
+-- at every wait of a run each buffer holds at most its size
+abbrev pub WaitsHold : Type 0
+WaitsHold =
+    (text : List ℕ) (args : List (List ℕ)) (limit : ℕ) (h : History) (e : Ending) →
+    Run text args limit h e → HoldsThroughout h
+
+-- each script has a run
+abbrev pub EachScriptRuns : Type 0
+EachScriptRuns = (text : List ℕ) (args : List (List ℕ)) (limit : ℕ) → Goes text args limit []
+
+-- at each act of a run any other answer leads on
+abbrev pub AnyAnswerLeadsOn : Type 0
+AnyAnswerLeadsOn =
+    (text : List ℕ) (args : List (List ℕ)) (limit : ℕ) (h : History) (act : Deed)
+    (reply other : Reply) →
+    Goes text args limit (h ++ ((act, reply) ∷ [])) →
+    Goes text args limit (h ++ ((act, other) ∷ []))

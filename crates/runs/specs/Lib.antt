@@ -1,0 +1,6 @@
+pub mod Ending
+pub mod Scripts
+pub mod Closing
+pub mod Run
+pub mod Bounds
+pub mod Laws

@@ -1,0 +1,47 @@
+-- What scripts and commands do.
+use Rattle.std.specs.Prelude.{ℕ, List, [], Option, Some, None}
+use Rattle.acts.specs.Flaw as flaw
+use Rattle.acts.specs.Flaw.{Flaw}
+use Rattle.commands.specs.Commands.{command}
+use Rattle.plan.specs.Plan.{Reads, Calls}
+use Rattle.state.specs.Dialogue.{Course, gives, raises, tick, on_value}
+use Rattle.state.specs.Piece.{Piece, Whole, Script, One, ScriptText}
+use Rattle.state.specs.Status.{Status}
+use Rattle.tclparse.specs.Fault.{Fault, open_brace, open_bracket, open_quote, after_brace, after_quote, too_deep, escape_not_here, bad_variable}
+use Rattle.tclparse.specs.Tree.{Words, Commands, no_commands}
+use Rattle.tclparse.specs.Tree as tree
+use Rattle.words.specs.Words.{words}
+
+-- why a text is no script, as the script's error (Tcl(n))
+abbrev pub flaw_of_fault : Fault → Flaw
+flaw_of_fault open_brace = flaw.OpenBrace
+flaw_of_fault open_bracket = flaw.OpenBracket
+flaw_of_fault open_quote = flaw.OpenQuote
+flaw_of_fault after_brace = flaw.AfterBrace
+flaw_of_fault after_quote = flaw.AfterQuote
+flaw_of_fault too_deep = flaw.TooDeep
+flaw_of_fault escape_not_here = flaw.EscapeNotHere
+flaw_of_fault bad_variable = flaw.BadVariable
+
+-- behind the commands of a text: the value of the last one, or the fault that ends the text early,
+-- which costs no tick (Tcl(n))
+abbrev pub behind : Option Fault → Status → List ℕ → Course
+behind None s value = gives value s
+behind (Some fault) s value = raises (flaw_of_fault fault) s
+
+-- the commands of a script, one after the other, after one of this value (Tcl(n), rule 1)
+abbrev pub script : ℕ → Commands → Option Fault → Status → List ℕ → Course
+script levels no_commands fault s value = behind fault s value
+script levels (tree.command ws cs) fault s value =
+    Calls (One ws levels) s (on_value (script levels cs fault))
+
+-- a command takes a tick before its words are substituted; then it does what it does (Tcl(n), rule 2)
+abbrev pub one : ℕ → Words → Status → Course
+one levels ws s = tick s (λ t. words levels ws [] t command)
+
+-- what each piece does
+abbrev pub plan_of : Piece → Status → Course
+plan_of (Whole text levels) s =
+    Reads (ScriptText text) (λ tree. script levels tree.commands tree.fault s [])
+plan_of (Script commands levels) s = script levels commands None s []
+plan_of (One ws levels) s = one levels ws s

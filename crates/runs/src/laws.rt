@@ -1,0 +1,28 @@
+//! What holds of all runs.
+
+ghost use Rattle.runs.specs.Laws.{ActsAreBounded, AnswersDecide, AnswersLead, AnyAnswerLeadsOn, EachScriptRuns, WaitsHold};
+
+/// In all runs of one script, its arguments and a limit, the first n answers decide the first n + 1
+/// events, an event being an act or the end: the n-th act, and whether there is one, depends on the
+/// first n - 1 answers alone. So two runs that give the same answers are one.
+pub fn answers_decide()
+    ensures each { AnswersLead }
+    ensures whole { AnswersDecide }
+{}
+
+/// A run makes no more acts than three for each tick, and one.
+pub fn acts_are_bounded()
+    ensures { ActsAreBounded }
+{}
+
+/// At every wait of a run each buffer holds at most its size.
+pub fn waits_hold()
+    ensures { WaitsHold }
+{}
+
+/// Each script has a run, and at each act of a run any other answer leads on to an end too.
+#[tactic(auto, using(crate::proofs::AllRuns::each_script_runs, crate::proofs::AllRuns::any_answer_leads_on))]
+pub fn runs_can_be_finished()
+    ensures run { EachScriptRuns }
+    ensures otherwise { AnyAnswerLeadsOn }
+{}
