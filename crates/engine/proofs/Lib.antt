@@ -1,11 +1,8 @@
-pub mod Begun
+pub mod Stacks
+pub mod Silent
 pub mod Closings
-pub mod OneRun
-pub mod Places
-pub mod Shows
-pub mod Steps
-pub mod Tables
-pub mod Total
-pub mod Turns
-pub mod Words
+pub mod Scripted
+pub mod Machines
+pub mod Added
+pub mod Sessions
 pub mod Worlds

@@ -1,142 +1,190 @@
 -- A session in a world.
-use Rattle.std.proofs.Common.{◌≡◌, ℕ, List, [], ◌∷◌, ◌++◌, refl, sym, ap, subst, append_assoc, Some, None}
-use Rattle.std.proofs.lemmas.List.{append-nil}
+use Rattle.std.proofs.Common.{◌≡◌, ◌∙◌, ℕ, ◌+◌, ◌-◌, ◌<◌, ◌≤◌, List, [], ◌∷◌, ◌++◌, length, Option, Some, None, refl, sym, ap, subst, append_assoc, arith}
+use Rattle.std.proofs.lemmas.List.{append-nil, length-append}
 use Rattle.acts.specs.Deed.{Deed, Reply, deed_of, reply_of}
+use Rattle.acts.specs.History.{History, Past}
 use Rattle.acts.specs.declared.act.Act.{Act}
 use Rattle.acts.specs.declared.answer.Answer.{Answer}
-use Rattle.acts.specs.History.{History, Past}
+use Rattle.engine.specs.Phases.{IsTold, deed_in, paired}
+use Rattle.engine.specs.Session.{IsAt, AsksFirst, EndsSo, Tells, end_in}
+use Rattle.engine.specs.Step.{AsksFor}
+use Rattle.engine.specs.View.{ending_of}
 use Rattle.engine.specs.declared.end.End.{End}
-use Rattle.engine.specs.declared.frame.Frame.{Frame}
 use Rattle.engine.specs.declared.phase.Phase.{Phase}
 use Rattle.engine.specs.declared.phase.Phase.TheVariants as phase
 use Rattle.engine.specs.declared.session.Session.{Session}
-use Rattle.engine.specs.Status.{Status}
-use Rattle.engine.specs.Outcome.{Ending, ending_of}
-use Rattle.engine.specs.Run.{Run, Ran, Began, Holds, HoldsThroughout}
-use Rattle.engine.specs.Session.{Leads, PhaseRuns, PhaseHolds, IsTold, MayFail, NotRefused, answered_in, stack}
-use Rattle.engine.specs.Step.{AsksFor}
-use Rattle.engine.specs.Runs.{end_of}
-use Rattle.engine.specs.View.{FitsState}
-use Rattle.engine.proofs.Total.{phase_total, run_total}
+use Rattle.engine.proofs.Sessions.{left_bounded, session_tells}
+use Rattle.plan.specs.Exact.{Begins}
+use Rattle.plan.proofs.Kept.{throughout_first}
+use Rattle.runs.specs.Bounds.{Goes, most_acts}
+use Rattle.runs.specs.Run.{Run, Ran, Began, HoldsThroughout}
+use Rattle.runs.proofs.AllRuns.{any_answer_leads_on, each_script_runs, waits_hold}
+use Rattle.state.specs.Rows.{Holds}
 
-pub past-join : {W : Type 0} (Step : W → Deed → Reply → W → Type 0) (a b c : W) (h k : History) → Past Step a b h → Past Step b c k → Past Step a c (h ++ k)
-past-join Step a b c [] k p q = subst (λ w. Past Step w c k) (sym p) q
-past-join Step a b c (pair ∷ h) k p q = (p.0, p.1, past-join Step p.0 b c h k p.2 q)
+pub past_join : {W : Type 0} (Step : W → Deed → Reply → W → Type 0) (a b c : W) (h k : History) →
+    Past Step a b h → Past Step b c k → Past Step a c (h ++ k)
+past_join Step a b c [] k p q = subst (λ w. Past Step w c k) (sym p) q
+past_join Step a b c (pair ∷ h) k p q = (p.0, p.1, past_join Step p.0 b c h k p.2 q)
 
-holds-join : (h k : History) → HoldsThroughout h → HoldsThroughout k → HoldsThroughout (h ++ k)
-holds-join [] k p q = q
-holds-join (pair ∷ h) k p q = (p.0, holds-join h k p.1 q)
+-- where a run goes on, it has begun
+pub began : {W : Type 0} (Step : W → Deed → Reply → W → Type 0) (first now : W) (text : List ℕ)
+    (args : List (List ℕ)) (limit : ℕ) (h : History) → Past Step first now h →
+    Goes text args limit h → Began Step first now text args limit
+began Step first now text args limit h past goes = record {
+  history = h;
+  past = past;
+  rest = goes.rest;
+  ending = goes.ending;
+  run = goes.run;
+  holds = throughout_first Holds h goes.rest
+      (waits_hold text args limit (h ++ goes.rest) goes.ending goes.run);
+}
 
--- some acts and answers led the world from first to now, and what the session still allows goes on from them
-pub record Going {A W : Type 0} (Step : W → Deed → Reply → W → Type 0) (first now : W) (text : List ℕ) (args : List (List ℕ)) (limit : ℕ) (session : Session A) : Type 0 where
+-- some acts and answers led the world from first to now, and the session is behind them
+pub record Going {A W : Type 0} (Step : W → Deed → Reply → W → Type 0) (first now : W)
+    (text : List ℕ) (args : List (List ℕ)) (limit : ℕ) (session : Session A) : Type 0 where
   pub history : History
   pub past : Past Step first now history
-  pub holds : HoldsThroughout history
-  pub status : Status
-  pub fits : FitsState session.state status
-  pub runs : (h : History) (e : Ending) → PhaseRuns session.phase (stack session.frames) status h e → Run text args limit (history ++ h) e
+  pub at : IsAt session text args limit history
 
 module _ {A : Type 0} where
-  pub none_asked : (p : Phase A) → answered_in p None ≡ []
+  abbrev pub no_answer : Option (Answer A)
+  no_answer = None
+
+  pub none_asked : (p : Phase A) → paired (deed_in p) no_answer ≡ []
   none_asked (phase.Has o) = refl
-  none_asked (phase.Asks act waiting) = refl
+  none_asked (phase.Asks act waits) = refl
   none_asked (phase.Closes act c) = refl
   none_asked (phase.Over end) = refl
   none_asked (phase.Refused refusal) = refl
 
-  pub not_refused : (p : Phase A) → IsTold p → NotRefused p
-  not_refused (phase.Has o) told = tt
-  not_refused (phase.Asks act waiting) told = tt
-  not_refused (phase.Closes act c) told = tt
-  not_refused (phase.Over end) told = tt
-  not_refused (phase.Refused refusal) told = told
-
   -- the act that a step lends is the one that is asked
-  pub record Asked (p : Phase A) (act : Act A) (answer : Answer A) : Type 0 where
-    pub pair : answered_in p (Some answer) ≡ (deed_of act, reply_of answer) ∷ []
-    pub holds : PhaseHolds p → Holds (deed_of act)
-
-  pub asked : (p : Phase A) (act : Act A) (answer : Answer A) → AsksFor p act → Asked p act answer
+  pub asked : (p : Phase A) (act : Act A) (answer : Answer A) → AsksFor p act →
+      paired (deed_in p) (Some answer) ≡ (deed_of act, reply_of answer) ∷ []
   asked (phase.Has o) act answer is = absurd is
-  asked (phase.Asks own waiting) act answer is = record { pair = ap (λ (a : Act A). let h : History = (deed_of a, reply_of answer) ∷ [] in h) is; holds = λ holds. rw (← is) holds }
-  asked (phase.Closes own c) act answer is = record { pair = ap (λ (a : Act A). let h : History = (deed_of a, reply_of answer) ∷ [] in h) is; holds = λ holds. rw (← is) holds }
+  asked (phase.Asks own waits) act answer is =
+      ap (λ (a : Act A). let h : History = (deed_of a, reply_of answer) ∷ [] in h) is
+  asked (phase.Closes own c) act answer is =
+      ap (λ (a : Act A). let h : History = (deed_of a, reply_of answer) ∷ [] in h) is
   asked (phase.Over end) act answer is = absurd is
   asked (phase.Refused refusal) act answer is = absurd is
 
-  over_ends : (p : Phase A) (end : End A) (fs : List (Frame A)) (s : Status) → end_of p ≡ Some end → PhaseRuns p fs s [] (ending_of end)
-  over_ends (phase.Has o) end fs s is = absurd (cc)
-  over_ends (phase.Asks act waiting) end fs s is = absurd (cc)
-  over_ends (phase.Closes act c) end fs s is = absurd (cc)
-  over_ends (phase.Over own) end fs s is = let same : own ≡ end = cc in (refl, ap ending_of (sym same))
-  over_ends (phase.Refused refusal) end fs s is = absurd (cc)
+  -- each run that is left begins with it
+  asks : (p : Phase A) (act : Act A) (text : List ℕ) (args : List (List ℕ)) (limit : ℕ)
+      (past : History) → AsksFor p act → Tells p text args limit past →
+      AsksFirst (deed_of act) text args limit past
+  asks (phase.Has o) act text args limit past is told = absurd is
+  asks (phase.Asks own waits) act text args limit past is told =
+      subst (λ a. AsksFirst (deed_of a) text args limit past) is told
+  asks (phase.Closes own c) act text args limit past is told =
+      subst (λ a. AsksFirst (deed_of a) text args limit past) is told
+  asks (phase.Over end) act text args limit past is told = absurd is
+  asks (phase.Refused refusal) act text args limit past is told = absurd is
 
-module _ {A W : Type 0} {Step : W → Deed → Reply → W → Type 0} where
-  -- the first call
-  pub sets_out : {w : W} {text : List ℕ} {args : List (List ℕ)} {limit : ℕ} (session : Session A) → Leads session.phase (stack session.frames) session.state (Run text args limit) → Going Step w w text args limit session
-  sets_out session l = record { history = []; past = refl; holds = tt; status = l.status; fits = l.fits; runs = l.leads }
+  over : (p : Phase A) (end : End A) (text : List ℕ) (args : List (List ℕ)) (limit : ℕ)
+      (past : History) → end_in p ≡ Some end → Tells p text args limit past →
+      EndsSo (ending_of end) text args limit past
+  over (phase.Has o) end text args limit past is told = absurd told
+  over (phase.Asks own waits) end text args limit past is told = absurd (cc)
+  over (phase.Closes own c) end text args limit past is told = absurd (cc)
+  over (phase.Over own) end text args limit past is told =
+      let same : own ≡ end = cc in
+      subst (λ e. EndsSo (ending_of e) text args limit past) same told
+  over (phase.Refused refusal) end text args limit past is told = absurd told
+
+module _ {A W : Type 0} {Step : W → Deed → Reply → W → Type 0} {a b : W} {text : List ℕ}
+    {args : List (List ℕ)} {limit : ℕ} where
+  -- what the session tells of the runs that are left
+  telling : (session : Session A) → IsTold session.phase →
+      (g : Going Step a b text args limit session) →
+      Tells session.phase text args limit g.history
+  telling session told g = session_tells session text args limit g.history told g.at
 
   -- a call without an answer
-  pub goes : {a b : W} {text : List ℕ} {args : List (List ℕ)} {limit : ℕ} (old new : Session A) → (g : Going Step a b text args limit old) → Leads new.phase (stack new.frames) new.state (λ h e. PhaseRuns old.phase (stack old.frames) g.status (answered_in old.phase None ++ h) e) → Going Step a b text args limit new
-  goes old new g l = record {
+  pub goes : (old new : Session A) (g : Going Step a b text args limit old) →
+      IsAt new text args limit (g.history ++ paired (deed_in old.phase) (no_answer {A = A})) →
+      Going Step a b text args limit new
+  goes old new g at = record {
     history = g.history;
     past = g.past;
-    holds = g.holds;
-    status = l.status;
-    fits = l.fits;
-    runs = λ h e d. g.runs h e (subst (λ k. PhaseRuns old.phase (stack old.frames) g.status (k ++ h) e) (none_asked old.phase) (l.leads h e d));
+    at = subst (λ h. IsAt new text args limit h)
+        (ap (λ h. g.history ++ h) (none_asked old.phase) ∙ append-nil g.history) at;
   }
 
   -- a call with an answer
-  pub goes_on : {a b c : W} {text : List ℕ} {args : List (List ℕ)} {limit : ℕ} (old new : Session A) (act : Act A) (answer : Answer A) → (g : Going Step a b text args limit old) → AsksFor old.phase act → PhaseHolds old.phase → Step b (deed_of act) (reply_of answer) c
-      → Leads new.phase (stack new.frames) new.state (λ h e. PhaseRuns old.phase (stack old.frames) g.status (answered_in old.phase (Some answer) ++ h) e) → Going Step a c text args limit new
-  goes_on {c = c} {text = text} {args = args} {limit = limit} old new act answer g is holds step l =
-      let q = asked old.phase act answer is in
+  pub goes_on : {c : W} (old new : Session A) (act : Act A) (answer : Answer A)
+      (g : Going Step a b text args limit old) → AsksFor old.phase act →
+      Step b (deed_of act) (reply_of answer) c →
+      IsAt new text args limit (g.history ++ paired (deed_in old.phase) (Some answer)) →
+      Going Step a c text args limit new
+  goes_on {c = c} old new act answer g is step at =
       let one : History = (deed_of act, reply_of answer) ∷ [] in
       record {
         history = g.history ++ one;
-        past = past-join Step _ _ _ g.history one g.past (c, step, refl);
-        holds = holds-join g.history one g.holds (q.holds holds, tt);
-        status = l.status;
-        fits = l.fits;
-        runs = λ h e d.
-            let on : Run text args limit (g.history ++ (answered_in old.phase (Some answer) ++ h)) e = g.runs _ e (l.leads h e d) in
-            rw append_assoc (rw q.pair at on);
+        past = past_join Step a b c g.history one g.past (c, step, refl);
+        at = subst (λ h. IsAt new text args limit h)
+            (ap (λ h. g.history ++ h) (asked old.phase act answer is)) at;
       }
 
-  pub is_over : {a b : W} {text : List ℕ} {args : List (List ℕ)} {limit : ℕ} (s : Session A) (end : End A) → Going Step a b text args limit s → end_of s.phase ≡ Some end → Ran Step a b text args limit (ending_of end)
-  is_over {text = text} {args = args} {limit = limit} s end g is = record {
-    history = g.history;
-    past = g.past;
-    run =
-        let r : Run text args limit (g.history ++ []) (ending_of end) = g.runs [] _ (over_ends s.phase end (stack s.frames) g.status is) in
-        rw append-nil at r;
-    holds = g.holds;
-  }
+  -- each answer leaves fewer to come
+  pub fewer_left : (old new : Session A) (act : Act A) (answer : Answer A)
+      (g : Going Step a b text args limit old) → AsksFor old.phase act →
+      IsAt new text args limit (g.history ++ paired (deed_in old.phase) (Some answer)) →
+      most_acts limit - new.answers < most_acts limit - old.answers
+  fewer_left old new act answer g is at =
+      let one : History = (deed_of act, reply_of answer) ∷ [] in
+      let now : IsAt new text args limit (g.history ++ one) =
+      subst (λ h. IsAt new text args limit h)
+      (ap (λ h. g.history ++ h) (asked old.phase act answer is)) at in
+      let bound = left_bounded text args limit (g.history ++ one) now.plan now.exact in
+      let count = now.answers in
+      let before = g.at.answers in
+      let sum = length-append g.history one in
+      omega (arith, bound, count, before, sum)
 
-  -- memory was refused to a call without an answer
-  pub refused : {a b : W} {text : List ℕ} {args : List (List ℕ)} {limit : ℕ} (s : Session A) → Going Step a b text args limit s → MayFail s.phase None → NotRefused s.phase → Began Step a b text args limit
-  refused s g may ok =
-      let t = phase_total s.phase None (stack s.frames) g.status may ok in
-      record { history = g.history; past = g.past; rest = answered_in s.phase None ++ t.history; ending = t.ending; run = g.runs _ _ t.allowed; holds = g.holds }
+  pub is_over : (session : Session A) (end : End A) (g : Going Step a b text args limit session) →
+      IsTold session.phase → end_in session.phase ≡ Some end →
+      Ran Step a b text args limit (ending_of end)
+  is_over session end g told is =
+      let ends = over session.phase end text args limit g.history is (telling session told g) in
+      let run : Run text args limit g.history (ending_of end) =
+      subst (λ h. Run text args limit h (ending_of end)) (append-nil g.history)
+      ((ends [] (ending_of end)).1 (refl, refl)) in
+      record {
+        history = g.history;
+        past = g.past;
+        run = run;
+        holds = waits_hold text args limit g.history (ending_of end) run;
+      }
 
   -- memory was refused to a call with an answer
-  pub refused_on : {a b c : W} {text : List ℕ} {args : List (List ℕ)} {limit : ℕ} (s : Session A) (act : Act A) (answer : Answer A) → Going Step a b text args limit s → AsksFor s.phase act → PhaseHolds s.phase → Step b (deed_of act) (reply_of answer) c → MayFail s.phase (Some answer) → NotRefused s.phase → Began Step a c text args limit
-  refused_on {c = c} {text = text} {args = args} {limit = limit} s act answer g is holds step may ok =
-      let q = asked s.phase act answer is in
-      let one : History = (deed_of act, reply_of answer) ∷ [] in
-      let t = phase_total s.phase (Some answer) (stack s.frames) g.status may ok in
-      let on : Run text args limit (g.history ++ (answered_in s.phase (Some answer) ++ t.history)) t.ending = g.runs _ _ t.allowed in
-      record {
-        history = g.history ++ one;
-        past = past-join Step _ _ _ g.history one g.past (c, step, refl);
-        rest = t.history;
-        ending = t.ending;
-        run = rw append_assoc (rw q.pair at on);
-        holds = holds-join g.history one g.holds (q.holds holds, tt);
-      }
+  pub refused_on : {c : W} (session : Session A) (act : Act A) (answer : Answer A) →
+      IsTold session.phase → Going Step a b text args limit session →
+      AsksFor session.phase act → Step b (deed_of act) (reply_of answer) c →
+      Began Step a c text args limit
+  refused_on {c = c} session act answer told g is step =
+      let deed = deed_of act in
+      let first = asks session.phase act text args limit g.history is (telling session told g) in
+      let on = first.goes in
+      let begins = first.first on.rest on.ending on.run in
+      let other : Goes text args limit (g.history ++ (deed, begins.reply) ∷ []) = record {
+        rest = begins.rest;
+        ending = on.ending;
+        run = subst (λ h. Run text args limit h on.ending)
+            (sym (append_assoc g.history ((deed, begins.reply) ∷ []) begins.rest)) begins.follows;
+      } in
+      let one : History = (deed, reply_of answer) ∷ [] in
+      began Step a c text args limit (g.history ++ one)
+      (past_join Step a b c g.history one g.past (c, step, refl))
+      (any_answer_leads_on text args limit g.history deed begins.reply (reply_of answer) other)
 
-module _ {W : Type 0} {Step : W → Deed → Reply → W → Type 0} where
-  pub never_began : {a : W} (text : List ℕ) (args : List (List ℕ)) (limit : ℕ) → Began Step a a text args limit
-  never_began text args limit =
-      let t = run_total text args limit in
-      record { history = []; past = refl; rest = t.history; ending = t.ending; run = t.allowed; holds = tt }
+-- the first call
+pub sets_out : {A W : Type 0} {Step : W → Deed → Reply → W → Type 0} {w : W} {text : List ℕ}
+    {args : List (List ℕ)} {limit : ℕ} (session : Session A) → IsAt session text args limit [] →
+    Going Step w w text args limit session
+sets_out session at = record { history = []; past = refl; at = at }
+
+pub never_began : {W : Type 0} {Step : W → Deed → Reply → W → Type 0} {w : W} (text : List ℕ)
+    (args : List (List ℕ)) (limit : ℕ) → Began Step w w text args limit
+never_began {Step = Step} {w = w} text args limit =
+    began Step w w text args limit [] refl (each_script_runs text args limit)

@@ -1,79 +1,106 @@
 //! The acts that close a run (this project's own rule).
 
-ghost use Rattle.std.specs.Prelude.{◌≡◌, ℕ, ◌+◌, ◌<◌, ◌≤◌, ◌^◌, List, length, IfOk, IfErr};
+ghost use Rattle.std.specs.Prelude.{◌≡◌, ℕ, List, IfOk};
 ghost use Rattle.acts.specs.Deed.{deed_of, reply_of};
-ghost use Rattle.engine.specs.Closing as closes;
-ghost use Rattle.engine.specs.Outcome as outcomes;
-ghost use Rattle.engine.specs.Outcome.{ending_of, outcome_of, stopped};
-ghost use Rattle.engine.specs.Course.{judged};
-ghost use Rattle.engine.specs.Session.{Finishes, IsTold, PhaseHolds, end_after, owed};
-ghost use Rattle.engine.specs.Status.{Status};
-ghost use Rattle.engine.specs.View.{FitsState, worth};
+ghost use Rattle.engine.specs.Phases.{IsTold, Stands, closing_on};
+ghost use Rattle.engine.specs.View.{ending_of};
+ghost use Rattle.engine.specs.declared.frame.Frame.{Frame};
+ghost use Rattle.runs.specs.Closing.{closing as closes_run, closes, ends_with, leaves, reports, reported};
+ghost use Rattle.runs.specs.Ending.{stopped};
+ghost use Rattle.state.specs.Dialogue as dialogues;
+ghost use Rattle.state.specs.Dialogue.{judged};
+ghost use Rattle.state.specs.Outcome as outcomes;
+ghost use Rattle.state.specs.Status.{Status};
+ghost use Rattle.state.specs.View.{FitsState, code_of, outcome_of, stop_of};
 
 use crate::end::End;
-use crate::outcome::{Leave, Outcome, Stop};
 use crate::phase::Phase;
-use crate::reply::is_no_more;
-use crate::state::State;
-use acts::{Act, Answer, NoMemory, fits};
+use acts::{Act, Answer, Fault, NoMemory, fits};
+use state::{Code, Leave, Outcome, State, Stop};
 use std::alloc::Allocator;
 
 /// What is done with the answer to an act that closes a run.
 #[derive(Drop)]
 pub enum Closing<A: Allocator> {
-    /// The text of an uncaught error is written; the ids are closed next.
+    /// The text of an uncaught error is written; what is open is closed next.
     Report(Vec<u8, A>),
     /// An id is closed; the others are closed next, and the run ends so.
     Close(End<A>),
 }
 
-/// Begins to close a run whose script ended so.
+/// Begins to close a run whose script ended so, after so many answers.
 pub fn close_run<A: Allocator + Copy>(
     alloc: A,
     state: &mut State<A>,
+    answers: u64,
     outcome: Outcome<A>,
 ) -> Result<Phase<A>, NoMemory>
-    ensures finishes { (s : Status) → FitsState state.old s → IfOk result (λ phase. Finishes phase state.new (closes.closing (outcome_of outcome) s)) }
-    ensures acts { state.new.acts ≡ state.old.acts }
-    ensures owes { IfOk result (λ phase. owed phase state.new ≤ 1 + worth state.old) }
+    ensures stands { (frames : List (Frame A)) (s : Status) → FitsState state.old s →
+        IfOk result (λ phase.
+        Stands phase frames state.new answers (closes_run s (outcome_of outcome))) }
     ensures told { IfOk result IsTold }
-    ensures holds { IfOk result PhaseHolds }
-    ensures fails { IfErr result (λ _. (text : List ℕ) × (outcome_of outcome ≡ outcomes.Raises text)) }
 {
     match outcome {
         Ok(_) => Ok(close_next(state, End::Exit(0))),
-        Err(Leave::Error(text)) => {
-            let mut line = Vec::from_slice(alloc, &text)?;
-            line.push(b'\n')?;
-            Ok(Phase::Closes(Act::Err(line), Closing::Report(text)))
-        }
-        Err(Leave::Stopped(stop)) => Ok(stopped_by(state, stop)),
+        Err(Leave::Coded(code, text)) => leave_run(alloc, state, code, text.as_slice()),
+        Err(Leave::Stopped(stop)) => Ok(stop_run(state, answers, stop)),
     }
 }
 
-/// Begins to close a run that a stop ended.
-fn stopped_by<A: Allocator + Copy>(state: &mut State<A>, stop: Stop) -> Phase<A>
-    ensures finishes { (s : Status) → FitsState state.old s → Finishes result state.new (closes.closing (outcomes.Stops stop) s) }
-    ensures acts { state.new.acts ≡ state.old.acts }
-    ensures owes { owed result state.new ≤ length state.old.table.entries.items }
+/// Begins to close a run whose script ended with a code.
+fn leave_run<A: Allocator + Copy>(
+    alloc: A,
+    state: &mut State<A>,
+    code: Code,
+    text: &[u8],
+) -> Result<Phase<A>, NoMemory>
+    ensures stands { (frames : List (Frame A)) (s : Status) (answers : ℕ) → FitsState state.old s →
+        IfOk result (λ phase.
+        Stands phase frames state.new answers (leaves (code_of code) text.now s)) }
+    ensures told { IfOk result IsTold }
+{
+    match code {
+        Code::Error => report(alloc, Vec::from_slice(alloc, text)?),
+        Code::Return => Ok(close_next(state, End::Exit(0))),
+        Code::Break => report(alloc, Fault::BreakOutside.text(alloc)?),
+        Code::Continue => report(alloc, Fault::ContinueOutside.text(alloc)?),
+        Code::Again => report(alloc, Fault::AgainOutside.text(alloc)?),
+    }
+}
+
+/// Writes the text of an uncaught error first.
+fn report<A: Allocator + Copy>(alloc: A, text: Vec<u8, A>) -> Result<Phase<A>, NoMemory>
+    ensures stands { (frames : List (Frame A)) (s : Status) (answers : ℕ) (state : State A) →
+        FitsState state s →
+        IfOk result (λ phase. Stands phase frames state answers (reports text.items s)) }
+    ensures told { IfOk result IsTold }
+{
+    let mut line = Vec::from_slice(alloc, &text)?;
+    line.push(b'\n')?;
+    Ok(Phase::Closes(Act::Err(line), Closing::Report(text)))
+}
+
+/// Begins to close a run that a stop ended, after so many answers.
+fn stop_run<A: Allocator + Copy>(state: &mut State<A>, answers: u64, stop: Stop) -> Phase<A>
+    ensures stands { (frames : List (Frame A)) (s : Status) → FitsState state.old s →
+        Stands result frames state.new answers
+        (closes_run s (outcomes.Stops (stop_of stop))) }
     ensures told { IsTold result }
-    ensures holds { PhaseHolds result }
 {
     match stop {
+        Stop::Exit(status) => close_next(state, End::Exit(status)),
         Stop::Limit => close_next(state, End::Limit),
         Stop::WriterFailed => close_next(state, End::WriterFailed),
-        Stop::BadAnswer(number) => Phase::Over(End::BadAnswer(number)),
+        Stop::BadAnswer => Phase::Over(End::BadAnswer(answers)),
         Stop::NoMore => Phase::Over(End::NoMore),
     }
 }
 
 /// Closes the next open id; where there is none, the run is over.
 fn close_next<A: Allocator + Copy>(state: &mut State<A>, end: End<A>) -> Phase<A>
-    ensures finishes { (s : Status) → FitsState state.old s → Finishes result state.new (closes.closes (ending_of end) s.peers s.acts) }
-    ensures acts { state.new.acts ≡ state.old.acts }
-    ensures owes { owed result state.new ≤ length state.old.table.entries.items }
+    ensures stands { (frames : List (Frame A)) (s : Status) (answers : ℕ) → FitsState state.old s →
+        Stands result frames state.new answers (ends_with (ending_of end) s) }
     ensures told { IsTold result }
-    ensures holds { PhaseHolds result }
 {
     match state.table.close_first() {
         Some(id) => Phase::Closes(Act::Close(id), Closing::Close(end)),
@@ -81,33 +108,39 @@ fn close_next<A: Allocator + Copy>(state: &mut State<A>, end: End<A>) -> Phase<A
     }
 }
 
-/// Goes on with the answer to an act that closes a run, which counts the act.
+/// Goes on with the answer to an act that closes a run, which is the last of so many answers.
 pub fn closed<A: Allocator + Copy>(
     state: &mut State<A>,
+    answers: u64,
     act: Act<A>,
     closing: Closing<A>,
     answer: Answer<A>,
 ) -> Phase<A>
-    requires { state.old.acts + 1 < 2 ^ 64 }
-    ensures finishes { (s : Status) → FitsState state.old s → Finishes result state.new (judged stopped (deed_of act) (s.acts + 1) (reply_of answer) (closes.closes (end_after closing (reply_of answer)) s.peers (s.acts + 1))) }
-    ensures acts { state.new.acts ≡ state.old.acts + 1 }
-    ensures owes { owed result state.new ≤ length state.old.table.entries.items }
+    ensures stands { (frames : List (Frame A)) (s : Status) → FitsState state.old s →
+        Stands result frames state.new answers
+        (judged stopped (deed_of act) (reply_of answer) (closing_on closing s (reply_of answer))) }
     ensures told { IsTold result }
-    ensures holds { PhaseHolds result }
 {
-    state.acts += 1;
     if is_no_more(&answer) {
         return Phase::Over(End::NoMore);
     }
     if !fits(&act, &answer) {
-        return Phase::Over(End::BadAnswer(state.acts));
+        return Phase::Over(End::BadAnswer(answers));
     }
     close_next(state, next_end(closing, answer))
 }
 
+/// Whether the world had no more answers.
+pub fn is_no_more<A: Allocator>(answer: &Answer<A>) -> bool
+    ensures { result ≡ dialogues.is_no_more (reply_of answer.now) }
+{
+    matches!(answer, Answer::NoMore)
+}
+
 /// The end of a run whose closing act was answered so.
 fn next_end<A: Allocator>(closing: Closing<A>, answer: Answer<A>) -> End<A>
-    ensures { ending_of result ≡ end_after closing (reply_of answer) }
+    ensures { (s : Status) →
+        closing_on closing s (reply_of answer) ≡ ends_with (ending_of result) s }
 {
     match closing {
         Closing::Report(text) => match answer {

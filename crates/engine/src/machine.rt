@@ -1,97 +1,282 @@
 //! The steps of a session between two acts.
 
-ghost use Rattle.std.specs.Prelude.{◌≡◌, ℕ, ◌+◌, ◌≤◌, ◌∷◌, drop, length, IfOk, MatchOption};
-ghost use Rattle.acts.specs.History.{History};
-ghost use Rattle.engine.specs.Outcome.{Ending, outcome_of};
-ghost use Rattle.engine.specs.Does.{Script};
-ghost use Rattle.engine.specs.Session.{After, Leads, IsTold, PhaseHolds, PieceThen, Steps, commands_view, owed, stack};
-ghost use Rattle.engine.specs.Status.{Status};
-ghost use Rattle.engine.specs.View.{FitsState, NowHolds, pending, worth};
+ghost use Rattle.std.specs.Prelude.{◌≡◌, ℕ, ◌+◌, ◌*◌, ◌<◌, ◌≤◌, [], option_map, IfOk};
+ghost use Rattle.acts.specs.Flaw.{flaw_of};
+ghost use Rattle.commands.specs.Commands.{command};
+ghost use Rattle.commands.specs.View as table;
+ghost use Rattle.engine.specs.Frames.{left_of, next_of, onward_of, stack, weight, weight_of};
+ghost use Rattle.engine.specs.Goes.{Goes};
+ghost use Rattle.engine.specs.Phases.{IsEmptied, IsTold, Leads, Lightens, Stands, Unwinds};
+ghost use Rattle.engine.specs.declared.frame.Frame.TheVariants as frames_are;
+ghost use Rattle.runs.specs.Scripts.{flaw_of_fault, behind as meant_behind};
+ghost use Rattle.plan.specs.Plan.{Ends};
+ghost use Rattle.state.specs.Leaf.{course_of};
+ghost use Rattle.state.specs.Outcome.{Gives};
+ghost use Rattle.state.specs.Status.{Status};
+ghost use Rattle.state.specs.View.{FitsState, outcome_of};
+ghost use Rattle.tclparse.specs.Seen.{fault_of};
+ghost use Rattle.tclparse.specs.View.{commands_of, words_of};
+ghost use Rattle.words.specs.Gathering.{course_of_gathered, gathering_on};
+ghost use Rattle.words.specs.Scripts.{HasFewer, scripts_left};
+ghost use Rattle.words.specs.Words.{nested, words as meant_words};
 
 use crate::closing::close_run;
-use crate::commands::begin;
-use crate::course::{Now, stops};
-use crate::frame::Frame;
-use crate::outcome::{Outcome, Stop};
+use crate::frame::{Frame, Script};
 use crate::phase::Phase;
-use crate::script::Command;
-use crate::state::State;
-use acts::NoMemory;
+use acts::{Act, Fault, NoMemory};
+use commands::Waits;
+use state::leaf::{empty, raises};
+use state::{Code, Leaf, Leave, Outcome, State, Stop};
 use std::alloc::Allocator;
+use std::rc::Rc;
+use tclparse::{Command, Word};
+use tcltext::Value;
+use words::{Gathered, Gathering};
 
-/// Silent steps up to the next act or the end.
+/// What a frame came to.
+#[derive(Drop)]
+pub enum Unwound<A: Allocator> {
+    /// It is over, and so.
+    Has(Outcome<A>),
+    /// A command's act waits for its answer.
+    Asks(Act<A>, Waits<A>),
+    /// A command begins, by its words, and has taken its tick.
+    Command(Rc<Vec<Word<A>, A>, A>, u8),
+}
+
+/// Silent steps up to the next act or the end, from how a part ended.
 pub fn advance<A: Allocator + Copy>(
     alloc: A,
     frames: &mut Vec<Frame<A>, A>,
     state: &mut State<A>,
+    answers: u64,
     mut outcome: Outcome<A>,
 ) -> Result<Phase<A>, NoMemory>
-    ensures leads { (s : Status) → FitsState state.old s → IfOk result (λ phase. Leads phase (stack frames.new) state.new (After (stack frames.old) s (outcome_of outcome))) }
-    ensures acts { state.new.acts ≡ state.old.acts }
-    ensures owes { IfOk result (λ phase. owed phase state.new ≤ 1 + worth state.old) }
+    ensures stands { (s : Status) → FitsState state.old s →
+        IfOk result (λ phase. Stands phase (stack frames.new) state.new answers
+        (onward_of (stack frames.old) s (outcome_of outcome))) }
     ensures told { IfOk result IsTold }
-    ensures holds { IfOk result PhaseHolds }
 {
-    'steps: loop {
-        let Some(frame) = Frame::pop(frames) else {
-            return close_run(alloc, state, outcome);
+    'commands: loop {
+        let (words, levels) = match unwind(alloc, frames, state, outcome)? {
+            Unwound::Command(words, levels) => (words, levels),
+            Unwound::Asks(act, waits) => return Ok(Phase::Asks(act, waits)),
+            Unwound::Has(last) => return close_run(alloc, state, answers, last),
         };
-        match resume(alloc, frames, state, frame, outcome)? {
-            Now::Has(next) => outcome = next,
-            Now::Asks(act, waiting) => return Ok(Phase::Asks(act, waiting)),
+        let gathered = words::begin(alloc, &state.scopes, words)?;
+        match take(alloc, frames, state, gathered, levels)? {
+            Leaf::Has(next) => outcome = next,
+            Leaf::Asks(act, waits) => return Ok(Phase::Asks(act, waits)),
         }
     }
 }
 
-/// Hands a frame how the piece within it ended.
+/// Takes frames off, from the top down, up to the next command of a script or the next act.
+fn unwind<A: Allocator + Copy>(
+    alloc: A,
+    frames: &mut Vec<Frame<A>, A>,
+    state: &mut State<A>,
+    mut outcome: Outcome<A>,
+) -> Result<Unwound<A>, NoMemory>
+    ensures unwinds { (s : Status) → FitsState state.old s →
+        IfOk result (λ unwound. Unwinds unwound (stack frames.new) state.new
+        (onward_of (stack frames.old) s (outcome_of outcome))) }
+    ensures emptied { IfOk result (λ unwound. IsEmptied unwound (stack frames.new)) }
+    ensures lightens { IfOk result (λ unwound.
+        Lightens unwound (stack frames.new) state.new (1 + weight (stack frames.old))
+        state.old.left) }
+{
+    'frames: loop {
+        let Some(frame) = Frame::pop(frames) else {
+            return Ok(Unwound::Has(outcome));
+        };
+        match resume(alloc, frames, state, frame, outcome)? {
+            Unwound::Has(next) => outcome = next,
+            Unwound::Asks(act, waits) => return Ok(Unwound::Asks(act, waits)),
+            Unwound::Command(words, levels) => return Ok(Unwound::Command(words, levels)),
+        }
+    }
+}
+
+/// Hands a frame how the part within it ended.
 fn resume<A: Allocator + Copy>(
     alloc: A,
     frames: &mut Vec<Frame<A>, A>,
     state: &mut State<A>,
     frame: Frame<A>,
     outcome: Outcome<A>,
-) -> Result<Now<A>, NoMemory>
-    ensures steps { (s : Status) → FitsState state.old s → IfOk result (λ now. Steps now (stack frames.new) state.new (After (frame ∷ stack frames.old) s (outcome_of outcome))) }
-    ensures acts { state.new.acts ≡ state.old.acts }
-    ensures pays { IfOk result (λ now. pending now + worth state.new ≤ worth state.old) }
-    ensures falls { IfOk result (λ now. state.new.left + length (stack frames.new) ≤ state.old.left + length (stack frames.old)) }
-    ensures holds { IfOk result NowHolds }
+) -> Result<Unwound<A>, NoMemory>
+    ensures unwinds { (s : Status) → FitsState state.old s →
+        IfOk result (λ unwound. Unwinds unwound (stack frames.new) state.new
+        (left_of (next_of frame s (outcome_of outcome)) (stack frames.old))) }
+    ensures lightens { IfOk result (λ unwound.
+        Lightens unwound (stack frames.new) state.new
+        (weight_of frame + weight (stack frames.old)) state.old.left) }
 {
+    let value = match outcome {
+        Ok(value) => value,
+        Err(leave) => return Ok(Unwound::Has(Err(leave))),
+    };
     match frame {
-        Frame::Script { commands, next } => match outcome {
-            Ok(value) => script_on(alloc, frames, state, commands, next, value),
-            Err(leave) => Ok(Now::Has(Err(leave))),
-        },
+        Frame::Script(script) => script_on(alloc, frames, state, script, value),
+        Frame::Words(gathering, levels) => {
+            words_on(
+                alloc,
+                frames,
+                state,
+                Box::into_inner(gathering),
+                levels,
+                value,
+            )
+        }
     }
 }
 
-/// The next command of a script, which takes a tick.
+/// The next command of a script, which takes a tick; or what stands behind the last one.
 fn script_on<A: Allocator + Copy>(
     alloc: A,
     frames: &mut Vec<Frame<A>, A>,
     state: &mut State<A>,
-    commands: Vec<Command<A>, A>,
-    next: usize,
-    value: Vec<u8, A>,
-) -> Result<Now<A>, NoMemory>
-    ensures steps { (s : Status) → FitsState state.old s → IfOk result (λ now. Steps now (stack frames.new) state.new (PieceThen (Script value.items (drop next (commands_view commands.items))) s (After (stack frames.old)))) }
-    ensures acts { state.new.acts ≡ state.old.acts }
-    ensures pays { IfOk result (λ now. pending now + worth state.new ≤ worth state.old) }
-    ensures falls { IfOk result (λ now. state.new.left + length (stack frames.new) ≤ state.old.left + length (stack frames.old)) }
-    ensures holds { IfOk result NowHolds }
+    script: Script<A>,
+    value: Value<A>,
+) -> Result<Unwound<A>, NoMemory>
+    ensures unwinds { (s : Status) → FitsState state.old s →
+        IfOk result (λ unwound. Unwinds unwound (stack frames.new) state.new
+        (left_of (next_of (frames_are.Script script) s (Gives value)) (stack frames.old))) }
+    ensures lightens { IfOk result (λ unwound.
+        Lightens unwound (stack frames.new) state.new
+        (1 + weight (stack frames.old)) state.old.left) }
 {
-    if next >= commands.len() {
-        return Ok(Now::Has(Ok(value)));
+    if script.next >= script.commands.len() {
+        return Ok(Unwound::Has(behind(alloc, script.fault, value)?));
     }
     if state.left == 0 {
-        return Ok(stops(Stop::Limit));
+        return Ok(Unwound::Has(Err(Leave::Stopped(Stop::Limit))));
     }
     state.left -= 1;
-    let now = begin(alloc, state, &commands[next].words)?;
-    let rest = Frame::Script {
+    let Script {
+        commands,
+        next,
+        levels,
+        fault,
+    } = script;
+    let words = commands[next].words.clone()?;
+    let rest = Frame::Script(Script {
         commands,
         next: next + 1,
-    };
+        levels,
+        fault,
+    });
     rest.push(frames)?;
-    Ok(now)
+    Ok(Unwound::Command(words, levels))
+}
+
+/// Behind the commands of a script: the value of the last one, or the fault.
+fn behind<A: Allocator + Copy>(
+    alloc: A,
+    fault: Option<tclparse::Fault>,
+    value: Value<A>,
+) -> Result<Outcome<A>, NoMemory>
+    ensures { IfOk result (λ outcome. (s : Status) →
+        meant_behind (option_map fault_of fault) s value ≡ Ends (s, outcome_of outcome)) }
+{
+    match fault {
+        None => Ok(Ok(value)),
+        Some(fault) => {
+            let text = Value::new(alloc, no_script(fault).text(alloc)?)?;
+            Ok(Err(Leave::Coded(Code::Error, text)))
+        }
+    }
+}
+
+/// Why a text is no script, as the script's error (Tcl(n)).
+fn no_script<A: Allocator>(fault: tclparse::Fault) -> Fault<A>
+    ensures { flaw_of result ≡ flaw_of_fault (fault_of fault) }
+{
+    match fault {
+        tclparse::Fault::OpenBrace => Fault::OpenBrace,
+        tclparse::Fault::OpenBracket => Fault::OpenBracket,
+        tclparse::Fault::OpenQuote => Fault::OpenQuote,
+        tclparse::Fault::AfterBrace => Fault::AfterBrace,
+        tclparse::Fault::AfterQuote => Fault::AfterQuote,
+        tclparse::Fault::TooDeep => Fault::TooDeep,
+        tclparse::Fault::EscapeNotHere => Fault::EscapeNotHere,
+        tclparse::Fault::BadVariable => Fault::BadVariable,
+    }
+}
+
+/// Goes on with the words of a command behind a script in one of them.
+fn words_on<A: Allocator + Copy>(
+    alloc: A,
+    frames: &mut Vec<Frame<A>, A>,
+    state: &mut State<A>,
+    gathering: Gathering<A>,
+    levels: u8,
+    value: Value<A>,
+) -> Result<Unwound<A>, NoMemory>
+    ensures unwinds { (s : Status) → FitsState state.old s →
+        IfOk result (λ unwound. Unwinds unwound (stack frames.new) state.new
+        (left_of (gathering_on levels gathering command s value) (stack frames.old))) }
+    ensures lightens { IfOk result (λ unwound.
+        Lightens unwound (stack frames.new) state.new
+        (2 + 2 * scripts_left gathering + weight (stack frames.old)) state.old.left) }
+{
+    let gathered = words::resume(alloc, &state.scopes, gathering, value)?;
+    match take(alloc, frames, state, gathered, levels)? {
+        Leaf::Has(outcome) => Ok(Unwound::Has(outcome)),
+        Leaf::Asks(act, waits) => Ok(Unwound::Asks(act, waits)),
+    }
+}
+
+/// Begins a command whose words are gathered, or a script in one of them.
+fn take<A: Allocator + Copy>(
+    alloc: A,
+    frames: &mut Vec<Frame<A>, A>,
+    state: &mut State<A>,
+    gathered: Gathered<A>,
+    levels: u8,
+) -> Result<Leaf<A, Waits<A>>, NoMemory>
+    ensures leads { (s : Status) → FitsState state.old s →
+        IfOk result (λ leaf. Leads leaf (stack frames.new) state.new
+        (left_of (course_of_gathered levels gathered command s) (stack frames.old))) }
+    ensures weighs { (most : ℕ) → HasFewer gathered most →
+        IfOk result (λ leaf.
+        weight (stack frames.new) < 2 + 2 * most + weight (stack frames.old)) }
+    ensures left { state.new.left ≤ state.old.left }
+{
+    match gathered {
+        Gathered::Values(values) => commands::begin(alloc, state, &values),
+        Gathered::Script(commands, gathering) => nest(alloc, frames, commands, gathering, levels),
+        Gathered::Fault(fault) => raises(alloc, &fault),
+    }
+}
+
+/// Begins a script in a word, one level deeper; the words go on behind it.
+fn nest<A: Allocator + Copy>(
+    alloc: A,
+    frames: &mut Vec<Frame<A>, A>,
+    commands: Rc<Vec<Command<A>, A>, A>,
+    gathering: Gathering<A>,
+    levels: u8,
+) -> Result<Leaf<A, Waits<A>>, NoMemory>
+    ensures leads { (s : Status) → IfOk result (λ leaf.
+        Goes (left_of (nested levels (commands_of commands) s
+        (gathering_on levels gathering command)) (stack frames.old))
+        (left_of (course_of table.next_of leaf s) (stack frames.new))) }
+    ensures weighs { IfOk result (λ leaf.
+        weight (stack frames.new)
+        ≤ 3 + 2 * scripts_left gathering + weight (stack frames.old)) }
+{
+    let Some(inner) = levels.checked_sub(1) else {
+        return raises(alloc, &Fault::TooManyNested);
+    };
+    Frame::Words(Box::new(alloc, gathering)?, levels).push(frames)?;
+    let script = Frame::Script(Script {
+        commands,
+        next: 0,
+        levels: inner,
+        fault: None,
+    });
+    script.push(frames)?;
+    Ok(empty())
 }

@@ -1,19 +1,19 @@
 //! Where a session stands.
 
 use crate::closing::Closing;
-use crate::course::Waiting;
 use crate::end::End;
-use crate::outcome::Outcome;
 use acts::{Act, NoMemory};
+use commands::Waits;
+use state::Outcome;
 use std::alloc::Allocator;
 
 /// Where a session stands.
 #[derive(Drop)]
 pub enum Phase<A: Allocator> {
-    /// A piece has ended so, and the frame on top takes it.
+    /// A part has ended so, and the frame on top takes it.
     Has(Outcome<A>),
     /// A command's act waits for its answer.
-    Asks(Act<A>, Waiting<A>),
+    Asks(Act<A>, Waits<A>),
     /// An act that closes the run waits for its answer.
     Closes(Act<A>, Closing<A>),
     /// The run is over.

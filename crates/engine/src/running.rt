@@ -1,9 +1,8 @@
 //! A whole run of a script in a world.
 
 ghost use Rattle.std.specs.Prelude.{IfOk, IfErr};
-ghost use Rattle.engine.specs.Outcome.{ending_of};
-ghost use Rattle.engine.specs.Run.{Began, Ran};
-ghost use Rattle.engine.specs.View.{words_of};
+ghost use Rattle.engine.specs.View.{ending_of, words_of};
+ghost use Rattle.runs.specs.Run.{Began, Ran};
 
 use crate::end::End;
 use crate::session::{Session, Step};
@@ -21,10 +20,12 @@ pub fn run<A: Allocator + Copy, W: World<A>>(
 ) -> Result<End<A>, NoMemory>
     // The acts and the end are those of the definition for the world's answers, and at every wait
     // each buffer holds at most its match_max.
-    ensures ran { IfOk result (λ end. Ran W.step world.old world.new script.now (words_of args.now) limits.ticks (ending_of end)) }
+    ensures ran { IfOk result (λ end.
+        Ran W.step world.old world.new script.now (words_of args.now) limits.ticks (ending_of end)) }
 
     // Where memory was refused, the acts are a beginning of those of the definition.
-    ensures began { IfErr result (λ _. Began W.step world.old world.new script.now (words_of args.now) limits.ticks) }
+    ensures began { IfErr result (λ _.
+        Began W.step world.old world.new script.now (words_of args.now) limits.ticks) }
 {
     let mut session = Session::start(alloc, script, args, limits)?;
     session.go_on(None)?;

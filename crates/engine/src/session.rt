@@ -1,32 +1,33 @@
 //! A run that stops at each act and goes on with its answer.
 
-ghost use Rattle.std.specs.Prelude.{◌≡◌, ◌≢◌, ℕ, ◌+◌, ◌<◌, ◌≤◌, [], ◌++◌, List, length, IfOk, IfErr, Some};
+ghost use Rattle.std.specs.Prelude.{◌≡◌, ◌<◌, ◌+◌, ◌^◌, ℕ, List, [], ◌++◌, length, IfOk, IfErr};
 ghost use Rattle.std.specs.Borrow.{sem};
+ghost use Rattle.acts.specs.Deed.{deed_of, reply_of};
 ghost use Rattle.acts.specs.History.{History};
-ghost use Rattle.engine.specs.Outcome.{Ending, outcome_of};
-ghost use Rattle.engine.specs.Run.{Run, initial};
-ghost use Rattle.engine.specs.Session.{After, GivesAgain, IsTold, Leads, MayFail, NotRefused, PhaseHolds, PhaseRuns, answered_in, owed, stack, total};
-ghost use Rattle.engine.specs.Status.{Status};
-ghost use Rattle.engine.specs.Step.{StepIs};
-ghost use Rattle.engine.specs.View.{FitsState, words_of};
+ghost use Rattle.commands.specs.View as table;
+ghost use Rattle.engine.specs.Frames.{IsWhole, left_of, stack};
+ghost use Rattle.engine.specs.Phases.{GivesAgain, IsPlan, IsTold, MayFail, Stands, after_acts, deed_in, paired};
+ghost use Rattle.engine.specs.View.{words_of};
+ghost use Rattle.runs.specs.Ending.{Over};
+ghost use Rattle.state.specs.Dialogue.{Dialogue, replied};
+ghost use Rattle.state.specs.Status.{Status};
+ghost use Rattle.state.specs.View.{FitsState};
 
-use crate::closing::closed;
-use crate::course::Now;
+use crate::beginning::beginning;
+use crate::closing::{closed, is_no_more};
 use crate::end::End;
-use crate::frame::Frame;
+use crate::frame::{Frame, Script};
 use crate::machine::advance;
-use crate::outcome::{Leave, Outcome};
 use crate::phase::Phase;
-use crate::reply::answered;
-use crate::script::{commands, is_later};
-use crate::state::State;
-use crate::table::Table;
-use acts::{Act, Answer, Fault, Limits, NoMemory};
+use acts::{Act, Answer, Limits, NoMemory, fits};
+use commands::Waits;
+use state::{Leaf, Leave, State, Stop};
 use std::alloc::Allocator;
 use std::mem;
+use tcltext::Value;
 
-/// The number of the first id (this project's own rule).
-const FIRST_NUMBER: u64 = 4;
+/// The levels of evaluation below a script (interp(n), recursionlimit).
+const MOST_LEVELS: u8 = 100;
 
 /// A run of a script that stops at each act. It is started, and then asked for the next act again
 /// and again with the answer to the last one, until it gives the end.
@@ -34,8 +35,9 @@ const FIRST_NUMBER: u64 = 4;
 pub struct Session<A: Allocator> {
     frames: Vec<Frame<A>, A>,
     state: State<A>,
+    /// How many answers there were.
+    answers: u64,
     phase: Phase<A>,
-    ghost paid: { total phase state ≤ 3000000000001 },
 }
 
 /// What a session gives: an act to be performed, or the end.
@@ -46,41 +48,45 @@ pub enum Step<'a, A: Allocator> {
 
 impl<A: Allocator + Copy> Session<A> {
     ghost use Rattle.engine.specs.Lending.{GoesOn};
-    ghost use Rattle.engine.specs.Runs.{IsRefused, IsSound, Runs, answered_so, has_end, owed_by};
+    ghost use Rattle.engine.specs.Session.{IsAt, IsRefused, answered_so, has_end};
+    ghost use Rattle.engine.specs.Step.{StepIs, TellsNext};
 
     /// A run of a script that has not begun. Of its arguments the first is `argv0`, the rest are
-    /// `argv`; no command of this stage reads them.
+    /// `argv`.
+    ///
+    /// # Errors
+    /// `NoMemory` where memory is refused.
     pub fn start(
         alloc: A,
         script: &[u8],
         args: &[Vec<u8, A>],
         limits: Limits,
     ) -> Result<Session<A>, NoMemory>
-        ensures runs { IfOk result (λ session. (h : History) (e : Ending) → Runs session h e → Run script.now (words_of args.now) limits.ticks h e) }
-        ensures leads { IfOk result (λ session. Leads session.phase (stack session.frames) session.state (Run script.now (words_of args.now) limits.ticks)) }
-        ensures holds { IfOk result (λ session. PhaseHolds session.phase) }
-        ensures begins { IfOk result (λ session. NotRefused session.phase) }
-        ensures sound { IfOk result (λ session. IsSound session) }
+        ensures { IfOk result (λ session.
+            IsAt session script.now (words_of args.now) limits.ticks []) }
     {
-        let state = State {
-            table: Table::new(alloc),
-            current: None,
-            next: Some(FIRST_NUMBER),
-            left: limits.ticks,
-            acts: 0,
-        };
+        let state = beginning(alloc, args, limits)?;
         let mut frames = Vec::new(alloc);
-        let phase = Phase::Has(begun(alloc, &mut frames, script)?);
+        first_frame(alloc, script)?.push(&mut frames)?;
         Ok(Session {
             frames,
             state,
-            phase,
+            answers: 0,
+            phase: Phase::Has(Ok(Value::empty())),
         })
     }
 
-    /// Goes on to the next act or to the end, and lends it. The first call is without an answer, each
-    /// later one has the answer to the last act. After an end each call gives the same end; after
-    /// want of memory each call answers `NoMemory`.
+    /// Goes on to the next act or to the end, and lends it. The first call is without an answer (one
+    /// that is given is dropped), each later one has the answer to the last act. After an end each
+    /// call gives the same end.
+    ///
+    /// What is left of the runs of the script is exactly what begins with the acts so far and their
+    /// answers: each such run goes on with the act that is given, and there is one; or it is over,
+    /// with the end that is given.
+    ///
+    /// # Errors
+    /// `NoMemory` where memory is refused, which is not while the run is closed or once it is over.
+    /// Each later call answers it again.
     pub fn next(&mut self, answer: Option<Answer<A>>) -> Result<Step<'_, A>, NoMemory>
         ensures* goes_on { sem 𝓛 (GoesOn A.row A.Allocator self.entry answer result) }
     {
@@ -90,12 +96,11 @@ impl<A: Allocator + Copy> Session<A> {
 
     /// Goes on to the next act or to the end.
     pub(crate) fn go_on(&mut self, answer: Option<Answer<A>>) -> Result<(), NoMemory>
-        ensures runs { IfOk result (λ _. (h : History) (e : Ending) → Runs self.new h e → Runs self.old (answered_so self.old answer ++ h) e) }
-        ensures leads { (s : Status) → FitsState self.old.state s → IfOk result (λ _. Leads self.new.phase (stack self.new.frames) self.new.state (λ h e. PhaseRuns self.old.phase (stack self.old.frames) s (answered_so self.old answer ++ h) e)) }
-        ensures sound { IsSound self.old → IfOk result (λ _. IsSound self.new) }
-        ensures owes { IfOk result (λ _. length (answered_so self.old answer) + owed_by self.new ≤ owed_by self.old) }
+        ensures at { (text : List ℕ) (args : List (List ℕ)) (limit : ℕ) (past : History) →
+            IsAt self.old text args limit past →
+            IfOk result (λ _. IsAt self.new text args limit
+            (past ++ answered_so self.old answer)) }
         ensures told { IfOk result (λ _. IsTold self.new.phase) }
-        ensures holds { PhaseHolds self.old.phase → IfOk result (λ _. PhaseHolds self.new.phase) }
         ensures refused { IfErr result (λ refusal. IsRefused refusal self.new) }
         ensures fails { IfErr result (λ _. MayFail self.old.phase answer) }
         ensures again { GivesAgain (λ _ end. self.new.phase ≡ end) self.old.phase result }
@@ -103,7 +108,15 @@ impl<A: Allocator + Copy> Session<A> {
         let alloc = *self.frames.allocator();
         // What stands there while the session goes on; nothing sees it.
         let phase = mem::replace(&mut self.phase, Phase::Over(End::NoMore));
-        match forward(alloc, &mut self.frames, &mut self.state, phase, answer) {
+        let answers = &mut self.answers;
+        match forward(
+            alloc,
+            &mut self.frames,
+            &mut self.state,
+            answers,
+            phase,
+            answer,
+        ) {
             Ok(phase) => {
                 self.phase = phase;
                 Ok(())
@@ -118,7 +131,9 @@ impl<A: Allocator + Copy> Session<A> {
     /// The act that is asked, or the end.
     pub(crate) fn step(&self) -> Step<'_, A>
         requires { IsTold self.now.phase }
-        ensures { StepIs result self.now.phase }
+        ensures given { StepIs result self.now.phase }
+        ensures tells { (text : List ℕ) (args : List (List ℕ)) (limit : ℕ) (past : History) →
+            IsAt self.now text args limit past → TellsNext result text args limit past }
     {
         match &self.phase {
             Phase::Asks(act, _) | Phase::Closes(act, _) => Step::Act(act),
@@ -134,6 +149,7 @@ impl<A: Allocator + Copy> Session<A> {
         let Session {
             frames: _,
             state: _,
+            answers: _,
             phase,
         } = self;
         match phase {
@@ -146,25 +162,17 @@ impl<A: Allocator + Copy> Session<A> {
     }
 }
 
-/// The frames of a script that has not begun, and what they are handed.
-fn begun<A: Allocator + Copy>(
-    alloc: A,
-    frames: &mut Vec<Frame<A>, A>,
-    script: &[u8],
-) -> Result<Outcome<A>, NoMemory>
-    requires { stack frames.old ≡ [] }
-    ensures { IfOk result (λ outcome. (args : List (List ℕ)) (limit : ℕ) (h : History) (e : Ending) → After (stack frames.new) (initial limit) (outcome_of outcome) h e → Run script.now args limit h e) }
+/// A script that has not begun, as a frame.
+fn first_frame<A: Allocator + Copy>(alloc: A, script: &[u8]) -> Result<Frame<A>, NoMemory>
+    ensures { IfOk result (λ frame. IsWhole frame script.now) }
 {
-    if is_later(script) {
-        let text = Fault::NotInThisStage.text(alloc)?;
-        return Ok(Err(Leave::Error(text)));
-    }
-    let rest = Frame::Script {
-        commands: commands(alloc, script)?,
+    let tclparse::Script { commands, fault } = tclparse::Script::read(alloc, script)?;
+    Ok(Frame::Script(Script {
+        commands,
         next: 0,
-    };
-    rest.push(frames)?;
-    Ok(Ok(Vec::new(alloc)))
+        levels: MOST_LEVELS,
+        fault,
+    }))
 }
 
 /// From where a session stands, with the answer to its act, to the next act or the end.
@@ -172,32 +180,67 @@ fn forward<A: Allocator + Copy>(
     alloc: A,
     frames: &mut Vec<Frame<A>, A>,
     state: &mut State<A>,
+    answers: &mut u64,
     phase: Phase<A>,
     answer: Option<Answer<A>>,
 ) -> Result<Phase<A>, NoMemory>
-    requires { total phase state.old ≤ 3000000000001 }
-    ensures leads { (s : Status) → FitsState state.old s → IfOk result (λ now. Leads now (stack frames.new) state.new (λ h e. PhaseRuns phase (stack frames.old) s (answered_in phase answer ++ h) e)) }
-    ensures owes { IfOk result (λ now. length (answered_in phase answer) + owed now state.new ≤ owed phase state.old) }
-    ensures total { IfOk result (λ now. total now state.new ≤ total phase state.old) }
+    ensures stands { (s : Status) (p : Dialogue Over) → answers.old + 1 < 2 ^ 64 →
+        FitsState state.old s → IsPlan phase (stack frames.old) s answers.old p →
+        IfOk result (λ now. Stands now (stack frames.new) state.new answers.new
+        (after_acts p (paired (deed_in phase) answer))) }
+    ensures counts { answers.old + 1 < 2 ^ 64 → IfOk result (λ _.
+        answers.new ≡ answers.old + length (paired (deed_in phase) answer)) }
     ensures told { IfOk result IsTold }
-    ensures holds { PhaseHolds phase → IfOk result PhaseHolds }
     ensures fails { IfErr result (λ _. MayFail phase answer) }
     ensures again { GivesAgain (λ now end. now ≡ end) phase result }
 {
     match phase {
-        Phase::Has(outcome) => advance(alloc, frames, state, outcome),
-        Phase::Asks(act, waiting) => match answer {
-            Some(answer) => match answered(alloc, state, act, waiting, answer)? {
-                Now::Has(outcome) => advance(alloc, frames, state, outcome),
-                Now::Asks(act, waiting) => Ok(Phase::Asks(act, waiting)),
-            },
-            None => Ok(Phase::Asks(act, waiting)),
+        Phase::Has(outcome) => advance(alloc, frames, state, *answers, outcome),
+        Phase::Asks(act, waits) => match answer {
+            Some(answer) => {
+                *answers = answers.wrapping_add(1);
+                answered(alloc, frames, state, *answers, act, waits, answer)
+            }
+            None => Ok(Phase::Asks(act, waits)),
         },
         Phase::Closes(act, closing) => match answer {
-            Some(answer) => Ok(closed(state, act, closing, answer)),
+            Some(answer) => {
+                *answers = answers.wrapping_add(1);
+                Ok(closed(state, *answers, act, closing, answer))
+            }
             None => Ok(Phase::Closes(act, closing)),
         },
         Phase::Over(end) => Ok(Phase::Over(end)),
         Phase::Refused(refusal) => Err(refusal),
     }
+}
+
+/// Goes on with the answer to the act of a command, up to the next act or the end. Without an
+/// answer, or with one that does not fit, the whole run stops.
+fn answered<A: Allocator + Copy>(
+    alloc: A,
+    frames: &mut Vec<Frame<A>, A>,
+    state: &mut State<A>,
+    answers: u64,
+    act: Act<A>,
+    waits: Waits<A>,
+    answer: Answer<A>,
+) -> Result<Phase<A>, NoMemory>
+    ensures stands { (s : Status) → FitsState state.old s → IfOk result (λ phase.
+        Stands phase (stack frames.new) state.new answers
+        (left_of (replied (deed_of act) s (table.next_of waits (deed_of act)) (reply_of answer))
+        (stack frames.old))) }
+    ensures told { IfOk result IsTold }
+{
+    let stop = if is_no_more(&answer) {
+        Stop::NoMore
+    } else if !fits(&act, &answer) {
+        Stop::BadAnswer
+    } else {
+        return match commands::answered(alloc, state, act, waits, answer)? {
+            Leaf::Has(outcome) => advance(alloc, frames, state, answers, outcome),
+            Leaf::Asks(act, waits) => Ok(Phase::Asks(act, waits)),
+        };
+    };
+    advance(alloc, frames, state, answers, Err(Leave::Stopped(stop)))
 }

@@ -5,13 +5,14 @@ use Rattle.memory.specs.declared.NoMemory.{NoMemory as Refusal}
 use Rattle.acts.specs.Deed.{Deed, Reply}
 use Rattle.acts.specs.History.{History, Past}
 use Rattle.engine.specs.declared.end.End.{End}
-use Rattle.engine.specs.Outcome.{Ending, ending_of}
-use Rattle.engine.specs.Run.{Began, Ran}
+use Rattle.engine.specs.View.{ending_of}
 use Rattle.records.specs.declared.record.RecordFault.TheVariants as fault
 use Rattle.worlds.specs.declared.status.Outcome.TheVariants.{BadRecord}
 use Rattle.worlds.specs.Play.{Declines, Plays, Replayed, Starves}
 use Rattle.records.specs.Record.{IsFirstBad, IsRecord}
 use Rattle.records.proofs.Records.{no_bad_line, one_bad_line, one_list}
+use Rattle.runs.specs.Ending.{Ending}
+use Rattle.runs.specs.Run.{Began, Ran}
 
 -- `see` takes each step of a world to a step of what is seen
 module _ {W V : Type 0} (S : W → Deed → Reply → W → Type 0) (T : V → Deed → Reply → V → Type 0) (see : W → V)

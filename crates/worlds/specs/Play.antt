@@ -4,10 +4,9 @@ use Rattle.std.specs.Borrow.{Bor}
 use Rattle.memory.specs.declared.NoMemory.{NoMemory as Refusal}
 use Rattle.acts.specs.Deed.{Reply}
 use Rattle.engine.specs.declared.end.End.{End}
-use Rattle.engine.specs.Outcome.{ending_of}
-use Rattle.engine.specs.Run.{Began, Ran}
-use Rattle.engine.specs.View.{words_of}
+use Rattle.engine.specs.View.{ending_of, words_of}
 use Rattle.records.specs.declared.record.RecordFault.{RecordFault}
+use Rattle.runs.specs.Run.{Began, Ran}
 use Rattle.worlds.specs.declared.status.Outcome.{Outcome}
 use Rattle.worlds.specs.declared.status.Outcome.TheVariants.{NoMemory}
 use Rattle.records.specs.Fault.{IsFault}

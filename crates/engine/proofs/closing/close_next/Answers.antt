@@ -1,12 +1,45 @@
-use Rattle.engine.specs.Outcome.{ending_of}
-use Rattle.engine.proofs.Closings.{closes-first}
+use Rattle.std.proofs.Common.{refl}
+use Rattle.engine.specs.Goes.{here}
+use Rattle.engine.specs.View.{ending_of}
+use Rattle.engine.proofs.Closings.{closes_first, closes_none}
+use Rattle.engine.proofs.Silent.{same_goes}
+use Rattle.runs.specs.Ending.{With}
+use Rattle.state.specs.Status.{closed}
 use Rattle.engine.proofs.closing.close_next.Goals as goal
 
-pub returns-in-Some-clause-finishes : goal.returns-in-Some-clause-finishes
-returns-in-Some-clause-finishes g c = λ s fits.
-    let f = c.in-Some.ensures.first s.peers fits.peers in
+pub returns-in-Some-clause-stands : goal.returns-in-Some-clause-stands
+returns-in-Some-clause-stands g c = λ frames s answers fits.
+    let f = c.in-Some.ensures s.peers fits.peers in
     record {
-      status = record s { peers = f.others };
-      fits = record { peers = f.fits; current = fits.current; next = fits.next; left = fits.left; acts = fits.acts };
-      same = closes-first (ending_of c.args.end) s.peers f.others f.peer s.acts c.in-Some.id f.split f.same;
+      status = record s { peers = closed c.in-Some.id s.peers };
+      fits = record {
+        scopes = fits.scopes;
+        peers = f.fits;
+        logging = fits.logging;
+        size = fits.size;
+        next = fits.next;
+        left = fits.left;
+      };
+      plan = _;
+      is_plan = refl;
+      goes = same_goes
+          (closes_first (ending_of c.args.end) s f.peer f.others c.in-Some.id fits.logging f.split
+          f.same f.rest);
     }
+
+pub returns-in-None-clause-stands : goal.returns-in-None-clause-stands
+returns-in-None-clause-stands g c = λ frames s answers fits. record {
+  status = s;
+  fits = record {
+    scopes = fits.scopes;
+    peers = (c.in-None.ensures s.peers fits.peers).1;
+    logging = fits.logging;
+    size = fits.size;
+    next = fits.next;
+    left = fits.left;
+  };
+  plan = _;
+  is_plan = (With (ending_of c.args.end), refl, refl);
+  goes = same_goes
+      (closes_none (ending_of c.args.end) s fits.logging (c.in-None.ensures s.peers fits.peers).0);
+}

@@ -1,43 +1,81 @@
-use Rattle.std.proofs.Common.{◌≡◌, ◌+◌, ◌-◌, suc, drop, refl, sym, ap, ◌∙◌, subst, arith}
+use Rattle.std.proofs.Common.{◌≡◌, ◌∙◌, ◌+◌, ◌-◌, ◌<◌, ◌≤◌, [], ◌∷◌, suc, length, get_or, option_map, refl, sym, ap, rules, arith}
+use Rattle.commands.specs.Commands.{command}
+use Rattle.engine.specs.Frames.{left_of, stack}
 use Rattle.engine.specs.declared.frame.Frame.TheVariants as frame
-use Rattle.engine.specs.Commands.{command}
-use Rattle.engine.specs.Does.{Script}
-use Rattle.engine.specs.Session.{After, PieceThen, PlainThen, ScriptThen, commands_view, stack}
-use Rattle.engine.specs.View.{plain_of, words_of}
-use Rattle.engine.proofs.Steps.{script_over, script_limit, next_on, opened, command_at, length-view, plain-over}
+use Rattle.engine.specs.declared.frame.Script.{Script}
+use Rattle.runs.specs.Scripts.{one, script}
+use Rattle.state.specs.Status.{Status}
+use Rattle.tclparse.specs.Seen.{fault_of}
+use Rattle.tclparse.specs.Tree.{no_words}
+use Rattle.tclparse.specs.Tree as tree
+use Rattle.tclparse.specs.View.{words_of, words_then}
+use Rattle.tclparse.specs.declared.tree.Command.{out-Command}
+use Rattle.words.specs.Words.{words}
+use Rattle.engine.proofs.Scripted.{commands_from, commands_at, commands_over, limit_goes, script_goes, tick_taken}
+use Rattle.engine.proofs.Silent.{same_goes, same_left, then_goes}
 use Rattle.engine.proofs.machine.script_on.Goals as goal
 
-pub returns-then-next-len-clause-steps : goal.returns-then-next-len-clause-steps
-returns-then-next-len-clause-steps g c = λ s fits. record {
-  status = s;
-  fits = fits;
-  steps = λ h e t. script_over c.args.next (commands_view c.args.commands.items) (omega (arith, c.len.ensures, length-view c.args.commands.items)) t;
-}
-
-pub returns-then-state-eq0-clause-steps : goal.returns-then-state-eq0-clause-steps
-returns-then-state-eq0-clause-steps g c = λ s fits. record {
-  status = s;
-  fits = fits;
-  steps = λ h e t.
-      let K = After (stack c.args.frames.now) in
-      script_limit c.args.next (commands_view c.args.commands.items) (omega (arith, c.if-next-len.false, c.len.ensures, length-view c.args.commands.items)) (fits.left ∙ c.if-state-eq0.true)
-      (subst (λ plain. PlainThen plain K h e) (plain-over c.stops.result s c.stops.ensures.has) t);
-}
-
-pub returns-clause-steps : goal.returns-clause-steps
-returns-clause-steps g c = λ s fits.
-    let left = c.args.state.now.left - 1 in
-    let is : s.left ≡ suc left = omega (arith, fits.left, c.if-state-eq0.false) in
-    let words : c.deref.result.now ≡ c.index.result.now.words.items = c.deref.ensures.value in
-    let one = c.in_ok-now.ensures.shows (record s { left = left }) (record { peers = fits.peers; current = fits.current; next = fits.next; left = refl; acts = fits.acts }) in
-    let cs = c.args.commands.items in
-    let at = command_at cs c.args.next c.index.result.now (omega (arith, c.if-next-len.false, c.len.ensures)) c.index.ensures in
-    let K = After (stack c.args.frames.now) in
+pub returns-then-script-len-clause-unwinds : goal.returns-then-script-len-clause-unwinds
+returns-then-script-len-clause-unwinds g c = λ s fits.
+    let own = c.args.script in
+    let cs = own.commands.value.items in
+    let le : length cs ≤ own.next = search (rules, arith) in
     record {
-      status = one.status;
-      fits = one.fits;
-      steps = λ h e t.
-          let on = opened (plain_of c.in_ok-now.now one.status) (frame.Script c.args.commands (c.args.next + 1)) (stack c.args.frames.now) (stack c.push.new.frames) h e c.in_ok-push.ensures t in
-          let plain = subst (λ plain. PlainThen plain (ScriptThen (drop (c.args.next + 1) (commands_view cs)) K) h e) (sym (ap (λ ws. command (words_of ws) (record s { left = left })) (sym words) ∙ one.same)) on in
-          subst (λ commands. PieceThen (Script c.args.value.items commands) s K h e) (sym at) (next_on left is plain);
+      status = s;
+      fits = fits;
+      goes = same_left (stack c.args.frames.now)
+          (ap (λ l. script own.levels l (option_map fault_of own.fault) s c.args.value)
+          (commands_over cs own.next le) ∙ c.in_ok-behind.ensures s);
+    }
+
+pub returns-then-state-eq0-clause-unwinds : goal.returns-then-state-eq0-clause-unwinds
+returns-then-state-eq0-clause-unwinds g c = λ s fits.
+    let own = c.args.script in
+    let cs = own.commands.value.items in
+    let lt : own.next < length cs = search (rules, arith) in
+    record {
+      status = s;
+      fits = fits;
+      goes = limit_goes (stack c.args.frames.now) cs own.next own.levels
+          (option_map fault_of own.fault) s c.args.value lt (fits.left ∙ c.if-state-eq0.true);
+    }
+
+pub returns-clause-unwinds : goal.returns-clause-unwinds
+returns-clause-unwinds g c = λ s fits.
+    let own = c.args.script in
+    let frames = stack c.args.frames.now in
+    let cs = own.commands.value.items in
+    let lt : own.next < length cs = search (rules, arith) in
+    let left = c.args.state.now.left - 1 in
+    let some : s.left ≡ suc left = omega (arith, fits.left, c.if-state-eq0.false) in
+    let rest : Script _ = record {
+      commands = own.commands;
+      next = own.next + 1;
+      levels = own.levels;
+      fault = own.fault;
+    } in
+    let ws = words_of c.in_ok-words.words in
+    let same : (out-Command _ c.index.result.now).words.value ≡ c.in_ok-words.words.value = search rules in
+    let here : c.index.result.now ≡ get_or cs own.next c.index.result.now = search rules in
+    let at : commands_from cs own.next ≡ tree.command ws (commands_from cs (own.next + 1)) =
+    commands_at cs own.next c.index.result.now lt here
+    ∙ ap (λ v. tree.command (words_then v.items no_words) (commands_from cs (own.next + 1))) same in
+    let after : Status = record s { left = left } in
+    record {
+      status = after;
+      fits = record {
+        scopes = fits.scopes;
+        peers = fits.peers;
+        logging = fits.logging;
+        size = fits.size;
+        next = fits.next;
+        left = refl;
+      };
+      goes = then_goes
+          (script_goes frames own rest ws s c.args.value at refl refl)
+          (then_goes
+          (same_left (frame.Script rest ∷ frames)
+          (tick_taken s left (λ t. words own.levels ws [] t command) some))
+          (same_goes (ap (λ fs. left_of (words own.levels ws [] after command) fs)
+          (sym c.in_ok-push.ensures))));
     }

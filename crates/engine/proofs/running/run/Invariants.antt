@@ -1,16 +1,17 @@
-use Rattle.engine.specs.Runs.{owed_by}
-use Rattle.engine.specs.Session.{IsTold, PhaseHolds}
+use Rattle.std.proofs.Common.{◌-◌}
+use Rattle.engine.specs.Phases.{IsTold}
 use Rattle.engine.specs.View.{words_of}
+use Rattle.runs.specs.Bounds.{most_acts}
 use Rattle.engine.proofs.Worlds.{Going}
 use Rattle.engine.proofs.running.run.Given as goal
 
 abbrev pub invariant-acts : goal.invariant-acts
 invariant-acts g l = record {
   told : IsTold l.session.phase;
-  holds : PhaseHolds l.session.phase;
-  going : Going g.W.World.step l.fn.world l.world l.script (words_of l.args) l.fn.limits.ticks l.session;
+  going : Going g.W.World.step l.fn.world l.world l.script (words_of l.args) l.fn.limits.ticks
+      l.session;
 }
 
--- each answer pays for an act that is owed
+-- a run has so many acts at most
 abbrev pub decreases-acts : goal.decreases-acts
-decreases-acts g l = owed_by l.session
+decreases-acts g l = most_acts l.fn.limits.ticks - l.session.answers

@@ -1,17 +1,33 @@
-use Rattle.std.proofs.Common.{refl, lit<}
-use Rattle.engine.specs.Run.{initial}
+use Rattle.std.proofs.Common.{◌≡◌, ◌∙◌, [], ◌∷◌, Ok, refl, sym, ap, rules}
+use Rattle.engine.specs.Frames.{onward_of, stack}
 use Rattle.engine.specs.View.{words_of}
+use Rattle.runs.specs.Run.{initial, whole}
+use Rattle.state.specs.Outcome.{Outcome, Gives}
+use Rattle.engine.proofs.Machines.{whole_goes}
+use Rattle.engine.proofs.Silent.{goes_exact, same_goes, then_goes}
 use Rattle.engine.proofs.session.Session.start.Goals as goal
 
-pub returns-clause-leads : goal.returns-clause-leads
-returns-clause-leads g c = record {
-  status = initial c.args.limits.ticks;
-  fits = record { peers = rw c.new.ensures tt; current = refl; next = (refl, lit< tt); left = refl; acts = refl };
-  leads = λ h e t. c.in_ok-begun.ensures (words_of c.args.args.now) c.args.limits.ticks h e t;
-}
-
-pub returns-clause-runs : goal.returns-clause-runs
-returns-clause-runs g c = λ h e runs. let l = returns-clause-leads g c in l.leads h e (runs l.status l.fits)
-
-pub returns-clause-sound : goal.returns-clause-sound
-returns-clause-sound g c = let l = returns-clause-leads g c in (l.status, l.fits)
+pub returns : goal.returns
+returns g c =
+    let text = c.args.script.now in
+    let args = words_of c.args.args.now in
+    let limit = c.args.limits.ticks in
+    let first = c.in_ok-first_frame.field-0 in
+    let begin = initial args limit in
+    let empty : stack c.new-frames.result ≡ [] = search rules in
+    let on : stack c.push.new.frames ≡ first ∷ [] =
+    c.in_ok-push.ensures ∙ ap (λ fs. first ∷ fs) empty in
+    record {
+      allowed = c.args.limits.in_range;
+      answers = refl;
+      status = begin;
+      fits = c.in_ok-state.ensures;
+      plan = onward_of (stack c.push.new.frames) begin (Gives c.empty.result);
+      is_plan = refl;
+      exact = goes_exact
+          (then_goes
+          (whole_goes first text args limit c.in_ok-first_frame.ensures)
+          (same_goes (ap (λ fs. onward_of fs begin (Gives [])) (sym on)
+          ∙ ap (λ v. onward_of (stack c.push.new.frames) begin (let o : Outcome = Gives v in o))
+          (sym c.empty.ensures))));
+    }

@@ -1,0 +1,210 @@
+-- A session among the runs of its script.
+use Rattle.std.proofs.Common.{◌≡◌, ◌∙◌, ℕ, ◌+◌, ◌*◌, ◌^◌, ◌<◌, ◌≤◌, ◌↔◌, ◌⊎◌, inl, inr, List, [], ◌∷◌, ◌++◌, length, Option, Some, None, refl, sym, ap, subst, arith}
+use Rattle.std.proofs.lemmas.List.{append-nil, length-append}
+use Rattle.acts.specs.Deed.{Deed, Reply, deed_of, reply_of}
+use Rattle.acts.specs.History.{History}
+use Rattle.acts.specs.declared.act.Act.{Act}
+use Rattle.acts.specs.declared.answer.Answer.{Answer}
+use Rattle.engine.specs.Frames.{stack}
+use Rattle.engine.specs.Phases.{IsPlan, IsTold, Stands, after_acts, deed_in, paired}
+use Rattle.engine.specs.Session.{IsAt, AsksFirst, EndsSo, Tells}
+use Rattle.commands.specs.declared.waits.Waits.{Waits}
+use Rattle.engine.specs.View.{ending_of}
+use Rattle.engine.specs.declared.closing.Closing.{Closing}
+use Rattle.engine.specs.declared.frame.Frame.{Frame}
+use Rattle.engine.specs.declared.phase.Phase.{Phase}
+use Rattle.engine.specs.declared.phase.Phase.TheVariants as phase
+use Rattle.engine.specs.declared.session.Session.{Session}
+use Rattle.engine.specs.declared.end.End.{End}
+use Rattle.engine.proofs.Silent.{goes_exact}
+use Rattle.plan.specs.Exact.{Same, Begins, Rests}
+use Rattle.plan.specs.Plan.{Ends, Asks}
+use Rattle.plan.specs.Runs.{Runs, ends}
+use Rattle.plan.proofs.Exact as exact
+use Rattle.plan.proofs.Exact.{then_same}
+use Rattle.plan.proofs.Finished.{each_plan_runs}
+use Rattle.runs.specs.Bounds.{Goes, most_acts}
+use Rattle.runs.specs.Ending.{Ending, Over, numbered}
+use Rattle.runs.specs.Run.{Run, whole}
+use Rattle.runs.specs.Scripts.{plan_of}
+use Rattle.runs.proofs.AllRuns.{acts_are_bounded}
+use Rattle.runs.proofs.Finite.{finite}
+use Rattle.state.specs.Dialogue.{Dialogue}
+use Rattle.state.specs.Piece.{IsTree}
+use Rattle.state.specs.Status.{Status}
+use Rattle.state.specs.declared.state.State.{State}
+
+-- the runs that are left of a script's are those of a plan
+abbrev pub IsLeft : Dialogue Over → List ℕ → List (List ℕ) → ℕ → History → Type 0
+IsLeft plan text args limit past =
+    Same (Runs plan_of IsTree plan) (Rests Over plan_of IsTree (whole text args limit) past)
+
+module _ (text : List ℕ) (args : List (List ℕ)) (limit : ℕ) (past : History) where
+  -- some run goes on from there
+  pub left_goes : (plan : Dialogue Over) → IsLeft plan text args limit past →
+      Goes text args limit past
+  left_goes plan left =
+      let on = each_plan_runs finite plan in
+      record {
+        rest = on.rest;
+        ending = numbered (length (past ++ on.rest)) on.result;
+        run = record {
+          over = on.result;
+          runs = left.onto on.rest on.result on.runs;
+          ends = refl;
+        };
+      }
+
+  -- so the acts so far are bounded
+  pub left_bounded : (plan : Dialogue Over) → IsLeft plan text args limit past →
+      length past ≤ most_acts limit
+  left_bounded plan left =
+      let goes = left_goes plan left in
+      let bound = acts_are_bounded text args limit (past ++ goes.rest) goes.ending goes.run in
+      let sum = length-append past goes.rest in
+      omega (arith, bound, sum)
+
+  -- no act and no answer more
+  none_more : (plan : Dialogue Over) → IsLeft plan text args limit past →
+      IsLeft plan text args limit (past ++ [])
+  none_more plan left = subst (λ h. IsLeft plan text args limit h) (sym (append-nil past)) left
+
+  -- an act and its answer more
+  one_more : (plan : Dialogue Over) (deed : Deed) (next : Reply → Dialogue Over) (reply : Reply) →
+      plan ≡ Asks deed next → IsLeft plan text args limit past →
+      IsLeft (after_acts plan ((deed, reply) ∷ [])) text args limit (past ++ (deed, reply) ∷ [])
+  one_more plan deed next reply is left =
+      let on : IsLeft (Asks deed next) text args limit past =
+      subst (λ p. IsLeft p text args limit past) is left in
+      subst (λ p. IsLeft (after_acts p ((deed, reply) ∷ [])) text args limit
+      (past ++ (deed, reply) ∷ [])) (sym is)
+      (exact.answered plan_of IsTree (whole text args limit) past deed next reply on)
+
+  module _ {A : Type 0} where
+    -- what is left behind the act that waits, where it is answered
+    pub left_behind : (at : Phase A) (answer : Option (Answer A)) (frames : List (Frame A))
+        (s : Status) (answers : ℕ) (plan : Dialogue Over) → IsPlan at frames s answers plan →
+        IsLeft plan text args limit past →
+        IsLeft (after_acts plan (paired (deed_in at) answer)) text args limit
+        (past ++ paired (deed_in at) answer)
+    left_behind (phase.Has outcome) answer frames s answers plan is left = none_more plan left
+    left_behind (phase.Asks act waits) None frames s answers plan is left = none_more plan left
+    left_behind (phase.Asks act waits) (Some answer) frames s answers plan is left =
+        one_more plan (deed_of act) _ (reply_of answer) is left
+    left_behind (phase.Closes act c) None frames s answers plan is left = none_more plan left
+    left_behind (phase.Closes act c) (Some answer) frames s answers plan is left =
+        one_more plan (deed_of act) _ (reply_of answer) is left
+    left_behind (phase.Over end) answer frames s answers plan is left = none_more plan left
+    left_behind (phase.Refused refusal) answer frames s answers plan is left = absurd is
+
+  -- each run that is left begins with the act at hand
+  asks_first : (plan : Dialogue Over) (deed : Deed) (next : Reply → Dialogue Over) →
+      plan ≡ Asks deed next → IsLeft plan text args limit past →
+      AsksFirst deed text args limit past
+  asks_first plan deed next is left = record {
+    goes = left_goes plan left;
+    first = λ h e run.
+        let on : Runs plan_of IsTree (Asks deed next) h run.over =
+        subst (λ p. Runs plan_of IsTree p h run.over) is (left.back h run.over run.runs) in
+        let first = exact.act_comes_first plan_of IsTree deed next h run.over on in
+        record {
+          reply = first.reply;
+          rest = first.rest;
+          is = first.is;
+          follows = subst (λ k. Run text args limit (past ++ k) e) first.is run;
+        };
+  }
+
+  -- the run that is left is over
+  ends_so : (plan : Dialogue Over) (over : Over) (ending : Ending) (answers : ℕ) →
+      plan ≡ Ends over → ending ≡ numbered answers over → answers ≡ length past →
+      IsLeft plan text args limit past → EndsSo ending text args limit past
+  ends_so plan over ending answers is told count left = λ h e.
+      let at_end : IsLeft (Ends over) text args limit past =
+      subst (λ p. IsLeft p text args limit past) is left in (
+        λ run.
+            let on = (exact.end_is_exact plan_of IsTree over).back h run.over
+            (at_end.back h run.over run.runs) in
+            let same : length (past ++ h) ≡ answers =
+            ap (λ k. length (past ++ k)) on.0 ∙ ap length (append-nil past) ∙ sym count in (
+              on.0,
+              run.ends ∙ ap (λ n. numbered n run.over) same ∙ ap (λ o. numbered answers o) on.1
+                  ∙ sym told,
+            ),
+        λ both.
+            let run : Runs plan_of IsTree (whole text args limit) (past ++ []) over =
+            at_end.onto [] over ends in
+            let same : answers ≡ length (past ++ h) =
+            count ∙ sym (ap length (append-nil past)) ∙ ap (λ k. length (past ++ k)) (sym both.0) in
+            record {
+              over = over;
+              runs = subst (λ k. Runs plan_of IsTree (whole text args limit) (past ++ k) over)
+                  (sym both.0) run;
+              ends = both.1 ∙ told ∙ ap (λ n. numbered n over) same;
+            },
+      )
+
+  -- what a phase tells of the runs that are left
+  pub tells : {A : Type 0} (at : Phase A) (frames : List (Frame A)) (s : Status) (answers : ℕ)
+      (plan : Dialogue Over) → IsTold at → IsPlan at frames s answers plan →
+      answers ≡ length past → IsLeft plan text args limit past → Tells at text args limit past
+  tells (phase.Has outcome) frames s answers plan told is count left = absurd told
+  tells (phase.Asks act waits) frames s answers plan told is count left =
+      asks_first plan (deed_of act) _ is left
+  tells (phase.Closes act c) frames s answers plan told is count left =
+      asks_first plan (deed_of act) _ is left
+  tells (phase.Over end) frames s answers plan told is count left =
+      ends_so plan is.0 (ending_of end) answers is.1 is.2 count left
+  tells (phase.Refused refusal) frames s answers plan told is count left = absurd told
+
+module _ {A : Type 0} (session : Session A) (text : List ℕ) (args : List (List ℕ)) (limit : ℕ)
+    (past : History) (at : IsAt session text args limit past) where
+  -- the number of the next answer fits 64 bits
+  pub counts_on : session.answers + 1 < 2 ^ 64
+  counts_on =
+      let bound = left_bounded text args limit past at.plan at.exact in
+      let most = at.allowed.1 in
+      let count = at.answers in
+      omega (arith, bound, most, count)
+
+-- where a session stands tells of the runs that are left
+pub session_tells : {A : Type 0} (session : Session A) (text : List ℕ) (args : List (List ℕ))
+    (limit : ℕ) (past : History) → IsTold session.phase →
+    IsAt session text args limit past → Tells session.phase text args limit past
+session_tells session text args limit past told at =
+    tells text args limit past session.phase (stack session.frames) at.status session.answers
+    at.plan told at.is_plan at.answers at.exact
+
+-- an act is asked by a command, or to close the run
+pub either_asks : {A : Type 0} (at : Phase A) (act : Act A) (text : List ℕ)
+    (args : List (List ℕ)) (limit : ℕ) (past : History) →
+    ((waits : Waits A) × (at ≡ phase.Asks act waits))
+    ⊎ ((c : Closing A) × (at ≡ phase.Closes act c)) →
+    Tells at text args limit past → AsksFirst (deed_of act) text args limit past
+either_asks at act text args limit past (inl is) told =
+    subst (λ p. Tells p text args limit past) is.1 told
+either_asks at act text args limit past (inr is) told =
+    subst (λ p. Tells p text args limit past) is.1 told
+
+-- a session that went on is at its next place
+pub went_on : {A : Type 0} (old new : Session A) (text : List ℕ) (args : List (List ℕ)) (limit : ℕ)
+    (past : History) (answer : Option (Answer A)) → (at : IsAt old text args limit past) →
+    Stands new.phase (stack new.frames) new.state new.answers
+    (after_acts at.plan (paired (deed_in old.phase) answer)) →
+    new.answers ≡ old.answers + length (paired (deed_in old.phase) answer) →
+    IsAt new text args limit (past ++ paired (deed_in old.phase) answer)
+went_on old new text args limit past answer at stands count =
+    let more = paired (deed_in old.phase) answer in
+    let sum = length-append past more in
+    let before = at.answers in
+    record {
+      allowed = at.allowed;
+      answers = omega (arith, count, sum, before);
+      status = stands.status;
+      fits = stands.fits;
+      plan = stands.plan;
+      is_plan = stands.is_plan;
+      exact = then_same (goes_exact stands.goes)
+          (left_behind text args limit past old.phase answer (stack old.frames) at.status
+          old.answers at.plan at.is_plan at.exact);
+    }

@@ -1,0 +1,47 @@
+use Rattle.std.proofs.Common.{◌≡◌, ◌∙◌, ◌∷◌, [], suc, None, sym, ap, rules, arith}
+use Rattle.acts.specs.Flaw as flaw
+use Rattle.acts.specs.Flaw.{text_of}
+use Rattle.commands.specs.Commands.{command}
+use Rattle.engine.specs.Frames.{left_of, stack}
+use Rattle.engine.specs.declared.frame.Frame.TheVariants as frame
+use Rattle.plan.specs.Plan.{Ends}
+use Rattle.state.specs.Dialogue.{Course}
+use Rattle.state.specs.Outcome.{Gives, Leaves, Error}
+use Rattle.tclparse.specs.View.{commands_of}
+use Rattle.words.specs.Gathering.{gathering_on}
+use Rattle.words.specs.Words.{nested}
+use Rattle.engine.proofs.Machines.{on_ok, nest_goes, nested_over, over_goes}
+use Rattle.engine.proofs.Silent.{same_goes, same_left, then_goes}
+use Rattle.engine.proofs.machine.nest.Goals as goal
+
+pub returns-in_default-clause-leads : goal.returns-in_default-clause-leads
+returns-in_default-clause-leads g c = λ s.
+    let frames = stack c.args.frames.now in
+    let zero : c.args.levels ≡ 0 = search (rules, arith) in
+    on_ok c.raises.result (λ leaf is.
+    then_goes
+    (same_left frames (nested_over c.args.levels (commands_of c.args.commands) s
+    (gathering_on c.args.levels c.args.gathering command) zero))
+    (over_goes frames leaf (Leaves Error (text_of flaw.TooManyNested)) s is))
+    c.raises.ensures
+
+pub returns-clause-leads : goal.returns-clause-leads
+returns-clause-leads g c = λ s.
+    let frames = stack c.args.frames.now in
+    let is : c.args.levels ≡ suc c.in-Some.inner = search (rules, arith) in
+    let own : c.args.gathering ≡ c.in_ok-new.field-0.value = search rules in
+    let script = frame.Script
+    (record { commands = c.args.commands; next = 0; levels = c.in-Some.inner; fault = None }) in
+    let on : stack c.push-2.new.frames
+    ≡ script ∷ frame.Words c.in_ok-new.field-0 c.args.levels ∷ frames =
+    c.in_ok-push-2.ensures ∙ ap (λ fs. script ∷ fs) c.in_ok-push.ensures in
+    let over : Course = Ends (s, Gives []) in
+    then_goes
+    (same_left frames (ap (λ gathering.
+    nested c.args.levels (commands_of c.args.commands) s
+    (gathering_on c.args.levels gathering command)) own))
+    (then_goes
+    (nest_goes frames c.args.levels c.in-Some.inner c.args.commands c.in_ok-new.field-0 s is)
+    (then_goes
+    (same_goes (ap (λ fs. left_of over fs) (sym on)))
+    (over_goes (stack c.push-2.new.frames) c.empty.result (Gives []) s c.empty.ensures)))

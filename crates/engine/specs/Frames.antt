@@ -1,0 +1,59 @@
+-- What is done next: the frames of a session.
+use Rattle.std.specs.Prelude.{◌≡◌, ℕ, ◌+◌, ◌*◌, List, [], ◌∷◌, map, reverse, drop, Option, option_map}
+use Rattle.std.specs.declared.vec.Vec.{Vec}
+use Rattle.commands.specs.Commands.{command}
+use Rattle.engine.specs.declared.frame.Frame.{Frame}
+use Rattle.engine.specs.declared.frame.Frame.TheVariants as frame
+use Rattle.plan.specs.Plan.{Plan, and_then, onward, after}
+use Rattle.runs.specs.Closing.{closing}
+use Rattle.runs.specs.Ending.{Over}
+use Rattle.runs.specs.Run.{most_levels}
+use Rattle.runs.specs.Scripts.{script}
+use Rattle.state.specs.Dialogue.{Course, Dialogue, on_value}
+use Rattle.state.specs.Outcome.{Outcome, Gives}
+use Rattle.state.specs.Status.{Status}
+use Rattle.tclparse.specs.Fault.{Fault}
+use Rattle.tclparse.specs.Grammar.{IsScript}
+use Rattle.tclparse.specs.Seen.{fault_of}
+use Rattle.tclparse.specs.Tree.{Commands, no_commands}
+use Rattle.tclparse.specs.View.{commands_then}
+use Rattle.words.specs.Gathering.{gathering_on}
+use Rattle.words.specs.Scripts.{scripts_left}
+
+-- the frames, the top one first
+abbrev pub stack : {A : Type 0} → Vec (Frame A) A → List (Frame A)
+stack frames = reverse frames.items
+
+-- a frame is what is done next with how the part within it ended: the commands of a script that are
+-- left, or the words of a command behind a script in one of them
+abbrev pub next_of : {A : Type 0} → Frame A → Status → Outcome → Course
+next_of (frame.Script s) =
+    on_value (script s.levels (commands_then (drop s.next s.commands.value.items) no_commands)
+    (option_map fault_of s.fault))
+next_of (frame.Words gathering levels) =
+    on_value (gathering_on levels gathering.value command)
+
+-- a frame is a whole text, of which nothing is done yet
+pub record IsWhole {A : Type 0} (f : Frame A) (text : List ℕ) : Type 0 where
+  pub commands : Commands
+  pub fault : Option Fault
+  pub is : IsScript commands fault text
+  pub next : (s : Status) → next_of f s (Gives []) ≡ script most_levels commands fault s []
+
+-- what is done with an outcome: the frames from the top down, and then the run is closed
+abbrev pub onward_of : {A : Type 0} → List (Frame A) → Status → Outcome → Dialogue Over
+onward_of frames = after (map next_of frames) closing
+
+-- a course, and then what is done with its outcome
+abbrev pub left_of : {A : Type 0} → Course → List (Frame A) → Dialogue Over
+left_of course frames = and_then course (onward (onward_of frames))
+
+-- how much a frame may still put on the stack between two ticks
+abbrev pub weight_of : {A : Type 0} → Frame A → ℕ
+weight_of (frame.Script s) = 1
+weight_of (frame.Words gathering levels) = 2 + 2 * scripts_left gathering.value
+
+-- how much all frames may
+abbrev pub weight : {A : Type 0} → List (Frame A) → ℕ
+weight [] = 0
+weight (f ∷ fs) = weight_of f + weight fs
