@@ -5,6 +5,7 @@ mod closings;
 mod course;
 mod cuts;
 mod families;
+mod listed;
 mod played;
 mod printed;
 mod read;
@@ -18,7 +19,6 @@ mod spelling;
 mod turned;
 mod way;
 mod whole;
-mod words;
 mod world;
 
 use crate::families::{read_families, run_examples, run_family};

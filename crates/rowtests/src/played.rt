@@ -95,7 +95,7 @@ pub fn run_call(
     call: &Call<'_>,
     wanted: &Prints,
 ) -> Result<()> {
-    let came = play_whole(alloc, alloc, call)?;
+    let came = play_whole(alloc, alloc, call, call.args);
     compare(alloc, report, call, "play", wanted, &came)
 }
 
@@ -124,22 +124,26 @@ fn shown(alloc: Global, prints: &Prints) -> Result<String, AllocError> {
     Ok(text)
 }
 
-/// What a call prints, whose writers take all.
-fn play_whole<A: Allocator + Copy>(log: Global, alloc: A, call: &Call<'_>) -> Result<Prints> {
-    let args = copies(alloc, call.args)?;
+/// What a call prints with these copies of its arguments, whose writers take all.
+fn play_whole<A: Allocator + Copy>(
+    log: Global,
+    alloc: A,
+    call: &Call<'_>,
+    args: &[Vec<u8, A>],
+) -> Prints {
     let mut out = Vec::new(log);
     let mut err = Vec::new(log);
     let status = play(
         alloc,
         call.script,
-        &args,
+        args,
         call.limits,
         b"record",
         call.record,
         Counted::new(&mut out),
         Counted::new(&mut err),
     );
-    Ok(Prints { out, err, status })
+    Prints { out, err, status }
 }
 
 /// What a call prints, whose writers have room for so many bytes.
@@ -231,14 +235,14 @@ fn run_refused_call(
     written: &Prints,
 ) -> Result<()> {
     let heap = Refusing::new(alloc);
+    let args = copies(&heap, call.args)?;
     let mut failing = String::new(alloc);
     for n in 1..MANY {
         let refused = heap.refused();
         heap.refuse_nth(n);
-        let came = play_whole(alloc, &heap, call);
+        let came = play_whole(alloc, &heap, call, &args);
         heap.refuse_none();
         let is_refused = heap.refused() != refused;
-        let came = came?;
         if !is_like(&came, whole, written, is_refused) {
             writeln!(failing, "request {n} refused:")?;
             failing.push_str(shown(alloc, &came)?.as_str())?;

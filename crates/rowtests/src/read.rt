@@ -1,8 +1,8 @@
 //! The format of row files.
 
+use crate::listed::{repeated, words};
 use crate::row::{Exchange, Printed, Row};
 use crate::spelled::{act_of, answer_of, end_of, is_act, number, usual_answer};
-use crate::words::{repeated, words};
 use acts::{Act, Limits};
 use anyhow::{Context, Result, bail, ensure};
 use engine::End;

@@ -1,6 +1,6 @@
 //! Acts, answers and ends out of the words of a line.
 
-use crate::words::words;
+use crate::listed::words;
 use acts::{Act, Answer, Id, LogMode, Row, Timer, fits};
 use anyhow::{Context, Result, bail};
 use engine::End;
