@@ -9,7 +9,8 @@ use crate::session::{Session, Step};
 use acts::{Limits, NoMemory, World};
 use std::alloc::Allocator;
 
-/// Runs a script with its arguments, of which the first is `argv0`, in a world, for so many ticks at
+/// Runs a script with its arguments, of which the first is `argv0`, in a world, for so many ticks
+/// at
 /// most. Only want of memory stops a run without an end; what was done by then stays done.
 pub fn run<A: Allocator + Copy, W: World<A>>(
     alloc: A,
@@ -21,7 +22,8 @@ pub fn run<A: Allocator + Copy, W: World<A>>(
     // The acts and the end are those of the definition for the world's answers, and at every wait
     // each buffer holds at most its match_max.
     ensures ran { IfOk result (λ end.
-        Ran W.step world.old world.new script.now (words_of args.now) limits.ticks (ending_of end)) }
+        Ran W.step world.old world.new script.now (words_of args.now) limits.ticks
+        (ending_of end)) }
 
     // Where memory was refused, the acts are a beginning of those of the definition.
     ensures began { IfErr result (λ _.

@@ -10,7 +10,8 @@ use worlds::{RecordFault, read_record};
 /// The longest record that is cut after each byte.
 const LONGEST: usize = 1000;
 
-/// Reads the record of a row cut after each byte: behind a line's end it has the answers so far, within
+/// Reads the record of a row cut after each byte: behind a line's end it has the answers so far,
+/// within
 /// the header it is none, and else its last line is bad.
 pub fn run_cuts(alloc: Global, report: &mut Report, row: &Row) -> Result<()> {
     let record = record_of(alloc, row)?;

@@ -34,7 +34,8 @@ pub struct Call<'a> {
     pub record: &'a [u8],
 }
 
-/// Plays a row under its record and compares what is printed, with whole and with failing writers and
+/// Plays a row under its record and compares what is printed, with whole and with failing writers
+/// and
 /// with memory refused.
 pub fn run_played(alloc: Global, report: &mut Report, row: &Row) -> Result<()> {
     let own = record_of(alloc, row)?;
@@ -58,7 +59,8 @@ pub fn run_played(alloc: Global, report: &mut Report, row: &Row) -> Result<()> {
     Ok(())
 }
 
-/// What has to be printed: by the acts and the end, which what the row says of it has to agree with;
+/// What has to be printed: by the acts and the end, which what the row says of it has to agree
+/// with;
 /// for a row with a text for its record it is what the row says alone.
 fn wanted(alloc: Global, row: &Row) -> Result<Prints> {
     let mut wanted = with_line(alloc, row)?;
@@ -256,7 +258,8 @@ fn run_refused_call(
     Ok(())
 }
 
-/// Whether a call printed the whole, or, where memory was refused, a beginning and the line of that.
+/// Whether a call printed the whole, or, where memory was refused, a beginning and the line of
+/// that.
 fn is_like(came: &Prints, whole: &Prints, written: &Prints, is_refused: bool) -> bool {
     if is_refused && came.status == NO_MEMORY {
         return match came.err.strip_suffix(b"rx: no memory\n") {

@@ -83,7 +83,8 @@ fn is_like(came: &Course, whole: &Course, is_refused: bool) -> bool {
     }
 }
 
-/// Runs a row by each way with all memory refused from each arrival to the next wait, where no choice
+/// Runs a row by each way with all memory refused from each arrival to the next wait, where no
+/// choice
 /// stands between them: none is asked for.
 pub fn run_starved(alloc: Global, report: &mut Report, row: &Row) -> Result<()> {
     let hungry = hungry(alloc, row)?;

@@ -31,7 +31,8 @@ impl Report {
         self.rows = self.rows.saturating_add(1);
     }
 
-    /// Counts a way in which a row was run, and writes down what came where it is not what was wanted.
+    /// Counts a way in which a row was run, and writes down what came where it is not what was
+    /// wanted.
     pub fn compare<D: Display + Drop>(
         &mut self,
         title: &str,

@@ -4,7 +4,8 @@ use acts::{Act, Answer, Limits};
 use engine::End;
 use std::alloc::{AllocError, Allocator, Global};
 
-/// How many bytes the script and the answers of a row have at most, if it is run in each way there is.
+/// How many bytes the script and the answers of a row have at most, if it is run in each way there
+/// is.
 const BULK: usize = 50_000;
 
 /// A script, the acts that have to come of it with their answers, and its end.
@@ -19,7 +20,8 @@ pub struct Row {
     pub exchanges: Vec<Exchange>,
     pub end: End<Global>,
     pub printed: Printed,
-    /// The text that is replayed, where it is not the record of the answers. Such a row is only played.
+    /// The text that is replayed, where it is not the record of the answers. Such a row is only
+    /// played.
     pub record: Option<Vec<u8>>,
 }
 

@@ -35,7 +35,8 @@ impl<A: Allocator> World<A> for Printing {
     }
 }
 
-/// Runs each script of a file, and writes a line for each: what it printed, and the text of its error
+/// Runs each script of a file, and writes a line for each: what it printed, and the text of its
+/// error
 /// or `-`, in hexadecimal digits.
 pub fn run_scripts<R: Files + AllocGlobal, W: Write>(
     rt: &R,

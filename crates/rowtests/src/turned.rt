@@ -1,4 +1,5 @@
-//! One answer of a row turned into another. What has to follow is computed from the row: its acts up
+//! One answer of a row turned into another. What has to follow is computed from the row: its acts
+//! up
 //! to that one stay.
 
 use crate::closings::push_closings;

@@ -6,7 +6,8 @@ use refusal::Refusing;
 use std::alloc::{Allocator, Global};
 use std::vec::IntoIter;
 
-/// A world that writes down each act and answers from a list, the first answer first. Behind the list
+/// A world that writes down each act and answers from a list, the first answer first. Behind the
+/// list
 /// it answers Done where that fits.
 #[derive(Drop)]
 pub struct Scripted<A: Allocator> {

@@ -35,7 +35,8 @@ script levels no_commands fault s value = behind fault s value
 script levels (tree.command ws cs) fault s value =
     Calls (One ws levels) s (on_value (script levels cs fault))
 
--- a command takes a tick before its words are substituted; then it does what it does (Tcl(n), rule 2)
+-- a command takes a tick before its words are substituted; then it does what it does (Tcl(n), rule
+-- 2)
 abbrev pub one : ℕ → Words → Status → Course
 one levels ws s = tick s (λ t. words levels ws [] t command)
 

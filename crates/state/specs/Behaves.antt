@@ -12,7 +12,8 @@ abbrev pub closing_of_log : Bool → ℕ
 closing_of_log true = 1
 closing_of_log false = 0
 
--- the acts that a state can still pay for: three for each tick, and one to close each id and the log
+-- the acts that a state can still pay for: three for each tick, and one to close each id and the
+-- log
 abbrev pub worth : Status → ℕ
 worth s = 3 * s.left + length (opened s.peers) + closing_of_log s.logging.is_open
 

@@ -1,4 +1,5 @@
-//! A tree as a text to compare: each word in `<` and `>`, `*` before one that is expanded, `;` behind each command.
+//! A tree as a text to compare: each word in `<` and `>`, `*` before one that is expanded, `;`
+//! behind each command.
 //! A variable is `${name}`, an element `$name(index)`, a script stands in `[` and `]`.
 
 use std::alloc::{AllocError, Global};

@@ -1,4 +1,5 @@
--- Lists of keys with what stands at them: the elements of an array, the variables of a frame (array(n)).
+-- Lists of keys with what stands at them: the elements of an array, the variables of a frame
+-- (array(n)).
 use Rattle.std.specs.Prelude.{ℕ, List, [], ◌∷◌, Option, Some, None, if◌then◌else◌, map}
 use Rattle.std.specs.Str.{bytes_eq}
 

@@ -13,7 +13,8 @@ HasTrouble error.NotArray r = r ≡ Err NotArray
 HasTrouble error.NoElement r = r ≡ Err NoElement
 HasTrouble (error.NoMemory e) r = ⊥
 
--- The same of a call that takes memory, which is refused only where there is no trouble (this project's own rule).
+-- The same of a call that takes memory, which is refused only where there is no trouble (this
+-- project's own rule).
 abbrev pub HasTroubleOrRefusal : {X : Type 0} → ScopeError → Result X Trouble → Type 0
 HasTroubleOrRefusal error.NoVariable r = r ≡ Err NoVariable
 HasTroubleOrRefusal error.IsArray r = r ≡ Err IsArray

@@ -1,9 +1,11 @@
--- Scopes of variables: what a name stands for, and what each command makes of it (Tcl(n), variables; array(n); global(n)).
+-- Scopes of variables: what a name stands for, and what each command makes of it (Tcl(n),
+-- variables; array(n); global(n)).
 use Rattle.std.specs.Prelude.{ℕ, List, [], ◌∷◌, ◌++◌, Option, Some, None, Result, Ok, Err, Bool, true, false, if◌then◌else◌, length}
 use Rattle.std.specs.Option.{ok_or}
 use Rattle.tclstate.specs.Pairs.{found, keys_of, put, without}
 
--- What a name stands for in a frame: a text, an array of texts by index, or the global of its name (Tcl(n); array(n); global(n)).
+-- What a name stands for in a frame: a text, an array of texts by index, or the global of its name
+-- (Tcl(n); array(n); global(n)).
 pub data Variable : Type 0 where
   Text : (bytes : List ℕ) → Variable
   Array : (elements : List (List ℕ × List ℕ)) → Variable
@@ -13,7 +15,8 @@ pub data Variable : Type 0 where
 abbrev pub Frame : Type 0
 Frame = List (List ℕ × Variable)
 
--- The local frames, the innermost first and none at the top level, and the global one (proc(n); global(n)).
+-- The local frames, the innermost first and none at the top level, and the global one (proc(n);
+-- global(n)).
 pub record Scopes : Type 0 where
   pub locals : List Frame
   pub globals : Frame
@@ -30,7 +33,8 @@ abbrev pub on_ok : {X Y : Type 0} → (X → Y) → Result X Trouble → Result 
 on_ok f (Ok x) = Ok (f x)
 on_ok f (Err t) = Err t
 
--- The bytes of a variable, or of its element at an index; what is absent or links to nothing has none (set(n)).
+-- The bytes of a variable, or of its element at an index; what is absent or links to nothing has
+-- none (set(n)).
 abbrev pub value_of : Option Variable → Option (List ℕ) → Result (List ℕ) Trouble
 value_of (Some (Text bytes)) None = Ok bytes
 value_of (Some (Text bytes)) (Some index) = Err NotArray
@@ -38,7 +42,8 @@ value_of (Some (Array elements)) None = Err IsArray
 value_of (Some (Array elements)) (Some index) = ok_or (found elements index) NoElement
 value_of _ index = Err NoVariable
 
--- A variable after a write of it or of its element at an index; what is absent is made (set(n); array(n)).
+-- A variable after a write of it or of its element at an index; what is absent is made (set(n);
+-- array(n)).
 abbrev pub changed : Option Variable → Option (List ℕ) → List ℕ → Result Variable Trouble
 changed (Some (Text bytes)) (Some index) value = Err NotArray
 changed (Some (Array elements)) None value = Err IsArray
@@ -47,7 +52,8 @@ changed _ (Some index) value = Ok (Array ((index, value) ∷ []))
 changed _ None value = Ok (Text value)
 
 -- An array's elements without one of them (unset(n)).
-abbrev pub without_element : List (List ℕ × List ℕ) → List ℕ → Option (List ℕ) → Result Variable Trouble
+abbrev pub without_element : List (List ℕ × List ℕ) → List ℕ → Option (List ℕ) →
+    Result Variable Trouble
 without_element elements index None = Err NoElement
 without_element elements index (Some value) = Ok (Array (without elements index))
 
@@ -59,7 +65,8 @@ reduced _ index = Err NoVariable
 
 -- A frame after a name or its element is written (set(n)).
 abbrev pub frame_written : List ℕ → Option (List ℕ) → List ℕ → Frame → Result Frame Trouble
-frame_written name index value frame = on_ok (put frame name) (changed (found frame name) index value)
+frame_written name index value frame =
+    on_ok (put frame name) (changed (found frame name) index value)
 
 -- A frame without a name that stands for a text or an array (unset(n)).
 abbrev pub without_name : Frame → List ℕ → Option Variable → Result Frame Trouble
@@ -102,7 +109,8 @@ abbrev pub outer : List Frame → List Frame
 outer [] = []
 outer (frame ∷ frames) = frames
 
--- The frame in which a name is read and written: the innermost local one, or the global one (global(n)).
+-- The frame in which a name is read and written: the innermost local one, or the global one
+-- (global(n)).
 abbrev pub frame_of : Scopes → List ℕ → Frame
 frame_of s name = if means_global s.locals name then s.globals else innermost s.locals
 
@@ -141,7 +149,8 @@ removed s name index = in_frame (frame_without name index) s name
 abbrev pub with_array : Scopes → List ℕ → Result Scopes Trouble
 with_array s name = in_frame (frame_with_array name) s name
 
--- The scopes after a name is linked: a local of that name is dropped (global(n)); at the top level nothing changes.
+-- The scopes after a name is linked: a local of that name is dropped (global(n)); at the top level
+-- nothing changes.
 abbrev pub linked : Scopes → List ℕ → Scopes
 linked s name =
     if means_global s.locals name then s

@@ -116,10 +116,12 @@ impl<A: Allocator + Copy> LocalFrame<A> {
         value: Value<A>,
     ) -> Result<(), ScopeError>
         ensures ok { OnOk result ((outer : List spec.Frame) →
-            spec.written (spec.scopes (self.old ∷ outer) globals.old) name.now (option_copied index.entry) value
+            spec.written (spec.scopes (self.old ∷ outer) globals.old) name.now
+            (option_copied index.entry) value
             ≡ Ok (spec.scopes (self.new ∷ outer) globals.new)) }
         ensures trouble { IfErr result (λ e. (outer : List spec.Frame) → HasTroubleOrRefusal e
-            (spec.written (spec.scopes (self.old ∷ outer) globals.old) name.now (option_copied index.entry) value)) }
+            (spec.written (spec.scopes (self.old ∷ outer) globals.old) name.now
+            (option_copied index.entry) value)) }
         ensures unchanged { OnErr result (self.new ≡ self.old) }
         ensures unchanged_globals { OnErr result (globals.new ≡ globals.old) }
     {

@@ -13,7 +13,8 @@ use std::alloc::Allocator;
 use std::marker::Model;
 use tcltext::Value;
 
-/// The names of the global frame, in the order in which they were first set. None of them is a link.
+/// The names of the global frame, in the order in which they were first set. None of them is a
+/// link.
 #[derive(Drop)]
 pub struct Globals<A: Allocator> {
     variables: Table<Content<A>, A>,

@@ -26,10 +26,12 @@ impl<A: Allocator> Local<A> {
         index: &[u8],
     ) -> Result<(), ScopeError>
         ensures ok { OnOk result
-            (reached (λ v. reduced (Some v) index.now) (frame_without name.now (Some index.now)) (local_of self.old) globals.old
+            (reached (λ v. reduced (Some v) index.now) (frame_without name.now (Some index.now))
+            (local_of self.old) globals.old
             ≡ Ok (local_of self.new, globals.new)) }
         ensures trouble { IfErr result (λ e. HasTrouble e
-            (reached (λ v. reduced (Some v) index.now) (frame_without name.now (Some index.now)) (local_of self.old) globals.old)) }
+            (reached (λ v. reduced (Some v) index.now) (frame_without name.now (Some index.now))
+            (local_of self.old) globals.old)) }
         ensures unchanged { OnErr result (local_of self.new ≡ local_of self.old) }
         ensures unchanged_globals { OnErr result (globals.new ≡ globals.old) }
     {
@@ -51,10 +53,14 @@ impl<A: Allocator + Copy> Local<A> {
         value: Value<A>,
     ) -> Result<(), ScopeError>
         ensures ok { OnOk result
-            (reached (λ v. changed (Some v) (option_copied index.entry) value) (frame_written name.now (option_copied index.entry) value) (local_of self.old) globals.old
+            (reached (λ v. changed (Some v) (option_copied index.entry) value)
+            (frame_written name.now (option_copied index.entry) value)
+            (local_of self.old) globals.old
             ≡ Ok (local_of self.new, globals.new)) }
         ensures trouble { IfErr result (λ e. HasTroubleOrRefusal e
-            (reached (λ v. changed (Some v) (option_copied index.entry) value) (frame_written name.now (option_copied index.entry) value) (local_of self.old) globals.old)) }
+            (reached (λ v. changed (Some v) (option_copied index.entry) value)
+            (frame_written name.now (option_copied index.entry) value)
+            (local_of self.old) globals.old)) }
         ensures unchanged { OnErr result (local_of self.new ≡ local_of self.old) }
         ensures unchanged_globals { OnErr result (globals.new ≡ globals.old) }
     {

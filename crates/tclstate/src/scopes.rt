@@ -75,7 +75,8 @@ impl<A: Allocator> Scopes<A> {
     /// Those of [`get`](Scopes::get).
     pub fn get_global(&self, name: &[u8], index: Option<&[u8]>) -> Result<&Value<A>, ScopeError>
         ensures value { IfOk result
-            (λ value. spec.read_global self.now name.now (option_copied index.entry) ≡ Ok value.now) }
+            (λ value.
+            spec.read_global self.now name.now (option_copied index.entry) ≡ Ok value.now) }
         ensures trouble { IfErr result
             (λ e. HasTrouble e (spec.read_global self.now name.now (option_copied index.entry))) }
     {
@@ -160,7 +161,8 @@ impl<A: Allocator + Copy> Scopes<A> {
         }
     }
 
-    /// Writes a name, or its element at an index, and makes what is absent (set(n); array(n)). What is there is
+    /// Writes a name, or its element at an index, and makes what is absent (set(n); array(n)). What
+    /// is there is
     /// overwritten in place and takes no memory; what is new goes last.
     ///
     /// # Errors
@@ -201,7 +203,8 @@ impl<A: Allocator + Copy> Scopes<A> {
         }
     }
 
-    /// Links a name of the innermost procedure to the global of that name (global(n)). A local of that name is
+    /// Links a name of the innermost procedure to the global of that name (global(n)). A local of
+    /// that name is
     /// dropped, and the link goes last; a link that is there stays. At the top level nothing
     /// changes.
     pub fn link_global(&mut self, alloc: A, name: &[u8]) -> Result<(), NoMemory>

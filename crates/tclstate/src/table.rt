@@ -25,7 +25,8 @@ pub fn element<'a, A: Allocator>(
     elements: &'a Table<Value<A>, A>,
     index: &[u8],
 ) -> Result<&'a Value<A>, ScopeError>
-    ensures value { IfOk result (λ value. found (texts_of elements.now.entries) index.now ≡ Some value.now) }
+    ensures value { IfOk result (λ value.
+        found (texts_of elements.now.entries) index.now ≡ Some value.now) }
     ensures absent { IfErr result (λ e. (e ≡ ScopeError.NoElement)
         × (found (texts_of elements.now.entries) index.now ≡ None)) }
 {
@@ -40,7 +41,8 @@ pub fn remove_element<A: Allocator>(
     elements: &mut Table<Value<A>, A>,
     index: &[u8],
 ) -> Result<(), ScopeError>
-    ensures ok { OnOk result (texts_of elements.new.entries ≡ without (texts_of elements.old.entries) index.now) }
+    ensures ok { OnOk result
+        (texts_of elements.new.entries ≡ without (texts_of elements.old.entries) index.now) }
     ensures found { OnOk result (IsSome (found (texts_of elements.old.entries) index.now)) }
     ensures absent { IfErr result (λ e. (e ≡ ScopeError.NoElement)
         × (found (texts_of elements.old.entries) index.now ≡ None)) }
