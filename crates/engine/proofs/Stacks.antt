@@ -17,5 +17,6 @@ module _ {X : Type 0} where
       MatchOption result ((reverse old ≡ []) × (reverse new ≡ []))
       (λ x. reverse old ≡ x ∷ reverse new)
   popped None old new n same items some =
-      none_left old new items (λ more. let clash = some.1 (omega (arith, same, more)) in absurd (cc))
+      none_left old new items (λ more. let clash = some.1 (omega (arith, same, more)) in
+      absurd (cc))
   popped (Some x) old new n same items some = ap reverse items ∙ reverse-append new (x ∷ [])

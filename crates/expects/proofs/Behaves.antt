@@ -27,7 +27,8 @@ module _ (t : ℕ) where
       s.left ≤ t → worth s ≤ had → Behaves t had (reported p i buffer s)
   reported_behaves p i buffer had s le paid =
       writes_behaves t had s le paid (codes "expect_out") (Some (codes "0,string")) p
-      (λ u. sets (codes "spawn_id") (id_text i.0) u (λ v. sets (codes "buffer") buffer v (gives [])))
+      (λ u. sets (codes "spawn_id") (id_text i.0) u
+      (λ v. sets (codes "buffer") buffer v (gives [])))
       (λ one. writes_behaves t had (record s { scopes = one }) le paid
       (codes "expect_out") (Some (codes "spawn_id")) (id_text i.0)
       (λ v. sets (codes "buffer") buffer v (gives []))

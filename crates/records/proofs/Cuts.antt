@@ -17,7 +17,8 @@ cons_same : (c d : ℕ) (a b : List ℕ) → c ≡ d → a ≡ b → c ∷ a ≡
 cons_same c d a b e f = cc (e, f)
 
 -- a front whose bytes are all others
-Lacks-take : (byte : ℕ) (text : List ℕ) (n : ℕ) → ((k : ℕ) → k < n → (get_or text k 0 == byte) ≡ false) → Lacks byte (take n text)
+Lacks-take : (byte : ℕ) (text : List ℕ) (n : ℕ) →
+    ((k : ℕ) → k < n → (get_or text k 0 == byte) ≡ false) → Lacks byte (take n text)
 Lacks-take byte text zero others = tt
 Lacks-take byte [] (suc n) others = tt
 Lacks-take byte (b ∷ text) (suc n) others = (
@@ -27,29 +28,36 @@ Lacks-take byte (b ∷ text) (suc n) others = (
 
 -- the place of the byte, and the parts around it
 pub cut_there : (byte : ℕ) (text : List ℕ) (place : ℕ) → position (λ b. b == byte) text ≡ Some place
-    → (text ≡ take place text ++ byte ∷ take (length text - (place + 1)) (drop (place + 1) text)) × Lacks byte (take place text)
+    → (text ≡ take place text ++ byte ∷ take (length text - (place + 1)) (drop (place + 1) text))
+    × Lacks byte (take place text)
 cut_there byte text place found =
     let (below, here, before) = position-Some (λ b. b == byte) text place 0 found in
     let same : get_or text place 0 ≡ byte = eqb-true (get_or text place 0) byte here in
     let rest = drop_more text place 0 below ∙ ap (λ b. b ∷ drop (place + 1) text) same
-    ∙ ap (λ after. byte ∷ after) (sym (take_rest text (place + 1))) in
-    (sym (take-append-drop place text) ∙ ap (λ after. take place text ++ after) rest, Lacks-take byte text place before)
+    ∙ ap (λ after. byte ∷ after) (sym (take_rest text (place + 1))) in (
+      sym (take-append-drop place text) ∙ ap (λ after. take place text ++ after) rest,
+      Lacks-take byte text place before,
+    )
 
 none_found : (found : Bool) (place : ℕ) → cond found (Some place) None ≡ None → found ≡ false
 none_found true place e = cc e
 none_found false place e = refl
 
 -- no place
-pub cut_nowhere : (byte : ℕ) (text : List ℕ) → position (λ b. b == byte) text ≡ None → Lacks byte text
+pub cut_nowhere : (byte : ℕ) (text : List ℕ) → position (λ b. b == byte) text ≡ None →
+    Lacks byte text
 cut_nowhere byte text found =
     let is = λ (b : ℕ). b == byte in
     let past : length text ≤ position_or_len is text =
-    ltb-false (position_or_len is text) (length text) (none_found _ (position_or_len is text) found) in
-    let all = Lacks-take byte text (length text) (λ k below. fails_before_first is text k 0 (omega arith)) in
+    ltb-false (position_or_len is text) (length text) (none_found _ (position_or_len is text) found)
+    in
+    let all = Lacks-take byte text (length text) (λ k below.
+    fails_before_first is text k 0 (omega arith)) in
     rw (take_all (length text) text (omega arith)) at all
 
 -- two cuts at the first byte of one value give the same parts
-pub same_cut : (byte : ℕ) (a b x y : List ℕ) → Lacks byte a → Lacks byte b → a ++ byte ∷ x ≡ b ++ byte ∷ y → (a ≡ b) × (x ≡ y)
+pub same_cut : (byte : ℕ) (a b x y : List ℕ) → Lacks byte a → Lacks byte b → a ++ byte ∷ x ≡ b
+    ++ byte ∷ y → (a ≡ b) × (x ≡ y)
 same_cut byte [] [] x y la lb e = (refl, tail e)
 same_cut byte [] (c ∷ b) x y la lb e = absurd (lb.0 (sym (head e)))
 same_cut byte (c ∷ a) [] x y la lb e = absurd (la.0 (head e))

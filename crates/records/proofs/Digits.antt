@@ -27,7 +27,8 @@ all_below-at test (suc n) k all below =
 
 -- each of the sixteen digits is a lower case one
 pub lower_digit : (d : ℕ) → d < 16 → is_lower_digit (slice_index lower_digits d) ≡ true
-lower_digit d below = all_below-at (λ d. is_lower_digit (slice_index lower_digits d)) 16 d refl below
+lower_digit d below = all_below-at (λ d. is_lower_digit (slice_index lower_digits d)) 16 d refl
+    below
 
 -- whether the value of a digit is the digit's place in the table
 abbrev is_back : ℕ → Option ℕ → Bool
@@ -37,7 +38,8 @@ is_back c (Some v) = (slice_index lower_digits v == c) && nat_lt v 16
 some_same : (w v : ℕ) → Some w ≡ Some v → w ≡ v
 some_same w v e = cc e
 
-is_back-at : (c v : ℕ) (o : Option ℕ) → o ≡ Some v → is_back c o ≡ true → (slice_index lower_digits v ≡ c) × (v < 16)
+is_back-at : (c v : ℕ) (o : Option ℕ) → o ≡ Some v → is_back c o ≡ true →
+    (slice_index lower_digits v ≡ c) × (v < 16)
 is_back-at c v None e test = cc e
 is_back-at c v (Some w) e test =
     let (same, small) = and_parts (slice_index lower_digits w == c) (nat_lt w 16) test in
@@ -53,16 +55,20 @@ implied false b either holds = cc holds
 
 is_back-if : (c : ℕ) → is_lower_digit c ≡ true → c < 103 → is_back c (hex_digit_value c) ≡ true
 is_back-if c lower below =
-    implied (is_lower_digit c) _ (all_below-at (λ c. not (is_lower_digit c) || is_back c (hex_digit_value c)) 103 c refl below) lower
+    implied (is_lower_digit c) _
+    (all_below-at (λ c. not (is_lower_digit c) || is_back c (hex_digit_value c)) 103 c refl
+    below) lower
 
 -- a lower case digit is the one of its value
-digit_back : (c v : ℕ) → is_lower_digit c ≡ true → hex_digit_value c ≡ Some v → (slice_index lower_digits v ≡ c) × (v < 16)
+digit_back : (c v : ℕ) → is_lower_digit c ≡ true → hex_digit_value c ≡ Some v →
+    (slice_index lower_digits v ≡ c) × (v < 16)
 digit_back c v lower value =
     let below : c < 103 = lower_below c lower in
     is_back-at c v (hex_digit_value c) value (is_back-if c lower below)
 
 -- the hex text of bytes has lower case digits alone
-pub lower_text : (bytes : List ℕ) → IsBytes bytes → list_all is_lower_digit (encode_lower bytes) ≡ true
+pub lower_text : (bytes : List ℕ) → IsBytes bytes → list_all is_lower_digit (encode_lower bytes)
+    ≡ true
 unfolding encode_with
 lower_text [] small = refl
 lower_text (b ∷ bytes) small =
@@ -82,7 +88,8 @@ digit_read c i (Some w) v h = ap Some (ap (λ (r : Result ℕ FromHexError). res
 digit_read c i None v h = cc h
 
 -- lower case pairs of digits are the text of what they decode to
-pairs_back : (i : ℕ) (text bytes : List ℕ) → list_all is_lower_digit text ≡ true → decode_pairs i text ≡ Ok bytes → text ≡ encode_lower bytes
+pairs_back : (i : ℕ) (text bytes : List ℕ) → list_all is_lower_digit text ≡ true →
+    decode_pairs i text ≡ Ok bytes → text ≡ encode_lower bytes
 unfolding decode_pairs encode_with
 pairs_back i [] bytes lower h =
     let e : [] ≡ bytes = ap (λ (r : Result (List ℕ) FromHexError). result_unwrap_or r []) h in
@@ -98,28 +105,33 @@ pairs_back i (a ∷ b ∷ rest) bytes lower h =
     let (high, below) = digit_back a u one (digit_read a i (hex_digit_value a) u first) in
     let (low, under) = digit_back b v two (digit_read b (i + 1) (hex_digit_value b) v second) in
     let made : u * 16 + v ≡ byte = ap (λ (r : Result ℕ FromHexError). result_unwrap_or r 0) sum in
-    let e : byte ∷ others ≡ bytes = ap (λ (r : Result (List ℕ) FromHexError). result_unwrap_or r []) whole in
+    let e : byte ∷ others ≡ bytes = ap (λ (r : Result (List ℕ) FromHexError). result_unwrap_or r [])
+    whole in
     let ih = pairs_back (i + 2) rest others twos tail in
     let left : byte / 16 ≡ u = omega arith in
     let right : byte % 16 ≡ v = omega arith in
     rw (← e) (rw (left, right, high, low, ← ih) refl)
 
 -- lower case digits are the text of what they decode to
-pub text_back : (text bytes : List ℕ) → list_all is_lower_digit text ≡ true → decode_of text ≡ Ok bytes → text ≡ encode_lower bytes
+pub text_back : (text bytes : List ℕ) → list_all is_lower_digit text ≡ true → decode_of text
+    ≡ Ok bytes → text ≡ encode_lower bytes
 text_back text bytes lower h =
     let even = (decode_of-ok text bytes h).0 in
     pairs_back 0 text bytes lower (sym (decode_of-even text even) ∙ h)
 
 -- what was decoded into room is what the text decodes to
-pub sized_back : (text made : List ℕ) (room : ℕ) (decoded : Result (List ℕ) FromHexError) (answer : Result Unit FromHexError) (done : Unit)
+pub sized_back : (text made : List ℕ) (room : ℕ) (decoded : Result (List ℕ) FromHexError)
+    (answer : Result Unit FromHexError) (done : Unit)
     → decode_sized text room ≡ decoded → answer ≡ Ok done
-    → MatchResult decoded (λ bytes. (answer ≡ Ok tt) × (made ≡ bytes)) (λ e. answer ≡ Err e) → decode_of text ≡ Ok made
+    → MatchResult decoded (λ bytes. (answer ≡ Ok tt) × (made ≡ bytes)) (λ e. answer ≡ Err e) →
+    decode_of text ≡ Ok made
 sized_back text made room (Ok bytes) answer done is ok (same, e) =
     sym (decode_sized-twice text room (decode_sized-ok text room bytes is)) ∙ is ∙ ap Ok (sym e)
 sized_back text made room (Err error) answer done is ok e = cc (ok, e)
 
 -- the text of bytes decodes into room for half of it
-pub sized_text : (text bytes : List ℕ) (room : ℕ) → IsBytes bytes → text ≡ encode_lower bytes → room ≡ length text / 2
+pub sized_text : (text bytes : List ℕ) (room : ℕ) → IsBytes bytes → text ≡ encode_lower bytes → room
+    ≡ length text / 2
     → decode_sized text room ≡ Ok bytes
 sized_text text bytes room small e half =
     let twice = length-encode_with lower_digits bytes in
@@ -128,10 +140,12 @@ sized_text text bytes room small e half =
     rw e (decode_sized-encode_lower bytes room same small)
 
 -- so its decoding does not fail
-pub sized_fails : (text bytes made : List ℕ) (room : ℕ) (decoded : Result (List ℕ) FromHexError) (answer : Result Unit FromHexError) (error : FromHexError)
+pub sized_fails : (text bytes made : List ℕ) (room : ℕ) (decoded : Result (List ℕ) FromHexError)
+    (answer : Result Unit FromHexError) (error : FromHexError)
     → decode_sized text room ≡ decoded → decode_sized text room ≡ Ok bytes → answer ≡ Err error
     → MatchResult decoded (λ bytes. (answer ≡ Ok tt) × (made ≡ bytes)) (λ e. answer ≡ Err e) → ⊥
-sized_fails text bytes made room (Ok found) answer error is text_is failed (same, e) = cc (failed, same)
+sized_fails text bytes made room (Ok found) answer error is text_is failed (same, e) =
+    cc (failed, same)
 sized_fails text bytes made room (Err other) answer error is text_is failed e = cc (is, text_is)
 
 -- room that is filled holds what was made

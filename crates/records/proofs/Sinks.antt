@@ -7,38 +7,50 @@ use Rattle.std.proofs.lemmas.List.Folds.{concat-append}
 use Rattle.records.specs.Sink.{Puts, Gets, Takes, fails_at}
 
 -- one more put
-pub Puts-more : {S : Type 0} (adds : S → List ℕ → S → Type 0) (before mid after : S) (pieces : List (List ℕ)) (piece : List ℕ)
-    → Puts adds before pieces mid → adds mid piece after → Puts adds before (pieces ++ piece ∷ []) after
-Puts-more adds before mid after [] piece same step = (after, subst (λ s. adds s piece after) (sym same) step, refl)
+pub Puts-more : {S : Type 0} (adds : S → List ℕ → S → Type 0) (before mid after : S)
+    (pieces : List (List ℕ)) (piece : List ℕ)
+    → Puts adds before pieces mid → adds mid piece after →
+    Puts adds before (pieces ++ piece ∷ []) after
+Puts-more adds before mid after [] piece same step =
+    (after, subst (λ s. adds s piece after) (sym same) step, refl)
 Puts-more adds before mid after (p ∷ ps) piece (next, first, others) step =
     (next, first, Puts-more adds next mid after ps piece others step)
 
 -- what a sink got so far, and one more put
-pub Gets-more : {S : Type 0} (adds : S → List ℕ → S → Type 0) (before mid after : S) (front piece : List ℕ)
+pub Gets-more : {S : Type 0} (adds : S → List ℕ → S → Type 0) (before mid after : S)
+    (front piece : List ℕ)
     → Gets adds before front mid → adds mid piece after → Gets adds before (front ++ piece) after
 Gets-more adds before mid after front piece (pieces, puts, joined) step =
     let whole : front ++ piece ≡ concat (pieces ++ piece ∷ []) =
-    ap (λ bytes. bytes ++ piece) joined ∙ ap (λ bytes. concat pieces ++ bytes) (sym (append-nil piece)) ∙ sym (concat-append pieces (piece ∷ [])) in
+    ap (λ bytes. bytes ++ piece) joined ∙ ap (λ bytes. concat pieces ++ bytes)
+    (sym (append-nil piece)) ∙ sym (concat-append pieces (piece ∷ [])) in
     (pieces ++ piece ∷ [], Puts-more adds before mid after pieces piece puts step, whole)
 
 -- it failed before the text was through
-pub Takes-part : {S : Type 0} (adds : S → List ℕ → S → Type 0) (failed : S → Bool) (before after : S) (text front rest : List ℕ)
-    → failed before ≡ false → failed after ≡ true → Gets adds before front after → text ≡ front ++ rest → rest ≢ []
+pub Takes-part : {S : Type 0} (adds : S → List ℕ → S → Type 0) (failed : S → Bool)
+    (before after : S) (text front rest : List ℕ)
+    → failed before ≡ false → failed after ≡ true → Gets adds before front after → text ≡ front
+    ++ rest → rest ≢ []
     → Takes adds failed before text after
-Takes-part adds failed before after text front rest had has gets split some = rw (had, has) (front, rest, gets, split, some)
+Takes-part adds failed before after text front rest had has gets split some =
+    rw (had, has) (front, rest, gets, split, some)
 
 -- a put that took nothing of some bytes fails
-pub fails_at-nothing : (had : Bool) (bytes : List ℕ) (taken : ℕ) → taken ≡ 0 → 0 < length bytes → fails_at had bytes taken ≡ true
+pub fails_at-nothing : (had : Bool) (bytes : List ℕ) (taken : ℕ) → taken ≡ 0 → 0 < length bytes →
+    fails_at had bytes taken ≡ true
 fails_at-nothing had bytes taken none some = grind (arith, nat_tests)
 
 -- a put that took something does not
-pub fails_at-something : (had : Bool) (bytes : List ℕ) (taken : ℕ) → had ≡ false → taken ≢ 0 → fails_at had bytes taken ≡ false
+pub fails_at-something : (had : Bool) (bytes : List ℕ) (taken : ℕ) → had ≡ false → taken ≢ 0 →
+    fails_at had bytes taken ≡ false
 fails_at-something had bytes taken well some = grind (arith, nat_tests)
 
 -- the bytes of one more put move from the rest to what is done
-pub moved : (text done rest : List ℕ) (n : ℕ) → text ≡ done ++ rest → text ≡ (done ++ take n rest) ++ drop n rest
+pub moved : (text done rest : List ℕ) (n : ℕ) → text ≡ done ++ rest → text ≡ (done ++ take n rest)
+    ++ drop n rest
 moved text done rest n split =
-    split ∙ ap (λ bytes. done ++ bytes) (sym (take-append-drop n rest)) ∙ sym (append_assoc done (take n rest) (drop n rest))
+    split ∙ ap (λ bytes. done ++ bytes) (sym (take-append-drop n rest))
+    ∙ sym (append_assoc done (take n rest) (drop n rest))
 
 -- a list that is found not to be empty
 pub some_left : (bytes : List ℕ) → (length bytes == 0) ≡ false → 0 < length bytes
@@ -53,9 +65,12 @@ left_over rest n none some = λ empty.
     absurd (omega (arith, e))
 
 -- one chain of puts after another
-Puts-append : {S : Type 0} (adds : S → List ℕ → S → Type 0) (before mid after : S) (first second : List (List ℕ))
-    → Puts adds before first mid → Puts adds mid second after → Puts adds before (first ++ second) after
-Puts-append adds before mid after [] second same puts = subst (λ s. Puts adds s second after) (sym same) puts
+Puts-append : {S : Type 0} (adds : S → List ℕ → S → Type 0) (before mid after : S)
+    (first second : List (List ℕ))
+    → Puts adds before first mid → Puts adds mid second after →
+    Puts adds before (first ++ second) after
+Puts-append adds before mid after [] second same puts =
+    subst (λ s. Puts adds s second after) (sym same) puts
 Puts-append adds before mid after (p ∷ ps) second (next, put, others) puts =
     (next, put, Puts-append adds next mid after ps second others puts)
 
@@ -70,10 +85,13 @@ some_front : (front rest : List ℕ) → front ≢ [] → front ++ rest ≢ []
 some_front [] rest some e = some refl
 some_front (c ∷ front) rest some e = cc e
 
-takes_both : {S : Type 0} (adds : S → List ℕ → S → Type 0) (failed : S → Bool) (before mid after : S) (x y : List ℕ) (b m a : Bool)
+takes_both : {S : Type 0} (adds : S → List ℕ → S → Type 0) (failed : S → Bool)
+    (before mid after : S) (x y : List ℕ) (b m a : Bool)
     → failed before ≡ b → failed mid ≡ m → failed after ≡ a
-    → Takes adds failed before x mid → Takes adds failed mid y after → Takes adds failed before (x ++ y) after
-takes_both adds failed before mid after x y true true a eb em ea t u = rw eb (rw eb at t ∙ rw em at u)
+    → Takes adds failed before x mid → Takes adds failed mid y after →
+    Takes adds failed before (x ++ y) after
+takes_both adds failed before mid after x y true true a eb em ea t u =
+    rw eb (rw eb at t ∙ rw em at u)
 takes_both adds failed before mid after x y true false a eb em ea t u =
     let same = rw eb at t in
     absurd (false≢true (sym em ∙ ap failed (sym same) ∙ eb))
@@ -82,7 +100,13 @@ takes_both adds failed before mid after x y false true a eb em ea t u =
     let same = rw em at u in
     let has : failed after ≡ true = ap failed (sym same) ∙ em in
     let whole = ap (λ text. text ++ y) split ∙ append_assoc front rest y in
-    rw (eb, has) (front, rest ++ y, subst (λ s. Gets adds before front s) same gets, whole, some_front rest y some)
+    rw (eb, has) (
+      front,
+      rest ++ y,
+      subst (λ s. Gets adds before front s) same gets,
+      whole,
+      some_front rest y some,
+    )
 takes_both adds failed before mid after x y false false true eb em ea t u =
     let gets = rw (eb, em) at t in
     let (front, rest, more, split, some) = rw (em, ea) at u in
@@ -94,16 +118,21 @@ takes_both adds failed before mid after x y false false false eb em ea t u =
     rw (eb, ea) (Gets-append adds before mid after x y gets more)
 
 -- a text, and then another
-pub Takes-then : {S : Type 0} (adds : S → List ℕ → S → Type 0) (failed : S → Bool) (before mid after : S) (x y : List ℕ)
-    → Takes adds failed before x mid → Takes adds failed mid y after → Takes adds failed before (x ++ y) after
+pub Takes-then : {S : Type 0} (adds : S → List ℕ → S → Type 0) (failed : S → Bool)
+    (before mid after : S) (x y : List ℕ)
+    → Takes adds failed before x mid → Takes adds failed mid y after →
+    Takes adds failed before (x ++ y) after
 Takes-then adds failed before mid after x y t u =
-    takes_both adds failed before mid after x y (failed before) (failed mid) (failed after) refl refl refl t u
+    takes_both adds failed before mid after x y (failed before) (failed mid) (failed after) refl
+    refl refl t u
 
-takes_none : {S : Type 0} (adds : S → List ℕ → S → Type 0) (failed : S → Bool) (before : S) (b : Bool) → failed before ≡ b
+takes_none : {S : Type 0} (adds : S → List ℕ → S → Type 0) (failed : S → Bool) (before : S)
+    (b : Bool) → failed before ≡ b
     → Takes adds failed before [] before
 takes_none adds failed before true e = rw e refl
 takes_none adds failed before false e = rw e ([], refl, refl)
 
 -- no text
-pub Takes-none : {S : Type 0} (adds : S → List ℕ → S → Type 0) (failed : S → Bool) (before : S) → Takes adds failed before [] before
+pub Takes-none : {S : Type 0} (adds : S → List ℕ → S → Type 0) (failed : S → Bool) (before : S) →
+    Takes adds failed before [] before
 Takes-none adds failed before = takes_none adds failed before (failed before) refl

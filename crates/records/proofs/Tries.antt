@@ -7,12 +7,15 @@ use Rattle.std.specs.declared.io.ErrorKind.TheVariants.{Interrupted}
 use Rattle.records.specs.Tries.{AreInterrupted}
 
 -- one more write that was interrupted
-pub AreInterrupted-more : {W : Type 0} (writes : W → List ℕ → Result ℕ Error → W → Type 0) (errors : List Error) (error : Error) (before mid after : W) (text : List ℕ)
-    → AreInterrupted writes errors before text mid → writes mid text (Err error) after → error_kind error ≡ Interrupted
+pub AreInterrupted-more : {W : Type 0} (writes : W → List ℕ → Result ℕ Error → W → Type 0)
+    (errors : List Error) (error : Error) (before mid after : W) (text : List ℕ)
+    → AreInterrupted writes errors before text mid → writes mid text (Err error) after →
+    error_kind error ≡ Interrupted
     → AreInterrupted writes (errors ++ error ∷ []) before text after
 AreInterrupted-more writes [] error before mid after text same write is =
     (after, subst (λ w. writes w text (Err error) after) (sym same) write, is, refl)
-AreInterrupted-more writes (first ∷ errors) error before mid after text (next, write', is', others) write is =
+AreInterrupted-more writes (first ∷ errors) error before mid after text (next, write', is', others)
+    write is =
     (next, write', is', AreInterrupted-more writes errors error next mid after text others write is)
 
 -- known bytes stay over two steps

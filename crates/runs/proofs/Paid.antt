@@ -86,8 +86,11 @@ judged_pays had next false false pays = omega arith
 
 does_pays : (had : ℕ) (deed : Deed) (next : Reply → Dialogue Over) → 1 ≤ had →
     ((reply : Reply) → ClosingPays (had - 1) (next reply)) → ClosingPays had (does deed next)
-does_pays had deed next one each =
-    (one, λ reply. judged_pays (had - 1) (next reply) (is_no_more reply) (fits deed reply) (each reply))
+does_pays had deed next one each = (
+  one,
+  λ reply. judged_pays (had - 1) (next reply) (is_no_more reply) (fits deed reply)
+      (each reply),
+)
 
 log_pays : (log : Bool) (e : Ending) (had : ℕ) → closing_of_log log ≤ had →
     ClosingPays had (closes_log log e)

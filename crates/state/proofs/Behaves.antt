@@ -30,7 +30,8 @@ more_behaves t u had more (Asks deed next) le up behaves =
     let one = behaves.0 in (
       omega (arith, one),
       behaves.1,
-      λ reply. more_behaves t u (had - 1) (more - 1) (next reply) le (omega arith) (behaves.2 reply),
+      λ reply. more_behaves t u (had - 1) (more - 1) (next reply) le (omega arith)
+          (behaves.2 reply),
     )
 more_behaves t u had more (Reads text next) le up behaves =
     λ tree is. more_behaves t u had more (next tree) le up (behaves tree is)

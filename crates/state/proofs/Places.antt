@@ -24,33 +24,42 @@ front_of : (p w : List ℕ) → OccursAt w p 0 → starts_with nat_eq w p ≡ tr
 front_of p w at = (bytes_eq-Decides p (take (length p) w)).1 (sym (OccursAt-part w p 0 at))
 
 later : (p w : List ℕ) (b k : ℕ) → OccursAt w p k → OccursAt (b ∷ w) p (suc k)
-later p w b k at = OccursAt-from_part (b ∷ w) p (suc k) (omega (arith, at.fits)) (OccursAt-part w p k at)
+later p w b k at = OccursAt-from_part (b ∷ w) p (suc k) (omega (arith, at.fits))
+    (OccursAt-part w p k at)
 
 earlier : (p w : List ℕ) (b k : ℕ) → OccursAt (b ∷ w) p (suc k) → OccursAt w p k
-earlier p w b k at = OccursAt-from_part w p k (omega (arith, at.fits)) (OccursAt-part (b ∷ w) p (suc k) at)
+earlier p w b k at = OccursAt-from_part w p k (omega (arith, at.fits))
+    (OccursAt-part (b ∷ w) p (suc k) at)
 
-nowhere_else : (p w : List ℕ) (b : ℕ) → starts_with nat_eq (b ∷ w) p ≡ false → (limit : ℕ) → ((m : ℕ) → m < limit → OccursAt w p m → ⊥) → (k : ℕ) → k < suc limit → OccursAt (b ∷ w) p k → ⊥
+nowhere_else : (p w : List ℕ) (b : ℕ) → starts_with nat_eq (b ∷ w) p ≡ false → (limit : ℕ) →
+    ((m : ℕ) → m < limit → OccursAt w p m → ⊥) → (k : ℕ) → k < suc limit → OccursAt (b ∷ w) p k → ⊥
 nowhere_else p w b off limit none zero lt at = false≢true (sym off ∙ front_of p (b ∷ w) at)
 nowhere_else p w b off limit none (suc k) lt at = none k (omega arith) (earlier p w b k at)
 
-none_else : (p w : List ℕ) (b : ℕ) → starts_with nat_eq (b ∷ w) p ≡ false → ((m : ℕ) → OccursAt w p m → ⊥) → (k : ℕ) → OccursAt (b ∷ w) p k → ⊥
+none_else : (p w : List ℕ) (b : ℕ) → starts_with nat_eq (b ∷ w) p ≡ false →
+    ((m : ℕ) → OccursAt w p m → ⊥) → (k : ℕ) → OccursAt (b ∷ w) p k → ⊥
 none_else p w b off none zero at = false≢true (sym off ∙ front_of p (b ∷ w) at)
 none_else p w b off none (suc k) at = none k (earlier p w b k at)
 
-moved : (p w : List ℕ) (b : ℕ) → starts_with nat_eq (b ∷ w) p ≡ false → (o : Option ℕ) → First p w o → First p (b ∷ w) (option_map (λ n. n + 1) o)
+moved : (p w : List ℕ) (b : ℕ) → starts_with nat_eq (b ∷ w) p ≡ false → (o : Option ℕ) → First p w o
+    → First p (b ∷ w) (option_map (λ n. n + 1) o)
 moved p w b off None none = none_else p w b off none
 moved p w b off (Some k) (at, none) =
     let one : k + 1 ≡ suc k = omega arith in
     rw one (later p w b k at, nowhere_else p w b off k none)
 
-by_front : (p w : List ℕ) (b : ℕ) (so : Bool) → starts_with nat_eq (b ∷ w) p ≡ so → First p w (first_place p w) → First p (b ∷ w) (cond so (Some 0) (option_map (λ n. n + 1) (first_place p w)))
+by_front : (p w : List ℕ) (b : ℕ) (so : Bool) → starts_with nat_eq (b ∷ w) p ≡ so →
+    First p w (first_place p w) → First p (b ∷ w)
+    (cond so (Some 0) (option_map (λ n. n + 1) (first_place p w)))
 by_front p w b true on rest = (at_front p (b ∷ w) on, λ m lt at. absurd (omega arith))
 by_front p w b false off rest = moved p w b off (first_place p w) rest
 
 in_nothing : (p : List ℕ) (so : Bool) → (length p == 0) ≡ so → First p [] (cond so (Some 0) None)
 in_nothing p true on =
-    let none : length p ≡ 0 = grind (arith, nat_tests) in
-    (record { fits = omega arith; reads = λ j lt. absurd (omega arith) }, λ m lt at. absurd (omega arith))
+    let none : length p ≡ 0 = grind (arith, nat_tests) in (
+      record { fits = omega arith; reads = λ j lt. absurd (omega arith) },
+      λ m lt at. absurd (omega arith),
+    )
 in_nothing p false off = λ k at.
     let some : length p ≢ 0 = grind (arith, nat_tests) in
     omega (arith, at.fits)

@@ -11,10 +11,15 @@ use Rattle.state.specs.Status.{Status}
 use Rattle.state.specs.Stores.{IsTold}
 use Rattle.state.specs.Variables.{spelled, stored, writes, first_of}
 
-pub goes_on : (s : Status) (old new : Scopes) (name : List ℕ) (index : Option (List ℕ)) (value : List ℕ) → s.scopes ≡ old → written old name index value ≡ Ok new → (next : Status → Course) → writes name index value s next ≡ next (record s { scopes = new })
+pub goes_on : (s : Status) (old new : Scopes) (name : List ℕ) (index : Option (List ℕ))
+    (value : List ℕ) → s.scopes ≡ old → written old name index value ≡ Ok new →
+    (next : Status → Course) → writes name index value s next ≡ next (record s { scopes = new })
 goes_on s old new name index value is ok next = rw (is, ok) refl
 
-pub told : {A : Type 0} → (e : ScopeError) (fault : Fault A) (r : Result Scopes Trouble) (name : List ℕ) (index : Option (List ℕ)) (s : Status) → HasTroubleOrRefusal e r → IsTold fault e name index → (next : Status → Course) → stored r (spelled name index) s next ≡ raises (flaw_of fault) s
+pub told : {A : Type 0} → (e : ScopeError) (fault : Fault A) (r : Result Scopes Trouble)
+    (name : List ℕ) (index : Option (List ℕ)) (s : Status) → HasTroubleOrRefusal e r →
+    IsTold fault e name index → (next : Status → Course) → stored r (spelled name index) s next
+    ≡ raises (flaw_of fault) s
 told error.NoVariable fault r name index s has is next = rw (has, is) refl
 told error.IsArray fault r name index s has is next = rw (has, is) refl
 told error.NotArray fault r name index s has is next = rw (has, is) refl
@@ -25,17 +30,20 @@ told (error.NoMemory refusal) fault r name index s has is next = absurd is
 pub first_is : (a b : Result (List ℕ) Trouble) (v : List ℕ) → a ≡ Ok v → Some v ≡ first_of a b
 first_is a b v is = rw is refl
 
-pub second_is : (e : ScopeError) (a b : Result (List ℕ) Trouble) (v : List ℕ) → HasTrouble e a → b ≡ Ok v → Some v ≡ first_of a b
+pub second_is : (e : ScopeError) (a b : Result (List ℕ) Trouble) (v : List ℕ) → HasTrouble e a → b
+    ≡ Ok v → Some v ≡ first_of a b
 second_is error.NoVariable a b v has is = rw (has, is) refl
 second_is error.IsArray a b v has is = rw (has, is) refl
 second_is error.NotArray a b v has is = rw (has, is) refl
 second_is error.NoElement a b v has is = rw (has, is) refl
 second_is (error.NoMemory refusal) a b v has is = absurd has
 
-pub neither_is : (e f : ScopeError) (a b : Result (List ℕ) Trouble) → HasTrouble e a → HasTrouble f b → None ≡ first_of a b
+pub neither_is : (e f : ScopeError) (a b : Result (List ℕ) Trouble) → HasTrouble e a →
+    HasTrouble f b → None ≡ first_of a b
 neither_is e f a b has hasnt = by (trouble e a has) (trouble f b hasnt)
   where
-    trouble : (e : ScopeError) (a : Result (List ℕ) Trouble) → HasTrouble e a → (t : Trouble) × (a ≡ Err t)
+    trouble : (e : ScopeError) (a : Result (List ℕ) Trouble) → HasTrouble e a → (t : Trouble)
+        × (a ≡ Err t)
     trouble error.NoVariable a has = (_, has)
     trouble error.IsArray a has = (_, has)
     trouble error.NotArray a has = (_, has)

@@ -14,7 +14,8 @@ use Rattle.acts.specs.Id.{id_text}
 use Rattle.state.specs.Tables.{FitsAll, FirstCloses}
 use Rattle.state.specs.Variables.{named}
 
-shifted : (o : Option ℕ) (n : ℕ) → option_map (λ k. n + 1 + k) o ≡ option_map (λ k. n + k) (option_map (λ k. k + 1) o)
+shifted : (o : Option ℕ) (n : ℕ) → option_map (λ k. n + 1 + k) o
+    ≡ option_map (λ k. n + k) (option_map (λ k. k + 1) o)
 shifted None n = refl
 shifted (Some k) n = ap Some (omega arith)
 
@@ -23,12 +24,14 @@ same None = refl
 same (Some k) = ap Some (omega arith)
 
 id-same : (x : Id) (y : Id) → (x.0 == y.0) ≡ true → x ≡ y
-id-same x y e = let same : x.0 ≡ y.0 = grind (arith, nat_tests) in ap (λ (n : ℕ). let z : Id = record { 0 = n } in z) same
+id-same x y e = let same : x.0 ≡ y.0 = grind (arith, nat_tests) in
+    ap (λ (n : ℕ). let z : Id = record { 0 = n } in z) same
 
 -- among open ids: one record more in the journal of one, and one taken out
 abbrev pub put_in : Record → Id → List Peer → List Peer
 put_in r i [] = []
-put_in r i (p ∷ ps) = if p.id.0 == i.0 then record p { journal = r ∷ p.journal } ∷ ps else p ∷ put_in r i ps
+put_in r i (p ∷ ps) = if p.id.0 == i.0 then record p { journal = r ∷ p.journal } ∷ ps else p
+    ∷ put_in r i ps
 
 abbrev pub without : Id → List Peer → List Peer
 without i [] = []
@@ -39,41 +42,53 @@ abbrev peer : Id → Kind → Bool → Bool → List Record → Peer
 peer id kind is_open is_reaped journal =
     record { id = id; kind = kind; is_open = is_open; is_reaped = is_reaped; journal = journal }
 
-recorded-by : (r : Record) (i id : Id) (k : Kind) (a c b : Bool) (j : List Record) (ps : List Peer) → (id.0 == i.0) ≡ b → opened (recorded r i ps) ≡ put_in r i (opened ps) → opened (recorded r i (peer id k a c j ∷ ps)) ≡ put_in r i (opened (peer id k a c j ∷ ps))
+recorded-by : (r : Record) (i id : Id) (k : Kind) (a c b : Bool) (j : List Record) (ps : List Peer)
+    → (id.0 == i.0) ≡ b → opened (recorded r i ps) ≡ put_in r i (opened ps) →
+    opened (recorded r i (peer id k a c j ∷ ps)) ≡ put_in r i (opened (peer id k a c j ∷ ps))
 recorded-by r i id k true c true j ps is rest = rw is refl
 recorded-by r i id k true c false j ps is rest = rw is (ap (λ qs. peer id k true c j ∷ qs) rest)
 recorded-by r i id k false c b j ps is rest = rest
 
-pub opened-recorded : (r : Record) (i : Id) (ps : List Peer) → opened (recorded r i ps) ≡ put_in r i (opened ps)
+pub opened-recorded : (r : Record) (i : Id) (ps : List Peer) → opened (recorded r i ps)
+    ≡ put_in r i (opened ps)
 opened-recorded r i [] = refl
-opened-recorded r i (p ∷ ps) = recorded-by r i p.id p.kind p.is_open p.is_reaped (p.id.0 == i.0) p.journal ps refl (opened-recorded r i ps)
+opened-recorded r i (p ∷ ps) = recorded-by r i p.id p.kind p.is_open p.is_reaped (p.id.0 == i.0)
+    p.journal ps refl (opened-recorded r i ps)
 
-closed-by : (i id : Id) (k : Kind) (a c b : Bool) (j : List Record) (ps : List Peer) → (id.0 == i.0) ≡ b → opened (closed i ps) ≡ without i (opened ps) → opened (closed i (peer id k a c j ∷ ps)) ≡ without i (opened (peer id k a c j ∷ ps))
+closed-by : (i id : Id) (k : Kind) (a c b : Bool) (j : List Record) (ps : List Peer) → (id.0 == i.0)
+    ≡ b → opened (closed i ps) ≡ without i (opened ps) → opened (closed i (peer id k a c j ∷ ps))
+    ≡ without i (opened (peer id k a c j ∷ ps))
 closed-by i id k true c true j ps is rest = rw is refl
 closed-by i id k true c false j ps is rest = rw is (ap (λ qs. peer id k true c j ∷ qs) rest)
 closed-by i id k false c b j ps is rest = rest
 
 pub opened-closed : (i : Id) (ps : List Peer) → opened (closed i ps) ≡ without i (opened ps)
 opened-closed i [] = refl
-opened-closed i (p ∷ ps) = closed-by i p.id p.kind p.is_open p.is_reaped (p.id.0 == i.0) p.journal ps refl (opened-closed i ps)
+opened-closed i (p ∷ ps) = closed-by i p.id p.kind p.is_open p.is_reaped (p.id.0 == i.0) p.journal
+    ps refl (opened-closed i ps)
 
 more-by : (q p : Peer) (ps : List Peer) (a : Bool) → opened (ps ++ q ∷ []) ≡ opened ps ++ q ∷ [] →
-    (if a then p ∷ opened (ps ++ q ∷ []) else opened (ps ++ q ∷ [])) ≡ (if a then p ∷ opened ps else opened ps) ++ q ∷ []
+    (if a then p ∷ opened (ps ++ q ∷ []) else opened (ps ++ q ∷ []))
+    ≡ (if a then p ∷ opened ps else opened ps) ++ q ∷ []
 more-by q p ps true rest = ap (λ qs. p ∷ qs) rest
 more-by q p ps false rest = rest
 
-pub opened-more : (i : Id) (kind : Kind) (ps : List Peer) → opened (ps ++ fresh i kind ∷ []) ≡ opened ps ++ fresh i kind ∷ []
+pub opened-more : (i : Id) (kind : Kind) (ps : List Peer) → opened (ps ++ fresh i kind ∷ [])
+    ≡ opened ps ++ fresh i kind ∷ []
 opened-more i kind [] = refl
 opened-more i kind (p ∷ ps) = more-by (fresh i kind) p ps p.is_open (opened-more i kind ps)
 
 -- the first of the open ids is closed
-first-by : (ps qs : List Peer) (i : Id) (p : Peer) → opened ps ≡ p ∷ qs → p.id ≡ i → opened (closed i ps) ≡ qs
+first-by : (ps qs : List Peer) (i : Id) (p : Peer) → opened ps ≡ p ∷ qs → p.id ≡ i →
+    opened (closed i ps) ≡ qs
 first-by ps qs i p split same = opened-closed i ps ∙ ap (without i) split ∙ first-gone p i qs same
   where
     first-gone : (p : Peer) (i : Id) (qs : List Peer) → p.id ≡ i → without i (p ∷ qs) ≡ qs
-    first-gone p i qs same = let hit : (p.id.0 == i.0) ≡ true = grind (arith, nat_tests, ap (λ (x : Id). x.0) same) in rw hit refl
+    first-gone p i qs same = let hit : (p.id.0 == i.0) ≡ true =
+        grind (arith, nat_tests, ap (λ (x : Id). x.0) same) in rw hit refl
 
-pub first-closed : (ps qs : List Peer) (i : Id) (p : Peer) → opened ps ≡ p ∷ qs → p.id ≡ i → opened (closed i ps) ≡ qs
+pub first-closed : (ps qs : List Peer) (i : Id) (p : Peer) → opened ps ≡ p ∷ qs → p.id ≡ i →
+    opened (closed i ps) ≡ qs
 first-closed ps qs i p split same = first-by ps qs i p split same
 
 -- one place further in a longer list
@@ -97,7 +112,8 @@ abbrev Where : Bool → Option ℕ → ℕ → Type 0
 Where true o k = k ≡ 0
 Where false o k = Further o k
 
-where_is : (b : Bool) (o : Option ℕ) (k : ℕ) → cond b (Some 0) (option_map (λ n. n + 1) o) ≡ Some k → Where b o k
+where_is : (b : Bool) (o : Option ℕ) (k : ℕ) → cond b (Some 0) (option_map (λ n. n + 1) o) ≡ Some k
+    → Where b o k
 where_is true o k e = cc
 where_is false o k e = further o k e
 
@@ -107,17 +123,22 @@ module _ {A : Type 0} where
   place i [] = None
   place i (e ∷ es) = cond (e.id.0 == i.0) (Some 0) (option_map (λ k. k + 1) (place i es))
 
-  place-by : (i : Id) (n : ℕ) (es : List (Entry A)) (b : Bool) → position_from (λ e. e.id.0 == i.0) (n + 1) es ≡ option_map (λ k. n + 1 + k) (place i es)
-      → cond b (Some n) (position_from (λ e. e.id.0 == i.0) (n + 1) es) ≡ option_map (λ k. n + k) (cond b (Some 0) (option_map (λ k. k + 1) (place i es)))
+  place-by : (i : Id) (n : ℕ) (es : List (Entry A)) (b : Bool) →
+      position_from (λ e. e.id.0 == i.0) (n + 1) es ≡ option_map (λ k. n + 1 + k) (place i es)
+      → cond b (Some n) (position_from (λ e. e.id.0 == i.0) (n + 1) es)
+      ≡ option_map (λ k. n + k) (cond b (Some 0) (option_map (λ k. k + 1) (place i es)))
   place-by i n es true rest = ap Some (omega arith)
   place-by i n es false rest = rest ∙ shifted (place i es) n
 
-  place-from : (i : Id) (n : ℕ) (es : List (Entry A)) → position_from (λ e. e.id.0 == i.0) n es ≡ option_map (λ k. n + k) (place i es)
+  place-from : (i : Id) (n : ℕ) (es : List (Entry A)) → position_from (λ e. e.id.0 == i.0) n es
+      ≡ option_map (λ k. n + k) (place i es)
   place-from i n [] = refl
   place-from i n (e ∷ es) = place-by i n es (e.id.0 == i.0) (place-from i (n + 1) es)
 
-  pub place-position : (i : Id) (es : List (Entry A)) → position (λ e. e.id.0 == i.0) es ≡ place i es
-  place-position i es = position_from-zero (λ e. e.id.0 == i.0) es ∙ place-from i 0 es ∙ same (place i es)
+  pub place-position : (i : Id) (es : List (Entry A)) → position (λ e. e.id.0 == i.0) es
+      ≡ place i es
+  place-position i es = position_from-zero (λ e. e.id.0 == i.0) es ∙ place-from i 0 es
+      ∙ same (place i es)
 
   -- an entry is that of an open id
   pub record At (x : Entry A) (ps : List Peer) (i : Id) : Type 0 where
@@ -126,7 +147,8 @@ module _ {A : Type 0} where
     pub fits : Fits journal x.buffer
     pub id : x.id ≡ i
 
-  at-first : (i : Id) (x e : Entry A) (p : Peer) (ps : List Peer) → (p.id.0 == i.0) ≡ true → e.id ≡ p.id → Fits p.journal e.buffer → x ≡ e → At x (p ∷ ps) i
+  at-first : (i : Id) (x e : Entry A) (p : Peer) (ps : List Peer) → (p.id.0 == i.0) ≡ true → e.id
+      ≡ p.id → Fits p.journal e.buffer → x ≡ e → At x (p ∷ ps) i
   at-first i x e p ps hit ids fits is = record {
     journal = p.journal;
     opened = rw hit refl;
@@ -134,24 +156,34 @@ module _ {A : Type 0} where
     id = ap (λ y. y.id) is ∙ ids ∙ id-same p.id i hit;
   }
 
-  at-by : (i : Id) (e : Entry A) (es : List (Entry A)) (p : Peer) (ps : List Peer) (k : ℕ) (x : Entry A) (b : Bool) → (p.id.0 == i.0) ≡ b → Where b (place i es) k → x ≡ get_or (e ∷ es) k x → e.id ≡ p.id → Fits p.journal e.buffer → ((m : ℕ) → place i es ≡ Some m → x ≡ get_or es m x → At x ps i) → At x (p ∷ ps) i
-  at-by i e es p ps k x true hit is has ids fits rest = at-first i x e p ps hit ids fits (has ∙ ap (λ n. get_or (e ∷ es) n x) is)
+  at-by : (i : Id) (e : Entry A) (es : List (Entry A)) (p : Peer) (ps : List Peer) (k : ℕ)
+      (x : Entry A) (b : Bool) → (p.id.0 == i.0) ≡ b → Where b (place i es) k → x
+      ≡ get_or (e ∷ es) k x → e.id ≡ p.id → Fits p.journal e.buffer →
+      ((m : ℕ) → place i es ≡ Some m → x ≡ get_or es m x → At x ps i) → At x (p ∷ ps) i
+  at-by i e es p ps k x true hit is has ids fits rest =
+      at-first i x e p ps hit ids fits (has ∙ ap (λ n. get_or (e ∷ es) n x) is)
   at-by i e es p ps k x false miss f has ids fits rest =
       let a = rest f.0 f.1 (has ∙ ap (λ n. get_or (e ∷ es) n x) f.2) in
       record { journal = a.journal; opened = rw miss a.opened; fits = a.fits; id = a.id }
 
-  pub at : (i : Id) (es : List (Entry A)) (ps : List Peer) (k : ℕ) (x : Entry A) → place i es ≡ Some k → x ≡ get_or es k x → FitsAll es ps → At x ps i
+  pub at : (i : Id) (es : List (Entry A)) (ps : List Peer) (k : ℕ) (x : Entry A) → place i es
+      ≡ Some k → x ≡ get_or es k x → FitsAll es ps → At x ps i
   at i [] ps k x is has fits = absurd (cc)
   at i (e ∷ es) [] k x is has fits = absurd fits
   at i (e ∷ es) (p ∷ ps) k x is has fits =
       let ids : (e.id.0 == i.0) ≡ (p.id.0 == i.0) = ap (λ z. z.0 == i.0) fits.0 in
-      at-by i e es p ps k x (p.id.0 == i.0) refl (where_is (p.id.0 == i.0) (place i es) k (rw ids at is)) has fits.0 fits.1 (λ m found got. at i es ps m x found got fits.2)
+      at-by i e es p ps k x (p.id.0 == i.0) refl
+      (where_is (p.id.0 == i.0) (place i es) k (rw ids at is)) has fits.0 fits.1
+      (λ m found got. at i es ps m x found got fits.2)
 
-  absent-by : (i : Id) (es : List (Entry A)) (p : Peer) (ps : List Peer) (b : Bool) → (p.id.0 == i.0) ≡ b → cond b (Some 0) (option_map (λ n. n + 1) (place i es)) ≡ None → (place i es ≡ None → journal_in ps i ≡ None) → journal_in (p ∷ ps) i ≡ None
+  absent-by : (i : Id) (es : List (Entry A)) (p : Peer) (ps : List Peer) (b : Bool) →
+      (p.id.0 == i.0) ≡ b → cond b (Some 0) (option_map (λ n. n + 1) (place i es)) ≡ None →
+      (place i es ≡ None → journal_in ps i ≡ None) → journal_in (p ∷ ps) i ≡ None
   absent-by i es p ps true hit e rest = absurd (cc)
   absent-by i es p ps false miss e rest = rw miss (rest (none-further (place i es) e))
 
-  pub absent : (i : Id) (es : List (Entry A)) (ps : List Peer) → place i es ≡ None → FitsAll es ps → journal_in ps i ≡ None
+  pub absent : (i : Id) (es : List (Entry A)) (ps : List Peer) → place i es ≡ None → FitsAll es ps →
+      journal_in ps i ≡ None
   absent i [] [] is fits = refl
   absent i [] (p ∷ ps) is fits = absurd fits
   absent i (e ∷ es) [] is fits = refl
@@ -160,70 +192,100 @@ module _ {A : Type 0} where
       absent-by i es p ps (p.id.0 == i.0) refl (rw ids at is) (λ none. absent i es ps none fits.2)
 
   -- another record in the journal of an id, and its buffer as it is then
-  put-by : (i : Id) (e : Entry A) (es : List (Entry A)) (p : Peer) (ps : List Peer) (k : ℕ) (y : Entry A) (r : Record) (j : List Record) (b : Bool) → (p.id.0 == i.0) ≡ b → Where b (place i es) k → FitsAll (e ∷ es) (p ∷ ps) → journal_in (p ∷ ps) i ≡ Some j → y.id ≡ i → Fits (r ∷ j) y.buffer → ((m : ℕ) → place i es ≡ Some m → journal_in ps i ≡ Some j → FitsAll (set es m y) (put_in r i ps)) → FitsAll (set (e ∷ es) k y) (put_in r i (p ∷ ps))
+  put-by : (i : Id) (e : Entry A) (es : List (Entry A)) (p : Peer) (ps : List Peer) (k : ℕ)
+      (y : Entry A) (r : Record) (j : List Record) (b : Bool) → (p.id.0 == i.0) ≡ b →
+      Where b (place i es) k → FitsAll (e ∷ es) (p ∷ ps) → journal_in (p ∷ ps) i ≡ Some j → y.id ≡ i
+      → Fits (r ∷ j) y.buffer → ((m : ℕ) → place i es ≡ Some m → journal_in ps i ≡ Some j →
+      FitsAll (set es m y) (put_in r i ps)) → FitsAll (set (e ∷ es) k y) (put_in r i (p ∷ ps))
   put-by i e es p ps k y r j true hit is fits has id new rest =
       let journal : p.journal ≡ j = let h : Some p.journal ≡ Some j = rw hit at has in cc in
-      let first : FitsAll (y ∷ es) (record p { journal = r ∷ p.journal } ∷ ps) = (id ∙ sym (id-same p.id i hit), rw journal new, fits.2) in
+      let first : FitsAll (y ∷ es) (record p { journal = r ∷ p.journal } ∷ ps) =
+      (id ∙ sym (id-same p.id i hit), rw journal new, fits.2) in
       rw (is, hit) first
   put-by i e es p ps k y r j false miss f fits has id new rest =
       let more : FitsAll (set es f.0 y) (put_in r i ps) = rest f.0 f.1 (rw miss at has) in
       let first : FitsAll (e ∷ set es f.0 y) (p ∷ put_in r i ps) = (fits.0, fits.1, more) in
       rw (f.2, miss) first
 
-  pub put : (i : Id) (es : List (Entry A)) (ps : List Peer) (k : ℕ) (y : Entry A) (r : Record) (j : List Record) → place i es ≡ Some k → FitsAll es ps → journal_in ps i ≡ Some j → y.id ≡ i → Fits (r ∷ j) y.buffer → FitsAll (set es k y) (put_in r i ps)
+  pub put : (i : Id) (es : List (Entry A)) (ps : List Peer) (k : ℕ) (y : Entry A) (r : Record)
+      (j : List Record) → place i es ≡ Some k → FitsAll es ps → journal_in ps i ≡ Some j → y.id ≡ i
+      → Fits (r ∷ j) y.buffer → FitsAll (set es k y) (put_in r i ps)
   put i [] ps k y r j is fits has id new = absurd (cc)
   put i (e ∷ es) [] k y r j is fits has id new = absurd fits
   put i (e ∷ es) (p ∷ ps) k y r j is fits has id new =
       let ids : (e.id.0 == i.0) ≡ (p.id.0 == i.0) = ap (λ z. z.0 == i.0) fits.0 in
-      put-by i e es p ps k y r j (p.id.0 == i.0) refl (where_is (p.id.0 == i.0) (place i es) k (rw ids at is)) fits has id new (λ m found got. put i es ps m y r j found fits.2 got id new)
+      put-by i e es p ps k y r j (p.id.0 == i.0) refl
+      (where_is (p.id.0 == i.0) (place i es) k (rw ids at is)) fits has id new
+      (λ m found got. put i es ps m y r j found fits.2 got id new)
 
   -- the same journal, and a buffer that fits it too
-  keep-by : (i : Id) (e : Entry A) (es : List (Entry A)) (p : Peer) (ps : List Peer) (k : ℕ) (y : Entry A) (j : List Record) (b : Bool) → (p.id.0 == i.0) ≡ b → Where b (place i es) k → FitsAll (e ∷ es) (p ∷ ps) → journal_in (p ∷ ps) i ≡ Some j → y.id ≡ i → Fits j y.buffer → ((m : ℕ) → place i es ≡ Some m → journal_in ps i ≡ Some j → FitsAll (set es m y) ps) → FitsAll (set (e ∷ es) k y) (p ∷ ps)
+  keep-by : (i : Id) (e : Entry A) (es : List (Entry A)) (p : Peer) (ps : List Peer) (k : ℕ)
+      (y : Entry A) (j : List Record) (b : Bool) → (p.id.0 == i.0) ≡ b → Where b (place i es) k →
+      FitsAll (e ∷ es) (p ∷ ps) → journal_in (p ∷ ps) i ≡ Some j → y.id ≡ i → Fits j y.buffer →
+      ((m : ℕ) → place i es ≡ Some m → journal_in ps i ≡ Some j → FitsAll (set es m y) ps) →
+      FitsAll (set (e ∷ es) k y) (p ∷ ps)
   keep-by i e es p ps k y j true hit is fits has id new rest =
       let journal : p.journal ≡ j = let h : Some p.journal ≡ Some j = rw hit at has in cc in
-      let first : FitsAll (y ∷ es) (p ∷ ps) = (id ∙ sym (id-same p.id i hit), rw journal new, fits.2) in
+      let first : FitsAll (y ∷ es) (p ∷ ps) =
+      (id ∙ sym (id-same p.id i hit), rw journal new, fits.2) in
       rw is first
   keep-by i e es p ps k y j false miss f fits has id new rest =
       let more : FitsAll (set es f.0 y) ps = rest f.0 f.1 (rw miss at has) in
       let first : FitsAll (e ∷ set es f.0 y) (p ∷ ps) = (fits.0, fits.1, more) in
       rw f.2 first
 
-  pub keep : (i : Id) (es : List (Entry A)) (ps : List Peer) (k : ℕ) (y : Entry A) (j : List Record) → place i es ≡ Some k → FitsAll es ps → journal_in ps i ≡ Some j → y.id ≡ i → Fits j y.buffer → FitsAll (set es k y) ps
+  pub keep : (i : Id) (es : List (Entry A)) (ps : List Peer) (k : ℕ) (y : Entry A) (j : List Record)
+      → place i es ≡ Some k → FitsAll es ps → journal_in ps i ≡ Some j → y.id ≡ i → Fits j y.buffer
+      → FitsAll (set es k y) ps
   keep i [] ps k y j is fits has id new = absurd (cc)
   keep i (e ∷ es) [] k y j is fits has id new = absurd fits
   keep i (e ∷ es) (p ∷ ps) k y j is fits has id new =
       let ids : (e.id.0 == i.0) ≡ (p.id.0 == i.0) = ap (λ z. z.0 == i.0) fits.0 in
-      keep-by i e es p ps k y j (p.id.0 == i.0) refl (where_is (p.id.0 == i.0) (place i es) k (rw ids at is)) fits has id new (λ m found got. keep i es ps m y j found fits.2 got id new)
+      keep-by i e es p ps k y j (p.id.0 == i.0) refl
+      (where_is (p.id.0 == i.0) (place i es) k (rw ids at is)) fits has id new
+      (λ m found got. keep i es ps m y j found fits.2 got id new)
 
   -- nothing is there to be changed
-  unchanged-by : (i : Id) (r : Record) (es : List (Entry A)) (p : Peer) (ps : List Peer) (b : Bool) → (p.id.0 == i.0) ≡ b → cond b (Some 0) (option_map (λ n. n + 1) (place i es)) ≡ None → (place i es ≡ None → (put_in r i ps ≡ ps) × (without i ps ≡ ps)) → (put_in r i (p ∷ ps) ≡ p ∷ ps) × (without i (p ∷ ps) ≡ p ∷ ps)
+  unchanged-by : (i : Id) (r : Record) (es : List (Entry A)) (p : Peer) (ps : List Peer) (b : Bool)
+      → (p.id.0 == i.0) ≡ b → cond b (Some 0) (option_map (λ n. n + 1) (place i es)) ≡ None →
+      (place i es ≡ None → (put_in r i ps ≡ ps) × (without i ps ≡ ps)) →
+      (put_in r i (p ∷ ps) ≡ p ∷ ps) × (without i (p ∷ ps) ≡ p ∷ ps)
   unchanged-by i r es p ps true hit e rest = absurd (cc)
   unchanged-by i r es p ps false miss e rest =
       let more = rest (none-further (place i es) e) in
       (rw miss (ap (λ qs. p ∷ qs) more.0), rw miss (ap (λ qs. p ∷ qs) more.1))
 
-  pub unchanged : (i : Id) (r : Record) (es : List (Entry A)) (ps : List Peer) → place i es ≡ None → FitsAll es ps → (put_in r i ps ≡ ps) × (without i ps ≡ ps)
+  pub unchanged : (i : Id) (r : Record) (es : List (Entry A)) (ps : List Peer) → place i es ≡ None →
+      FitsAll es ps → (put_in r i ps ≡ ps) × (without i ps ≡ ps)
   unchanged i r [] [] is fits = (refl, refl)
   unchanged i r [] (p ∷ ps) is fits = absurd fits
   unchanged i r (e ∷ es) [] is fits = (refl, refl)
   unchanged i r (e ∷ es) (p ∷ ps) is fits =
       let ids : (e.id.0 == i.0) ≡ (p.id.0 == i.0) = ap (λ z. z.0 == i.0) fits.0 in
-      unchanged-by i r es p ps (p.id.0 == i.0) refl (rw ids at is) (λ none. unchanged i r es ps none fits.2)
+      unchanged-by i r es p ps (p.id.0 == i.0) refl (rw ids at is)
+      (λ none. unchanged i r es ps none fits.2)
 
-  gone-by : (i : Id) (e : Entry A) (es : List (Entry A)) (p : Peer) (ps : List Peer) (k : ℕ) (b : Bool) → (p.id.0 == i.0) ≡ b → Where b (place i es) k → FitsAll (e ∷ es) (p ∷ ps) → ((m : ℕ) → place i es ≡ Some m → FitsAll (remove es m) (without i ps)) → FitsAll (remove (e ∷ es) k) (without i (p ∷ ps))
+  gone-by : (i : Id) (e : Entry A) (es : List (Entry A)) (p : Peer) (ps : List Peer) (k : ℕ)
+      (b : Bool) → (p.id.0 == i.0) ≡ b → Where b (place i es) k → FitsAll (e ∷ es) (p ∷ ps) →
+      ((m : ℕ) → place i es ≡ Some m → FitsAll (remove es m) (without i ps)) →
+      FitsAll (remove (e ∷ es) k) (without i (p ∷ ps))
   gone-by i e es p ps k true hit is fits rest = rw (is, hit) fits.2
   gone-by i e es p ps k false miss f fits rest =
       let first : FitsAll (e ∷ remove es f.0) (p ∷ without i ps) = (fits.0, fits.1, rest f.0 f.1) in
       rw (f.2, miss) first
 
-  pub gone : (i : Id) (es : List (Entry A)) (ps : List Peer) (k : ℕ) → place i es ≡ Some k → FitsAll es ps → FitsAll (remove es k) (without i ps)
+  pub gone : (i : Id) (es : List (Entry A)) (ps : List Peer) (k : ℕ) → place i es ≡ Some k →
+      FitsAll es ps → FitsAll (remove es k) (without i ps)
   gone i [] ps k is fits = absurd (cc)
   gone i (e ∷ es) [] k is fits = absurd fits
   gone i (e ∷ es) (p ∷ ps) k is fits =
       let ids : (e.id.0 == i.0) ≡ (p.id.0 == i.0) = ap (λ z. z.0 == i.0) fits.0 in
-      gone-by i e es p ps k (p.id.0 == i.0) refl (where_is (p.id.0 == i.0) (place i es) k (rw ids at is)) fits (λ m found. gone i es ps m found fits.2)
+      gone-by i e es p ps k (p.id.0 == i.0) refl
+      (where_is (p.id.0 == i.0) (place i es) k (rw ids at is)) fits
+      (λ m found. gone i es ps m found fits.2)
 
-  pub more : (es : List (Entry A)) (ps : List Peer) (e : Entry A) (p : Peer) → FitsAll es ps → e.id ≡ p.id → Fits p.journal e.buffer → FitsAll (es ++ e ∷ []) (ps ++ p ∷ [])
+  pub more : (es : List (Entry A)) (ps : List Peer) (e : Entry A) (p : Peer) → FitsAll es ps → e.id
+      ≡ p.id → Fits p.journal e.buffer → FitsAll (es ++ e ∷ []) (ps ++ p ∷ [])
   more [] [] e p fits id new = (id, new, tt)
   more [] (q ∷ ps) e p fits id new = absurd fits
   more (x ∷ es) [] e p fits id new = absurd fits
@@ -235,11 +297,15 @@ module _ {A : Type 0} where
   length-fits (e ∷ es) [] fits = absurd fits
   length-fits (e ∷ es) (p ∷ ps) fits = ap suc (length-fits es ps fits.2)
 
-  opens-by : (i : Id) (es : List (Entry A)) (p : Peer) (ps : List Peer) (b : Bool) → (p.id.0 == i.0) ≡ b → is_some (place i es) ≡ is_some (journal_in ps i) → is_some (cond b (Some 0) (option_map (λ k. k + 1) (place i es))) ≡ is_some (journal_in (p ∷ ps) i)
+  opens-by : (i : Id) (es : List (Entry A)) (p : Peer) (ps : List Peer) (b : Bool) → (p.id.0 == i.0)
+      ≡ b → is_some (place i es) ≡ is_some (journal_in ps i) →
+      is_some (cond b (Some 0) (option_map (λ k. k + 1) (place i es)))
+      ≡ is_some (journal_in (p ∷ ps) i)
   opens-by i es p ps true hit rest = rw hit refl
   opens-by i es p ps false miss rest = rw miss (is_some-map (place i es) ∙ rest)
 
-  pub opens : (i : Id) (es : List (Entry A)) (ps : List Peer) → FitsAll es ps → is_some (place i es) ≡ is_some (journal_in ps i)
+  pub opens : (i : Id) (es : List (Entry A)) (ps : List Peer) → FitsAll es ps → is_some (place i es)
+      ≡ is_some (journal_in ps i)
   opens i [] [] fits = refl
   opens i [] (p ∷ ps) fits = absurd fits
   opens i (e ∷ es) [] fits = absurd fits
@@ -248,17 +314,29 @@ module _ {A : Type 0} where
       rw ids (opens-by i es p ps (p.id.0 == i.0) refl (opens i es ps fits.2))
 
   -- the first entry is taken out
-  pub first : (e : Entry A) (es : List (Entry A)) (ps : List Peer) → FitsAll (e ∷ es) (opened ps) → FirstCloses e.id es ps
+  pub first : (e : Entry A) (es : List (Entry A)) (ps : List Peer) → FitsAll (e ∷ es) (opened ps) →
+      FirstCloses e.id es ps
   first e es ps fits = by e es ps (opened ps) refl fits
     where
-      by : (e : Entry A) (es : List (Entry A)) (ps qs : List Peer) → opened ps ≡ qs → FitsAll (e ∷ es) qs → FirstCloses e.id es ps
+      by : (e : Entry A) (es : List (Entry A)) (ps qs : List Peer) → opened ps ≡ qs →
+          FitsAll (e ∷ es) qs → FirstCloses e.id es ps
       by e es ps [] is fits = absurd fits
       by e es ps (q ∷ qs) is fits =
           let rest = first-closed ps qs e.id q is (sym fits.0) in
-          record { peer = q; others = qs; split = is; same = sym fits.0; rest = rest; fits = rw rest fits.2 }
+          record {
+            peer = q;
+            others = qs;
+            split = is;
+            same = sym fits.0;
+            rest = rest;
+            fits =
+                rw rest fits.2;
+          }
 
   -- an entry taken out of the front
-  pub first_out : (x : Entry A) (es : List (Entry A)) (ps : List Peer) (n : ℕ) → n ≡ length es → false ≡ (n == 0) → x ≡ get_or es 0 x → FitsAll es (opened ps) → FirstCloses x.id (remove es 0) ps
+  pub first_out : (x : Entry A) (es : List (Entry A)) (ps : List Peer) (n : ℕ) → n ≡ length es →
+      false ≡ (n == 0) → x ≡ get_or es 0 x → FitsAll es (opened ps) →
+      FirstCloses x.id (remove es 0) ps
   first_out x [] ps n len some is fits = absurd (let zero : (n == 0) ≡ true = rw len refl in cc)
   first_out x (e ∷ es) ps n len some is fits =
       let closes : FirstCloses e.id es ps = first e es ps fits in
@@ -266,24 +344,31 @@ module _ {A : Type 0} where
       rw same closes
 
   -- the id of an entry is not the one that is looked for, or it is
-  pub named_next : (e : Entry A) (es : List (Entry A)) (qs : List Peer) (text : List ℕ) → FitsAll (e ∷ es) qs → false ≡ bytes_eq text (id_text e.id.0) → (rs : List Peer) × FitsAll es rs × (named rs text ≡ named qs text)
+  pub named_next : (e : Entry A) (es : List (Entry A)) (qs : List Peer) (text : List ℕ) →
+      FitsAll (e ∷ es) qs → false ≡ bytes_eq text (id_text e.id.0) → (rs : List Peer)
+      × FitsAll es rs × (named rs text ≡ named qs text)
   named_next e es [] text fits miss = absurd fits
   named_next e es (q ∷ qs) text fits miss =
-      let off : bytes_eq text (id_text q.id.0) ≡ false = ap (λ (i : Id). bytes_eq text (id_text i.0)) (sym fits.0) ∙ sym miss in
+      let off : bytes_eq text (id_text q.id.0) ≡ false =
+      ap (λ (i : Id). bytes_eq text (id_text i.0)) (sym fits.0) ∙ sym miss in
       (qs, fits.2, rw off refl)
 
-  pub named_here : (e : Entry A) (es : List (Entry A)) (qs : List Peer) (text : List ℕ) → FitsAll (e ∷ es) qs → true ≡ bytes_eq text (id_text e.id.0) → Some e.id ≡ named qs text
+  pub named_here : (e : Entry A) (es : List (Entry A)) (qs : List Peer) (text : List ℕ) →
+      FitsAll (e ∷ es) qs → true ≡ bytes_eq text (id_text e.id.0) → Some e.id ≡ named qs text
   named_here e es [] text fits hit = absurd fits
   named_here e es (q ∷ qs) text fits hit =
-      let on : bytes_eq text (id_text q.id.0) ≡ true = ap (λ (i : Id). bytes_eq text (id_text i.0)) (sym fits.0) ∙ sym hit in
+      let on : bytes_eq text (id_text q.id.0) ≡ true =
+      ap (λ (i : Id). bytes_eq text (id_text i.0)) (sym fits.0) ∙ sym hit in
       rw on (ap Some fits.0)
 
-  pub named_none : (es : List (Entry A)) (qs : List Peer) (text : List ℕ) → es ≡ [] → FitsAll es qs → None ≡ named qs text
+  pub named_none : (es : List (Entry A)) (qs : List Peer) (text : List ℕ) → es ≡ [] → FitsAll es qs
+      → None ≡ named qs text
   named_none [] [] text is fits = refl
   named_none [] (q ∷ qs) text is fits = absurd fits
   named_none (e ∷ es) qs text is fits = absurd (cc)
 
-  pub none : (es : List (Entry A)) (ps : List Peer) → es ≡ [] → FitsAll es (opened ps) → opened ps ≡ []
+  pub none : (es : List (Entry A)) (ps : List Peer) → es ≡ [] → FitsAll es (opened ps) → opened ps
+      ≡ []
   none es ps is fits = by es (opened ps) is fits
     where
       by : (es : List (Entry A)) (qs : List Peer) → es ≡ [] → FitsAll es qs → qs ≡ []

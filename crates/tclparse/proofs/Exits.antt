@@ -15,7 +15,8 @@ at_memory (Ok x) P h p = absurd h
 at_memory (Err (Fault fault)) P h p = absurd h
 at_memory (Err (Memory refusal)) P h p = p refusal
 
-pub memory_braced : {A : Type 0} (n : Context) (x : List ℕ) (r : Read A (Part A)) → IsErrAnd r IsMemory → ReadsBraced n x r
+pub memory_braced : {A : Type 0} (n : Context) (x : List ℕ) (r : Read A (Part A)) →
+    IsErrAnd r IsMemory → ReadsBraced n x r
 memory_braced n x r h = at_memory r (ReadsBraced n x) h (λ _. tt)
 
 pub passed_on : {T E : Type 0} (r : Result T E) (e : E) → IsErrAnd r (λ y. y ≡ e) → r ≡ Err e

@@ -45,7 +45,8 @@ Within (an_index n z) d = 0 < d
 Within (an_element n i z) d = Unit {0}
 Within (a_bracket z) d = 0 < d
 
-pub within_if : (b : Bool) (m n : Next) (d : ℕ) → Within m d → Within n d → Within (if b then m else n) d
+pub within_if : (b : Bool) (m n : Next) (d : ℕ) → Within m d → Within n d →
+    Within (if b then m else n) d
 within_if true m n d h k = h
 within_if false m n d h k = k
 
@@ -53,9 +54,11 @@ pub bracket_within : (d : ℕ) (x : List ℕ) → Within (next_bracket d x) d
 bracket_within zero x = tt
 bracket_within (suc d) x = within_if (suc d == 0) _ (a_bracket x) (suc d) tt (omega arith)
 
-pub opened_within : (d : ℕ) (n z : List ℕ) (f : Fault) → Within (if d == 0 then fault f else an_index n z) d
+pub opened_within : (d : ℕ) (n z : List ℕ) (f : Fault) →
+    Within (if d == 0 then fault f else an_index n z) d
 opened_within zero n z f = tt
-opened_within (suc d) n z f = within_if (suc d == 0) (fault f) (an_index n z) (suc d) tt (omega arith)
+opened_within (suc d) n z f = within_if (suc d == 0) (fault f) (an_index n z) (suc d) tt
+    (omega arith)
 
 pub index_within : (d : ℕ) (n z : List ℕ) → Within (next_index d n z) d
 index_within d n [] = tt
@@ -65,11 +68,13 @@ pub escape_within : (r : Result (ℕ × List ℕ) EscapeNotHere) (d : ℕ) → W
 escape_within (Ok r) d = tt
 escape_within (Err e) d = tt
 
-pub variable_within : (n : List ℕ) (i : Option (List ℕ)) (z : List ℕ) (d : ℕ) → Within (next_variable n i z) d
+pub variable_within : (n : List ℕ) (i : Option (List ℕ)) (z : List ℕ) (d : ℕ) →
+    Within (next_variable n i z) d
 variable_within n None z d = tt
 variable_within n (Some i) z d = tt
 
-pub named_within : (v : Option (List ℕ × Option (List ℕ))) (z : List ℕ) (d : ℕ) → Within (next_named v z) d
+pub named_within : (v : Option (List ℕ × Option (List ℕ))) (z : List ℕ) (d : ℕ) →
+    Within (next_named v z) d
 named_within None z d = tt
 named_within (Some v) z d = variable_within v.0 v.1 z d
 
@@ -79,18 +84,22 @@ brace_within n (c ∷ z) d = named_within (named n) z d
 
 pub plain_within : (d : ℕ) (n x z : List ℕ) → Within (next_plain d n x z) d
 plain_within d [] x z = within_if (begins_with_colons x) _ (a_byte 36 x) d tt tt
-plain_within d (c ∷ n) x z = within_if (begins_with_colons z) _ (next_index d (c ∷ n) z) d tt (index_within d (c ∷ n) z)
+plain_within d (c ∷ n) x z = within_if (begins_with_colons z) _ (next_index d (c ∷ n) z) d tt
+    (index_within d (c ∷ n) z)
 
 pub dollar_within : (d : ℕ) (x : List ℕ) → Within (next_dollar d x) d
 dollar_within d [] = tt
 dollar_within d (c ∷ x) =
-    within_if (c == 123) (next_brace (until 125 x) (from 125 x)) _ d (brace_within (until 125 x) (from 125 x) d)
-    (within_if (c == 40) _ (next_plain d (name_at (c ∷ x)) (c ∷ x) (after_name (c ∷ x))) d tt (plain_within d (name_at (c ∷ x)) (c ∷ x) (after_name (c ∷ x))))
+    within_if (c == 123) (next_brace (until 125 x) (from 125 x)) _ d
+    (brace_within (until 125 x) (from 125 x) d)
+    (within_if (c == 40) _ (next_plain d (name_at (c ∷ x)) (c ∷ x) (after_name (c ∷ x))) d tt
+    (plain_within d (name_at (c ∷ x)) (c ∷ x) (after_name (c ∷ x))))
 
 pub part_within : (d : ℕ) (x : List ℕ) → Within (next_part d x) d
 part_within d [] = tt
 part_within d (c ∷ x) =
-    within_if (c == 92) (next_escape x) _ d (escape_within (escape x) d) (within_if (c == 36) (next_dollar d x) _ d (dollar_within d x)
+    within_if (c == 92) (next_escape x) _ d (escape_within (escape x) d)
+    (within_if (c == 36) (next_dollar d x) _ d (dollar_within d x)
     (within_if (c == 91) (next_bracket d x) (a_byte c x) d (bracket_within d x) tt))
 
 pub piece_within : (place : Place) (d : ℕ) (x : List ℕ) → Within (next place d x) d
@@ -116,9 +125,11 @@ escape_piece_is (Err e) = tt
 
 pub index_is_piece : (d : ℕ) (n z : List ℕ) → IsPiece (next_index d n z)
 index_is_piece d n [] = tt
-index_is_piece d n (c ∷ z) = piece_if (c == 40) _ (a_name n (c ∷ z)) (piece_if (d == 0) _ (an_index n z) tt tt) tt
+index_is_piece d n (c ∷ z) = piece_if (c == 40) _ (a_name n (c ∷ z))
+    (piece_if (d == 0) _ (an_index n z) tt tt) tt
 
-pub variable_is_piece : (n : List ℕ) (i : Option (List ℕ)) (z : List ℕ) → IsPiece (next_variable n i z)
+pub variable_is_piece : (n : List ℕ) (i : Option (List ℕ)) (z : List ℕ) →
+    IsPiece (next_variable n i z)
 variable_is_piece n None z = tt
 variable_is_piece n (Some i) z = tt
 
@@ -132,19 +143,26 @@ brace_is_piece n (c ∷ z) = named_is_piece (named n) z
 
 pub plain_is_piece : (d : ℕ) (n x z : List ℕ) → IsPiece (next_plain d n x z)
 plain_is_piece d [] x z = piece_if (begins_with_colons x) _ (a_byte 36 x) tt tt
-plain_is_piece d (c ∷ n) x z = piece_if (begins_with_colons z) _ (next_index d (c ∷ n) z) tt (index_is_piece d (c ∷ n) z)
+plain_is_piece d (c ∷ n) x z = piece_if (begins_with_colons z) _ (next_index d (c ∷ n) z) tt
+    (index_is_piece d (c ∷ n) z)
 
 pub dollar_is_piece : (d : ℕ) (x : List ℕ) → IsPiece (next_dollar d x)
 dollar_is_piece d [] = tt
 dollar_is_piece d (c ∷ x) =
-    piece_if (c == 123) (next_brace (until 125 x) (from 125 x)) _ (brace_is_piece (until 125 x) (from 125 x))
-    (piece_if (c == 40) _ (next_plain d (name_at (c ∷ x)) (c ∷ x) (after_name (c ∷ x))) tt (plain_is_piece d (name_at (c ∷ x)) (c ∷ x) (after_name (c ∷ x))))
+    piece_if (c == 123) (next_brace (until 125 x) (from 125 x)) _
+    (brace_is_piece (until 125 x) (from 125 x))
+    (piece_if (c == 40) _ (next_plain d (name_at (c ∷ x)) (c ∷ x) (after_name (c ∷ x))) tt
+    (plain_is_piece d (name_at (c ∷ x)) (c ∷ x) (after_name (c ∷ x))))
 
 pub part_is_piece : (d c : ℕ) (x : List ℕ) → IsPiece (next_part d (c ∷ x))
 part_is_piece d c x =
-    piece_if (c == 92) (next_escape x) _ (escape_piece_is (escape x)) (piece_if (c == 36) (next_dollar d x) _ (dollar_is_piece d x)
-    (piece_if (c == 91) (next_bracket d x) (a_byte c x) (piece_if (d == 0) _ (a_bracket x) tt tt) tt))
+    piece_if (c == 92) (next_escape x) _ (escape_piece_is (escape x))
+    (piece_if (c == 36) (next_dollar d x) _ (dollar_is_piece d x)
+    (piece_if (c == 91) (next_bracket d x) (a_byte c x) (piece_if (d == 0) _ (a_bracket x) tt tt)
+    tt))
 
-pub bare_is_piece : (context : Context) (d : ℕ) (x : List ℕ) → ends_word context x ≡ false → IsPiece (next (in_word context) d x)
+pub bare_is_piece : (context : Context) (d : ℕ) (x : List ℕ) → ends_word context x ≡ false →
+    IsPiece (next (in_word context) d x)
 bare_is_piece context d [] h = absurd (cc)
-bare_is_piece context d (c ∷ x) h = subst (λ b. IsPiece (if b then end else next_part d (c ∷ x))) (sym h) (part_is_piece d c x)
+bare_is_piece context d (c ∷ x) h = subst (λ b. IsPiece (if b then end else next_part d (c ∷ x)))
+    (sym h) (part_is_piece d c x)

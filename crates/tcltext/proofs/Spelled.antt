@@ -15,11 +15,13 @@ SpelledSoFar s x y bs = (t z : List ℕ) → IsSpelled s t y z → IsSpelled s (
 pub spelled_here : (s : Style) (x y bs : List ℕ) → SpelledSoFar s x y bs → IsSpelled s bs x y
 spelled_here s x y bs so_far = subst (λ e. IsSpelled s e x y) (append-nil bs) (so_far [] y refl)
 
-pub meets_escape : (s : Style) (x y bs : List ℕ) → SpelledSoFar s x y bs → no_escape ≡ next s y → MeetsEscape s x
+pub meets_escape : (s : Style) (x y bs : List ℕ) → SpelledSoFar s x y bs → no_escape ≡ next s y →
+    MeetsEscape s x
 meets_escape s x y bs so_far e = (bs, y, spelled_here s x y bs so_far, sym e)
 
 -- what is no byte and no fault halts
-pub halted : (p : Piece) (n : Next) → seen p ≡ n → ((b : ℕ) (z : Bor (List ℕ)) → p ≡ piece.Byte b z → ⊥) → (p ≡ piece.NoEscape → ⊥) → Halts n
+pub halted : (p : Piece) (n : Next) → seen p ≡ n →
+    ((b : ℕ) (z : Bor (List ℕ)) → p ≡ piece.Byte b z → ⊥) → (p ≡ piece.NoEscape → ⊥) → Halts n
 halted piece.End n e byte escape = subst Halts e tt
 halted (piece.Stop z) n e byte escape = subst Halts e tt
 halted (piece.Byte b z) n e byte escape = absurd (byte b z refl)

@@ -15,13 +15,16 @@ skip_blanks_within : (x : List ℕ) → length (skip_blanks x) ≤ length x
 skip_blanks_within [] = omega arith
 skip_blanks_within (c ∷ x) =
     let so = skip_blanks_within x in
-    choice (λ (y : List ℕ). length y ≤ length (c ∷ x)) _ (skip_blanks x) (c ∷ x) (omega arith) (omega arith)
+    choice (λ (y : List ℕ). length y ≤ length (c ∷ x)) _ (skip_blanks x) (c ∷ x) (omega arith)
+    (omega arith)
 
 number_within : (x : List ℕ) (base most n : ℕ) → length (byte_number base most n x).1 ≤ length x
 number_within [] base most n = omega arith
 number_within (c ∷ x) base most n =
     let so = number_within x base (most - 1) (base * n + digit_value c) in
-    choice (λ (p : ℕ × List ℕ). length p.1 ≤ length (c ∷ x)) _ (byte_number base (most - 1) (base * n + digit_value c) x) (n, c ∷ x) (omega arith) (omega arith)
+    choice (λ (p : ℕ × List ℕ). length p.1 ≤ length (c ∷ x)) _
+    (byte_number base (most - 1) (base * n + digit_value c) x) (n, c ∷ x) (omega arith)
+    (omega arith)
 
 abbrev Escaped : Type 0
 Escaped = Result (ℕ × List ℕ) EscapeNotHere
@@ -34,14 +37,17 @@ Within n (Err e) = Unit {0}
 hexadecimal_within : (x : List ℕ) → length (hexadecimal_byte x).1 ≤ length x
 hexadecimal_within [] = omega arith
 hexadecimal_within (c ∷ x) =
-    choice (λ (p : ℕ × List ℕ). length p.1 ≤ length (c ∷ x)) (is_digit 16 c) (byte_number 16 2 0 (c ∷ x)) (120, c ∷ x) (number_within (c ∷ x) 16 2 0) (omega arith)
+    choice (λ (p : ℕ × List ℕ). length p.1 ≤ length (c ∷ x)) (is_digit 16 c)
+    (byte_number 16 2 0 (c ∷ x)) (120, c ∷ x) (number_within (c ∷ x) 16 2 0) (omega arith)
 
 escape_within : (x : List ℕ) → Within (length x) (escape x)
 escape_within [] = omega arith
 escape_within (c ∷ x) =
     let n = length (c ∷ x) in
-    let newline : length (skip_blanks x) ≤ length (c ∷ x) = let h = skip_blanks_within x in omega arith in
-    let letter : length (hexadecimal_byte x).1 ≤ length (c ∷ x) = let h = hexadecimal_within x in omega arith in
+    let newline : length (skip_blanks x) ≤ length (c ∷ x) = let h = skip_blanks_within x in
+    omega arith in
+    let letter : length (hexadecimal_byte x).1 ≤ length (c ∷ x) = let h = hexadecimal_within x in
+    omega arith in
     let other : length x ≤ length (c ∷ x) = omega arith in
     let number : Escaped = Ok (byte_number 8 3 0 (c ∷ x)) in
     let named : Escaped = Ok (named_byte c, x) in
@@ -60,7 +66,8 @@ Fewer n (a_stop z) = length z < n
 Fewer n (a_byte b z) = length z < n
 Fewer n no_escape = Unit {0}
 
-escaped_fewer : (n : ℕ) (r : Result (ℕ × List ℕ) EscapeNotHere) → Within n r → Fewer (suc n) (escaped r)
+escaped_fewer : (n : ℕ) (r : Result (ℕ × List ℕ) EscapeNotHere) → Within n r →
+    Fewer (suc n) (escaped r)
 escaped_fewer n (Ok p) h = omega arith
 escaped_fewer n (Err e) h = tt
 
@@ -70,13 +77,17 @@ next_fewer s (c ∷ x) =
     let n = length (c ∷ x) in
     let one : length x < length (c ∷ x) = omega arith in
     let byte : Next = cond (c == 92) (escaped (escape x)) (a_byte c x) in
-    choice (Fewer n) (stops s c) (a_stop x) byte one (choice (Fewer n) (c == 92) (escaped (escape x)) (a_byte c x) (escaped_fewer (length x) (escape x) (escape_within x)) one)
+    choice (Fewer n) (stops s c) (a_stop x) byte one
+    (choice (Fewer n) (c == 92) (escaped (escape x)) (a_byte c x)
+    (escaped_fewer (length x) (escape x) (escape_within x)) one)
 
 -- some bytes stand at the front, and then no byte
 abbrev pub Spells : Style → List ℕ → Type 0
-Spells s x = (e z : List ℕ) × IsSpelled s e x z × NoByte (next s z) × (length e + length z ≤ length x)
+Spells s x = (e z : List ℕ) × IsSpelled s e x z × NoByte (next s z)
+    × (length e + length z ≤ length x)
 
-spells_next : (n : ℕ) (s : Style) (x : List ℕ) (k : Next) → next s x ≡ k → Fewer (length x) k → length x ≤ suc n → ((y : List ℕ) → length y ≤ n → Spells s y) → Spells s x
+spells_next : (n : ℕ) (s : Style) (x : List ℕ) (k : Next) → next s x ≡ k → Fewer (length x) k →
+    length x ≤ suc n → ((y : List ℕ) → length y ≤ n → Spells s y) → Spells s x
 spells_next n s x at_end e h within so = ([], x, refl, subst NoByte (sym e) tt, omega arith)
 spells_next n s x (a_stop y) e h within so = ([], x, refl, subst NoByte (sym e) tt, omega arith)
 spells_next n s x no_escape e h within so = ([], x, refl, subst NoByte (sym e) tt, omega arith)
@@ -88,7 +99,8 @@ spells_next n s x (a_byte b y) e h within so =
 spells_within : (n : ℕ) (s : Style) (x : List ℕ) → length x ≤ n → Spells s x
 spells_within zero s [] h = ([], [], refl, tt, omega arith)
 spells_within zero s (c ∷ x) h = absurd (omega arith)
-spells_within (suc n) s x h = spells_next n s x (next s x) refl (next_fewer s x) h (λ y k. spells_within n s y k)
+spells_within (suc n) s x h = spells_next n s x (next s x) refl (next_fewer s x) h
+    (λ y k. spells_within n s y k)
 
 -- the text behind an element has fewer bytes than that
 abbrev pub Shorter : ℕ → Outcome → Type 0
@@ -101,20 +113,43 @@ Reads n o = (r : Outcome) × IsOpened o r × Shorter n r
 closed_shorter : (n : ℕ) (f : Flaw) (e z : List ℕ) → length z < n → Shorter n (closed f e z)
 closed_shorter n f e z h = choice (Shorter n) (ends_element z) (Ok (e, z)) (Err f) h tt
 
-braced_reads : (n : ℕ) (x : List ℕ) (r : Found) → pairing 0 false x ≡ r → length x < n → Reads n (in_braces x)
+braced_reads : (n : ℕ) (x : List ℕ) (r : Found) → pairing 0 false x ≡ r → length x < n →
+    Reads n (in_braces x)
 braced_reads n x None e h = (Err open_brace, inr (pairs_nowhere x e, refl), tt)
 braced_reads n x (Some p) e h =
     let pair = found_pairs x p.0 p.1 e in
-    let long : length x ≡ length p.0 + length (125 ∷ p.1) = ap length pair.0 ∙ length-append p.0 (125 ∷ p.1) in
-    (closed after_brace p.0 p.1, inl (p.0, p.1, pair, refl), closed_shorter n after_brace p.0 p.1 (omega arith))
+    let long : length x ≡ length p.0 + length (125 ∷ p.1) =
+    ap length pair.0 ∙ length-append p.0 (125 ∷ p.1) in (
+      closed after_brace p.0 p.1,
+      inl (p.0, p.1, pair, refl),
+      closed_shorter n after_brace p.0 p.1 (omega arith),
+    )
 
-quoted_reads : (n : ℕ) (x e z : List ℕ) (k : Next) → next up_to_quote z ≡ k → Fewer (length z) k → NoByte k → IsSpelled up_to_quote e x z → length z < n → Reads n (in_quotes x)
-quoted_reads n x e z at_end is h b spelled within = (Err open_quote, (e, z, spelled, subst (λ k. QuotedEnds e k (Err open_quote)) (sym is) refl), tt)
+quoted_reads : (n : ℕ) (x e z : List ℕ) (k : Next) → next up_to_quote z ≡ k → Fewer (length z) k →
+    NoByte k → IsSpelled up_to_quote e x z → length z < n → Reads n (in_quotes x)
+quoted_reads n x e z at_end is h b spelled within = (
+  Err open_quote,
+  (e, z, spelled, subst (λ k. QuotedEnds e k (Err open_quote)) (sym is) refl),
+  tt,
+)
 quoted_reads n x e z (a_stop y) is h b spelled within =
-    let r = closed after_quote e y in
-    (r, (e, z, spelled, subst (λ k. QuotedEnds e k r) (sym is) refl), closed_shorter n after_quote e y (omega arith))
+    let r = closed after_quote e y in (
+      r,
+      (e, z, spelled, subst (λ k. QuotedEnds e k r) (sym is) refl),
+      closed_shorter n after_quote e y (omega arith),
+    )
 quoted_reads n x e z (a_byte c y) is h b spelled within = absurd b
-quoted_reads n x e z no_escape is h b spelled within = (Err escape_not_here, (e, z, spelled, subst (λ k. QuotedEnds e k (Err escape_not_here)) (sym is) refl), tt)
+quoted_reads n x e z no_escape is h b spelled within = (
+  Err escape_not_here,
+  (
+    e,
+    z,
+    spelled,
+    subst (λ k. QuotedEnds e k (Err escape_not_here)) (sym is)
+        refl,
+  ),
+  tt,
+)
 
 -- a bare element goes on
 abbrev GoesOn : Next → Type 0
@@ -129,21 +164,42 @@ escaped_goes_on (Err e) = tt
 
 bare_goes_on : (x : List ℕ) → ends_element x ≡ false → GoesOn (next up_to_white x)
 bare_goes_on [] h = absurd (cc)
-bare_goes_on (c ∷ x) h = rw h (choice GoesOn (c == 92) (escaped (escape x)) (a_byte c x) (escaped_goes_on (escape x)) tt)
+bare_goes_on (c ∷ x) h =
+    rw h (choice GoesOn (c == 92) (escaped (escape x)) (a_byte c x) (escaped_goes_on (escape x)) tt)
 
-bare_begins : (e x z : List ℕ) (k : Next) → GoesOn (next up_to_white x) → IsSpelled up_to_white e x z → next up_to_white z ≡ k → (GoesOn k → ⊥) → 0 < length e
-bare_begins [] x z k h spelled is stops = absurd (stops (subst GoesOn (ap (next up_to_white) spelled ∙ is) h))
+bare_begins : (e x z : List ℕ) (k : Next) → GoesOn (next up_to_white x) →
+    IsSpelled up_to_white e x z → next up_to_white z ≡ k → (GoesOn k → ⊥) → 0 < length e
+bare_begins [] x z k h spelled is stops =
+    absurd (stops (subst GoesOn (ap (next up_to_white) spelled ∙ is) h))
 bare_begins (c ∷ e) x z k h spelled is stops = omega arith
 
-bare_reads : (x e z : List ℕ) (k : Next) → ends_element x ≡ false → next up_to_white z ≡ k → NoByte k → IsSpelled up_to_white e x z → length e + length z ≤ length x → Reads (length x) (bare x)
+bare_reads : (x e z : List ℕ) (k : Next) → ends_element x ≡ false → next up_to_white z ≡ k →
+    NoByte k → IsSpelled up_to_white e x z → length e + length z ≤ length x →
+    Reads (length x) (bare x)
 bare_reads x e z at_end starts is b spelled within =
-    let some = bare_begins e x z at_end (bare_goes_on x starts) spelled is (λ h. h) in
-    (Ok (e, z), (e, z, spelled, subst (λ k. BareEnds e z k (Ok (e, z))) (sym is) (some, refl)), omega arith)
+    let some = bare_begins e x z at_end (bare_goes_on x starts) spelled is (λ h. h) in (
+      Ok (e, z),
+      (e, z, spelled, subst (λ k. BareEnds e z k (Ok (e, z))) (sym is) (some, refl)),
+      omega arith,
+    )
 bare_reads x e z (a_stop y) starts is b spelled within =
-    let some = bare_begins e x z (a_stop y) (bare_goes_on x starts) spelled is (λ h. h) in
-    (Ok (e, z), (e, z, spelled, subst (λ k. BareEnds e z k (Ok (e, z))) (sym is) (some, refl)), omega arith)
+    let some = bare_begins e x z (a_stop y) (bare_goes_on x starts) spelled is (λ h. h) in (
+      Ok (e, z),
+      (e, z, spelled, subst (λ k. BareEnds e z k (Ok (e, z))) (sym is) (some, refl)),
+      omega arith,
+    )
 bare_reads x e z (a_byte c y) starts is b spelled within = absurd b
-bare_reads x e z no_escape starts is b spelled within = (Err escape_not_here, (e, z, spelled, subst (λ k. BareEnds e z k (Err escape_not_here)) (sym is) refl), tt)
+bare_reads x e z no_escape starts is b spelled within = (
+  Err escape_not_here,
+  (
+    e,
+    z,
+    spelled,
+    subst (λ k. BareEnds e z k (Err escape_not_here)) (sym is)
+        refl,
+  ),
+  tt,
+)
 
 abbrev pub IsBehind : ℕ → Opening → Type 0
 IsBehind n (in_braces x) = length x < n
@@ -156,7 +212,8 @@ opening_behind (c ∷ x) =
     let n = length (c ∷ x) in
     let one : length x < length (c ∷ x) = omega arith in
     let other : Opening = cond (c == 34) (in_quotes x) (bare (c ∷ x)) in
-    choice (IsBehind n) (c == 123) (in_braces x) other one (choice (IsBehind n) (c == 34) (in_quotes x) (bare (c ∷ x)) one tt)
+    choice (IsBehind n) (c == 123) (in_braces x) other one
+    (choice (IsBehind n) (c == 34) (in_quotes x) (bare (c ∷ x)) one tt)
 
 abbrev pub IsBareOf : List ℕ → Opening → Type 0
 IsBareOf x (in_braces y) = Unit {0}
@@ -168,23 +225,31 @@ opening_bare [] = refl
 opening_bare (c ∷ x) =
     let P = IsBareOf (c ∷ x) in
     let other : Opening = cond (c == 34) (in_quotes x) (bare (c ∷ x)) in
-    choice P (c == 123) (in_braces x) other tt (choice P (c == 34) (in_quotes x) (bare (c ∷ x)) tt refl)
+    choice P (c == 123) (in_braces x) other tt
+    (choice P (c == 34) (in_quotes x) (bare (c ∷ x)) tt refl)
 
-opened_reads : (x : List ℕ) (o : Opening) → IsBehind (length x) o → IsBareOf x o → ends_element x ≡ false → Reads (length x) o
+opened_reads : (x : List ℕ) (o : Opening) → IsBehind (length x) o → IsBareOf x o → ends_element x
+    ≡ false → Reads (length x) o
 opened_reads x (in_braces y) h same starts = braced_reads (length x) y (pairing 0 false y) refl h
 opened_reads x (in_quotes y) h same starts =
     let s = spells_within (length y) up_to_quote y (omega arith) in
     let shorter : length s.0 + length s.1 ≤ length y = s.4 in
-    quoted_reads (length x) y s.0 s.1 (next up_to_quote s.1) refl (next_fewer up_to_quote s.1) s.3 s.2 (omega arith)
+    quoted_reads (length x) y s.0 s.1 (next up_to_quote s.1) refl (next_fewer up_to_quote s.1) s.3
+    s.2 (omega arith)
 opened_reads x (bare y) h same starts =
     let s = spells_within (length y) up_to_white y (omega arith) in
-    subst (λ w. Reads (length w) (bare y)) same (bare_reads y s.0 s.1 (next up_to_white s.1) (subst (λ w. ends_element w ≡ false) (sym same) starts) refl s.3 s.2 s.4)
+    subst (λ w. Reads (length w) (bare y)) same
+    (bare_reads y s.0 s.1 (next up_to_white s.1)
+    (subst (λ w. ends_element w ≡ false) (sym same) starts) refl s.3 s.2 s.4)
 
 skip_white_within : (x : List ℕ) → length (skip_white x) ≤ length x
 skip_white_within [] = omega arith
-skip_white_within (c ∷ x) = let so = skip_white_within x in choice (λ (y : List ℕ). length y ≤ length (c ∷ x)) _ (skip_white x) (c ∷ x) (omega arith) (omega arith)
+skip_white_within (c ∷ x) = let so = skip_white_within x in
+    choice (λ (y : List ℕ). length y ≤ length (c ∷ x)) _ (skip_white x) (c ∷ x) (omega arith)
+    (omega arith)
 
-begins_at : (c : ℕ) (x : List ℕ) (b : Bool) → is_white c ≡ b → (skip_white x ≡ []) ⊎ (ends_element (skip_white x) ≡ false)
+begins_at : (c : ℕ) (x : List ℕ) (b : Bool) → is_white c ≡ b →
+    (skip_white x ≡ []) ⊎ (ends_element (skip_white x) ≡ false)
     → (cond b (skip_white x) (c ∷ x) ≡ []) ⊎ (ends_element (cond b (skip_white x) (c ∷ x)) ≡ false)
 begins_at c x true e h = h
 begins_at c x false e h = inr e
@@ -196,7 +261,9 @@ skip_begins (c ∷ x) = begins_at c x (is_white c) refl (skip_begins x)
 abbrev pub IsRead : List ℕ → Type 0
 IsRead x = (v : List (List ℕ)) × (o : Option Flaw) × IsElements v o x
 
-read_next : (n : ℕ) (x : List ℕ) (r : Outcome) → IsElement (skip_white x) r → Shorter (length (skip_white x)) r → length x ≤ suc n → ((y : List ℕ) → length y ≤ n → IsRead y) → IsRead x
+read_next : (n : ℕ) (x : List ℕ) (r : Outcome) → IsElement (skip_white x) r →
+    Shorter (length (skip_white x)) r → length x ≤ suc n → ((y : List ℕ) → length y ≤ n → IsRead y)
+    → IsRead x
 read_next n x (Err f) is h within so = ([], Some f, is)
 read_next n x (Ok p) is h within so =
     let fewer = skip_white_within x in
@@ -214,7 +281,8 @@ read_within (suc n) x h = elim (skip_begins x) [
       read_next n x read.0 read.1 read.2 h (λ z k. read_within n z k)
 ]
 
-either : (x : List ℕ) (v : List (List ℕ)) (o : Option Flaw) → IsElements v o x → ((v : List (List ℕ)) × IsList v x) ⊎ ((f : Flaw) × HasFlaw f x)
+either : (x : List ℕ) (v : List (List ℕ)) (o : Option Flaw) → IsElements v o x →
+    ((v : List (List ℕ)) × IsList v x) ⊎ ((f : Flaw) × HasFlaw f x)
 either x v None h = inl (v, h)
 either x v (Some f) h = inr (f, (v, h))
 

@@ -16,7 +16,8 @@ use Rattle.tcltext.proofs.Unique.{one_list, no_list_with_flaw}
 
 -- What a byte is not, where it is not special
 abbrev IsPlain : ℕ → Type 0
-IsPlain c = (is_white c ≡ false) × ((c == 34) ≡ false) × ((c == 123) ≡ false) × ((c == 125) ≡ false) × ((c == 92) ≡ false)
+IsPlain c = (is_white c ≡ false) × ((c == 34) ≡ false) × ((c == 123) ≡ false) × ((c == 125) ≡ false)
+    × ((c == 92) ≡ false)
 
 plain : (c : ℕ) → is_special c ≡ false → IsPlain c
 plain c h =
@@ -78,7 +79,20 @@ special_cases c h x =
                               | inl p ↦ subst (λ n. Escapes n x) (sym p.1) refl
                               | inr p125 ↦ elim (eqb_tells c 92) [
                                 | inl p ↦ subst (λ n. Escapes n x) (sym p.1) refl
-                                | inr p92 ↦ let white = no_white c p9.1 p10.1 p11.1 p12.1 p13.1 in absurd (special_apart c h (rw (p32.0, p59.0, p34.0, p36.0, p91.0, p93.0, p123.0, p125.0, p92.0, white) refl))
+                                | inr p92 ↦ let white = no_white c p9.1 p10.1 p11.1 p12.1 p13.1 in
+                                    absurd (special_apart c h
+                                    (rw (
+                                      p32.0,
+                                      p59.0,
+                                      p34.0,
+                                      p36.0,
+                                      p91.0,
+                                      p93.0,
+                                      p123.0,
+                                      p125.0,
+                                      p92.0,
+                                      white,
+                                    ) refl))
                               ]
                             ]
                           ]
@@ -94,11 +108,13 @@ special_cases c h x =
       ]
     ]
 
-next_special : (c : ℕ) (x : List ℕ) → is_special c ≡ true → next up_to_white (92 ∷ escape_name c ∷ x) ≡ a_byte c x
+next_special : (c : ℕ) (x : List ℕ) → is_special c ≡ true →
+    next up_to_white (92 ∷ escape_name c ∷ x) ≡ a_byte c x
 next_special c x h = ap escaped (special_cases c h x)
 
 -- behind an element white follows, or nothing
-bare_ends : (e z : List ℕ) → ends_element z ≡ true → 0 < length e → BareEnds e z (next up_to_white z) (Ok (e, z))
+bare_ends : (e z : List ℕ) → ends_element z ≡ true → 0 < length e →
+    BareEnds e z (next up_to_white z) (Ok (e, z))
 bare_ends e [] h some = (some, refl)
 bare_ends e (c ∷ z) h some = rw h (some, refl)
 
@@ -108,10 +124,17 @@ spelled_plain (c ∷ e) z h =
     let p = or_false (is_special c) (list_any is_special e) h in
     (e ++ z, next_plain c (e ++ z) (plain c p.0), spelled_plain e z p.1)
 
-spelled_escaped_at : (c : ℕ) (e z : List ℕ) (b : Bool) → is_special c ≡ b → IsSpelled up_to_white e (escaped_bytes e ++ z) z
-    → IsSpelled up_to_white (c ∷ e) ((cond b (92 ∷ escape_name c ∷ escaped_bytes e) (c ∷ escaped_bytes e)) ++ z) z
-spelled_escaped_at c e z true h so = (escaped_bytes e ++ z, next_special c (escaped_bytes e ++ z) h, so)
-spelled_escaped_at c e z false h so = (escaped_bytes e ++ z, next_plain c (escaped_bytes e ++ z) (plain c h), so)
+spelled_escaped_at : (c : ℕ) (e z : List ℕ) (b : Bool) → is_special c ≡ b →
+    IsSpelled up_to_white e (escaped_bytes e ++ z) z
+    → IsSpelled up_to_white (c ∷ e)
+    ((cond b (92 ∷ escape_name c ∷ escaped_bytes e) (c ∷ escaped_bytes e)) ++ z) z
+spelled_escaped_at c e z true h so = (
+  escaped_bytes e ++ z,
+  next_special c (escaped_bytes e ++ z) h,
+  so,
+)
+spelled_escaped_at c e z false h so =
+    (escaped_bytes e ++ z, next_plain c (escaped_bytes e ++ z) (plain c h), so)
 
 spelled_escaped : (e z : List ℕ) → IsSpelled up_to_white e (escaped_bytes e ++ z) z
 spelled_escaped [] z = refl
@@ -122,35 +145,57 @@ abbrev pub ReadsAs : List ℕ → List ℕ → List ℕ → Type 0
 ReadsAs e t z = (skip_white (t ++ z) ≡ t ++ z) × IsElement (t ++ z) (Ok (e, z))
 
 -- a bare text that begins with no white
-bare_reads : (e z : List ℕ) (c : ℕ) (x : List ℕ) → opening (c ∷ x) ≡ bare (c ∷ x) → is_white c ≡ false → IsSpelled up_to_white e (c ∷ x) z → ends_element z ≡ true → 0 < length e
+bare_reads : (e z : List ℕ) (c : ℕ) (x : List ℕ) → opening (c ∷ x) ≡ bare (c ∷ x) → is_white c
+    ≡ false → IsSpelled up_to_white e (c ∷ x) z → ends_element z ≡ true → 0 < length e
     → (skip_white (c ∷ x) ≡ c ∷ x) × IsElement (c ∷ x) (Ok (e, z))
-bare_reads e z c x begins black spelled ends some = (rw black refl, subst (λ o. IsOpened o (Ok (e, z))) (sym begins) (e, z, spelled, bare_ends e z ends some))
+bare_reads e z c x begins black spelled ends some = (
+  rw black refl,
+  subst (λ o. IsOpened o (Ok (e, z))) (sym begins) (
+    e,
+    z,
+    spelled,
+    bare_ends e z ends some,
+  ),
+)
 
-reads_plain : (e z : List ℕ) → is_empty e ≡ false → list_any is_special e ≡ false → ends_element z ≡ true → ReadsAs e e z
+reads_plain : (e z : List ℕ) → is_empty e ≡ false → list_any is_special e ≡ false → ends_element z
+    ≡ true → ReadsAs e e z
 reads_plain [] z some h ends = absurd (cc)
 reads_plain (c ∷ e) z some h ends =
     let p = plain c (or_false (is_special c) (list_any is_special e) h).0 in
-    bare_reads (c ∷ e) z c (e ++ z) (opening_plain c (e ++ z) p) p.0 (spelled_plain (c ∷ e) z h) ends (omega arith)
+    bare_reads (c ∷ e) z c (e ++ z) (opening_plain c (e ++ z) p) p.0 (spelled_plain (c ∷ e) z h)
+    ends (omega arith)
 
-reads_escaped_at : (c : ℕ) (e z : List ℕ) (b : Bool) → is_special c ≡ b → ends_element z ≡ true → ReadsAs (c ∷ e) (cond b (92 ∷ escape_name c ∷ escaped_bytes e) (c ∷ escaped_bytes e)) z
+reads_escaped_at : (c : ℕ) (e z : List ℕ) (b : Bool) → is_special c ≡ b → ends_element z ≡ true →
+    ReadsAs (c ∷ e) (cond b (92 ∷ escape_name c ∷ escaped_bytes e) (c ∷ escaped_bytes e)) z
 reads_escaped_at c e z true h ends =
     let x = escaped_bytes e ++ z in
-    bare_reads (c ∷ e) z 92 (escape_name c ∷ x) refl refl (x, next_special c x h, spelled_escaped e z) ends (omega arith)
+    bare_reads (c ∷ e) z 92 (escape_name c ∷ x) refl refl (
+      x,
+      next_special c x h,
+      spelled_escaped e z,
+    ) ends (omega arith)
 reads_escaped_at c e z false h ends =
     let x = escaped_bytes e ++ z in
     let p = plain c h in
-    bare_reads (c ∷ e) z c x (opening_plain c x p) p.0 (x, next_plain c x p, spelled_escaped e z) ends (omega arith)
+    bare_reads (c ∷ e) z c x (opening_plain c x p) p.0 (x, next_plain c x p, spelled_escaped e z)
+    ends (omega arith)
 
-reads_escaped : (e z : List ℕ) → is_empty e ≡ false → ends_element z ≡ true → ReadsAs e (escaped_bytes e) z
+reads_escaped : (e z : List ℕ) → is_empty e ≡ false → ends_element z ≡ true →
+    ReadsAs e (escaped_bytes e) z
 reads_escaped [] z some ends = absurd (cc)
 reads_escaped (c ∷ e) z some ends = reads_escaped_at c e z (is_special c) refl ends
 
-reads_comment_at : (c : ℕ) (e z : List ℕ) → c ≡ 35 → ends_element z ≡ true → ReadsAs (c ∷ e) (92 ∷ escaped_bytes (c ∷ e)) z
+reads_comment_at : (c : ℕ) (e z : List ℕ) → c ≡ 35 → ends_element z ≡ true →
+    ReadsAs (c ∷ e) (92 ∷ escaped_bytes (c ∷ e)) z
 reads_comment_at c e z h ends =
     let x = escaped_bytes e ++ z in
-    subst (λ b. ReadsAs (b ∷ e) (92 ∷ escaped_bytes (b ∷ e)) z) (sym h) (bare_reads (35 ∷ e) z 92 (35 ∷ x) refl refl (x, refl, spelled_escaped e z) ends (omega arith))
+    subst (λ b. ReadsAs (b ∷ e) (92 ∷ escaped_bytes (b ∷ e)) z) (sym h)
+    (bare_reads (35 ∷ e) z 92 (35 ∷ x) refl refl (x, refl, spelled_escaped e z) ends
+    (omega arith))
 
-reads_comment : (first : Bool) (e z : List ℕ) → is_comment first e ≡ true → ends_element z ≡ true → ReadsAs e (92 ∷ escaped_bytes e) z
+reads_comment : (first : Bool) (e z : List ℕ) → is_comment first e ≡ true → ends_element z ≡ true →
+    ReadsAs e (92 ∷ escaped_bytes e) z
 reads_comment first [] z h ends = absurd (cc)
 reads_comment first (c ∷ e) z h ends =
     elim (eqb_tells c 35) [
@@ -158,7 +203,8 @@ reads_comment first (c ∷ e) z h ends =
       | inr p ↦ let q = (and_true first (c == 35) h).1 in absurd (cc (p.0, q))
     ]
 
-closing : (k : ℕ) (e : List ℕ) → (not (k == 0) && pairs_up (k - 1) e) ≡ true → ((j : ℕ) → pairs_up j e ≡ true → Closes j e) → Closes k (125 ∷ e)
+closing : (k : ℕ) (e : List ℕ) → (not (k == 0) && pairs_up (k - 1) e) ≡ true →
+    ((j : ℕ) → pairs_up j e ≡ true → Closes j e) → Closes k (125 ∷ e)
 closing zero e h so = absurd (cc)
 closing (suc k) e h so =
     let back : suc k - 1 ≡ k = omega arith in
@@ -166,31 +212,37 @@ closing (suc k) e h so =
     closes_close k e (so k (subst (λ j. pairs_up j e ≡ true) back more))
 
 -- where there is no backslash, the braces that pair up close what is open
-pairs_close : (e : List ℕ) (k : ℕ) → list_any (λ c. c == 92) e ≡ false → pairs_up k e ≡ true → Closes k e
+pairs_close : (e : List ℕ) (k : ℕ) → list_any (λ c. c == 92) e ≡ false → pairs_up k e ≡ true →
+    Closes k e
 pairs_close [] k h p = subst (λ j. Closes j []) (sym (eqb-true k 0 p)) nothing
 pairs_close (c ∷ e) k h p =
     let apart = or_false (c == 92) (list_any (λ d. d == 92) e) h in
     elim (eqb_tells c 123) [
       | inl q ↦
           let rest : pairs_up (k + 1) e ≡ true = rw q.0 at p in
-          subst (λ b. Closes k (b ∷ e)) (sym q.1) (closes_open k e (subst (λ j. Closes j e) (add-one k) (pairs_close e (k + 1) apart.1 rest)))
+          subst (λ b. Closes k (b ∷ e)) (sym q.1)
+          (closes_open k e (subst (λ j. Closes j e) (add-one k)
+          (pairs_close e (k + 1) apart.1 rest)))
       | inr q ↦ elim (eqb_tells c 125) [
         | inl r ↦
             let rest : (not (k == 0) && pairs_up (k - 1) e) ≡ true = rw (q.0, r.0) at p in
-            subst (λ b. Closes k (b ∷ e)) (sym r.1) (closing k e rest (λ j more. pairs_close e j apart.1 more))
+            subst (λ b. Closes k (b ∷ e)) (sym r.1)
+            (closing k e rest (λ j more. pairs_close e j apart.1 more))
         | inr r ↦
             let rest : pairs_up k e ≡ true = rw (q.0, r.0) at p in
             closes_byte k c e (rw (apart.0, q.0, r.0) refl) (pairs_close e k apart.1 rest)
       ]
     ]
 
-braced_reads : (e z : List ℕ) → is_braceable e ≡ true → ends_element z ≡ true → ReadsAs e (123 ∷ (e ++ 125 ∷ [])) z
+braced_reads : (e z : List ℕ) → is_braceable e ≡ true → ends_element z ≡ true →
+    ReadsAs e (123 ∷ (e ++ 125 ∷ [])) z
 braced_reads e z h ends =
     let p = and_true (not (list_any (λ c. c == 92) e)) (pairs_up 0 e) h in
     let balanced : IsBalanced e = pairs_close e 0 (not_true _ p.0) p.1 in
     (refl, inl (e, z, (append_assoc e (125 ∷ []) z, balanced), rw ends refl))
 
-not_comment : (first : Bool) (e : List ℕ) → is_bare first e ≡ true → (is_empty e ≡ false) × (list_any is_special e ≡ false)
+not_comment : (first : Bool) (e : List ℕ) → is_bare first e ≡ true → (is_empty e ≡ false)
+    × (list_any is_special e ≡ false)
 not_comment first e h =
     let p = and_true (not (is_empty e)) _ h in
     let q = and_true (not (is_comment first e)) _ p.1 in
@@ -201,21 +253,27 @@ not_empty [] h = absurd (cc)
 not_empty (c ∷ e) h = refl
 
 -- each way of writing an element
-written_by : (first : Bool) (e z : List ℕ) (a b d : Bool) → is_bare first e ≡ a → is_braceable e ≡ b → is_comment first e ≡ d → ends_element z ≡ true
-    → ReadsAs e (cond a e (cond b (123 ∷ (e ++ 125 ∷ [])) (cond d (92 ∷ escaped_bytes e) (escaped_bytes e)))) z
-written_by first e z true b d h k m ends = let p = not_comment first e h in reads_plain e z p.0 p.1 ends
+written_by : (first : Bool) (e z : List ℕ) (a b d : Bool) → is_bare first e ≡ a → is_braceable e ≡ b
+    → is_comment first e ≡ d → ends_element z ≡ true
+    → ReadsAs e (cond a e (cond b (123 ∷ (e ++ 125 ∷ []))
+    (cond d (92 ∷ escaped_bytes e) (escaped_bytes e)))) z
+written_by first e z true b d h k m ends = let p = not_comment first e h in
+    reads_plain e z p.0 p.1 ends
 written_by first e z false true d h k m ends = braced_reads e z k ends
 written_by first e z false false true h k m ends = reads_comment first e z m ends
 written_by first e z false false false h k m ends = reads_escaped e z (not_empty e k) ends
 
-element_written : (first : Bool) (e z : List ℕ) → ends_element z ≡ true → ReadsAs e (written first e) z
-element_written first e z ends = written_by first e z (is_bare first e) (is_braceable e) (is_comment first e) refl refl refl ends
+element_written : (first : Bool) (e z : List ℕ) → ends_element z ≡ true →
+    ReadsAs e (written first e) z
+element_written first e z ends = written_by first e z (is_bare first e) (is_braceable e)
+    (is_comment first e) refl refl refl ends
 
 joined_ends : (v : List (List ℕ)) → ends_element (joined false v) ≡ true
 joined_ends [] = refl
 joined_ends (e ∷ v) = refl
 
-white_first : (first : Bool) (x : List ℕ) → skip_white ((cond first [] (32 ∷ [])) ++ x) ≡ skip_white x
+white_first : (first : Bool) (x : List ℕ) → skip_white ((cond first [] (32 ∷ [])) ++ x)
+    ≡ skip_white x
 white_first true x = refl
 white_first false x = refl
 
@@ -223,8 +281,12 @@ joined_reads : (v : List (List ℕ)) (first : Bool) → IsElements v None (joine
 joined_reads [] first = refl
 joined_reads (e ∷ v) first =
     let rest = joined false v in
-    let is = element_written first e rest (joined_ends v) in
-    (rest, subst (λ x. IsElement x (Ok (e, rest))) (sym (white_first first (written first e ++ rest) ∙ is.0)) is.1, joined_reads v false)
+    let is = element_written first e rest (joined_ends v) in (
+      rest,
+      subst (λ x. IsElement x (Ok (e, rest)))
+          (sym (white_first first (written first e ++ rest) ∙ is.0)) is.1,
+      joined_reads v false,
+    )
 
 pub reads_back : (v : List (List ℕ)) → IsList v (canonical v)
 reads_back v = joined_reads v true

@@ -99,7 +99,8 @@ module _ (rank : Piece → ℕ) (last : Reply) (t r : ℕ)
       Falls IsTree (λ (u : Status). u.left) rank last t r (call u vs)) →
       Falls IsTree (λ (u : Status). u.left) rank last t r (words levels ws values s call)
   words_falls levels ws values s call le each =
-      words_hold FallsFrom (λ s flaw le. le) nested_falls (λ s text next each le tree is. each tree le)
+      words_hold FallsFrom (λ s flaw le. le) nested_falls
+      (λ s text next each le tree is. each tree le)
       levels ws values s call each le
 
 -- acts are paid for

@@ -4,14 +4,17 @@ use Rattle.std.proofs.Math.Seq.{take-append_seam}
 use Rattle.std.specs.Io.KnownBytes.{Consumes, IsAtEnd}
 
 -- two pieces
-pub Consumes-then : (a b c : Option (List ℕ)) (x y : List ℕ) → Consumes a b x → Consumes b c y → Consumes a c (x ++ y)
+pub Consumes-then : (a b c : Option (List ℕ)) (x y : List ℕ) → Consumes a b x → Consumes b c y →
+    Consumes a c (x ++ y)
 Consumes-then None b c x y first second = tt
 Consumes-then (Some p) None c x y first second = absurd first
 Consumes-then (Some p) (Some q) None x y first second = absurd second
-Consumes-then (Some p) (Some q) (Some r) x y first second = first ∙ ap (λ bytes. x ++ bytes) second ∙ sym (append_assoc x y r)
+Consumes-then (Some p) (Some q) (Some r) x y first second =
+    first ∙ ap (λ bytes. x ++ bytes) second ∙ sym (append_assoc x y r)
 
 -- all of them
-pub Consumes-end : (a b c : Option (List ℕ)) (x : List ℕ) → Consumes a b x → Consumes b c [] → IsAtEnd c → IfSome a (λ bytes. x ≡ bytes)
+pub Consumes-end : (a b c : Option (List ℕ)) (x : List ℕ) → Consumes a b x → Consumes b c [] →
+    IsAtEnd c → IfSome a (λ bytes. x ≡ bytes)
 Consumes-end None b c x first second end = tt
 Consumes-end (Some p) None c x first second end = absurd first
 Consumes-end (Some p) (Some q) None x first second end = absurd second

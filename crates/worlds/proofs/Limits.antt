@@ -4,12 +4,15 @@ use Rattle.std.specs.Prelude.{◌↔◌}
 use Rattle.std.proofs.lemmas.Fmt.{decimal_injective}
 use Rattle.worlds.specs.Arguments.{AreTicks}
 
-in_range : (number ticks : ℕ) → ticks ≡ number → 1 ≤ ticks → ticks ≤ 1000000000000 → (1 ≤ number) × (number ≤ 1000000000000)
+in_range : (number ticks : ℕ) → ticks ≡ number → 1 ≤ ticks → ticks ≤ 1000000000000 → (1 ≤ number)
+    × (number ≤ 1000000000000)
 in_range number ticks same low high = (omega arith, omega arith)
 
 -- the number that a word spells is no limit
-pub no_limits : {T : Type 0} (found : Option T) (number : ℕ) (limit : List ℕ) → IsSome found ↔ ((1 ≤ number) × (number ≤ 1000000000000))
-    → limit ≡ decimal number → number < 2 ^ 64 → IfNone found ((ticks : ℕ) → AreTicks (Some limit) ticks → ⊥)
+pub no_limits : {T : Type 0} (found : Option T) (number : ℕ) (limit : List ℕ) →
+    IsSome found ↔ ((1 ≤ number) × (number ≤ 1000000000000))
+    → limit ≡ decimal number → number < 2 ^ 64 →
+    IfNone found ((ticks : ℕ) → AreTicks (Some limit) ticks → ⊥)
 no_limits None number limit range spelled below = λ ticks (low, high, is).
     let small : ticks < 2 ^ 64 = omega arith in
     let same = decimal_injective ticks number small below (sym is ∙ spelled) in

@@ -11,131 +11,219 @@ use Rattle.tcltext.proofs.Patterns.Spans.{Fits-length, Leaves-behind_run, Leaves
 use Rattle.tcltext.proofs.Patterns.Stars.{drop_behind, Leaves-star_run, Leaves-earlier, last_place_of, last_joins}
 
 -- the last run of a pattern has no place: the pattern has no end
-pub none_furthest : (all run : List Item) (w : List ℕ) (place from n : ℕ) (tied : Bool) → IsFixed run → n ≡ length run → from ≤ length w →
-    ((u : List ℕ) → Leaves (any_run ∷ all) (drop place w) u → Leaves (any_run ∷ run) (drop from w) u) →
-    ((k : ℕ) → (from ≤ k) × (IsTrue tied → k + n ≡ length w) → ¬ IsPlace run w k) → EndsNowhere (any_run ∷ all) tied w place
+pub none_furthest : (all run : List Item) (w : List ℕ) (place from n : ℕ) (tied : Bool) →
+    IsFixed run → n ≡ length run → from ≤ length w →
+    ((u : List ℕ) → Leaves (any_run ∷ all) (drop place w) u →
+    Leaves (any_run ∷ run) (drop from w) u) →
+    ((k : ℕ) → (from ≤ k) × (IsTrue tied → k + n ≡ length w) → ¬ IsPlace run w k) →
+    EndsNowhere (any_run ∷ all) tied w place
 none_furthest all run w place from n tied fixed size inside to none e is_end leaves =
     let last = last_place_of run w from e inside is_end.0 fixed (to (drop e w) leaves) in
     none last.0 (last.1, λ t. omega (arith, is_end.1 t, last.3, size)) last.2
 
 -- its last place gives the greatest end
-pub last_is_furthest : (all run : List Item) (w : List ℕ) (place from n k : ℕ) (tied : Bool) → IsFixed run → n ≡ length run → from ≤ length w →
-    ((u : List ℕ) → Leaves (any_run ∷ all) (drop place w) u → Leaves (any_run ∷ run) (drop from w) u) →
-    ((u : List ℕ) → Leaves (any_run ∷ run) (drop from w) u → Leaves (any_run ∷ all) (drop place w) u) →
+pub last_is_furthest : (all run : List Item) (w : List ℕ) (place from n k : ℕ) (tied : Bool) →
+    IsFixed run → n ≡ length run → from ≤ length w →
+    ((u : List ℕ) → Leaves (any_run ∷ all) (drop place w) u →
+    Leaves (any_run ∷ run) (drop from w) u) →
+    ((u : List ℕ) → Leaves (any_run ∷ run) (drop from w) u →
+    Leaves (any_run ∷ all) (drop place w) u) →
     IsPlace run w k → from ≤ k → (IsTrue tied → k + n ≡ length w) →
-    ((j : ℕ) → (from ≤ j) × (IsTrue tied → j + n ≡ length w) → IsPlace run w j → j ≤ k) → IsFurthest (any_run ∷ all) tied w place (k + n)
+    ((j : ℕ) → (from ≤ j) × (IsTrue tied → j + n ≡ length w) → IsPlace run w j → j ≤ k) →
+    IsFurthest (any_run ∷ all) tied w place (k + n)
 last_is_furthest all run w place from n k tied fixed size inside to back here low ends greatest =
     let same : k + length run ≡ k + n = omega arith in
     record {
       is_end = (omega (arith, here.room), ends);
-      leaves = back (drop (k + n) w) (subst (λ (e : ℕ). Leaves (any_run ∷ run) (drop from w) (drop e w)) same (last_joins run w from k low fixed here));
+      leaves = back (drop (k + n) w)
+          (subst (λ (e : ℕ). Leaves (any_run ∷ run) (drop from w) (drop e w)) same
+          (last_joins run w from k low fixed here));
       greatest = λ e is_end leaves.
           let last = last_place_of run w from e inside is_end.0 fixed (to (drop e w) leaves) in
-          let le : last.0 ≤ k = greatest last.0 (last.1, λ t. omega (arith, is_end.1 t, last.3, size)) last.2 in
+          let le : last.0 ≤ k = greatest last.0 (
+            last.1,
+            λ t. omega (arith, is_end.1 t, last.3, size),
+          ) last.2 in
           omega (arith, last.3);
     }
 
 -- an inner run has no place: the pattern has no end
-pub none_inside : (all run more : List Item) (w : List ℕ) (place from : ℕ) (tied : Bool) → IsFixed run → from ≤ length w →
-    ((u : List ℕ) → Leaves (any_run ∷ all) (drop place w) u → Leaves (any_run ∷ (run ++ any_run ∷ more)) (drop from w) u) →
+pub none_inside : (all run more : List Item) (w : List ℕ) (place from : ℕ) (tied : Bool) →
+    IsFixed run → from ≤ length w →
+    ((u : List ℕ) → Leaves (any_run ∷ all) (drop place w) u →
+    Leaves (any_run ∷ (run ++ any_run ∷ more)) (drop from w) u) →
     FitsNowhere run w from → EndsNowhere (any_run ∷ all) tied w place
 none_inside all run more w place from tied fixed inside to none e is_end leaves =
-    let inner = Leaves-star_run run (any_run ∷ more) w (drop e w) from inside fixed (to (drop e w) leaves) in
+    let inner = Leaves-star_run run (any_run ∷ more) w (drop e w) from inside fixed
+    (to (drop e w) leaves) in
     none inner.0 inner.1 inner.2
 
 -- where a pattern of one run sits, the run has its place
 only_sits : (run : List Item) (at_start at_end : Bool) (w : List ℕ) (s e : ℕ) → IsFixed run →
-    Sits (record { items = run; at_start = at_start; at_end = at_end }) w s e → IsPlace run w s × (s + length run ≡ e)
+    Sits (record { items = run; at_start = at_start; at_end = at_end }) w s e → IsPlace run w s
+    × (s + length run ≡ e)
 only_sits run at_start at_end w s e fixed sits =
     let leaves = Leaves-from_range run w s e sits.ordered sits.whole in
-    let longer = subst (λ (x : List Item). Leaves x (drop s w) (drop e w)) (sym (append-nil run)) leaves in
+    let longer = subst (λ (x : List Item). Leaves x (drop s w) (drop e w)) (sym (append-nil run))
+    leaves in
     let parts = Leaves-behind_run run [] (drop s w) (drop e w) fixed longer in
-    let room : s + length run ≤ length w = omega (arith, Fits-length run (drop s w) parts.0, length-drop s w, sits.ordered, sits.within) in
-    let behind : drop (s + length run) w ≡ drop e w = sym (drop_behind w s (length run) (s + length run) refl) ∙ parts.1 in
+    let room : s + length run ≤ length w =
+    omega (
+      arith,
+      Fits-length run (drop s w) parts.0,
+      length-drop s w,
+      sits.ordered,
+      sits.within,
+    ) in
+    let behind : drop (s + length run) w ≡ drop e w =
+    sym (drop_behind w s (length run) (s + length run) refl) ∙ parts.1 in
     (record { room = room; fits = parts.0 }, drop_once w (s + length run) e room sits.within behind)
 
 -- a run sits at its place
-only_sits_there : (run : List Item) (at_start at_end : Bool) (w : List ℕ) (s e : ℕ) → IsFixed run → IsPlace run w s → s + length run ≡ e →
-    (IsTrue at_start → s ≡ 0) → (IsTrue at_end → e ≡ length w) → Sits (record { items = run; at_start = at_start; at_end = at_end }) w s e
+only_sits_there : (run : List Item) (at_start at_end : Bool) (w : List ℕ) (s e : ℕ) → IsFixed run →
+    IsPlace run w s → s + length run ≡ e →
+    (IsTrue at_start → s ≡ 0) → (IsTrue at_end → e ≡ length w) →
+    Sits (record { items = run; at_start = at_start; at_end = at_end }) w s e
 only_sits_there run at_start at_end w s e fixed place sum start end =
     let behind : drop (length run) (drop s w) ≡ drop e w = drop_behind w s (length run) e sum in
     let joined = Leaves-join_run run [] (drop s w) (drop e w) fixed place.fits behind in
-    let leaves = subst (λ (x : List Item). Leaves x (drop s w) (drop e w)) (append-nil run) joined in
-    let range = Leaves-range run w s e (omega (arith, place.room)) (omega (arith, place.room)) leaves in
-    record { ordered = range.0; within = omega (arith, place.room); whole = range.1; at_start = start; at_end = end }
+    let leaves = subst (λ (x : List Item). Leaves x (drop s w) (drop e w)) (append-nil run) joined
+    in
+    let range = Leaves-range run w s e (omega (arith, place.room)) (omega (arith, place.room))
+    leaves in
+    record {
+      ordered = range.0;
+      within = omega (arith, place.room);
+      whole = range.1;
+      at_start =
+          start;
+      at_end = end;
+    }
 
-pub only_nowhere : (items run : List Item) (at_start at_end : Bool) (w : List ℕ) (n : ℕ) → items ≡ run → IsFixed run → n ≡ length run →
+pub only_nowhere : (items run : List Item) (at_start at_end : Bool) (w : List ℕ) (n : ℕ) → items
+    ≡ run → IsFixed run → n ≡ length run →
     ((k : ℕ) → (IsTrue at_start → k ≡ 0) × (IsTrue at_end → k + n ≡ length w) → ¬ IsPlace run w k) →
     SitsNowhere (record { items = items; at_start = at_start; at_end = at_end }) w
 only_nowhere items run at_start at_end w n same fixed size none =
-    subst (λ (x : List Item). SitsNowhere (record { items = x; at_start = at_start; at_end = at_end }) w) (sym same)
+    subst (λ (x : List Item). SitsNowhere (record {
+      items = x;
+      at_start = at_start;
+      at_end =
+          at_end;
+    }) w) (sym same)
     (λ s e sits.
     let there = only_sits run at_start at_end w s e fixed sits in
     none s (sits.at_start, λ t. omega (arith, sits.at_end t, there.1, size)) there.0)
 
-pub only_found : (items run : List Item) (at_start at_end : Bool) (w : List ℕ) (n k : ℕ) → items ≡ run → IsFixed run → n ≡ length run →
+pub only_found : (items run : List Item) (at_start at_end : Bool) (w : List ℕ) (n k : ℕ) → items
+    ≡ run → IsFixed run → n ≡ length run →
     IsPlace run w k → (IsTrue at_start → k ≡ 0) × (IsTrue at_end → k + n ≡ length w) →
-    ((j : ℕ) → (IsTrue at_start → j ≡ 0) × (IsTrue at_end → j + n ≡ length w) → IsPlace run w j → k ≤ j) →
+    ((j : ℕ) → (IsTrue at_start → j ≡ 0) × (IsTrue at_end → j + n ≡ length w) → IsPlace run w j →
+    k ≤ j) →
     IsFound (record { items = items; at_start = at_start; at_end = at_end }) w k (k + n)
 only_found items run at_start at_end w n k same fixed size here ties least =
     let sum : k + length run ≡ k + n = omega arith in
-    subst (λ (x : List Item). IsFound (record { items = x; at_start = at_start; at_end = at_end }) w k (k + n)) (sym same)
+    subst (λ (x : List Item). IsFound (record { items = x; at_start = at_start; at_end = at_end }) w
+    k (k + n)) (sym same)
     record {
       sits = only_sits_there run at_start at_end w k (k + n) fixed here sum ties.0 ties.1;
       least_start = λ s e sits.
           let there = only_sits run at_start at_end w s e fixed sits in
           least s (sits.at_start, λ t. omega (arith, sits.at_end t, there.1, size)) there.0;
-      greatest_end = λ e sits. let there = only_sits run at_start at_end w k e fixed sits in omega (arith, there.1, size);
+      greatest_end = λ e sits. let there = only_sits run at_start at_end w k e fixed sits in
+          omega (arith, there.1, size);
     }
 
 -- where a pattern with a `*` sits, its first run has its place, and the rest ends behind it
-starred_sits : (run more : List Item) (at_start at_end : Bool) (w : List ℕ) (s e : ℕ) → IsFixed run →
+starred_sits : (run more : List Item) (at_start at_end : Bool) (w : List ℕ) (s e : ℕ) →
+    IsFixed run →
     Sits (record { items = run ++ any_run ∷ more; at_start = at_start; at_end = at_end }) w s e →
     IsPlace run w s × Leaves (any_run ∷ more) (drop (s + length run) w) (drop e w)
 starred_sits run more at_start at_end w s e fixed sits =
     let leaves = Leaves-from_range (run ++ any_run ∷ more) w s e sits.ordered sits.whole in
     let parts = Leaves-behind_run run (any_run ∷ more) (drop s w) (drop e w) fixed leaves in
-    let room : s + length run ≤ length w = omega (arith, Fits-length run (drop s w) parts.0, length-drop s w, sits.ordered, sits.within) in (
+    let room : s + length run ≤ length w =
+    omega (
+      arith,
+      Fits-length run (drop s w) parts.0,
+      length-drop s w,
+      sits.ordered,
+      sits.within,
+    ) in (
       record { room = room; fits = parts.0 },
-      subst (λ (x : List ℕ). Leaves (any_run ∷ more) x (drop e w)) (drop_behind w s (length run) (s + length run) refl) parts.1,
+      subst (λ (x : List ℕ). Leaves (any_run ∷ more) x (drop e w))
+          (drop_behind w s (length run) (s + length run) refl) parts.1,
     )
 
 -- the first run has no place: the pattern sits nowhere
-pub start_nowhere : (items run more : List Item) (at_start at_end : Bool) (w : List ℕ) → items ≡ run ++ any_run ∷ more → IsFixed run →
-    ((k : ℕ) → (IsTrue at_start → k ≡ 0) → ¬ IsPlace run w k) → SitsNowhere (record { items = items; at_start = at_start; at_end = at_end }) w
+pub start_nowhere : (items run more : List Item) (at_start at_end : Bool) (w : List ℕ) → items ≡ run
+    ++ any_run ∷ more → IsFixed run →
+    ((k : ℕ) → (IsTrue at_start → k ≡ 0) → ¬ IsPlace run w k) →
+    SitsNowhere (record { items = items; at_start = at_start; at_end = at_end }) w
 start_nowhere items run more at_start at_end w same fixed none =
-    subst (λ (x : List Item). SitsNowhere (record { items = x; at_start = at_start; at_end = at_end }) w) (sym same)
+    subst (λ (x : List Item). SitsNowhere (record {
+      items = x;
+      at_start = at_start;
+      at_end =
+          at_end;
+    }) w) (sym same)
     (λ s e sits. none s sits.at_start (starred_sits run more at_start at_end w s e fixed sits).0)
 
 -- behind the first run's first place there is no end: the pattern sits nowhere
-pub end_nowhere : (items run more : List Item) (at_start at_end : Bool) (w : List ℕ) (n k : ℕ) → items ≡ run ++ any_run ∷ more → IsFixed run → n ≡ length run →
-    ((j : ℕ) → (IsTrue at_start → j ≡ 0) → IsPlace run w j → k ≤ j) → EndsNowhere (any_run ∷ more) at_end w (k + n) →
+pub end_nowhere : (items run more : List Item) (at_start at_end : Bool) (w : List ℕ) (n k : ℕ) →
+    items ≡ run ++ any_run ∷ more → IsFixed run → n ≡ length run →
+    ((j : ℕ) → (IsTrue at_start → j ≡ 0) → IsPlace run w j → k ≤ j) →
+    EndsNowhere (any_run ∷ more) at_end w (k + n) →
     SitsNowhere (record { items = items; at_start = at_start; at_end = at_end }) w
 end_nowhere items run more at_start at_end w n k same fixed size least none =
-    subst (λ (x : List Item). SitsNowhere (record { items = x; at_start = at_start; at_end = at_end }) w) (sym same)
+    subst (λ (x : List Item). SitsNowhere (record {
+      items = x;
+      at_start = at_start;
+      at_end =
+          at_end;
+    }) w) (sym same)
     (λ s e sits.
     let parts = starred_sits run more at_start at_end w s e fixed sits in
     let first : k ≤ s = least s sits.at_start parts.0 in
-    let leaves = Leaves-earlier more w (drop e w) (k + n) (s + length run) (omega arith) parts.0.room parts.1 in
+    let leaves = Leaves-earlier more w (drop e w) (k + n) (s + length run) (omega arith)
+    parts.0.room parts.1 in
     none e (sits.within, sits.at_end) leaves)
 
 -- the first run's first place and the greatest end behind it
-pub starred_found : (items run more : List Item) (at_start at_end : Bool) (w : List ℕ) (n k e : ℕ) → items ≡ run ++ any_run ∷ more → IsFixed run → n ≡ length run →
-    IsPlace run w k → (IsTrue at_start → k ≡ 0) → ((j : ℕ) → (IsTrue at_start → j ≡ 0) → IsPlace run w j → k ≤ j) →
-    IsFurthest (any_run ∷ more) at_end w (k + n) e → IsFound (record { items = items; at_start = at_start; at_end = at_end }) w k e
+pub starred_found : (items run more : List Item) (at_start at_end : Bool) (w : List ℕ) (n k e : ℕ) →
+    items ≡ run ++ any_run ∷ more → IsFixed run → n ≡ length run →
+    IsPlace run w k → (IsTrue at_start → k ≡ 0) →
+    ((j : ℕ) → (IsTrue at_start → j ≡ 0) → IsPlace run w j → k ≤ j) →
+    IsFurthest (any_run ∷ more) at_end w (k + n) e →
+    IsFound (record { items = items; at_start = at_start; at_end = at_end }) w k e
 starred_found items run more at_start at_end w n k e same fixed size here start least furthest =
     let there : k + n ≡ k + length run = omega arith in
-    let behind = subst (λ (m : ℕ). Leaves (any_run ∷ more) (drop m w) (drop e w)) there furthest.leaves in
-    let at_run = subst (λ (x : List ℕ). Leaves (any_run ∷ more) x (drop e w)) (sym (drop_behind w k (length run) (k + length run) refl)) behind in
-    let leaves = Leaves-join_run run (any_run ∷ more) (drop k w) (drop e w) fixed here.fits at_run in
-    let range = Leaves-range (run ++ any_run ∷ more) w k e (omega (arith, here.room)) furthest.is_end.0 leaves in
-    subst (λ (x : List Item). IsFound (record { items = x; at_start = at_start; at_end = at_end }) w k e) (sym same)
+    let behind = subst (λ (m : ℕ). Leaves (any_run ∷ more) (drop m w) (drop e w)) there
+    furthest.leaves in
+    let at_run = subst (λ (x : List ℕ). Leaves (any_run ∷ more) x (drop e w))
+    (sym (drop_behind w k (length run) (k + length run) refl)) behind in
+    let leaves = Leaves-join_run run (any_run ∷ more) (drop k w) (drop e w) fixed here.fits at_run
+    in
+    let range = Leaves-range (run ++ any_run ∷ more) w k e (omega (arith, here.room))
+    furthest.is_end.0 leaves in
+    subst (λ (x : List Item). IsFound (record { items = x; at_start = at_start; at_end = at_end }) w
+    k e) (sym same)
     record {
-      sits = record { ordered = range.0; within = furthest.is_end.0; whole = range.1; at_start = start; at_end = furthest.is_end.1 };
-      least_start = λ s' e' sits. least s' sits.at_start (starred_sits run more at_start at_end w s' e' fixed sits).0;
+      sits = record {
+        ordered = range.0;
+        within = furthest.is_end.0;
+        whole = range.1;
+        at_start =
+            start;
+        at_end = furthest.is_end.1;
+      };
+      least_start = λ s' e' sits. least s' sits.at_start
+          (starred_sits run more at_start at_end w s' e' fixed sits).0;
       greatest_end = λ e' sits.
           let parts = starred_sits run more at_start at_end w k e' fixed sits in
-          furthest.greatest e' (sits.within, sits.at_end) (subst (λ (m : ℕ). Leaves (any_run ∷ more) (drop m w) (drop e' w)) (sym there) parts.1);
+          furthest.greatest e' (sits.within, sits.at_end)
+          (subst (λ (m : ℕ). Leaves (any_run ∷ more) (drop m w) (drop e' w)) (sym there)
+          parts.1);
     }
 
 -- a pattern that is tied at both ends is found where its items take the whole text
@@ -149,7 +237,8 @@ whole_iff_found items w None nowhere = (
   λ whole. absurd (nowhere 0 (length w) record {
     ordered = omega arith;
     within = omega arith;
-    whole = subst (λ (x : List ℕ). Whole items x) (sym (take_all (length w - 0) w (omega arith))) whole;
+    whole = subst (λ (x : List ℕ). Whole items x) (sym (take_all (length w - 0) w (omega arith)))
+        whole;
     at_start = λ _. refl;
     at_end = λ _. refl;
   }),
@@ -158,5 +247,6 @@ whole_iff_found items w (Some f) found =
     let starts : f.start ≡ 0 = found.sits.at_start refl in
     let ends : f.end ≡ length w = found.sits.at_end refl in
     let range : slice_range w f.start f.end ≡ w =
-    ap (λ (s : ℕ). slice_range w s f.end) starts ∙ ap (λ (e : ℕ). slice_range w 0 e) ends ∙ take_all (length w - 0) w (omega arith) in
+    ap (λ (s : ℕ). slice_range w s f.end) starts ∙ ap (λ (e : ℕ). slice_range w 0 e) ends
+    ∙ take_all (length w - 0) w (omega arith) in
     (λ _. subst (λ (x : List ℕ). Whole items x) range found.sits.whole, λ _. refl)

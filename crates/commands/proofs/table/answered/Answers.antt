@@ -13,7 +13,8 @@ returns-in_ok-answered-in-Spawn-clause-shows g c = λ s fits.
           ∙ shown.same ∙ c.from_spawn.ensures shown.status;
     }
 
-pub returns-in_ok-answered-in-Expect-clause-shows : goal.returns-in_ok-answered-in-Expect-clause-shows
+pub returns-in_ok-answered-in-Expect-clause-shows :
+    goal.returns-in_ok-answered-in-Expect-clause-shows
 returns-in_ok-answered-in-Expect-clause-shows g c = λ s fits.
     let shown = c.in_ok-answered-in-Expect.ensures.shows s fits in record {
       status = shown.status;

@@ -55,7 +55,8 @@ returns-clause-unwinds g c = λ s fits.
       fault = own.fault;
     } in
     let ws = words_of c.in_ok-words.words in
-    let same : (out-Command _ c.index.result.now).words.value ≡ c.in_ok-words.words.value = search rules in
+    let same : (out-Command _ c.index.result.now).words.value ≡ c.in_ok-words.words.value =
+    search rules in
     let here : c.index.result.now ≡ get_or cs own.next c.index.result.now = search rules in
     let at : commands_from cs own.next ≡ tree.command ws (commands_from cs (own.next + 1)) =
     commands_at cs own.next c.index.result.now lt here

@@ -16,4 +16,12 @@ returns-in_ok-report-in-Taken-clause-looks g c = λ s fits wait.
     (tested-found p i s wait told.journal told.start told.has told.found
     ∙ ap (λ (bytes : List ℕ). reported p i bytes left) (sym told.taken))
     (c.in_ok-report-in-Taken.ensures.shows left
-    (record { scopes = fits.scopes; peers = told.fits; logging = fits.logging; size = fits.size; next = fits.next; left = fits.left }))
+    (record {
+      scopes = fits.scopes;
+      peers = told.fits;
+      logging = fits.logging;
+      size =
+          fits.size;
+      next = fits.next;
+      left = fits.left;
+    }))

@@ -9,5 +9,6 @@ returns-in-Ok-clause-shows g c = λ s fits.
     let t = c.args.turn in
     let missed = rw c.in-Ok.is at (c.in_ok-row.ensures.looks s fits) in
     shows_ok next_of c.wait.new.state c.wait.result
-    (tested-missing t.pattern t.id s (waits s.left t.pattern t.id t.clock s) missed.journal missed.has missed.none)
+    (tested-missing t.pattern t.id s (waits s.left t.pattern t.id t.clock s) missed.journal
+    missed.has missed.none)
     (c.wait.ensures.shows s missed.journal missed.fits missed.told)

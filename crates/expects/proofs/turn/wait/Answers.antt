@@ -14,12 +14,23 @@ returns-clause-shows g c = λ s j fits told.
     let i = c.args.turn.id in
     let clock = c.args.turn.clock in
     let more = c.args.state.now.left - 1 in
-    let rows : c.push.new.self.items ≡ row_of i j ∷ [] = c.in_ok-push.ensures.items ∙ (rw (c.clear.ensures.items, told) refl) in
+    let rows : c.push.new.self.items ≡ row_of i j ∷ [] =
+    c.in_ok-push.ensures.items ∙ (rw (c.clear.ensures.items, told) refl) in
     record {
       status = record s { left = more };
-      fits = record { scopes = fits.scopes; peers = fits.peers; logging = fits.logging; size = fits.size; next = fits.next; left = refl };
+      fits = record {
+        scopes = fits.scopes;
+        peers = fits.peers;
+        logging = fits.logging;
+        size =
+            fits.size;
+        next = fits.next;
+        left = refl;
+      };
       same =
           waits-next s.left more p i clock s j (omega (arith, fits.left, c.if-state-eq0.false))
-          ∙ ap (λ (rs : List Row). ask (said.Wait rs clock) (record s { left = more }) (waited (turn more p i (later clock)))) (sym rows)
-          ∙ ap (λ (k : Timer). ask (said.Wait c.push.new.self.items clock) (record s { left = more }) (waited (turn more p i k))) (sym c.later.ensures);
+          ∙ ap (λ (rs : List Row). ask (said.Wait rs clock) (record s { left = more })
+          (waited (turn more p i (later clock)))) (sym rows)
+          ∙ ap (λ (k : Timer). ask (said.Wait c.push.new.self.items clock)
+          (record s { left = more }) (waited (turn more p i k))) (sym c.later.ensures);
     }

@@ -6,5 +6,6 @@ pub returns-in-None : goal.returns-in-None
 returns-in-None g c =
     let line = c.args.line.now in
     no_line line (other_text line (codes "done") _ _ c.eq.ensures c.as_slice.ensures c.if-eq.false)
-    (other_text line (codes "timeout") _ _ c.eq-2.ensures c.as_slice-2.ensures c.if-eq-2.false) c.in_default.ensures.none
+    (other_text line (codes "timeout") _ _ c.eq-2.ensures c.as_slice-2.ensures c.if-eq-2.false)
+    c.in_default.ensures.none
     (rw c.in-None.is at c.in_ok-id.ensures)

@@ -4,7 +4,8 @@ use Rattle.records.proofs.Records.{no_bad_line, one_bad_line, one_list, same_tex
 use Rattle.records.proofs.record.one_record.Goals as goal
 
 pub returns-clause-some_text : goal.returns-clause-some_text
-returns-clause-some_text c = λ replies all. let (lines, are) = some_lines replies all in (header ++ lines, (lines, refl, are))
+returns-clause-some_text c = λ replies all. let (lines, are) = some_lines replies all in
+    (header ++ lines, (lines, refl, are))
 
 pub returns-clause-one_text : goal.returns-clause-one_text
 returns-clause-one_text c = λ replies a b (lines, whole, are) (lines', whole', are').

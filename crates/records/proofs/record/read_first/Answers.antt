@@ -4,11 +4,13 @@ use Rattle.records.proofs.Lines.{Lacks-line}
 use Rattle.records.proofs.record.read_first.Goals as goal
 
 pub returns-in_default : goal.returns-in_default
-returns-in_default g c = λ (reply, line, rest, is, e). no_cut 10 c.args.text.now line rest c.in_default.ensures.none e
+returns-in_default g c = λ (reply, line, rest, is, e).
+    no_cut 10 c.args.text.now line rest c.in_default.ensures.none e
 
 pub returns-in-None : goal.returns-in-None
 returns-in-None g c = λ (reply, line, rest, is, e).
     let (whole, lacks) = c.in-Some.ensures.found in
-    let same = (same_cut 10 c.in-Some.line.now line c.in-Some.rest.now rest lacks (Lacks-line reply line is) (sym whole ∙ e)).0 in
+    let same = (same_cut 10 c.in-Some.line.now line c.in-Some.rest.now rest lacks
+    (Lacks-line reply line is) (sym whole ∙ e)).0 in
     let none = rw c.in-None.is at c.in_ok-answer.ensures in
     none reply (rw (sym same) at is)

@@ -7,14 +7,17 @@ use Rattle.records.proofs.record.read_record.Goals as goal
 pub returns-in-Some-clause-read : goal.returns-in-Some-clause-read
 returns-in-Some-clause-read g c =
     let (test, is, room) = c.in-Some.ensures.cases in
-    IfOk-weaker c.read_lines.result _ _ (λ answers are. (c.in-Some.lines.now, header_split c.args.text.now c.in-Some.lines.now test is, are))
+    IfOk-weaker c.read_lines.result _ _ (λ answers are.
+    (c.in-Some.lines.now, header_split c.args.text.now c.in-Some.lines.now test is, are))
     c.read_lines.ensures.read
 
 pub returns-in-Some-clause-record : goal.returns-in-Some-clause-record
 returns-in-Some-clause-record g c = λ replies are.
     let (test, is, room) = c.in-Some.ensures.cases in
-    record_read (λ answers. map reply_of answers.items) c.args.text.now c.in-Some.lines.now c.read_lines.result
-    (header_split c.args.text.now c.in-Some.lines.now test is) c.read_lines.ensures.read c.read_lines.ensures.fault replies are
+    record_read (λ answers. map reply_of answers.items) c.args.text.now c.in-Some.lines.now
+    c.read_lines.result
+    (header_split c.args.text.now c.in-Some.lines.now test is) c.read_lines.ensures.read
+    c.read_lines.ensures.fault replies are
 
 pub returns-in-Some-clause-no_header : goal.returns-in-Some-clause-no_header
 returns-in-Some-clause-no_header g c = λ lacks.
@@ -24,5 +27,7 @@ returns-in-Some-clause-no_header g c = λ lacks.
 pub returns-in-Some-clause-bad_line : goal.returns-in-Some-clause-bad_line
 returns-in-Some-clause-bad_line g c = λ n bad.
     let (test, is, room) = c.in-Some.ensures.cases in
-    bad_line_found (λ answers. map reply_of answers.items) c.args.text.now c.in-Some.lines.now c.read_lines.result
-    (header_split c.args.text.now c.in-Some.lines.now test is) c.read_lines.ensures.read c.read_lines.ensures.fault n bad
+    bad_line_found (λ answers. map reply_of answers.items) c.args.text.now c.in-Some.lines.now
+    c.read_lines.result
+    (header_split c.args.text.now c.in-Some.lines.now test is) c.read_lines.ensures.read
+    c.read_lines.ensures.fault n bad

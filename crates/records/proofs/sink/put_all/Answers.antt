@@ -11,8 +11,11 @@ returns-then-taken-eq0 g c =
     let put = c.put-taken.ensures in
     let some = some_left rest (sym c.is_empty.ensures ∙ c.text-test.true) in
     let none = c.if-taken-eq0.true in
-    Takes-part g.S.Sink.adds g.S.Sink.has_failed c.args.sink.now c.put-taken.new.self c.args.text.now (done ++ take n rest) (drop n rest) (sym c.failed.ensures ∙ c.if-failed.false)
-    (put.fails ∙ fails_at-nothing _ rest n none some) (Gets-more _ _ _ _ done _ gets put.adds) (moved _ done rest n split)
+    Takes-part g.S.Sink.adds g.S.Sink.has_failed c.args.sink.now c.put-taken.new.self
+    c.args.text.now (done ++ take n rest) (drop n rest) (sym c.failed.ensures
+    ∙ c.if-failed.false)
+    (put.fails ∙ fails_at-nothing _ rest n none some) (Gets-more _ _ _ _ done _ gets put.adds)
+    (moved _ done rest n split)
     (left_over rest n none some)
 
 pub text-preserved : goal.text-preserved
@@ -24,5 +27,6 @@ text-preserved g c =
       put.fails ∙ fails_at-something _ rest n well c.if-taken-eq0.false,
       done ++ take n rest,
       Gets-more _ _ _ _ done _ gets put.adds,
-      moved _ done rest n split ∙ ap (λ bytes. (done ++ take n rest) ++ bytes) (sym (take_rest rest n)),
+      moved _ done rest n split ∙ ap (λ bytes. (done ++ take n rest) ++ bytes)
+          (sym (take_rest rest n)),
     )

@@ -4,7 +4,8 @@ use Rattle.state.proofs.table.is_spelled.Goals as goal
 
 pub returns-in-Some : goal.returns-in-Some
 returns-in-Some c =
-    let digits : c.as_bytes.result.now ≡ decimal c.args.id.0 = c.as_bytes.ensures.value ∙ c.format.ensures.text in
+    let digits : c.as_bytes.result.now ≡ decimal c.args.id.0 =
+    c.as_bytes.ensures.value ∙ c.format.ensures.text in
     let cases = c.in-Some.ensures.cases in
     rw (c.eq.ensures, digits, cases.1) (rest_decides c.args.text.now (decimal c.args.id.0) cases.0)
 

@@ -7,15 +7,21 @@ use Rattle.state.proofs.variables.current_id.Goals as goal
 pub returns-in_default : goal.returns-in_default
 returns-in_default g c = λ s fits.
     let none : consulted s.scopes (codes "spawn_id") ≡ None =
-    ap (λ scopes. consulted scopes (codes "spawn_id")) fits.scopes ∙ sym c.consulted.ensures ∙ ap option_copied c.in_default.is in
+    ap (λ scopes. consulted scopes (codes "spawn_id")) fits.scopes ∙ sym c.consulted.ensures
+    ∙ ap option_copied c.in_default.is in
     (flaw.NotOpen None, c.in_ok-raises.ensures, λ next. rw none refl)
 
 pub returns : goal.returns
 returns g c = λ s fits.
     let some : consulted s.scopes (codes "spawn_id") ≡ Some c.in-Some.text.now =
-    ap (λ scopes. consulted scopes (codes "spawn_id")) fits.scopes ∙ sym c.consulted.ensures ∙ ap option_copied c.in-Some.is in
+    ap (λ scopes. consulted scopes (codes "spawn_id")) fits.scopes ∙ sym c.consulted.ensures
+    ∙ ap option_copied c.in-Some.is in
     let text : c.as_slice.result.now ≡ c.in-Some.text.now = c.as_slice.ensures in
     let shut : named (opened s.peers) c.in-Some.text.now ≡ None =
     rw text at (sym (c.named.ensures (opened s.peers) fits.peers) ∙ c.in_default-named.is) in
-    let bytes : c.in_ok-name.name.items ≡ c.in-Some.text.now = c.in_ok-name.ensures.items ∙ c.as_slice-2.ensures in
-    (flaw.NotOpen (Some c.in-Some.text.now), rw bytes at c.in_ok-raises-2.ensures, λ next. rw (some, shut) refl)
+    let bytes : c.in_ok-name.name.items ≡ c.in-Some.text.now =
+    c.in_ok-name.ensures.items ∙ c.as_slice-2.ensures in (
+      flaw.NotOpen (Some c.in-Some.text.now),
+      rw bytes at c.in_ok-raises-2.ensures,
+      λ next. rw (some, shut) refl,
+    )

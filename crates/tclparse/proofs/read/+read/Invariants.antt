@@ -33,9 +33,12 @@ decreases-read_bracket g l = 7 * l.depth + 6
 -- Whatever comes of the rest of the text, what was read stands before it.
 abbrev pub invariant-read_parts-loop-alloc : goal.invariant-read_parts-loop-alloc
 invariant-read_parts-loop-alloc g l = record {
-  tree : (t : Parts) (o : Outcome) → IsParts (place_of l.place) l.depth t l.bytes o → IsParts (place_of l.place) l.depth (parts_then l.parts.items (bytes_then l.literal.items t)) l.text o;
+  tree : (t : Parts) (o : Outcome) → IsParts (place_of l.place) l.depth t l.bytes o →
+      IsParts (place_of l.place) l.depth (parts_then l.parts.items (bytes_then l.literal.items t))
+      l.text o;
   shorter : length l.bytes ≤ length l.text;
-  moves : ends_parts (place_of l.place) l.text ≡ false → length l.text ≤ length l.bytes → l.bytes ≡ l.text;
+  moves : ends_parts (place_of l.place) l.text ≡ false → length l.text ≤ length l.bytes → l.bytes
+      ≡ l.text;
   normal : IsOpen l.parts.items;
 }
 
@@ -44,7 +47,8 @@ decreases-read_parts-loop-alloc g l = length l.bytes
 
 abbrev pub invariant-read_words-loop-context : goal.invariant-read_words-loop-context
 invariant-read_words-loop-context g l = record {
-  tree : (t : Words) (o : Outcome) → IsWords (context_of l.context) l.depth t l.bytes o → IsWords (context_of l.context) l.depth (words_then l.words.items t) l.text o;
+  tree : (t : Words) (o : Outcome) → IsWords (context_of l.context) l.depth t l.bytes o →
+      IsWords (context_of l.context) l.depth (words_then l.words.items t) l.text o;
   begins : ends_word (context_of l.context) l.bytes ≡ ends_command (context_of l.context) l.bytes;
   shorter : length l.bytes ≤ length l.text;
   moves : length l.text ≤ length l.bytes → l.bytes ≡ l.text;
@@ -57,7 +61,8 @@ decreases-read_words-loop-context g l = length l.bytes
 
 abbrev pub invariant-read_commands-loop-context : goal.invariant-read_commands-loop-context
 invariant-read_commands-loop-context g l = record {
-  tree : (t : Commands) (o : Outcome) → IsCommands (context_of l.context) l.depth t l.bytes o → IsCommands (context_of l.context) l.depth (commands_then l.commands.items t) l.text o;
+  tree : (t : Commands) (o : Outcome) → IsCommands (context_of l.context) l.depth t l.bytes o →
+      IsCommands (context_of l.context) l.depth (commands_then l.commands.items t) l.text o;
   shorter : length l.bytes ≤ length l.text;
   normal : all_yes (map is_normal_command l.commands.items) ≡ true;
 }

@@ -5,4 +5,5 @@ use Rattle.tclstate.proofs.table.keys.Given as goal
 
 -- the names so far and those that are left are all
 abbrev pub invariant-loop-index : goal.invariant-loop-index
-invariant-loop-index g l = l.names.items ++ map (λ k. k.items) l.index-iterator ≡ keys_of (texts_of l.elements.entries)
+invariant-loop-index g l = l.names.items ++ map (λ k. k.items) l.index-iterator
+    ≡ keys_of (texts_of l.elements.entries)

@@ -12,7 +12,8 @@ returns-in-None-clause-absent g c = (
 )
 
 pub returns-clause-ok : goal.returns-clause-ok
-returns-clause-ok g c = ap texts_of c.shift_remove.ensures.entries ∙ without_removed (λ v. v) c.args.elements.now.entries c.args.index.now
+returns-clause-ok g c = ap texts_of c.shift_remove.ensures.entries
+    ∙ without_removed (λ v. v) c.args.elements.now.entries c.args.index.now
 
 pub returns-clause-found : goal.returns-clause-found
 returns-clause-found g c =

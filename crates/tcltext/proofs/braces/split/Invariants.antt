@@ -4,7 +4,8 @@ use Rattle.tcltext.proofs.braces.split.Given as goal
 
 abbrev pub invariant-loop-len : goal.invariant-loop-len
 invariant-loop-len l = record {
-  found : keep_all (take l.len l.text) (pairing l.open l.hidden (drop l.len l.text)) ≡ pairing 0 false l.text;
+  found : keep_all (take l.len l.text) (pairing l.open l.hidden (drop l.len l.text))
+      ≡ pairing 0 false l.text;
   within : l.len ≤ length l.text;
   fewer : l.open ≤ l.len;
 }

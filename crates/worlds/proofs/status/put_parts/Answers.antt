@@ -11,4 +11,5 @@ returns g c =
     let first = c.args.first.now in
     let second = c.args.second.now in
     Takes-then adds failed before mid c.put_all-3.new.sink (first ++ second) c.args.third.now
-    (Takes-then adds failed before c.put_all.new.sink mid first second c.put_all.ensures c.put_all-2.ensures) c.put_all-3.ensures
+    (Takes-then adds failed before c.put_all.new.sink mid first second c.put_all.ensures
+    c.put_all-2.ensures) c.put_all-3.ensures

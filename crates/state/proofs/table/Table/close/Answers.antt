@@ -12,4 +12,5 @@ returns-in-Some g c = λ ps fits.
 pub returns-in_default : goal.returns-in_default
 returns-in_default g c = λ ps fits.
     rw (opened-closed c.args.id ps)
-    (rw (unchanged c.args.id (Sized 0) _ (opened ps) (sym (place-position c.args.id _) ∙ sym c.in_default.ensures) fits).1 fits)
+    (rw (unchanged c.args.id (Sized 0) _ (opened ps) (sym (place-position c.args.id _)
+    ∙ sym c.in_default.ensures) fits).1 fits)

@@ -4,4 +4,5 @@ use Rattle.state.proofs.Tables.{opens, place-position}
 use Rattle.state.proofs.table.Table.is_open.Goals as goal
 
 pub returns : goal.returns
-returns g c = λ ps fits. c.is_some.ensures ∙ ap is_some (c.place.ensures ∙ place-position c.args.id _) ∙ opens c.args.id _ (opened ps) fits
+returns g c = λ ps fits. c.is_some.ensures ∙ ap is_some (c.place.ensures
+    ∙ place-position c.args.id _) ∙ opens c.args.id _ (opened ps) fits

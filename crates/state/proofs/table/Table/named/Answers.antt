@@ -10,8 +10,11 @@ returns-then-is_spelled g c = λ ps fits.
     let es = c.args.self.now.entries.items in
     let x = c.entry-item.result in
     let at = c.loop-entry.invariant ps fits in
-    let split : drop i es ≡ x ∷ drop (i + 1) es = split_at es i x (rw c.deref-entry-items.ensures.value at c.loop-entry-test.true) (rw c.deref-entry-items.ensures.value at c.entry-item.is) in
-    named_here x (drop (i + 1) es) at.0 c.args.text.now (rw split at at.1) c.if-is_spelled.ensures ∙ at.2
+    let split : drop i es ≡ x ∷ drop (i + 1) es =
+    split_at es i x (rw c.deref-entry-items.ensures.value at c.loop-entry-test.true)
+    (rw c.deref-entry-items.ensures.value at c.entry-item.is) in
+    named_here x (drop (i + 1) es) at.0 c.args.text.now (rw split at at.1) c.if-is_spelled.ensures
+    ∙ at.2
 
 pub loop-entry-preserved : goal.loop-entry-preserved
 loop-entry-preserved g c = λ ps fits.
@@ -19,6 +22,9 @@ loop-entry-preserved g c = λ ps fits.
     let es = c.args.self.now.entries.items in
     let x = c.entry-item.result in
     let at = c.loop-entry.invariant ps fits in
-    let split : drop i es ≡ x ∷ drop (i + 1) es = split_at es i x (rw c.deref-entry-items.ensures.value at c.loop-entry-test.true) (rw c.deref-entry-items.ensures.value at c.entry-item.is) in
-    let next = named_next x (drop (i + 1) es) at.0 c.args.text.now (rw split at at.1) c.if-is_spelled.ensures in
+    let split : drop i es ≡ x ∷ drop (i + 1) es =
+    split_at es i x (rw c.deref-entry-items.ensures.value at c.loop-entry-test.true)
+    (rw c.deref-entry-items.ensures.value at c.entry-item.is) in
+    let next = named_next x (drop (i + 1) es) at.0 c.args.text.now (rw split at at.1)
+    c.if-is_spelled.ensures in
     (next.0, next.1, next.2 ∙ at.2)

@@ -8,40 +8,53 @@ use Rattle.tclstate.proofs.Frames.{makes, found_in, changed_absent, refusal_abse
 use Rattle.tclstate.proofs.Reach.{changed_here, refusal_here, changed_reached, refusal_reached}
 use Rattle.tclstate.proofs.frame.LocalFrame.set.Goals as goal
 
-pub returns-in_err-content-in-None-clause-trouble : goal.returns-in_err-content-in-None-clause-trouble
+pub returns-in_err-content-in-None-clause-trouble :
+    goal.returns-in_err-content-in-None-clause-trouble
 returns-in_err-content-in-None-clause-trouble g c =
     let p = err_from_is_err_and c.from_residual.result c.from_residual.ensures.1 in
     rw (p.1, p.2)
-    (λ outer. refusal_here (frame_written c.args.name.now (option_copied c.args.index) c.args.value) c.args.self.now c.args.globals.now c.args.name.now outer (error.NoMemory _)
-    (ap is_link (found_in local_of c.self.inside.variables.entries _ c.self.view_is c.args.name.now None c.in-None.ensures.value))
-    (refusal_absent local_of c.self.inside.variables.entries _ c.self.view_is c.args.name.now (λ v. changed v (option_copied c.args.index) c.args.value)
+    (λ outer. refusal_here (frame_written c.args.name.now (option_copied c.args.index) c.args.value)
+    c.args.self.now c.args.globals.now c.args.name.now outer (error.NoMemory _)
+    (ap is_link (found_in local_of c.self.inside.variables.entries _ c.self.view_is c.args.name.now
+    None c.in-None.ensures.value))
+    (refusal_absent local_of c.self.inside.variables.entries _ c.self.view_is c.args.name.now
+    (λ v. changed v (option_copied c.args.index) c.args.value)
     c.in-None.ensures.value (error.NoMemory _) (makes (option_copied c.args.index) c.args.value)))
 
 pub returns-in_err-put-in-None-clause-trouble : goal.returns-in_err-put-in-None-clause-trouble
 returns-in_err-put-in-None-clause-trouble g c =
-    let p = err_from_is_err_and c.from_residual-in_err-put-in-None.result c.from_residual-in_err-put-in-None.ensures.1 in
+    let p = err_from_is_err_and c.from_residual-in_err-put-in-None.result
+    c.from_residual-in_err-put-in-None.ensures.1 in
     rw (p.1, p.2)
-    (λ outer. refusal_here (frame_written c.args.name.now (option_copied c.args.index) c.args.value) c.args.self.now c.args.globals.now c.args.name.now outer (error.NoMemory _)
-    (ap is_link (found_in local_of c.self.inside.variables.entries _ c.self.view_is c.args.name.now None c.in-None.ensures.value))
-    (refusal_absent local_of c.self.inside.variables.entries _ c.self.view_is c.args.name.now (λ v. changed v (option_copied c.args.index) c.args.value)
+    (λ outer. refusal_here (frame_written c.args.name.now (option_copied c.args.index) c.args.value)
+    c.args.self.now c.args.globals.now c.args.name.now outer (error.NoMemory _)
+    (ap is_link (found_in local_of c.self.inside.variables.entries _ c.self.view_is c.args.name.now
+    None c.in-None.ensures.value))
+    (refusal_absent local_of c.self.inside.variables.entries _ c.self.view_is c.args.name.now
+    (λ v. changed v (option_copied c.args.index) c.args.value)
     c.in-None.ensures.value (error.NoMemory _) (makes (option_copied c.args.index) c.args.value)))
 
 pub returns-in-Some-clause-ok : goal.returns-in-Some-clause-ok
 returns-in-Some-clause-ok g c =
     on_ok_weaker c.set.result
-    (λ e outer. changed_reached (λ v. changed v (option_copied c.args.index) c.args.value) (frame_written c.args.name.now (option_copied c.args.index) c.args.value)
+    (λ e outer. changed_reached (λ v. changed v (option_copied c.args.index) c.args.value)
+    (frame_written c.args.name.now (option_copied c.args.index) c.args.value)
     c.args.self.now c.args.globals.now c.args.name.now outer refl _ _ _ _
-    (found_in local_of c.self.inside.variables.entries _ c.self.view_is c.args.name.now (Some _) c.in-Some.ensures.value)
+    (found_in local_of c.self.inside.variables.entries _ c.self.view_is c.args.name.now (Some _)
+    c.in-Some.ensures.value)
     e
-    (put_in_place local_of c.self.inside.variables.entries _ c.self.view_is c.args.name.now _ _ c.set.new.self c.in-Some.ensures.value (c.get_mut.follows.holds c.set.new.self).0))
+    (put_in_place local_of c.self.inside.variables.entries _ c.self.view_is c.args.name.now _ _
+    c.set.new.self c.in-Some.ensures.value (c.get_mut.follows.holds c.set.new.self).0))
     c.set.ensures.ok
 
 pub returns-in-Some-clause-trouble : goal.returns-in-Some-clause-trouble
 returns-in-Some-clause-trouble g c =
     IfErr-weaker c.set.result _ _
-    (λ e h outer. refusal_reached (λ v. changed v (option_copied c.args.index) c.args.value) (frame_written c.args.name.now (option_copied c.args.index) c.args.value)
+    (λ e h outer. refusal_reached (λ v. changed v (option_copied c.args.index) c.args.value)
+    (frame_written c.args.name.now (option_copied c.args.index) c.args.value)
     c.args.self.now c.args.globals.now c.args.name.now outer refl _ e
-    (found_in local_of c.self.inside.variables.entries _ c.self.view_is c.args.name.now (Some _) c.in-Some.ensures.value)
+    (found_in local_of c.self.inside.variables.entries _ c.self.view_is c.args.name.now (Some _)
+    c.in-Some.ensures.value)
     h)
     c.set.ensures.trouble
 
@@ -54,10 +67,15 @@ returns-in-Some-clause-unchanged g c =
 
 pub returns-in_ok-put-in-None-clause-ok : goal.returns-in_ok-put-in-None-clause-ok
 returns-in_ok-put-in-None-clause-ok g c =
-    λ outer. changed_here (frame_written c.args.name.now (option_copied c.args.index) c.args.value) c.args.self.now c.args.globals.now c.args.name.now outer _
-    (ap is_link (found_in local_of c.self.inside.variables.entries _ c.self.view_is c.args.name.now None c.in-None.ensures.value))
-    (changed_absent local_of c.self.inside.variables.entries _ c.self.view_is c.args.name.now (λ v. changed v (option_copied c.args.index) c.args.value)
-    c.put.new.self (variable_of c.in_ok-content-in-None.content) c.in-None.ensures.value c.in_ok-content-in-None.ensures
+    λ outer. changed_here (frame_written c.args.name.now (option_copied c.args.index) c.args.value)
+    c.args.self.now c.args.globals.now c.args.name.now outer _
+    (ap is_link (found_in local_of c.self.inside.variables.entries _ c.self.view_is c.args.name.now
+    None c.in-None.ensures.value))
+    (changed_absent local_of c.self.inside.variables.entries _ c.self.view_is c.args.name.now
+    (λ v. changed v (option_copied c.args.index) c.args.value)
+    c.put.new.self (variable_of c.in_ok-content-in-None.content) c.in-None.ensures.value
+    c.in_ok-content-in-None.ensures
     (c.in_ok-put-in-None.ensures.ok
-    ∙ ap (λ m. put (locals_of m.entries) c.args.name.now (variable_of c.in_ok-content-in-None.content)) c.get_mut.follows.holds-at-none
+    ∙ ap (λ m. put (locals_of m.entries) c.args.name.now
+    (variable_of c.in_ok-content-in-None.content)) c.get_mut.follows.holds-at-none
     ∙ ap (λ f. put f c.args.name.now (variable_of c.in_ok-content-in-None.content)) c.self.view_is))

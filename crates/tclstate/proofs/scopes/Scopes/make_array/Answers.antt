@@ -8,20 +8,24 @@ use Rattle.tclstate.proofs.scopes.Scopes.make_array.Goals as goal
 pub returns-in-Some-clause-ok : goal.returns-in-Some-clause-ok
 returns-in-Some-clause-ok g c =
     on_ok_weaker c.make_array.result
-    (changed_innermost c.self.inside.locals.items _ c.self.inside.locals.ok.0 (c.in-Some.ensures.variant.0 refl) c.in-Some.frame.now c.in-Some.ensures.value
+    (changed_innermost c.self.inside.locals.items _ c.self.inside.locals.ok.0
+    (c.in-Some.ensures.variant.0 refl) c.in-Some.frame.now c.in-Some.ensures.value
     c.self.inside.globals _ c.self.view_is (λ s. with_array s c.args.name.now) _ _)
     c.make_array.ensures.ok
 
 pub returns-in-Some-clause-trouble : goal.returns-in-Some-clause-trouble
 returns-in-Some-clause-trouble g c =
     IfErr-weaker c.make_array.result _ _
-    (λ e. trouble_innermost c.self.inside.locals.items _ c.self.inside.locals.ok.0 (c.in-Some.ensures.variant.0 refl) c.in-Some.frame.now c.in-Some.ensures.value
-    c.self.inside.globals _ c.self.view_is (HasTroubleOrRefusal e) (λ s. with_array s c.args.name.now))
+    (λ e. trouble_innermost c.self.inside.locals.items _ c.self.inside.locals.ok.0
+    (c.in-Some.ensures.variant.0 refl) c.in-Some.frame.now c.in-Some.ensures.value
+    c.self.inside.globals _ c.self.view_is (HasTroubleOrRefusal e)
+    (λ s. with_array s c.args.name.now))
     c.make_array.ensures.trouble
 
 pub returns-in-Some-clause-unchanged : goal.returns-in-Some-clause-unchanged
 returns-in-Some-clause-unchanged g c =
     on_err_both c.make_array.result
-    (unchanged_innermost c.self.inside.locals.items _ c.self.inside.locals.ok.0 (c.in-Some.ensures.variant.0 refl) c.in-Some.frame.now c.in-Some.ensures.value
+    (unchanged_innermost c.self.inside.locals.items _ c.self.inside.locals.ok.0
+    (c.in-Some.ensures.variant.0 refl) c.in-Some.frame.now c.in-Some.ensures.value
     c.self.inside.globals _ c.self.view_is _ _)
     c.make_array.ensures.unchanged c.make_array.ensures.unchanged_globals

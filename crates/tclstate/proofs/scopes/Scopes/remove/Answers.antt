@@ -8,20 +8,23 @@ use Rattle.tclstate.proofs.scopes.Scopes.remove.Goals as goal
 pub returns-in-Some-clause-ok : goal.returns-in-Some-clause-ok
 returns-in-Some-clause-ok g c =
     on_ok_weaker c.remove.result
-    (changed_innermost c.self.inside.locals.items _ c.self.inside.locals.ok.0 (c.in-Some.ensures.variant.0 refl) c.in-Some.frame.now c.in-Some.ensures.value
+    (changed_innermost c.self.inside.locals.items _ c.self.inside.locals.ok.0
+    (c.in-Some.ensures.variant.0 refl) c.in-Some.frame.now c.in-Some.ensures.value
     c.self.inside.globals _ c.self.view_is (λ s. removed s c.args.name.now None) _ _)
     c.remove.ensures.ok
 
 pub returns-in-Some-clause-trouble : goal.returns-in-Some-clause-trouble
 returns-in-Some-clause-trouble g c =
     IfErr-weaker c.remove.result _ _
-    (λ e. trouble_innermost c.self.inside.locals.items _ c.self.inside.locals.ok.0 (c.in-Some.ensures.variant.0 refl) c.in-Some.frame.now c.in-Some.ensures.value
+    (λ e. trouble_innermost c.self.inside.locals.items _ c.self.inside.locals.ok.0
+    (c.in-Some.ensures.variant.0 refl) c.in-Some.frame.now c.in-Some.ensures.value
     c.self.inside.globals _ c.self.view_is (HasTrouble e) (λ s. removed s c.args.name.now None))
     c.remove.ensures.trouble
 
 pub returns-in-Some-clause-unchanged : goal.returns-in-Some-clause-unchanged
 returns-in-Some-clause-unchanged g c =
     on_err_both c.remove.result
-    (unchanged_innermost c.self.inside.locals.items _ c.self.inside.locals.ok.0 (c.in-Some.ensures.variant.0 refl) c.in-Some.frame.now c.in-Some.ensures.value
+    (unchanged_innermost c.self.inside.locals.items _ c.self.inside.locals.ok.0
+    (c.in-Some.ensures.variant.0 refl) c.in-Some.frame.now c.in-Some.ensures.value
     c.self.inside.globals _ c.self.view_is _ _)
     c.remove.ensures.unchanged c.remove.ensures.unchanged_globals

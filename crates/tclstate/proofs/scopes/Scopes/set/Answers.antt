@@ -8,20 +8,25 @@ use Rattle.tclstate.proofs.scopes.Scopes.set.Goals as goal
 pub returns-in-Some-clause-ok : goal.returns-in-Some-clause-ok
 returns-in-Some-clause-ok g c =
     on_ok_weaker c.set.result
-    (changed_innermost c.self.inside.locals.items _ c.self.inside.locals.ok.0 (c.in-Some.ensures.variant.0 refl) c.in-Some.frame.now c.in-Some.ensures.value
-    c.self.inside.globals _ c.self.view_is (λ s. written s c.args.name.now (option_copied c.args.index) c.args.value) _ _)
+    (changed_innermost c.self.inside.locals.items _ c.self.inside.locals.ok.0
+    (c.in-Some.ensures.variant.0 refl) c.in-Some.frame.now c.in-Some.ensures.value
+    c.self.inside.globals _ c.self.view_is (λ s. written s c.args.name.now
+    (option_copied c.args.index) c.args.value) _ _)
     c.set.ensures.ok
 
 pub returns-in-Some-clause-trouble : goal.returns-in-Some-clause-trouble
 returns-in-Some-clause-trouble g c =
     IfErr-weaker c.set.result _ _
-    (λ e. trouble_innermost c.self.inside.locals.items _ c.self.inside.locals.ok.0 (c.in-Some.ensures.variant.0 refl) c.in-Some.frame.now c.in-Some.ensures.value
-    c.self.inside.globals _ c.self.view_is (HasTroubleOrRefusal e) (λ s. written s c.args.name.now (option_copied c.args.index) c.args.value))
+    (λ e. trouble_innermost c.self.inside.locals.items _ c.self.inside.locals.ok.0
+    (c.in-Some.ensures.variant.0 refl) c.in-Some.frame.now c.in-Some.ensures.value
+    c.self.inside.globals _ c.self.view_is (HasTroubleOrRefusal e)
+    (λ s. written s c.args.name.now (option_copied c.args.index) c.args.value))
     c.set.ensures.trouble
 
 pub returns-in-Some-clause-unchanged : goal.returns-in-Some-clause-unchanged
 returns-in-Some-clause-unchanged g c =
     on_err_both c.set.result
-    (unchanged_innermost c.self.inside.locals.items _ c.self.inside.locals.ok.0 (c.in-Some.ensures.variant.0 refl) c.in-Some.frame.now c.in-Some.ensures.value
+    (unchanged_innermost c.self.inside.locals.items _ c.self.inside.locals.ok.0
+    (c.in-Some.ensures.variant.0 refl) c.in-Some.frame.now c.in-Some.ensures.value
     c.self.inside.globals _ c.self.view_is _ _)
     c.set.ensures.unchanged c.set.ensures.unchanged_globals

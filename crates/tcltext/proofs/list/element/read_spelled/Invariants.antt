@@ -6,7 +6,8 @@ use Rattle.tcltext.proofs.list.element.read_spelled.Given as goal
 -- Whatever is spelled from here on, what was read stands before it.
 abbrev pub invariant-loop-byte : goal.invariant-loop-byte
 invariant-loop-byte g l = record {
-  spelled : (t z : List ℕ) → IsSpelled (style_of l.style) t l.rest z → IsSpelled (style_of l.style) (l.bytes.items ++ t) l.text z;
+  spelled : (t z : List ℕ) → IsSpelled (style_of l.style) t l.rest z →
+      IsSpelled (style_of l.style) (l.bytes.items ++ t) l.text z;
   shorter : length l.bytes.items + length l.rest ≤ length l.text;
   moves : length l.bytes.items ≡ 0 → l.rest ≡ l.text;
 }

@@ -8,5 +8,6 @@ use Rattle.tcltext.proofs.list.join.join_list.Goals as goal
 
 pub returns-clause-reads_back : goal.returns-clause-reads_back
 returns-clause-reads_back g c =
-    let e : c.loop-element.text.items ≡ canonical (texts c.args.list.now) = grind (arith, common_steps) in
+    let e : c.loop-element.text.items ≡ canonical (texts c.args.list.now) =
+    grind (arith, common_steps) in
     subst (IsList (texts c.args.list.now)) (sym e) (reads_back (texts c.args.list.now))

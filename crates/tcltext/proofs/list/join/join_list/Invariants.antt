@@ -4,4 +4,5 @@ use Rattle.tcltext.specs.Seen.{texts}
 use Rattle.tcltext.proofs.list.join.join_list.Given as goal
 
 abbrev pub invariant-loop-element : goal.invariant-loop-element
-invariant-loop-element g l = l.text.items ++ joined l.first (texts (drop l.element-index l.list)) ≡ joined true (texts l.list)
+invariant-loop-element g l = l.text.items ++ joined l.first (texts (drop l.element-index l.list))
+    ≡ joined true (texts l.list)

@@ -5,7 +5,9 @@ use Rattle.tcltext.proofs.list.split.split_list.Goals as goal
 
 pub loop-rest-init : goal.loop-rest-init
 loop-rest-init g c = record {
-  list = subst (λ es. ListSoFar c.args.text.now c.skip_white-rest.result.now (texts es)) (sym c.new-elements.ensures.items) (list_begins c.args.text.now _ c.skip_white-rest.ensures.rest);
+  list = subst (λ es. ListSoFar c.args.text.now c.skip_white-rest.result.now (texts es))
+      (sym c.new-elements.ensures.items) (list_begins c.args.text.now _
+      c.skip_white-rest.ensures.rest);
   skipped = skipped_is c.args.text.now _ c.skip_white-rest.ensures.rest;
   begins = c.skip_white-rest.ensures.begins;
 }
@@ -15,16 +17,23 @@ read-requires g c = c.loop-rest.invariant.begins (some_left _ c.loop-rest-test.e
 
 pub returns-in_err-element-clause-fault : goal.returns-in_err-element-clause-fault
 returns-in_err-element-clause-fault g c =
-    split_fault c.args.text.now c.loop-rest.rest.now (texts c.loop-rest.elements.items) _ _ c.loop-rest.invariant.list c.loop-rest.invariant.skipped c.in_err-element.ensures.element
+    split_fault c.args.text.now c.loop-rest.rest.now (texts c.loop-rest.elements.items) _ _
+    c.loop-rest.invariant.list c.loop-rest.invariant.skipped c.in_err-element.ensures.element
     (passed_on c.from_residual.result _ c.from_residual.ensures.1)
 
 pub loop-rest-preserved : goal.loop-rest-preserved
 loop-rest-preserved g c = record {
-  list = after_element c.args.text.now c.loop-rest.rest.now c.in_ok-element.behind.now _ (texts c.loop-rest.elements.items) _ c.in_ok-element.element.items c.loop-rest.invariant.list c.loop-rest.invariant.skipped
-      c.in_ok-element.ensures.element (ap texts c.in_ok-push.ensures.items ∙ texts_push c.loop-rest.elements.items c.in_ok-element.element) c.skip_white-rest-in-loop-rest.ensures.rest;
+  list = after_element c.args.text.now c.loop-rest.rest.now c.in_ok-element.behind.now _
+      (texts c.loop-rest.elements.items) _ c.in_ok-element.element.items c.loop-rest.invariant.list
+      c.loop-rest.invariant.skipped
+      c.in_ok-element.ensures.element (ap texts c.in_ok-push.ensures.items
+      ∙ texts_push c.loop-rest.elements.items c.in_ok-element.element)
+      c.skip_white-rest-in-loop-rest.ensures.rest;
   skipped = skipped_is c.in_ok-element.behind.now _ c.skip_white-rest-in-loop-rest.ensures.rest;
   begins = c.skip_white-rest-in-loop-rest.ensures.begins;
 }
 
 pub returns-clause-list : goal.returns-clause-list
-returns-clause-list g c = list_ends c.args.text.now c.loop-rest.rest.now (texts c.loop-rest.elements.items) c.loop-rest.invariant.list (none_left _ c.loop-rest-test.ensures)
+returns-clause-list g c = list_ends c.args.text.now c.loop-rest.rest.now
+    (texts c.loop-rest.elements.items) c.loop-rest.invariant.list
+    (none_left _ c.loop-rest-test.ensures)

@@ -7,7 +7,8 @@ use Rattle.tcltext.proofs.list.split.split_values.Given as goal
 -- Whatever stands from here on, the elements that were read stand before it.
 abbrev pub invariant-loop-rest : goal.invariant-loop-rest
 invariant-loop-rest g l = record {
-  list : (v : List (List ℕ)) (o : Option Flaw) → IsElements v o l.rest → IsElements (l.elements.items ++ v) o l.text;
+  list : (v : List (List ℕ)) (o : Option Flaw) → IsElements v o l.rest →
+      IsElements (l.elements.items ++ v) o l.text;
   skipped : skip_white l.rest ≡ l.rest;
   begins : 0 < length l.rest → ends_element l.rest ≡ false;
 }

@@ -6,6 +6,9 @@ use Rattle.tcltext.proofs.pattern.Pattern.find.Goals as goal
 pub returns-clause-steps : goal.returns-clause-steps
 returns-clause-steps g c =
     let items = items_of_runs c.self.inside.runs in
-    let one : c.saturating_add-steps.result ≤ c.locate-found.new.steps + 1 = omega (arith, c.saturating_add-steps.ensures) in
+    let one : c.saturating_add-steps.result ≤ c.locate-found.new.steps + 1 =
+    omega (arith, c.saturating_add-steps.ensures) in
     rw (← c.self.view_is)
-    (steps_of_table c.locate-found.new.steps c.saturating_add-steps.result (length items) (length c.args.window.now + 1) (omega (arith, c.locate-found.ensures.steps)) one (omega arith))
+    (steps_of_table c.locate-found.new.steps c.saturating_add-steps.result (length items)
+    (length c.args.window.now + 1) (omega (arith, c.locate-found.ensures.steps)) one
+    (omega arith))

@@ -3,4 +3,6 @@ use Rattle.tcltext.proofs.Patterns.Finds.{whole_iff_found}
 use Rattle.tcltext.proofs.pattern.Pattern.whole.Goals as goal
 
 pub returns : goal.returns
-returns g c = rw (c.is_some.ensures, ← c.self.view_is) (whole_iff_found (items_of_runs c.self.inside.runs) c.args.text.now c.locate.result c.locate.ensures.found)
+returns g c = rw (c.is_some.ensures, ← c.self.view_is)
+    (whole_iff_found (items_of_runs c.self.inside.runs) c.args.text.now c.locate.result
+    c.locate.ensures.found)

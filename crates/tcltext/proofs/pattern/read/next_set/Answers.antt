@@ -8,7 +8,8 @@ pub returns-in-Some-clause-sign : goal.returns-in-Some-clause-sign
 returns-in-Some-clause-sign c =
     let text = c.args.text.now in
     let end = c.in-Some.end in
-    signs_in_set-closed [] text end c.in-Some.ensures.0.high c.in-Some.ensures.0.before c.in-Some.ensures.1
+    signs_in_set-closed [] text end c.in-Some.ensures.0.high c.in-Some.ensures.0.before
+    c.in-Some.ensures.1
     ∙ ap (λ (n : ℕ). a_set (take end text) ∷ signs (drop n text)) (sym (add-one end))
     ∙ ap (λ (x : List ℕ). a_set (take end text) ∷ signs x) (sym (take_rest text (end + 1)))
 

@@ -7,7 +7,8 @@ use Rattle.tcltext.proofs.pattern.read.read_runs.Given as goal
 -- What was read and what is left are the whole text; where a `$` may tie, none was read last.
 abbrev pub invariant-loop-sign : goal.invariant-loop-sign
 invariant-loop-sign g l = record {
-  items : starred_items l.starred.items (items_of_run l.last) ++ map item_of (signs l.rest) ≡ map item_of (signs l.text);
+  items : starred_items l.starred.items (items_of_run l.last) ++ map item_of (signs l.rest)
+      ≡ map item_of (signs l.text);
   dollar : dollar_after l.dollar (signs l.rest) ≡ dollar_after false (signs l.text);
   untied : IsTrue l.may_tie → l.rest ≡ [] → l.dollar ≡ false;
 }

@@ -11,4 +11,5 @@ returns-in_ok-new-in-Set g c =
     let text : List ℕ = c.in-Set.text.now in
     rw c.in-Set.is
     (ap (λ (t : List Bool). one_of (marked t)) c.in_ok-new-in-Set.ensures.ok
-    ∙ ap one_of (all_bytes-filter (λ (b : ℕ). slice_index_or table b false) (is_in_ranges (ranges text)) c.read_set.ensures))
+    ∙ ap one_of (all_bytes-filter (λ (b : ℕ). slice_index_or table b false)
+    (is_in_ranges (ranges text)) c.read_set.ensures))

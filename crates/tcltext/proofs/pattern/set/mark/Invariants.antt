@@ -4,4 +4,5 @@ use Rattle.tcltext.proofs.pattern.set.mark.Given as goal
 -- the bytes from the low end up to this one are marked, and no others than those that were
 abbrev pub invariant-loop-byte : goal.invariant-loop-byte
 invariant-loop-byte l =
-    (b : ℕ) → b < 256 → slice_index_or l.table b false ≡ (slice_index_or l.initial.table b false || (nat_le l.low b && nat_lt b l.byte))
+    (b : ℕ) → b < 256 → slice_index_or l.table b false
+    ≡ (slice_index_or l.initial.table b false || (nat_le l.low b && nat_lt b l.byte))

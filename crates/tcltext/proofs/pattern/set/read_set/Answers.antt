@@ -4,7 +4,8 @@ use Rattle.tcltext.specs.Pattern.Glob.{ranges, is_in_ranges, is_within}
 use Rattle.tcltext.proofs.pattern.set.read_set.Goals as goal
 
 pub loop-one-init : goal.loop-one-init
-loop-one-init c = λ b below. ap (λ (t : Bool). t || is_in_ranges (ranges c.args.text.now) b) (c.no_bytes-table.ensures b)
+loop-one-init c = λ b below. ap (λ (t : Bool). t || is_in_ranges (ranges c.args.text.now) b)
+    (c.no_bytes-table.ensures b)
 
 pub loop-one-preserved : goal.loop-one-preserved
 loop-one-preserved c = λ b below.
@@ -12,5 +13,6 @@ loop-one-preserved c = λ b below.
     let within = is_within b (c.in-Some.one, c.in-Some.other) in
     ap (λ (t : Bool). t || rest) (c.mark.ensures b below)
     ∙ or_assoc (slice_index_or c.loop-one.table b false) within rest
-    ∙ ap (λ rs. slice_index_or c.loop-one.table b false || is_in_ranges rs b) (sym c.in-Some.ensures.range)
+    ∙ ap (λ rs. slice_index_or c.loop-one.table b false || is_in_ranges rs b)
+    (sym c.in-Some.ensures.range)
     ∙ c.loop-one.invariant b below

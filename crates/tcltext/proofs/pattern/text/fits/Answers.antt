@@ -11,6 +11,7 @@ returns-clause-fits c =
     let bytes = c.args.bytes.now in
     let text = c.args.text.now in
     let parts = starts_is Decides-eqb text bytes c.starts_with.result c.starts_with.ensures.value in (
-      λ t. subst (λ (x : List ℕ). Fits (map literal bytes) x) (sym (parts.0 t)) (fits_front bytes (drop (length bytes) text)),
+      λ t. subst (λ (x : List ℕ). Fits (map literal bytes) x) (sym (parts.0 t))
+          (fits_front bytes (drop (length bytes) text)),
       λ fits. parts.1 (drop (length bytes) text) (front_fits bytes text fits),
     )

@@ -18,7 +18,8 @@ returns-in-Script-clause-goes_on g c = λ levels s k same.
 pub returns-in-Fault-clause-goes_on : goal.returns-in-Fault-clause-goes_on
 returns-in-Fault-clause-goes_on g c = λ levels s k same.
     let on = after levels c.levels.outer.items k in
-    c.levels.invariant.goes_on levels s k same ∙ ap (λ met. course_of_met levels met on s) c.in-Fault.is
+    c.levels.invariant.goes_on levels s k same
+    ∙ ap (λ met. course_of_met levels met on s) c.in-Fault.is
 
 pub returns-in-Script-clause-fewer : goal.returns-in-Script-clause-fewer
 returns-in-Script-clause-fewer g c =

@@ -10,6 +10,7 @@ returns-in-BadRecord g c =
     let after = c.put_number-in-BadRecord.new.sink in
     let front = codes "rx: bad record " ++ c.in-BadRecord.name.now ++ codes " at line " in
     let digits = decimal c.in-BadRecord.line in
-    let both = Takes-then adds failed before c.put_parts-in-BadRecord.new.sink after front (digits ++ codes "\n")
+    let both = Takes-then adds failed before c.put_parts-in-BadRecord.new.sink after front (digits
+    ++ codes "\n")
     c.put_parts-in-BadRecord.ensures c.put_number-in-BadRecord.ensures in
     rw c.in-BadRecord.is (rw (append_assoc front digits (codes "\n")) both)

@@ -5,4 +5,7 @@ use Rattle.tcltext.proofs.pattern.token.Token.takes.Goals as goal
 pub returns-in-Set : goal.returns-in-Set
 returns-in-Set g c =
     let below : c.args.byte < 256 = c.ranges.byte.fits in
-    rw (c.in-Set.is, c.deref.ensures) (marked_holds c.in-Set.table.value c.args.byte below, holds_marked c.in-Set.table.value c.args.byte)
+    rw (c.in-Set.is, c.deref.ensures) (
+      marked_holds c.in-Set.table.value c.args.byte below,
+      holds_marked c.in-Set.table.value c.args.byte,
+    )
