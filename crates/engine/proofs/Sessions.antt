@@ -23,7 +23,7 @@ use Rattle.plan.specs.Runs.{Runs, ends}
 use Rattle.plan.proofs.Exact as exact
 use Rattle.plan.proofs.Exact.{then_same}
 use Rattle.plan.proofs.Finished.{each_plan_runs}
-use Rattle.runs.specs.Bounds.{Goes, most_acts}
+use Rattle.runs.specs.Bounds.{BeginsRun, most_acts}
 use Rattle.runs.specs.Ending.{Ending, Over, numbered}
 use Rattle.runs.specs.Run.{Run, whole}
 use Rattle.runs.specs.Scripts.{plan_of}
@@ -42,7 +42,7 @@ IsLeft plan text args limit past =
 module _ (text : List ℕ) (args : List (List ℕ)) (limit : ℕ) (past : History) where
   -- some run goes on from there
   pub left_goes : (plan : Dialogue Over) → IsLeft plan text args limit past →
-      Goes text args limit past
+      BeginsRun text args limit past
   left_goes plan left =
       let on = each_plan_runs finite plan in
       record {

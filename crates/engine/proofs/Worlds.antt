@@ -16,7 +16,7 @@ use Rattle.engine.specs.declared.session.Session.{Session}
 use Rattle.engine.proofs.Sessions.{left_bounded, session_tells}
 use Rattle.plan.specs.Exact.{Begins}
 use Rattle.plan.proofs.Kept.{throughout_first}
-use Rattle.runs.specs.Bounds.{Goes, most_acts}
+use Rattle.runs.specs.Bounds.{BeginsRun, most_acts}
 use Rattle.runs.specs.Run.{Run, Ran, Began, HoldsThroughout}
 use Rattle.runs.proofs.AllRuns.{any_answer_leads_on, each_script_runs, waits_hold}
 use Rattle.state.specs.Rows.{Holds}
@@ -29,7 +29,7 @@ past_join Step a b c (pair ∷ h) k p q = (p.0, p.1, past_join Step p.0 b c h k 
 -- where a run goes on, it has begun
 pub began : {W : Type 0} (Step : W → Deed → Reply → W → Type 0) (first now : W) (text : List ℕ)
     (args : List (List ℕ)) (limit : ℕ) (h : History) → Past Step first now h →
-    Goes text args limit h → Began Step first now text args limit
+    BeginsRun text args limit h → Began Step first now text args limit
 began Step first now text args limit h past goes = record {
   history = h;
   past = past;
@@ -167,7 +167,7 @@ module _ {A W : Type 0} {Step : W → Deed → Reply → W → Type 0} {a b : W}
       let first = asks session.phase act text args limit g.history is (telling session told g) in
       let on = first.goes in
       let begins = first.first on.rest on.ending on.run in
-      let other : Goes text args limit (g.history ++ (deed, begins.reply) ∷ []) = record {
+      let other : BeginsRun text args limit (g.history ++ (deed, begins.reply) ∷ []) = record {
         rest = begins.rest;
         ending = on.ending;
         run = subst (λ h. Run text args limit h on.ending)

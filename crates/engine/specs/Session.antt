@@ -16,7 +16,7 @@ use Rattle.engine.specs.declared.session.Step.TheVariants as step
 use Rattle.memory.specs.declared.NoMemory.{NoMemory}
 use Rattle.plan.specs.Exact.{Same, Begins, Rests}
 use Rattle.plan.specs.Runs.{Runs}
-use Rattle.runs.specs.Bounds.{Goes}
+use Rattle.runs.specs.Bounds.{BeginsRun}
 use Rattle.runs.specs.Ending.{Ending, Over}
 use Rattle.runs.specs.Run.{Run, whole}
 use Rattle.runs.specs.Scripts.{plan_of}
@@ -46,7 +46,7 @@ answered_so session answer = paired (deed_in session.phase) answer
 -- each run that is left begins with this act, and there is one
 pub record AsksFirst (deed : Deed) (text : List ℕ) (args : List (List ℕ)) (limit : ℕ)
     (past : History) : Type 0 where
-  pub goes : Goes text args limit past
+  pub goes : BeginsRun text args limit past
   pub first : (h : History) (e : Ending) → Run text args limit (past ++ h) e →
       Begins deed (λ reply rest. Run text args limit (past ++ (deed, reply) ∷ rest) e) h
 

@@ -6,7 +6,7 @@ use Rattle.plan.proofs.Answers as plan_answers
 use Rattle.plan.proofs.Finished as plan_finished
 use Rattle.plan.proofs.Kept as plan_kept
 use Rattle.plan.proofs.Paid as plan_paid
-use Rattle.runs.specs.Bounds.{Goes, most_acts}
+use Rattle.runs.specs.Bounds.{BeginsRun, most_acts}
 use Rattle.runs.specs.Ending.{Over, numbered}
 use Rattle.runs.specs.Laws.{AnswersLead, AnswersDecide, ActsAreBounded, WaitsHold, EachScriptRuns, AnyAnswerLeadsOn}
 use Rattle.runs.specs.Run.{whole}
@@ -47,7 +47,7 @@ waits_hold text args limit h e run =
 
 -- a beginning of what the plan does is one of a run
 goes_from : (text : List ℕ) (args : List (List ℕ)) (limit : ℕ) (h : History) →
-    RunsOn plan_of IsTree (whole text args limit) h → Goes text args limit h
+    RunsOn plan_of IsTree (whole text args limit) h → BeginsRun text args limit h
 goes_from text args limit h on = record {
   rest = on.rest;
   ending = numbered (length (h ++ on.rest)) on.result;
@@ -56,7 +56,7 @@ goes_from text args limit h on = record {
 
 -- and back
 runs_from : (text : List ℕ) (args : List (List ℕ)) (limit : ℕ) (h : History) →
-    Goes text args limit h → RunsOn plan_of IsTree (whole text args limit) h
+    BeginsRun text args limit h → RunsOn plan_of IsTree (whole text args limit) h
 runs_from text args limit h goes =
     record { rest = goes.rest; result = goes.run.over; runs = goes.run.runs }
 

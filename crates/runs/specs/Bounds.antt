@@ -9,7 +9,7 @@ abbrev pub most_acts : ℕ → ℕ
 most_acts limit = 3 * limit + 1
 
 -- some run begins with these acts and answers
-pub record Goes (text : List ℕ) (args : List (List ℕ)) (limit : ℕ) (h : History) : Type 0 where
+pub record BeginsRun (text : List ℕ) (args : List (List ℕ)) (limit : ℕ) (h : History) : Type 0 where
   pub rest : History
   pub ending : Ending
   pub run : Run text args limit (h ++ rest) ending

@@ -3,7 +3,7 @@ use Rattle.std.specs.Prelude.{◌≡◌, ℕ, ◌≤◌, List, [], ◌∷◌, �
 use Rattle.acts.specs.Deed.{Deed, Reply}
 use Rattle.acts.specs.History.{History}
 use Rattle.plan.specs.Answers.{GoAlike, answers}
-use Rattle.runs.specs.Bounds.{Goes, most_acts}
+use Rattle.runs.specs.Bounds.{BeginsRun, most_acts}
 use Rattle.runs.specs.Ending.{Ending}
 use Rattle.runs.specs.Run.{Run, HoldsThroughout}
 
@@ -35,12 +35,12 @@ WaitsHold =
 
 -- each script has a run
 abbrev pub EachScriptRuns : Type 0
-EachScriptRuns = (text : List ℕ) (args : List (List ℕ)) (limit : ℕ) → Goes text args limit []
+EachScriptRuns = (text : List ℕ) (args : List (List ℕ)) (limit : ℕ) → BeginsRun text args limit []
 
 -- at each act of a run any other answer leads on
 abbrev pub AnyAnswerLeadsOn : Type 0
 AnyAnswerLeadsOn =
     (text : List ℕ) (args : List (List ℕ)) (limit : ℕ) (h : History) (act : Deed)
     (reply other : Reply) →
-    Goes text args limit (h ++ ((act, reply) ∷ [])) →
-    Goes text args limit (h ++ ((act, other) ∷ []))
+    BeginsRun text args limit (h ++ ((act, reply) ∷ [])) →
+    BeginsRun text args limit (h ++ ((act, other) ∷ []))
