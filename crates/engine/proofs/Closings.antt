@@ -10,7 +10,7 @@ use Rattle.runs.specs.Ending.{Ending, Over, With, stopped}
 use Rattle.state.specs.Dialogue.{Dialogue, judged, is_no_more}
 use Rattle.state.specs.Outcome.{Stop}
 use Rattle.state.specs.Outcome as stop
-use Rattle.state.specs.Status.{Status, Peer, opened, closed}
+use Rattle.state.specs.Status.{Status, Peer, opened, closed, shut}
 use Rattle.state.specs.View.{plain_logging}
 
 -- an open id is closed first
@@ -18,7 +18,7 @@ pub closes_first : (e : Ending) (s : Status) (peer : Peer) (others : List Peer) 
     s.logging ≡ plain_logging → opened s.peers ≡ peer ∷ others → peer.id ≡ i →
     opened (closed i s.peers) ≡ others →
     ends_with e s
-    ≡ does (said.Close i) (λ reply. ends_with e (record s { peers = closed i s.peers }))
+    ≡ does (said.Close i) (λ reply. ends_with e (shut i s))
 closes_first e s peer others i plain split is rest = rw (plain, split, rest, is) refl
 
 -- where none is open, the run is over

@@ -14,10 +14,10 @@ use Rattle.matchbuf.proofs.Windows.{windows_hold}
 use Rattle.state.specs.Behaves.{Behaves, worth}
 use Rattle.state.specs.Dialogue.{Course, gives, raises, written}
 use Rattle.state.specs.Rows.{first_place, row_of, without_nulls}
-use Rattle.state.specs.Status.{Status, journal_of}
+use Rattle.state.specs.Status.{Status, journal_of, shut}
 use Rattle.state.specs.Variables.{consulted, whole_of, with_current}
 use Rattle.state.proofs.Behaves.{ask_behaves, writes_behaves, current_behaves}
-use Rattle.expects.specs.Turn.{arrived, consumed, shut, sets, reported, on_place, on_journal, tested, logged, waited, later, waits, turn, timer_of, on_seconds, on_timeout, first_wait}
+use Rattle.expects.specs.Turn.{arrived, consumed, sets, reported, on_place, on_journal, tested, logged, waited, later, waits, turn, timer_of, on_seconds, on_timeout, first_wait}
 use Rattle.expects.specs.Expect.{expects, expect}
 use Rattle.expects.proofs.Opened.{as_many, no_more}
 

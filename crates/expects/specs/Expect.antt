@@ -7,9 +7,9 @@ use Rattle.acts.specs.Deed as said
 use Rattle.acts.specs.Flaw as flaw
 use Rattle.expects.specs.declared.turn.Waits.{Waits}
 use Rattle.expects.specs.declared.turn.Waits.TheVariants as waiting
-use Rattle.expects.specs.Turn.{arrived, first_wait, shut, tested, turn, waited}
+use Rattle.expects.specs.Turn.{arrived, first_wait, tested, turn, waited}
 use Rattle.state.specs.Dialogue.{Course, gives, raises, written}
-use Rattle.state.specs.Status.{Status}
+use Rattle.state.specs.Status.{Status, shut}
 use Rattle.state.specs.Variables.{with_current}
 
 -- the test of a pattern, which has at most 1,000,000 bytes, and the first wait (expect(1), expect)

@@ -11,7 +11,7 @@ use Rattle.matchbuf.specs.Journal.{Record, Arrived, Consumed, window, place_afte
 use Rattle.state.specs.Dialogue.{Course, gives, raises, stops, ask, written}
 use Rattle.state.specs.Outcome as stop
 use Rattle.state.specs.Rows.{first_place, row_of, without_nulls}
-use Rattle.state.specs.Status.{Status, journal_of, recorded, closed}
+use Rattle.state.specs.Status.{Status, journal_of, recorded, shut}
 use Rattle.state.specs.Variables.{consulted, whole_of, writes}
 
 -- bytes came for an id (expect(1), remove_nulls)
@@ -21,10 +21,6 @@ arrived i bytes s = record s { peers = recorded (Arrived (without_nulls bytes)) 
 -- the first bytes of a window are consumed (expect(1), expect_out(buffer))
 abbrev pub consumed : Id → List Record → ℕ → Status → Status
 consumed i j n s = record s { peers = recorded (Consumed (place_after j n)) i s.peers }
-
--- an id is closed (expect(1), close)
-abbrev pub shut : Id → Status → Status
-shut i s = record s { peers = closed i s.peers }
 
 -- an element of expect_out is written, and on where it could be (expect(1), expect)
 abbrev pub sets : List ℕ → List ℕ → Status → (Status → Course) → Course

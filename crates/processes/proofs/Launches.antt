@@ -8,6 +8,7 @@ use Rattle.state.specs.Dialogue.{raises, ask, written}
 use Rattle.state.specs.Status.{Status, opened}
 use Rattle.state.specs.declared.state.State.{State}
 use Rattle.state.specs.View.{IsNext, FitsState}
+use Rattle.state.proofs.Fits.{next_fits}
 use Rattle.processes.specs.Spawn.{launches, numbered, echo_of, starts}
 
 -- the number after the next one
@@ -20,14 +21,8 @@ after_next (Some k) n m h e = (omega (arith, h.1), omega (arith, h.0, h.1))
 pub numbered_fits : {A : Type 0} → (state : State A) (s : Status) (n : ℕ) (r : Option ℕ) →
     FitsState state s → n ≡ s.next → SomeIff r (n + 1 < 2 ^ 64) (n + 1) →
     FitsState (record state { next = r }) (numbered s)
-numbered_fits state s n r fits is after = record {
-  scopes = fits.scopes;
-  peers = fits.peers;
-  logging = fits.logging;
-  size = fits.size;
-  next = after_next r n s.next after is;
-  left = fits.left;
-}
+numbered_fits state s n r fits is after =
+    next_fits state s fits r (s.next + 1) (after_next r n s.next after is)
 
 pub left_over : (n m : ℕ) → n ≡ m → n < 2 ^ 64 → nat_le (2 ^ 64) m ≡ false
 left_over n m e lt = grind (arith, nat_tests)

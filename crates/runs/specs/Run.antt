@@ -11,6 +11,7 @@ use Rattle.runs.specs.Scripts.{plan_of}
 use Rattle.state.specs.Dialogue.{Dialogue}
 use Rattle.state.specs.Piece.{Whole, IsTree}
 use Rattle.state.specs.Rows.{Holds}
+use Rattle.state.specs.Standing.{no_standing}
 use Rattle.state.specs.Status.{Status}
 use Rattle.tclstate.specs.Scopes.{Frame, Text}
 use Rattle.tcltext.specs.Canonical.{canonical}
@@ -37,13 +38,16 @@ variables args =
     ∷ (codes "argc", Text (decimal (length (others_of args))))
     ∷ (codes "timeout", Text (codes "10")) ∷ []
 
--- the beginning: the variables, no procedure, no id, arrivals are shown and no log is open, buffers
--- of 2,000 bytes, the first number is 4, and all ticks are left (expect(1), spawn and match_max)
+-- the beginning: the variables, no procedure, no id, no standing pair, arrivals are shown and no
+-- log
+-- is open, buffers of 2,000 bytes, the first number is 4, and all ticks are left (expect(1), spawn
+-- and match_max)
 abbrev pub initial : List (List ℕ) → ℕ → Status
 initial args limit = record {
   scopes = record { locals = []; globals = variables args };
   procedures = [];
   peers = [];
+  standing = no_standing;
   logging = record { shows = true; is_open = false; takes_all = false };
   size = 2000;
   next = 4;

@@ -4,4 +4,5 @@ pub mod Places
 pub mod Spelled
 pub mod Stored
 pub mod Behaves
+pub mod Fits
 pub mod Refused

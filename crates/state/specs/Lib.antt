@@ -1,4 +1,5 @@
 pub mod Outcome
+pub mod Standing
 pub mod Status
 pub mod Piece
 pub mod Dialogue

@@ -2,6 +2,7 @@
 use Rattle.std.specs.Prelude.{ℕ, ◌==◌, ◌&&◌, Bool, true, false, List, [], ◌∷◌, Option, Some, None, is_some, filter, if◌then◌else◌}
 use Rattle.acts.specs.declared.id.Id.{Id}
 use Rattle.matchbuf.specs.Journal.{Record, Sized}
+use Rattle.state.specs.Standing.{Standing, unpaired}
 use Rattle.tclstate.specs.Scopes.{Scopes}
 
 -- what an id was opened for: a process of this number, or a connection (expect(1), spawn)
@@ -30,12 +31,13 @@ pub record Logging : Type 0 where
   pub is_open : Bool
   pub takes_all : Bool
 
--- the variables, the procedures, the ids in the order of their numbers, the log settings, the size
--- of later buffers, the number of the next id, the ticks left
+-- the variables, the procedures, the ids in the order of their numbers, the standing pairs, the log
+-- settings, the size of later buffers, the number of the next id, the ticks left
 pub record Status : Type 0 where
   pub scopes : Scopes
   pub procedures : List Procedure
   pub peers : List Peer
+  pub standing : Standing
   pub logging : Logging
   pub size : ℕ
   pub next : ℕ
@@ -83,3 +85,7 @@ recorded r i (p ∷ ps) =
 abbrev pub closed : Id → List Peer → List Peer
 closed i [] = []
 closed i (p ∷ ps) = if is_open_at i p then record p { is_open = false } ∷ ps else p ∷ closed i ps
+
+-- an open id is closed, and its standing pairs go (expect(1), close)
+abbrev pub shut : Id → Status → Status
+shut i s = record s { peers = closed i s.peers; standing = unpaired i s.standing }

@@ -10,6 +10,7 @@ use Rattle.state.specs.declared.outcome.Leave.TheVariants as leave
 use Rattle.state.specs.declared.state.State.{State}
 use Rattle.state.specs.Outcome.{Code, Error, Return, Break, Continue, Again, Stop, Outcome, Gives, Leaves, Stops}
 use Rattle.state.specs.Outcome as stop
+use Rattle.state.specs.Standing.{no_standing}
 use Rattle.state.specs.Status.{Logging, Status, opened}
 use Rattle.state.specs.Tables.{FitsAll}
 
@@ -44,11 +45,13 @@ IsNext None m = 2 ^ 64 ≤ m
 abbrev pub plain_logging : Logging
 plain_logging = record { shows = true; is_open = false; takes_all = false }
 
--- the state of the code holds what that of the definition says; the log settings and the size of
--- later buffers are those of the start
+-- the state of the code holds what that of the definition says; no pairs stand, and the log
+-- settings
+-- and the size of later buffers are those of the start
 pub record FitsState {A : Type 0} (state : State A) (s : Status) : Type 0 where
   pub scopes : s.scopes ≡ state.scopes
   pub peers : FitsAll state.table.entries.items (opened s.peers)
+  pub standing : s.standing ≡ no_standing
   pub logging : s.logging ≡ plain_logging
   pub size : s.size ≡ 2000
   pub next : IsNext state.next s.next

@@ -4,22 +4,16 @@ use Rattle.engine.specs.View.{ending_of}
 use Rattle.engine.proofs.Closings.{closes_first, closes_none}
 use Rattle.engine.proofs.Silent.{same_goes}
 use Rattle.runs.specs.Ending.{With}
-use Rattle.state.specs.Status.{closed}
+use Rattle.state.specs.Status.{shut}
+use Rattle.state.proofs.Fits.{peers_fit, shut_fits}
 use Rattle.engine.proofs.closing.close_next.Goals as goal
 
 pub returns-in-Some-clause-stands : goal.returns-in-Some-clause-stands
 returns-in-Some-clause-stands g c = λ frames s answers fits.
     let f = c.in-Some.ensures s.peers fits.peers in
     record {
-      status = record s { peers = closed c.in-Some.id s.peers };
-      fits = record {
-        scopes = fits.scopes;
-        peers = f.fits;
-        logging = fits.logging;
-        size = fits.size;
-        next = fits.next;
-        left = fits.left;
-      };
+      status = shut c.in-Some.id s;
+      fits = shut_fits _ s fits _ c.in-Some.id f.fits;
       plan = _;
       is_plan = refl;
       goes = same_goes
@@ -30,14 +24,7 @@ returns-in-Some-clause-stands g c = λ frames s answers fits.
 pub returns-in-None-clause-stands : goal.returns-in-None-clause-stands
 returns-in-None-clause-stands g c = λ frames s answers fits. record {
   status = s;
-  fits = record {
-    scopes = fits.scopes;
-    peers = (c.in-None.ensures s.peers fits.peers).1;
-    logging = fits.logging;
-    size = fits.size;
-    next = fits.next;
-    left = fits.left;
-  };
+  fits = peers_fit _ s fits _ s.peers (c.in-None.ensures s.peers fits.peers).1;
   plan = _;
   is_plan = (With (ending_of c.args.end), refl, refl);
   goes = same_goes

@@ -5,6 +5,7 @@ use Rattle.engine.specs.declared.frame.Frame.TheVariants as frame
 use Rattle.engine.specs.declared.frame.Script.{Script}
 use Rattle.runs.specs.Scripts.{one, script}
 use Rattle.state.specs.Status.{Status}
+use Rattle.state.proofs.Fits.{left_fits}
 use Rattle.tclparse.specs.Seen.{fault_of}
 use Rattle.tclparse.specs.Tree.{no_words}
 use Rattle.tclparse.specs.Tree as tree
@@ -64,14 +65,7 @@ returns-clause-unwinds g c = λ s fits.
     let after : Status = record s { left = left } in
     record {
       status = after;
-      fits = record {
-        scopes = fits.scopes;
-        peers = fits.peers;
-        logging = fits.logging;
-        size = fits.size;
-        next = fits.next;
-        left = refl;
-      };
+      fits = left_fits _ s fits left;
       goes = then_goes
           (script_goes frames own rest ws s c.args.value at refl refl)
           (then_goes

@@ -3,6 +3,7 @@ use Rattle.expects.specs.Expect.{next_of}
 use Rattle.expects.specs.Turn.{consumed, reported}
 use Rattle.expects.proofs.Shows.{shows_as}
 use Rattle.expects.proofs.Turns.{tested-found}
+use Rattle.state.proofs.Fits.{peers_fit}
 use Rattle.expects.proofs.turn.look.Goals as goal
 
 pub returns-in_ok-report-in-Taken-clause-looks : goal.returns-in_ok-report-in-Taken-clause-looks
@@ -16,12 +17,4 @@ returns-in_ok-report-in-Taken-clause-looks g c = λ s fits wait.
     (tested-found p i s wait told.journal told.start told.has told.found
     ∙ ap (λ (bytes : List ℕ). reported p i bytes left) (sym told.taken))
     (c.in_ok-report-in-Taken.ensures.shows left
-    (record {
-      scopes = fits.scopes;
-      peers = told.fits;
-      logging = fits.logging;
-      size =
-          fits.size;
-      next = fits.next;
-      left = fits.left;
-    }))
+    (peers_fit _ s fits _ _ told.fits))

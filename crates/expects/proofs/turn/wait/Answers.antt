@@ -6,6 +6,7 @@ use Rattle.state.specs.Dialogue.{ask}
 use Rattle.state.specs.Rows.{row_of}
 use Rattle.expects.specs.Turn.{turn, waited, later}
 use Rattle.expects.proofs.Turns.{waits-next}
+use Rattle.state.proofs.Fits.{left_fits}
 use Rattle.expects.proofs.turn.wait.Goals as goal
 
 pub returns-clause-shows : goal.returns-clause-shows
@@ -18,15 +19,7 @@ returns-clause-shows g c = λ s j fits told.
     c.in_ok-push.ensures.items ∙ (rw (c.clear.ensures.items, told) refl) in
     record {
       status = record s { left = more };
-      fits = record {
-        scopes = fits.scopes;
-        peers = fits.peers;
-        logging = fits.logging;
-        size =
-            fits.size;
-        next = fits.next;
-        left = refl;
-      };
+      fits = left_fits _ s fits more;
       same =
           waits-next s.left more p i clock s j (omega (arith, fits.left, c.if-state-eq0.false))
           ∙ ap (λ (rs : List Row). ask (said.Wait rs clock) (record s { left = more })
