@@ -1,0 +1,112 @@
+//! Scripts kept by their texts, so that a text that is run again is not read again.
+#![tactic(auto)]
+
+ghost use Rattle.std.specs.Prelude.{◌≡◌, ◌≤◌, ◌⊎◌, [], length, false, IfOk, OnOk, OnErr, option_map};
+ghost use Rattle.std.specs.List.{IsDistinct};
+ghost use Rattle.std.specs.Str.{bytes_eq};
+ghost use Rattle.kept.specs.Kept.{is_among, with_newest, with_text, IsTree};
+
+#[cfg(test)]
+mod tests;
+
+use indexmap::IndexMap;
+use memory::NoMemory;
+use std::alloc::Allocator;
+use std::hash::{BuildHasherDefault, FoldHasher};
+use std::marker::Model;
+use tclparse::Script;
+
+/// The most texts that are kept.
+pub const MOST_KEPT: usize = 256;
+
+/// The trees of the texts that came last, at most [`MOST_KEPT`]. Contracts see the texts, each
+/// once, the oldest first.
+///
+/// A look-up takes one hash. A tree lives as long as a frame holds it, whether it is still kept or
+/// not.
+#[derive(Drop)]
+pub struct Kept<A: Allocator> {
+    scripts: IndexMap<Vec<u8, A>, Script<A>, BuildHasherDefault<FoldHasher>, A>,
+}
+
+impl<A: Allocator> Model for Kept<A> {
+    ghost use Rattle.std.specs.Prelude.{List, ℕ, ◌≤◌, length};
+
+    ghost Value = { List (List ℕ) };
+
+    ghost use Rattle.kept.specs.Kept.{texts_of, AreTrees};
+
+    ghost view = { λ k. texts_of k.scripts.entries };
+
+    ghost invariant = { λ k. AreTrees k.scripts.entries × (length k.scripts.entries ≤ 256) };
+}
+
+impl<A: Allocator> Kept<A> {
+    /// How many texts are kept.
+    pub fn len(&self) -> usize
+        ensures len { result ≡ length self.now }
+        ensures most { length self.now ≤ 256 }
+        ensures once { IsDistinct bytes_eq self.now }
+    {
+        self.scripts.len()
+    }
+}
+
+impl<A: Allocator + Copy> Kept<A> {
+    /// No text yet, which takes no memory.
+    pub fn new(alloc: A) -> Kept<A>
+        ensures { result ≡ [] }
+    {
+        Kept {
+            scripts: IndexMap::with_hasher(alloc, BuildHasherDefault::new()),
+        }
+    }
+
+    /// The tree of a text: the kept one, else one that is read and then kept. A new text goes last,
+    /// and where [`MOST_KEPT`] are kept the oldest goes out first.
+    ///
+    /// Where memory is refused for keeping it alone, the tree is answered all the same and the
+    /// texts are as they were.
+    ///
+    /// # Errors
+    /// `NoMemory` where the tree itself could not be made or shared. The texts are then as they
+    /// were.
+    pub fn get(&mut self, text: &[u8]) -> Result<Script<A>, NoMemory>
+        ensures tree { IfOk result (λ script. IsTree script text.now) }
+        ensures texts { (self.new ≡ self.old) ⊎ (self.new ≡ with_text text.now self.old) }
+        ensures unchanged { OnErr result (self.new ≡ self.old) }
+    {
+        if let Some(script) = self.scripts.get(text) {
+            return share(script);
+        }
+        let script = Script::read(*self.scripts.allocator(), text)?;
+        let _ = self.keep(text, &script);
+        Ok(script)
+    }
+
+    /// Keeps the tree of a text that is not kept yet.
+    fn keep(&mut self, text: &[u8], script: &Script<A>) -> Result<(), NoMemory>
+        requires new { is_among text.now self.old ≡ false }
+        requires tree { IsTree script.now text.now }
+        ensures ok { OnOk result (self.new ≡ with_newest text.now self.old) }
+        ensures unchanged { OnErr result (self.new ≡ self.old) }
+    {
+        let text = Vec::from_slice(*self.scripts.allocator(), text)?;
+        self.scripts.insert(text, share(script)?)?;
+        if MOST_KEPT < self.scripts.len() {
+            self.scripts.shift_remove_index(0);
+        }
+        Ok(())
+    }
+}
+
+/// The same tree once more; nothing of it is copied.
+fn share<A: Allocator>(script: &Script<A>) -> Result<Script<A>, NoMemory>
+    ensures { IfOk result (λ same. (same.commands.value ≡ script.now.commands.value)
+        × (same.fault ≡ script.now.fault)) }
+{
+    Ok(Script {
+        commands: script.commands.clone()?,
+        fault: script.fault,
+    })
+}
