@@ -3,3 +3,4 @@ mod Frames
 mod Innermost
 mod Keys
 mod Reach
+mod Reading

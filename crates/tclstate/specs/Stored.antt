@@ -5,6 +5,7 @@ use Rattle.tclstate.specs.declared.content.Content.{Content}
 use Rattle.tclstate.specs.declared.content.Content.TheVariants as content
 use Rattle.tclstate.specs.declared.local.Local.{Local}
 use Rattle.tclstate.specs.declared.local.Local.TheVariants as local
+use Rattle.tclstate.specs.Procs.{Procedure, Procs}
 use Rattle.tclstate.specs.Scopes.{Variable, Text, Array, Link, Frame, Trouble, on_ok}
 
 -- The entries of a map as keys with what is seen of their values.
@@ -39,3 +40,7 @@ abbrev pub reached : (Variable → Result Variable Trouble) → (Frame → Resul
     Variable → Frame → Result (Variable × Frame) Trouble
 reached own global Link globals = on_ok (λ g. (Link, g)) (global globals)
 reached own global v globals = on_ok (λ w. (w, globals)) (own v)
+
+-- The procedures by their names.
+abbrev pub procedures_of : {A : Type 0} → List (Vec ℕ A × Procedure) → Procs
+procedures_of es = pairs_of (λ p. p) es

@@ -1,13 +1,17 @@
-//! The state of scripts: scopes of variables.
+//! The state of scripts: scopes of variables, and procedures.
 #![tactic(auto)]
 
 mod content;
 mod error;
+mod formals;
 mod frame;
 mod globals;
 mod local;
+mod procs;
 mod scopes;
 mod table;
 
 pub use error::ScopeError;
+pub use formals::{Formal, Formals, FormalsError};
+pub use procs::{Procedure, Procs};
 pub use scopes::Scopes;

@@ -1,0 +1,72 @@
+//! The procedures of a script, by their names.
+ghost use Rattle.std.specs.Prelude.{◌≡◌, [], OnOk, OnErr, option_copied};
+ghost use Rattle.tclstate.specs.Pairs.{found, put};
+
+use crate::formals::Formals;
+use crate::table::{Table, new_table};
+use memory::NoMemory;
+use std::alloc::Allocator;
+use std::marker::Model;
+use tcltext::Value;
+
+/// A procedure: its formal arguments and the script that it runs (proc(n)).
+#[derive(Drop)]
+pub struct Procedure<A: Allocator> {
+    pub formals: Formals<A>,
+    pub body: Value<A>,
+}
+
+impl<A: Allocator> Model for Procedure<A> {
+    ghost use Rattle.tclstate.specs.Procs as definition;
+
+    ghost Value = { definition.Procedure };
+
+    ghost view = { λ p. record { formals = p.formals; body = p.body } };
+}
+
+/// The procedures that are defined, each name once, with what was last defined for it (proc(n)).
+/// A look-up takes one hash.
+#[derive(Drop)]
+pub struct Procs<A: Allocator> {
+    procedures: Table<Procedure<A>, A>,
+}
+
+impl<A: Allocator> Model for Procs<A> {
+    ghost use Rattle.tclstate.specs.Procs as definition;
+    ghost use Rattle.tclstate.specs.Stored.{procedures_of};
+
+    ghost Value = { definition.Procs };
+
+    ghost view = { λ p. procedures_of p.procedures.entries };
+}
+
+impl<A: Allocator> Procs<A> {
+    /// What was last defined for a name.
+    pub fn get(&self, name: &[u8]) -> Option<&Procedure<A>>
+        ensures { option_copied result ≡ found self.now name.now }
+    {
+        self.procedures.get(name)
+    }
+}
+
+impl<A: Allocator + Copy> Procs<A> {
+    /// No procedures, which takes no memory.
+    pub fn new(alloc: A) -> Procs<A>
+        ensures { result ≡ [] }
+    {
+        Procs {
+            procedures: new_table(alloc),
+        }
+    }
+
+    /// Defines a procedure, in place of what was defined for its name before; all other names keep
+    /// theirs (proc(n)).
+    pub fn define(&mut self, alloc: A, name: &[u8], procedure: Procedure<A>) -> Result<(), NoMemory>
+        ensures ok { OnOk result (self.new ≡ put self.old name.now procedure) }
+        ensures unchanged { OnErr result (self.new ≡ self.old) }
+    {
+        let key = Vec::from_slice(alloc, name)?;
+        self.procedures.insert(key, procedure)?;
+        Ok(())
+    }
+}
