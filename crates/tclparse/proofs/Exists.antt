@@ -277,7 +277,7 @@ AllRead d = ((place : Place) (x : List ℕ) → PartsRead place d x)
 all_read : (d : ℕ) → ((place : Place) (x : List ℕ) → PartsRead place d x) → AllRead d
 all_read d parts = let words = words_exist d parts in (parts, words, commands_exist d words)
 
-at_depth : (d : ℕ) → AllRead d
+pub at_depth : (d : ℕ) → AllRead d
 at_depth zero = all_read zero (parts_exist zero (λ h z. absurd (omega arith))
     (λ h z. absurd (omega arith)))
 at_depth (suc d) =

@@ -37,7 +37,7 @@ gap_joins context between (c ∷ x) =
     (joins_if (is_continuation c x) whole (skip_gap context between x) whole on (joins_self whole)))
 
 -- so is what stands behind a closing brace
-paired_joins : (x content rest : List ℕ) → IsPaired x content rest → Joins x rest
+pub paired_joins : (x content rest : List ℕ) → IsPaired x content rest → Joins x rest
 paired_joins x content rest h = (
   content ++ 125 ∷ [],
   h.0

@@ -15,3 +15,4 @@ pub mod SpelledPieces
 pub mod SpelledTrees
 pub mod SpelledScripts
 pub mod Normal
+pub mod Operands

@@ -128,7 +128,7 @@ dollar_behind d (c ∷ x) =
     (behind_if (c == 40) _ (next_plain d (name_at (c ∷ x)) (c ∷ x) (after_name (c ∷ x))) (c ∷ x) tt
     (plain_behind d (name_at (c ∷ x)) (c ∷ x) (after_name (c ∷ x)) (name_joins (c ∷ x))))
 
-part_behind : (d c : ℕ) (x : List ℕ) → Behind (next_part d (c ∷ x)) x
+pub part_behind : (d c : ℕ) (x : List ℕ) → Behind (next_part d (c ∷ x)) x
 part_behind d c x =
     behind_if (c == 92) (next_escape x) _ x (escape_behind x)
     (behind_if (c == 36) (next_dollar d x) _ x (dollar_behind d x)

@@ -13,3 +13,11 @@ pub mod Error
 pub mod Reads
 pub mod Spelled
 pub mod Spelling
+pub mod Operator
+pub mod Formula
+pub mod Grouping
+pub mod FormulaText
+pub mod FormulaFault
+pub mod FormulaPiece
+pub mod FormulaGrammar
+pub mod FormulaReads

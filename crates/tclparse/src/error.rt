@@ -6,8 +6,10 @@ use std::alloc::AllocFailed;
 
 /// Why no part of the tree was made: memory was refused, or the text has a fault.
 #[derive(Clone, Copy, Debug, Drop)]
-pub(crate) enum ReadError {
+pub enum ReadError {
+    /// Memory was refused.
     Memory(NoMemory),
+    /// The text has this fault.
     Fault(Fault),
 }
 

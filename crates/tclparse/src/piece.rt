@@ -1,7 +1,7 @@
 //! What stands next in a word.
 
-ghost use Rattle.std.specs.Prelude.{◌≡◌, ◌+◌, length, false};
-ghost use Rattle.tclparse.specs.Piece.{ends_parts, next, next_escape, next_bracket, next_dollar};
+ghost use Rattle.std.specs.Prelude.{◌≡◌, ◌+◌, ◌<◌, length, false};
+ghost use Rattle.tclparse.specs.Piece.{ends_parts, next, next_part, next_escape, next_bracket, next_dollar};
 ghost use Rattle.tclparse.specs.Seen.{place_of, seen, IsShorter, OpensWithin, IsNotEnd};
 
 use crate::context::{Context, ends_word};
@@ -81,6 +81,23 @@ fn bracket(depth: u32, text: &[u8]) -> Piece<'_>
     }
 }
 
+/// The next piece of a text that does not end here, where so many brackets and indexes more may be
+/// open.
+pub(crate) fn next_part(depth: u32, text: &[u8]) -> Piece<'_>
+    ensures piece { seen result ≡ next_part depth text.now }
+    ensures shorter { IsShorter result (length text.now) }
+    ensures within { OpensWithin result depth }
+    ensures moves { 0 < length text.now → IsNotEnd result }
+{
+    match text {
+        [] => Piece::End,
+        [b'\\', rest @ ..] => escaped(rest),
+        [b'$', rest @ ..] => dollar(depth, rest),
+        [b'[', rest @ ..] => bracket(depth, rest),
+        [c, rest @ ..] => Piece::Byte(*c, rest),
+    }
+}
+
 /// The next piece of a word, where so many brackets and indexes more may be open.
 pub(crate) fn next(place: Place, depth: u32, text: &[u8]) -> Piece<'_>
     ensures piece { seen result ≡ next (place_of place) depth text.now }
@@ -89,13 +106,8 @@ pub(crate) fn next(place: Place, depth: u32, text: &[u8]) -> Piece<'_>
     ensures moves { ends_parts (place_of place) text.now ≡ false → IsNotEnd result }
 {
     if ends_parts(place, text) {
-        return Piece::End;
-    }
-    match text {
-        [] => Piece::End,
-        [b'\\', rest @ ..] => escaped(rest),
-        [b'$', rest @ ..] => dollar(depth, rest),
-        [b'[', rest @ ..] => bracket(depth, rest),
-        [c, rest @ ..] => Piece::Byte(*c, rest),
+        Piece::End
+    } else {
+        next_part(depth, text)
     }
 }

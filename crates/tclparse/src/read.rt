@@ -45,8 +45,8 @@ fn end_literal<A: Allocator + Copy>(
     Ok(())
 }
 
-// The parts that stand for this value alone.
-fn literal_parts<A: Allocator + Copy>(
+/// The parts that stand for this value alone.
+pub(crate) fn literal_parts<A: Allocator + Copy>(
     alloc: A,
     value: Value<A>,
 ) -> Result<Shared<Part<A>, A>, NoMemory>
@@ -61,8 +61,8 @@ fn literal_parts<A: Allocator + Copy>(
     shared(alloc, parts)
 }
 
-// The element of the array of that name at an index that is written out.
-fn literal_element<A: Allocator + Copy>(
+/// The element of the array of that name at an index that is written out.
+pub(crate) fn literal_element<A: Allocator + Copy>(
     alloc: A,
     name: &[u8],
     index: &[u8],
@@ -98,9 +98,9 @@ fn read_braces<A: Allocator + Copy>(
     Ok((parts, rest))
 }
 
-// The parts of a word up to the end of their place.
+/// The parts of a word up to the end of their place.
 #[cycle(read)]
-fn read_parts<A: Allocator + Copy>(
+pub(crate) fn read_parts<A: Allocator + Copy>(
     alloc: A,
     place: Place,
     depth: u32,
@@ -139,10 +139,10 @@ fn read_parts<A: Allocator + Copy>(
     }
 }
 
-// An element of the array of that name whose index stands behind an open parenthesis, and the text
-// behind the index's end.
+/// An element of the array of that name whose index stands behind an open parenthesis, and the text
+/// behind the index's end.
 #[cycle(read)]
-fn read_element<'a, A: Allocator + Copy>(
+pub(crate) fn read_element<'a, A: Allocator + Copy>(
     alloc: A,
     depth: u32,
     name: &[u8],
@@ -158,9 +158,9 @@ fn read_element<'a, A: Allocator + Copy>(
     Ok((Part::Element(name, index), rest))
 }
 
-// The script behind an open bracket, and the text behind its end.
+/// The script behind an open bracket, and the text behind its end.
 #[cycle(read)]
-fn read_bracket<A: Allocator + Copy>(
+pub(crate) fn read_bracket<A: Allocator + Copy>(
     alloc: A,
     depth: u32,
     text: &[u8],

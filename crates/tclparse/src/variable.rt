@@ -1,6 +1,6 @@
 //! What stands behind a `$`.
 
-ghost use Rattle.std.specs.Prelude.{◌≡◌, ◌+◌, ◌≤◌, length};
+ghost use Rattle.std.specs.Prelude.{◌≡◌, ◌+◌, ◌<◌, ◌≤◌, length};
 ghost use Rattle.tclparse.specs.Variable.{is_name, name_at, after_name};
 ghost use Rattle.tclparse.specs.Piece.{next_dollar, next_name, next_braced};
 ghost use Rattle.tclparse.specs.Seen.{seen, IsShorter, OpensWithin, IsNotEnd};
@@ -15,11 +15,13 @@ fn is_name(c: u8) -> bool
     c.is_ascii_alphanumeric() || c == b'_'
 }
 
-// The longest name at the front, and the text behind it.
-fn split_name(text: &[u8]) -> (&[u8], &[u8])
+/// The longest name at the front, of letters, digits and underscores, and the text behind it. Takes
+/// no memory.
+pub fn split_name(text: &[u8]) -> (&[u8], &[u8])
     ensures name { result.0.now ≡ name_at text.now }
     ensures rest { result.1.now ≡ after_name text.now }
     ensures shorter { length result.1.now ≤ length text.now }
+    ensures moves { 0 < length result.0.now → length result.1.now < length text.now }
 {
     let mut len = 0;
     while len < text.len() && is_name(text[len]) {
