@@ -1,171 +1,84 @@
-//! Lists: what tclsh 8.6 reads, and the canonical spellings.
+//! Lists: read, and written in their canonical spellings.
 
-use crate::spelled::{barred, unbarred};
-use std::test::Fail;
-use tcltext::escape::EscapeNotHere;
-use tcltext::{
-    ListFault, PatternError, Value, join_list, join_values, push_element, split_list, split_values,
-};
+use memory::NoMemory;
+use std::alloc::Allocator;
+use tables::{Answers, push_angled, push_shown};
+use tcltext::{ListFault, join_list, join_values, push_element, split_list, split_values};
 
-#[test]
-fn reads_lists_as_tclsh_does(rt: HostRuntime) -> Result<(), Fail> {
-    let rows: [(&[u8], &[u8]); 27] = [
-        (b"", b""),
-        (b" \n ", b""),
-        (b"a b", b"a|b|"),
-        (b" \t\n\x0b\x0c\r a \n b ", b"a|b|"),
-        (b"{a b} c", b"a b|c|"),
-        (b"{a {b c} d}", b"a {b c} d|"),
-        (b"{}", b"|"),
-        (b"{a\\}b}", b"a\\}b|"),
-        (b"{a\\\\}", b"a\\\\|"),
-        (b"{a\\\n b}", b"a\\\n b|"),
-        (b"{\\u}", b"\\u|"),
-        (b"\"a b\" c", b"a b|c|"),
-        (b"\"\"", b"|"),
-        (b"\"a\\\"b\"", b"a\"b|"),
-        (b"\"a{b\"", b"a{b|"),
-        (b"\"a\\\n \t b\"", b"a b|"),
-        (b"a\\ b c", b"a b|c|"),
-        (b"a\\\n \t b c", b"a b|c|"),
-        (b"\\a\\b\\f\\n\\r\\t\\v", b"\x07\x08\x0c\n\r\t\x0b|"),
-        (b"\\101\\60\\1012", b"A0A2|"),
-        (b"\\400", b" 0|"),
-        (b"\\x41\\x4\\x414\\xg\\x", b"A\x04A4xgx|"),
-        (b"\\q\\;", b"q;|"),
-        (b"a\\", b"a\\|"),
-        (b"a{b}c d\"e f}g", b"a{b}c|d\"e|f}g|"),
-        (b"#c [x] $y ;", b"#c|[x]|$y|;|"),
-        (b"\\{ \\}", b"{|}|"),
-    ];
-    for (text, wanted) in rows {
-        let list = split_list(rt.alloc(), text).map_err(|_| "a fault")?;
-        let seen = barred(rt.alloc(), &list)?;
-        assert_eq!(rt; seen.as_slice(), wanted, "of {text:?}");
+/// The table of lists.
+pub struct Lists;
+
+impl Answers for Lists {
+    fn answer<A: Allocator + Copy>(
+        &self,
+        row: &[Vec<u8>],
+        answer: &mut Vec<u8, A>,
+    ) -> Result<(), NoMemory> {
+        let Some((name, fields)) = row.split_first() else {
+            return Ok(());
+        };
+        let outcome = match (name.as_slice(), fields) {
+            (b"list", [text]) => read_list(text, answer),
+            (b"values", [text]) => read_values(text, answer),
+            (b"again", [text]) => write_values(text, answer),
+            (b"push", [element]) => write_element(element, answer),
+            (_, elements) => write_list(elements, answer),
+        };
+        match outcome {
+            Ok(()) => Ok(()),
+            Err(ListFault::NoMemory(refusal)) => Err(refusal),
+            Err(fault) => push_shown(answer, fault),
+        }
+    }
+}
+
+fn read_list<A: Allocator + Copy>(text: &[u8], answer: &mut Vec<u8, A>) -> Result<(), ListFault> {
+    for element in &split_list(*answer.allocator(), text)? {
+        push_angled(answer, element)?;
     }
     Ok(())
 }
 
-#[test]
-fn finds_the_first_fault_from_the_left(rt: HostRuntime) -> Result<(), Fail> {
-    let rows: [(&[u8], ListFault); 22] = [
-        (b"{a", ListFault::OpenBrace),
-        (b"{", ListFault::OpenBrace),
-        (b"a {b {c}", ListFault::OpenBrace),
-        (b"{a\\}", ListFault::OpenBrace),
-        (b"{a \\u", ListFault::OpenBrace),
-        (b"\"a", ListFault::OpenQuote),
-        (b"\"a\\\"", ListFault::OpenQuote),
-        (b"\"a {b", ListFault::OpenQuote),
-        (b"{a}b", ListFault::AfterBrace),
-        (b"{a}{b}", ListFault::AfterBrace),
-        (b"{a}b \"c", ListFault::AfterBrace),
-        (b"{a}\\u", ListFault::AfterBrace),
-        (b"{a}\\\n b", ListFault::AfterBrace),
-        (b"\"a\"b", ListFault::AfterQuote),
-        (b"\"a\"\"b\"", ListFault::AfterQuote),
-        (b"\"a\"b {c", ListFault::AfterQuote),
-        (b"\"a\"\\x20", ListFault::AfterQuote),
-        (b"\\u0041", ListFault::EscapeNotHere),
-        (b"a b\\U1", ListFault::EscapeNotHere),
-        (b"\"\\u\"", ListFault::EscapeNotHere),
-        (b"\\u {c", ListFault::EscapeNotHere),
-        (b"\"\\u0041", ListFault::EscapeNotHere),
-    ];
-    for (text, fault) in rows {
-        let read = split_list(rt.alloc(), text);
-        assert_eq!(rt; read.err(), Some(fault), "of {text:?}");
+fn read_values<A: Allocator + Copy>(text: &[u8], answer: &mut Vec<u8, A>) -> Result<(), ListFault> {
+    for value in &split_values(*answer.allocator(), text)? {
+        push_angled(answer, value.as_slice())?;
     }
     Ok(())
 }
 
-#[test]
-fn writes_each_element_in_its_canonical_spelling(rt: HostRuntime) -> Result<(), Fail> {
-    let rows: [(&[u8], &[u8]); 19] = [
-        (b"a b||#c|{", b"{a b} {} #c \\{"),
-        (b"", b"{}"),
-        (b"a|b", b"a b"),
-        (b"#c|#d", b"{#c} #d"),
-        (b"c#|d", b"c# d"),
-        (b"#{", b"\\#\\{"),
-        (b"x|#{", b"x #\\{"),
-        (b"a\\b", b"a\\\\b"),
-        (b"a;b", b"{a;b}"),
-        (b"a$b", b"{a$b}"),
-        (b"[a]", b"{[a]}"),
-        (b"]", b"{]}"),
-        (b"a\"b", b"{a\"b}"),
-        (b"{a}", b"{{a}}"),
-        (b"a}b{c", b"a\\}b\\{c"),
-        (b"a\nb", b"{a\nb}"),
-        (b"\\ ", b"\\\\\\ "),
-        (
-            b"}\t\n\x0b\x0c\r ;\"$[]",
-            b"\\}\\t\\n\\v\\f\\r\\ \\;\\\"\\$\\[\\]",
-        ),
-        (b"\x00\xff", b"\x00\xff"),
-    ];
-    for (elements, wanted) in rows {
-        let list = unbarred(rt.alloc(), elements)?;
-        let text = join_list(rt.alloc(), &list)?;
-        assert_eq!(rt; text.as_slice(), wanted, "of {elements:?}");
-        let again = split_list(rt.alloc(), &text).map_err(|_| "a fault")?;
-        assert_eq!(rt; again, list, "of {elements:?}");
-    }
-    let none = split_list(rt.alloc(), b"").map_err(|_| "a fault")?;
-    assert!(rt; join_list(rt.alloc(), &none)?.is_empty());
+fn write_values<A: Allocator + Copy>(
+    text: &[u8],
+    answer: &mut Vec<u8, A>,
+) -> Result<(), ListFault> {
+    let alloc = *answer.allocator();
+    let values = split_values(alloc, text)?;
+    let written = join_values(alloc, &values)?;
+    answer.extend_from_slice(&written)?;
     Ok(())
 }
 
-#[test]
-fn reads_and_writes_lists_of_values(rt: HostRuntime) -> Result<(), Fail> {
-    let values = split_values(rt.alloc(), b"{a b} {} #c \\{").map_err(|_| "a fault")?;
-    let wanted: [&[u8]; 4] = [b"a b", b"", b"#c", b"{"];
-    assert_eq!(rt; values.len(), wanted.len());
-    for (value, bytes) in values.iter().zip(wanted.iter()) {
-        assert_eq!(rt; value.as_slice(), *bytes);
-    }
-    let text = join_values(rt.alloc(), &values)?;
-    assert_eq!(rt; text.as_slice(), b"{a b} {} #c \\{".as_slice());
-    let fault = split_values(rt.alloc(), b"a {b").err();
-    assert_eq!(rt; fault, Some(ListFault::OpenBrace));
+/// Writes an element where it stands first, and behind it where it does not.
+fn write_element<A: Allocator>(element: &[u8], answer: &mut Vec<u8, A>) -> Result<(), ListFault> {
+    push_element(answer, true, element)?;
+    answer.push(b' ')?;
+    push_element(answer, false, element)?;
     Ok(())
 }
 
-#[test]
-fn writes_one_element_behind_a_text(rt: HostRuntime) -> Result<(), Fail> {
-    let mut text = Vec::new(rt.alloc());
-    push_element(&mut text, true, b"#a")?;
-    text.push(b' ')?;
-    push_element(&mut text, false, b"#a")?;
-    assert_eq!(rt; text.as_slice(), b"{#a} #a".as_slice());
-    Ok(())
-}
-
-#[test]
-fn says_what_a_fault_is(rt: HostRuntime) -> Result<(), Fail> {
-    for (fault, text) in [
-        (ListFault::OpenBrace, "unmatched open brace in list"),
-        (ListFault::OpenQuote, "unmatched open quote in list"),
-        (
-            ListFault::AfterBrace,
-            "list element in braces followed by other characters",
-        ),
-        (
-            ListFault::AfterQuote,
-            "list element in quotes followed by other characters",
-        ),
-        (
-            ListFault::EscapeNotHere,
-            "\\u and \\U are not in this profile",
-        ),
-    ] {
-        assert_eq!(rt; format!(in rt.alloc(); "{fault}")?.as_str(), text);
+/// Writes a list, and tells where it is read as another one.
+fn write_list<A: Allocator + Copy>(
+    elements: &[Vec<u8>],
+    answer: &mut Vec<u8, A>,
+) -> Result<(), ListFault> {
+    let alloc = *answer.allocator();
+    let mut list = Vec::new(alloc);
+    for element in elements {
+        list.push(Vec::from_slice(alloc, element)?)?;
     }
-    let escape = format!(in rt.alloc(); "{EscapeNotHere}")?;
-    assert_eq!(rt; escape.as_str(), "\\u and \\U are not in this profile");
-    let too_long = PatternError::TooLong;
-    let pattern = format!(in rt.alloc(); "{too_long}")?;
-    assert_eq!(rt; pattern.as_str(), "pattern too long");
+    let written = join_list(alloc, &list)?;
+    answer.extend_from_slice(&written)?;
+    if split_list(alloc, &written)? != list {
+        answer.extend_from_slice(b", but it is read as another list")?;
+    }
     Ok(())
 }

@@ -1,59 +1,80 @@
 //! Long texts.
 
-use crate::patterns::search_in;
-use crate::spelled::repeated;
-use std::test::Fail;
-use tcltext::{ListFault, Pattern, join_list, read_int, split_list};
+use crate::numbers::push_number;
+use crate::patterns::{find, push_whether, read, told};
+use memory::NoMemory;
+use std::alloc::Allocator;
+use tables::{Answers, number, push_shown, repeated};
+use tcltext::{ListFault, PatternError, join_list, read_int, split_list};
 
-#[test]
-fn reads_a_million_elements(rt: HostRuntime) -> Result<(), Fail> {
-    let text = repeated(rt.alloc(), b"ab {c d} ", 500_000)?;
-    let list = split_list(rt.alloc(), &text).map_err(|_| "a fault")?;
-    assert_eq!(rt; list.len(), 1_000_000);
-    let written = join_list(rt.alloc(), &list)?;
-    assert_eq!(rt; written.len() + 1, text.len());
-    Ok(())
+/// The table of long texts.
+pub struct Long;
+
+impl Answers for Long {
+    fn answer<A: Allocator + Copy>(
+        &self,
+        row: &[Vec<u8>],
+        answer: &mut Vec<u8, A>,
+    ) -> Result<(), NoMemory> {
+        match row {
+            [kind, piece, times] => {
+                let text = repeated(*answer.allocator(), piece, number(times))?;
+                tell(kind, &text, answer)
+            }
+            [kind, begin, piece, times, end, window, many] => {
+                let alloc = *answer.allocator();
+                let mut text = Vec::from_slice(alloc, begin)?;
+                text.extend_from_slice(&repeated(alloc, piece, number(times))?)?;
+                text.extend_from_slice(end)?;
+                let window = repeated(alloc, window, number(many))?;
+                let outcome = find(kind, &text, &window, answer);
+                told(answer, outcome)
+            }
+            _ => Ok(()),
+        }
+    }
 }
 
-#[test]
-fn refuses_a_million_open_braces(rt: HostRuntime) -> Result<(), Fail> {
-    let text = repeated(rt.alloc(), b"{", 1_000_000)?;
-    let read = split_list(rt.alloc(), &text);
-    assert_eq!(rt; read.err(), Some(ListFault::OpenBrace));
-    Ok(())
+/// Writes what a long text is.
+fn tell<A: Allocator + Copy>(
+    kind: &[u8],
+    text: &[u8],
+    answer: &mut Vec<u8, A>,
+) -> Result<(), NoMemory> {
+    match kind {
+        b"many" => measure(text, answer),
+        b"number" => push_number(answer, read_int(text)),
+        _ => {
+            let outcome = take_itself(kind.strip_prefix(b"whole ").unwrap_or(kind), text, answer);
+            told(answer, outcome)
+        }
+    }
 }
 
-#[test]
-fn reads_a_million_backslashes(rt: HostRuntime) -> Result<(), Fail> {
-    let text = repeated(rt.alloc(), b"\\", 1_000_000)?;
-    let list = split_list(rt.alloc(), &text).map_err(|_| "a fault")?;
-    assert_eq!(rt; list.len(), 1);
-    assert_eq!(rt; list[0].len(), 500_000);
-    let written = join_list(rt.alloc(), &list)?;
-    assert_eq!(rt; written.len(), 1_000_000);
-    Ok(())
+/// Writes the measures of a list.
+fn measure<A: Allocator + Copy>(text: &[u8], answer: &mut Vec<u8, A>) -> Result<(), NoMemory> {
+    let alloc = *answer.allocator();
+    let list = match split_list(alloc, text) {
+        Ok(list) => list,
+        Err(ListFault::NoMemory(refusal)) => return Err(refusal),
+        Err(fault) => return push_shown(answer, fault),
+    };
+    let many = list.len();
+    let first = match list.first() {
+        Some(element) => element.len(),
+        None => 0,
+    };
+    let all = join_list(alloc, &list)?.len();
+    let measures = format_args!("{many} elements, {first} bytes in the first, {all} in all");
+    push_shown(answer, measures)
 }
 
-#[test]
-fn reads_a_word_of_ten_million_bytes(rt: HostRuntime) -> Result<(), Fail> {
-    let text = repeated(rt.alloc(), b"0123456789", 1_000_000)?;
-    let list = split_list(rt.alloc(), &text).map_err(|_| "a fault")?;
-    assert_eq!(rt; list.len(), 1);
-    assert_eq!(rt; list[0].len(), 10_000_000);
-    assert_eq!(rt; read_int(&text), None);
-    Ok(())
-}
-
-#[test]
-fn finds_a_long_text_where_most_of_it_stands_everywhere(rt: HostRuntime) -> Result<(), Fail> {
-    let window = repeated(rt.alloc(), b"a", 1_000_000)?;
-    let mut text = repeated(rt.alloc(), b"a", 10_000)?;
-    text.push(b'b')?;
-    let exact = Pattern::exact(rt.alloc(), &text)?;
-    assert_eq!(rt; search_in(rt.alloc(), &exact, &window)?.found, None);
-    text.insert(0, b'*')?;
-    text.push(b'*')?;
-    let glob = Pattern::glob(rt.alloc(), &text)?;
-    assert_eq!(rt; search_in(rt.alloc(), &glob, &window)?.found, None);
-    Ok(())
+/// Writes whether a text as a pattern takes itself.
+fn take_itself<A: Allocator + Copy>(
+    kind: &[u8],
+    text: &[u8],
+    answer: &mut Vec<u8, A>,
+) -> Result<(), PatternError> {
+    let pattern = read(*answer.allocator(), kind, text)?;
+    Ok(push_whether(answer, pattern.whole(text))?)
 }

@@ -1,0 +1,33 @@
+//! Texts through the public calls of `tcltext`: tables of what tclsh 8.6 makes of them and of the
+//! rules of this project's own, long texts, and patterns beside two slow searches.
+#![tactic(auto)]
+
+mod escapes;
+mod lists;
+mod long;
+mod numbers;
+mod patterns;
+mod slow;
+mod starved;
+
+use crate::escapes::Escapes;
+use crate::lists::Lists;
+use crate::long::Long;
+use crate::numbers::Numbers;
+use crate::patterns::Patterns;
+use crate::slow::random::run_random;
+use crate::starved::run_starved;
+use std::io;
+use std::process::ExitCode;
+use tables::{Memory, run_table};
+
+fn main(rt: HostRuntime) -> io::Result<ExitCode> {
+    let mut is_well = run_table(&rt, &Escapes, "escapes", Memory::RefusedInTurn)?;
+    is_well &= run_table(&rt, &Lists, "lists", Memory::RefusedInTurn)?;
+    is_well &= run_table(&rt, &Numbers, "numbers", Memory::RefusedInTurn)?;
+    is_well &= run_table(&rt, &Patterns, "patterns", Memory::RefusedInTurn)?;
+    is_well &= run_table(&rt, &Long, "long", Memory::Whole)?;
+    is_well &= run_starved(&rt)?;
+    is_well &= run_random(&rt)?;
+    Ok(ExitCode::from(if is_well { 0 } else { 1 }))
+}

@@ -1,0 +1,100 @@
+//! The search beside the slow ones, over generated patterns and windows.
+
+use super::items::{read_glob, read_items};
+use super::pairs::{over_all_pairs, takes};
+use super::table::by_table;
+use crate::patterns::search_in;
+use std::alloc::{AllocError, Global};
+use std::io;
+use tcltext::{Pattern, PatternError};
+
+/// How many patterns are made of each kind of letters, and how many windows for each.
+const PATTERNS: u64 = 4_000;
+
+const WINDOWS: u64 = 8;
+
+/// How many letters a text has at most.
+const MOST_LETTERS: usize = 8;
+
+/// Numbers that look random, the same in each run (a linear congruential generator).
+#[derive(Drop)]
+struct Random(u64);
+
+impl Random {
+    /// A number below this one, or 0.
+    fn below(&mut self, end: usize) -> usize {
+        self.0 = self
+            .0
+            .wrapping_mul(6_364_136_223_846_793_005)
+            .wrapping_add(1_442_695_040_888_963_407);
+        let number = (self.0 >> 33) as usize;
+        if end == 0 { 0 } else { number % end }
+    }
+
+    /// A text of a few of these letters.
+    fn text(&mut self, alloc: Global, letters: &str) -> Result<Vec<u8>, AllocError> {
+        let letters = letters.as_bytes();
+        let mut text = Vec::new(alloc);
+        for _ in 0..self.below(MOST_LETTERS + 1) {
+            if let Some(letter) = letters.get(self.below(letters.len())) {
+                text.push(*letter)?;
+            }
+        }
+        Ok(text)
+    }
+}
+
+/// Tells in how many windows the search finds what the slow ones find, and in which it does not.
+pub fn run_random<R: Print + AllocGlobal>(rt: &R) -> io::Result<bool> {
+    let mut random = Random(2024);
+    let mut agreeing = 0u64;
+    for (letters, window_letters) in [
+        ("ab*", "ab"),
+        ("ab?*^$", "ab"),
+        ("ab*[]-", "ab-"),
+        ("ab*?[]-^$\\", "ab-^$\\]"),
+    ] {
+        for _ in 0..PATTERNS {
+            let glob = random.text(rt.alloc(), letters)?;
+            let windows = run_glob(rt, &mut random, &glob, window_letters)?;
+            agreeing = agreeing.saturating_add(windows);
+        }
+    }
+    println!(rt; "beside slow searches: {agreeing} windows")?;
+    Ok(agreeing == 4 * PATTERNS * WINDOWS)
+}
+
+/// In how many windows of such letters a glob is found as by the slow searches.
+fn run_glob<R: Print + AllocGlobal>(
+    rt: &R,
+    random: &mut Random,
+    glob: &[u8],
+    letters: &str,
+) -> io::Result<u64> {
+    let mut agreeing = 0u64;
+    for _ in 0..WINDOWS {
+        let window = random.text(rt.alloc(), letters)?;
+        if matches!(agrees(rt.alloc(), glob, &window), Ok(true)) {
+            agreeing = agreeing.saturating_add(1);
+        } else {
+            println!(rt; "FAILED {glob:?} in {window:?}")?;
+        }
+    }
+    Ok(agreeing)
+}
+
+/// Whether the search finds what the slow ones find, in no more steps than the table has entries,
+/// and takes a whole text where trying each piece does.
+fn agrees(alloc: Global, text: &[u8], window: &[u8]) -> Result<bool, PatternError> {
+    let search = search_in(alloc, &Pattern::glob(alloc, text)?, window)?;
+    let is_whole = Pattern::plain(alloc, text)?.whole(window);
+    let glob = read_glob(alloc, text)?;
+    let rows = (glob.items.len() as u64).saturating_add(1);
+    let entries = rows.saturating_mul((window.len() as u64).saturating_add(1));
+    Ok(
+        search.steps <= entries
+            && search.found == over_all_pairs(&glob, window)
+            && search.found == by_table(alloc, &glob, window)?
+            && is_whole == takes(&read_items(alloc, text)?, window),
+    )
+}
