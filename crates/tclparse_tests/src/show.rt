@@ -2,94 +2,82 @@
 //! behind each command.
 //! A variable is `${name}`, an element `$name(index)`, a script stands in `[` and `]`.
 
-use std::alloc::{AllocError, Global};
-use std::process::Abort;
-use std::test::Fail;
-use tclparse::{Command, Fault, Part, Script, Word, Words};
+use memory::NoMemory;
+use std::alloc::Allocator;
+use tables::push_shown;
+use tclparse::{Command, Fault, Part, Word};
 
 #[cycle(show)]
-fn show_part(out: &mut Vec<u8>, part: &Part<Global>) -> Result<(), AllocError> {
+fn show_part<A: Allocator>(answer: &mut Vec<u8, A>, part: &Part<A>) -> Result<(), NoMemory> {
     match part {
-        Part::Literal(bytes) => out.extend_from_slice(bytes.as_slice())?,
+        Part::Literal(bytes) => answer.extend_from_slice(bytes.as_slice())?,
         Part::Variable(name) => {
-            out.extend_from_slice(b"${")?;
-            out.extend_from_slice(name.as_slice())?;
-            out.push(b'}')?;
+            answer.extend_from_slice(b"${")?;
+            answer.extend_from_slice(name.as_slice())?;
+            answer.push(b'}')?;
         }
         Part::Element(name, index) => {
-            out.push(b'$')?;
-            out.extend_from_slice(name.as_slice())?;
-            out.push(b'(')?;
-            show_parts(out, index)?;
-            out.push(b')')?;
+            answer.push(b'$')?;
+            answer.extend_from_slice(name.as_slice())?;
+            answer.push(b'(')?;
+            show_parts(answer, index)?;
+            answer.push(b')')?;
         }
         Part::Bracket(commands) => {
-            out.push(b'[')?;
-            show_commands(out, commands)?;
-            out.push(b']')?;
+            answer.push(b'[')?;
+            show_commands(answer, commands)?;
+            answer.push(b']')?;
         }
     }
     Ok(())
 }
 
 #[cycle(show)]
-fn show_parts(out: &mut Vec<u8>, parts: &Vec<Part<Global>>) -> Result<(), AllocError> {
+fn show_parts<A: Allocator>(
+    answer: &mut Vec<u8, A>,
+    parts: &Vec<Part<A>, A>,
+) -> Result<(), NoMemory> {
     for part in parts {
-        show_part(out, part)?;
+        show_part(answer, part)?;
     }
     Ok(())
 }
 
 #[cycle(show)]
-fn show_words(out: &mut Vec<u8>, words: &Vec<Word<Global>>) -> Result<(), AllocError> {
+pub fn show_words<A: Allocator>(
+    answer: &mut Vec<u8, A>,
+    words: &Vec<Word<A>, A>,
+) -> Result<(), NoMemory> {
     for word in words {
         if word.expands {
-            out.push(b'*')?;
+            answer.push(b'*')?;
         }
-        out.push(b'<')?;
-        show_parts(out, &word.parts)?;
-        out.push(b'>')?;
+        answer.push(b'<')?;
+        show_parts(answer, &word.parts)?;
+        answer.push(b'>')?;
     }
     Ok(())
 }
 
 #[cycle(show)]
-fn show_commands(out: &mut Vec<u8>, commands: &Vec<Command<Global>>) -> Result<(), AllocError> {
+pub fn show_commands<A: Allocator>(
+    answer: &mut Vec<u8, A>,
+    commands: &Vec<Command<A>, A>,
+) -> Result<(), NoMemory> {
     for command in commands {
-        show_words(out, &command.words)?;
-        out.push(b';')?;
+        show_words(answer, &command.words)?;
+        answer.push(b';')?;
     }
     Ok(())
 }
 
-/// Reads a script and compares.
-pub fn reads(
-    rt: &impl Abort,
-    alloc: Global,
-    text: &[u8],
-    want: &[u8],
+/// Writes a fault behind what was read before it.
+pub fn push_fault<A: Allocator + Copy>(
+    answer: &mut Vec<u8, A>,
     fault: Option<Fault>,
-) -> Result<(), Fail> {
-    let script = Script::read(alloc, text)?;
-    let mut out = Vec::new(alloc);
-    show_commands(&mut out, &script.commands)?;
-    assert_eq!(rt; out.as_slice(), want, "in {text:?}");
-    assert_eq!(rt; script.fault, fault, "at {text:?}");
-    Ok(())
-}
-
-/// Reads a braced argument and compares.
-pub fn reads_words(
-    rt: &impl Abort,
-    alloc: Global,
-    text: &[u8],
-    want: &[u8],
-    fault: Option<Fault>,
-) -> Result<(), Fail> {
-    let read = Words::read(alloc, text)?;
-    let mut out = Vec::new(alloc);
-    show_words(&mut out, &read.words)?;
-    assert_eq!(rt; out.as_slice(), want, "in {text:?}");
-    assert_eq!(rt; read.fault, fault, "at {text:?}");
-    Ok(())
+) -> Result<(), NoMemory> {
+    match fault {
+        Some(fault) => push_shown(answer, format_args!(" ! {fault}")),
+        None => Ok(()),
+    }
 }
