@@ -6,3 +6,5 @@ pub mod Stored
 pub mod Behaves
 pub mod Fits
 pub mod Refused
+pub mod Numbers
+pub mod Shown

@@ -2,7 +2,7 @@ use Rattle.std.proofs.Common.{refl}
 use Rattle.expects.specs.Expect.{next_of}
 use Rattle.state.specs.Status.{shut}
 use Rattle.state.proofs.Fits.{shut_fits}
-use Rattle.expects.proofs.Shows.{over}
+use Rattle.state.proofs.Shown.{over}
 use Rattle.expects.proofs.turn.answered.Goals as goal
 
 pub returns-in-Closed-clause-shows : goal.returns-in-Closed-clause-shows

@@ -1,7 +1,7 @@
 use Rattle.std.proofs.Common.{◌≡◌, ◌∙◌}
 use Rattle.expects.specs.Expect.{next_of}
 use Rattle.expects.specs.Turn.{first_wait, waits}
-use Rattle.expects.proofs.Shows.{shows_ok}
+use Rattle.state.proofs.Shown.{shows_ok}
 use Rattle.expects.proofs.Turns.{tested-missing}
 use Rattle.expects.proofs.turn.first.Goals as goal
 

@@ -1,7 +1,7 @@
 use Rattle.std.proofs.Common.{◌≡◌, ◌+◌, length, sym, ap, ◌∙◌, List, ℕ}
 use Rattle.expects.specs.Expect.{next_of}
 use Rattle.expects.specs.Turn.{consumed, reported}
-use Rattle.expects.proofs.Shows.{shows_as}
+use Rattle.state.proofs.Shown.{shows_as}
 use Rattle.expects.proofs.Turns.{tested-found}
 use Rattle.state.proofs.Fits.{peers_fit}
 use Rattle.expects.proofs.turn.look.Goals as goal

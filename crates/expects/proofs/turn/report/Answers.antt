@@ -2,7 +2,7 @@ use Rattle.std.proofs.Common.{◌≡◌, ◌∙◌, []}
 use Rattle.acts.specs.Id.{id_text}
 use Rattle.state.specs.Dialogue.{gives}
 use Rattle.expects.specs.Expect.{next_of}
-use Rattle.expects.proofs.Shows.{over, shows_as}
+use Rattle.state.proofs.Shown.{over, shows_as}
 use Rattle.expects.proofs.Turns.{reported-is, then_buffer, then_id}
 use Rattle.expects.proofs.turn.report.Goals as goal
 

@@ -1,5 +1,5 @@
 use Rattle.expects.specs.Expect.{next_of}
-use Rattle.expects.proofs.Shows.{over}
+use Rattle.state.proofs.Shown.{over}
 use Rattle.expects.proofs.turn.set_out.Goals as goal
 
 pub returns-in-Ok-clause-sets : goal.returns-in-Ok-clause-sets

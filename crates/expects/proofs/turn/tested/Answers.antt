@@ -1,6 +1,6 @@
 use Rattle.expects.specs.Expect.{next_of}
 use Rattle.expects.specs.Turn.{waits}
-use Rattle.expects.proofs.Shows.{shows_ok}
+use Rattle.state.proofs.Shown.{shows_ok}
 use Rattle.expects.proofs.Turns.{tested-missing}
 use Rattle.expects.proofs.turn.tested.Goals as goal
 

@@ -5,7 +5,7 @@ use mir.Val.{SFits}
 use Rattle.expects.specs.Turn.{timer_of}
 use Rattle.acts.specs.Flaw as flaw
 use Rattle.state.specs.Variables.{consulted, whole_of}
-use Rattle.expects.proofs.Seconds.{whole_read}
+use Rattle.state.proofs.Numbers.{whole_read}
 use Rattle.expects.proofs.Turns.{timer-none, timer-some}
 use Rattle.expects.proofs.turn.timer.Goals as goal
 

@@ -3,7 +3,7 @@ use Rattle.state.proofs.Tables.{length-fits}
 use Rattle.state.specs.Status.{opened}
 use Rattle.processes.specs.Spawn.{numbered}
 use Rattle.processes.proofs.Launches.{numbered_fits, left_over, launches-full, launches-echoed, launches-quietly}
-use Rattle.processes.proofs.Shows.{over_ok}
+use Rattle.state.proofs.Shown.{over_ok}
 use Rattle.processes.proofs.spawn.launch.Goals as goal
 
 pub returns-then-is_full-clause-shows : goal.returns-then-is_full-clause-shows

@@ -5,7 +5,7 @@ use Rattle.state.specs.Dialogue.{gives}
 use Rattle.state.specs.Status.{Process}
 use Rattle.processes.specs.Spawn.{opens}
 use Rattle.processes.proofs.Runs.{opens_fits}
-use Rattle.processes.proofs.Shows.{over, over_ok}
+use Rattle.state.proofs.Shown.{over, over_ok}
 use Rattle.processes.proofs.spawn.run.Goals as goal
 
 pub returns-in-Ok-clause-shows : goal.returns-in-Ok-clause-shows

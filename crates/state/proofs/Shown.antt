@@ -1,5 +1,5 @@
 -- What is at hand, where it is known how it came about.
-use Rattle.std.proofs.Common.{◌≡◌, Result, IfOk, sym, ap, ◌∙◌}
+use Rattle.std.proofs.Common.{◌≡◌, Result, Ok, Err, IfOk, sym, ap, ◌∙◌}
 use Rattle.acts.specs.Deed.{Deed, Reply}
 use Rattle.memory.specs.declared.NoMemory.{NoMemory}
 use Rattle.plan.specs.Plan.{Ends}
@@ -22,6 +22,12 @@ module _ {A W : Type 0} (next : W → Deed → Status → Reply → Course) wher
     same = is ∙ ap (λ (o : Outcome). let left : Status × Outcome = (s, o) in Ends left) (sym has);
   }
   over (leaf.Asks act waits) has fits is = absurd has
+
+  pub over_ok : {o : Outcome} {s : Status} {state : State A} {course : Course}
+      (r : Result (Leaf A W) NoMemory) → IfOk r (λ leaf. HasOutcome leaf o) → FitsState state s →
+      course ≡ Ends (s, o) → IfOk r (λ leaf. Shows next leaf state course)
+  over_ok (Ok l) has fits is = over l has fits is
+  over_ok (Err e) has fits is = tt
 
   -- the same course under another name
   pub shows_as : (state : State A) {course other : Course} (l : Leaf A W) → course ≡ other →
