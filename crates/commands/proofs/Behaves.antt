@@ -9,7 +9,7 @@ use Rattle.processes.proofs.SendBehaves.{send_behaves}
 use Rattle.processes.proofs.SpawnBehaves.{spawn_behaves}
 use Rattle.state.specs.Behaves.{Behaves, worth}
 use Rattle.state.specs.Status.{Status}
-use Rattle.variables.proofs.Behaves.{set_behaves}
+use Rattle.variables.proofs.Behaves.{set_behaves, append_behaves, incr_behaves, unset_behaves, global_behaves, info_behaves}
 use Rattle.writing.proofs.Behaves.{puts_behaves}
 
 does_behaves : (builtin : Builtin) (args : List (List ℕ)) (s : Status) →
@@ -17,6 +17,11 @@ does_behaves : (builtin : Builtin) (args : List (List ℕ)) (s : Status) →
 does_behaves builtin.Puts args s = puts_behaves args s
 does_behaves builtin.List args s = list_behaves args s
 does_behaves builtin.Set args s = set_behaves args s
+does_behaves builtin.Append args s = append_behaves args s
+does_behaves builtin.Incr args s = incr_behaves args s
+does_behaves builtin.Unset args s = unset_behaves args s
+does_behaves builtin.Global args s = global_behaves args s
+does_behaves builtin.Info args s = info_behaves args s
 does_behaves builtin.Spawn args s = spawn_behaves args s
 does_behaves builtin.Send args s = send_behaves args s
 does_behaves builtin.Expect args s = expect_behaves args s

@@ -10,7 +10,12 @@ use Rattle.expects.specs.Expect.{expect}
 use Rattle.lists.specs.List.{list}
 use Rattle.processes.specs.Send.{send}
 use Rattle.processes.specs.Spawn.{spawn}
+use Rattle.variables.specs.Append.{append}
+use Rattle.variables.specs.Global.{global}
+use Rattle.variables.specs.Incr.{incr}
+use Rattle.variables.specs.Info.{info}
 use Rattle.variables.specs.Set.{set}
+use Rattle.variables.specs.Unset.{unset}
 use Rattle.writing.specs.Puts.{puts}
 
 -- the command of a name
@@ -19,6 +24,11 @@ named name =
     if bytes_eq name (codes "puts") then Some builtin.Puts
     else if bytes_eq name (codes "list") then Some builtin.List
     else if bytes_eq name (codes "set") then Some builtin.Set
+    else if bytes_eq name (codes "append") then Some builtin.Append
+    else if bytes_eq name (codes "incr") then Some builtin.Incr
+    else if bytes_eq name (codes "unset") then Some builtin.Unset
+    else if bytes_eq name (codes "global") then Some builtin.Global
+    else if bytes_eq name (codes "info") then Some builtin.Info
     else if bytes_eq name (codes "spawn") then Some builtin.Spawn
     else if bytes_eq name (codes "send") then Some builtin.Send
     else if bytes_eq name (codes "expect") then Some builtin.Expect
@@ -29,6 +39,11 @@ abbrev pub does : Builtin → List (List ℕ) → Status → Course
 does builtin.Puts args s = puts args s
 does builtin.List args s = list args s
 does builtin.Set args s = set args s
+does builtin.Append args s = append args s
+does builtin.Incr args s = incr args s
+does builtin.Unset args s = unset args s
+does builtin.Global args s = global args s
+does builtin.Info args s = info args s
 does builtin.Spawn args s = spawn args s
 does builtin.Send args s = send args s
 does builtin.Expect args s = expect args s

@@ -21,6 +21,11 @@ abbrev pub builtin_of : named.Builtin → Builtin
 builtin_of builtin.Puts = meant.Puts
 builtin_of builtin.List = meant.List
 builtin_of builtin.Set = meant.Set
+builtin_of builtin.Append = meant.Append
+builtin_of builtin.Incr = meant.Incr
+builtin_of builtin.Unset = meant.Unset
+builtin_of builtin.Global = meant.Global
+builtin_of builtin.Info = meant.Info
 builtin_of builtin.Spawn = meant.Spawn
 builtin_of builtin.Send = meant.Send
 builtin_of builtin.Expect = meant.Expect

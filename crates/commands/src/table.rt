@@ -8,7 +8,9 @@ ghost use Rattle.state.specs.Leaf.{Shows};
 ghost use Rattle.state.specs.Status.{Status};
 ghost use Rattle.state.specs.View.{FitsState};
 
-use crate::waits::{Waits, from_expect, from_list, from_puts, from_send, from_set, from_spawn};
+use crate::waits::{
+    Waits, from_expect, from_list, from_puts, from_send, from_spawn, from_variables,
+};
 use acts::{Act, Answer, Fault, NoMemory};
 use expects::expect;
 use lists::list;
@@ -17,7 +19,7 @@ use state::leaf::{empty, raises};
 use state::{Leaf, State};
 use std::alloc::Allocator;
 use tcltext::Value;
-use variables::set;
+use variables::{append, global, incr, info, set, unset};
 use writing::puts;
 
 /// The commands.
@@ -26,6 +28,11 @@ enum Builtin {
     Puts,
     List,
     Set,
+    Append,
+    Incr,
+    Unset,
+    Global,
+    Info,
     Spawn,
     Send,
     Expect,
@@ -42,6 +49,16 @@ impl Builtin {
             Some(Builtin::List)
         } else if name == b"set".as_slice() {
             Some(Builtin::Set)
+        } else if name == b"append".as_slice() {
+            Some(Builtin::Append)
+        } else if name == b"incr".as_slice() {
+            Some(Builtin::Incr)
+        } else if name == b"unset".as_slice() {
+            Some(Builtin::Unset)
+        } else if name == b"global".as_slice() {
+            Some(Builtin::Global)
+        } else if name == b"info".as_slice() {
+            Some(Builtin::Info)
         } else if name == b"spawn".as_slice() {
             Some(Builtin::Spawn)
         } else if name == b"send".as_slice() {
@@ -93,7 +110,12 @@ fn call<A: Allocator + Copy>(
     match builtin {
         Builtin::Puts => Ok(from_puts(puts::begin(alloc, state, args)?)),
         Builtin::List => Ok(from_list(list::begin(alloc, state, args)?)),
-        Builtin::Set => Ok(from_set(set::begin(alloc, state, args)?)),
+        Builtin::Set => Ok(from_variables(set::begin(alloc, state, args)?)),
+        Builtin::Append => Ok(from_variables(append::begin(alloc, state, args)?)),
+        Builtin::Incr => Ok(from_variables(incr::begin(alloc, state, args)?)),
+        Builtin::Unset => Ok(from_variables(unset::begin(alloc, state, args)?)),
+        Builtin::Global => Ok(from_variables(global::begin(alloc, state, args)?)),
+        Builtin::Info => Ok(from_variables(info::begin(alloc, state, args)?)),
         Builtin::Spawn => Ok(from_spawn(spawn::begin(alloc, state, args)?)),
         Builtin::Send => Ok(from_send(send::begin(alloc, state, args)?)),
         Builtin::Expect => Ok(from_expect(expect::begin(alloc, state, args)?)),

@@ -5,7 +5,7 @@ ghost use Rattle.expects.specs.Expect as expects;
 ghost use Rattle.lists.specs.List as lists;
 ghost use Rattle.processes.specs.Send as sends;
 ghost use Rattle.processes.specs.Spawn as spawns;
-ghost use Rattle.variables.specs.Set as variables;
+ghost use Rattle.variables.specs.Waits as variables;
 ghost use Rattle.writing.specs.Puts as writing;
 
 use expects::expect;
@@ -13,7 +13,6 @@ use lists::list;
 use processes::{send, spawn};
 use state::Leaf;
 use std::alloc::Allocator;
-use variables::set;
 use writing::puts;
 
 /// What waits in a command for the answer to an act, by the commands that make acts.
@@ -45,8 +44,8 @@ pub(crate) fn from_list<A: Allocator>(leaf: Leaf<A, list::Waits>) -> Leaf<A, Wai
     }
 }
 
-/// How far `set` has come, as a command.
-pub(crate) fn from_set<A: Allocator>(leaf: Leaf<A, set::Waits>) -> Leaf<A, Waits<A>>
+/// How far a command on variables has come, as a command.
+pub(crate) fn from_variables<A: Allocator>(leaf: Leaf<A, variables::Waits>) -> Leaf<A, Waits<A>>
     ensures { IsLifted variables.next_of leaf result }
 {
     match leaf {

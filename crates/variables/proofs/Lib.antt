@@ -1,2 +1,5 @@
 pub mod Named
+pub mod Changed
+pub mod Removed
+pub mod Readings
 pub mod Behaves

@@ -13,7 +13,8 @@ use Rattle.tclstate.specs.ScopeError.{HasTrouble}
 use Rattle.tclstate.specs.Scopes.{Trouble}
 use Rattle.tclstate.specs.declared.error.ScopeError.{ScopeError}
 use Rattle.tclstate.specs.declared.error.ScopeError.TheVariants as error
-use Rattle.variables.specs.Set.{with_name, set, get, put}
+use Rattle.variables.specs.Named.{with_name}
+use Rattle.variables.specs.Set.{set, get, put}
 
 module _ (word : List ℕ) (s : Status) (next : List ℕ → Option (List ℕ) → Course) where
   pub names-nothing : named word ≡ None → with_name word s next ≡ raises flaw.BadVariable s

@@ -1,2 +1,14 @@
+pub mod Waits
+pub mod Named
+pub mod Held
+pub mod Listed
 pub mod Set
+pub mod Append
+pub mod Incr
+pub mod Lappend
+pub mod Unset
+pub mod Global
+pub mod Info
+pub mod Unsets
+pub mod Lists
 pub mod View

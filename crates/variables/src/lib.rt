@@ -1,5 +1,16 @@
 //! The commands that read and write variables.
 #![tactic(auto)]
 
+pub mod append;
+pub mod global;
+mod held;
+pub mod incr;
+pub mod info;
+pub mod lappend;
 pub mod laws;
+mod listed;
 pub mod set;
+pub mod unset;
+mod waits;
+
+pub use waits::Waits;

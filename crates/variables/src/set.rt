@@ -6,19 +6,18 @@ ghost use Rattle.state.specs.Status.{Status};
 ghost use Rattle.state.specs.View.{FitsState};
 ghost use Rattle.variables.specs.Set as definition;
 ghost use Rattle.variables.specs.View.{Reads};
+ghost use Rattle.variables.specs.Waits.{next_of};
 
+use crate::held;
+use crate::waits::Waits;
 use acts::{Fault, NoMemory};
 use state::arguments::wrong_args;
 use state::leaf::{gives, raises};
-use state::variables::{store, trouble};
+use state::variables::trouble;
 use state::{Leaf, State};
 use std::alloc::Allocator;
 use tclparse::{Name, variable_name};
 use tcltext::Value;
-
-/// What waits for the answer to an act: `set` makes none.
-#[derive(Clone, Copy)]
-pub enum Waits {}
 
 /// Gives the value of a variable, after it is written where a value stands behind its name.
 pub fn begin<A: Allocator + Copy>(
@@ -27,7 +26,7 @@ pub fn begin<A: Allocator + Copy>(
     args: &[Value<A>],
 ) -> Result<Leaf<A, Waits>, NoMemory>
     ensures shows { (s : Status) → FitsState state.old s →
-        IfOk result (λ leaf. Shows definition.next_of leaf state.new (definition.set args.now s)) }
+        IfOk result (λ leaf. Shows next_of leaf state.new (definition.set args.now s)) }
     ensures left { state.new.left ≤ state.old.left }
 {
     match args {
@@ -44,7 +43,7 @@ fn get<A: Allocator + Copy>(
     word: &[u8],
 ) -> Result<Leaf<A, Waits>, NoMemory>
     ensures { (s : Status) → FitsState state.now s → IfOk result (λ leaf.
-        Shows definition.next_of leaf state.now (definition.get word.now s)) }
+        Shows next_of leaf state.now (definition.get word.now s)) }
 {
     let Ok(Name { name, index }) = variable_name(word) else {
         return raises(alloc, &Fault::BadVariable);
@@ -63,16 +62,13 @@ fn put<A: Allocator + Copy>(
     value: &Value<A>,
 ) -> Result<Leaf<A, Waits>, NoMemory>
     ensures shows { (s : Status) → FitsState state.old s → IfOk result (λ leaf.
-        Shows definition.next_of leaf state.new (definition.put word.now value.now s)) }
+        Shows next_of leaf state.new (definition.put word.now value.now s)) }
     ensures left { state.new.left ≤ state.old.left }
 {
     let Ok(Name { name, index }) = variable_name(word) else {
         return raises(alloc, &Fault::BadVariable);
     };
-    match store(alloc, state, name, index, value.share()?)? {
-        Ok(()) => Ok(gives(value.share()?)),
-        Err(fault) => raises(alloc, &fault),
-    }
+    held::put(alloc, state, name, index, value)
 }
 
 /// The value of a variable or an element, or the script's error where it can't be read.
