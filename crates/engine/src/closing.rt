@@ -65,6 +65,7 @@ fn leave_run<A: Allocator + Copy>(
         Code::Break => report(alloc, Fault::BreakOutside.text(alloc)?),
         Code::Continue => report(alloc, Fault::ContinueOutside.text(alloc)?),
         Code::Again => report(alloc, Fault::AgainOutside.text(alloc)?),
+        Code::AgainRunning => report(alloc, Fault::AgainOutside.text(alloc)?),
     }
 }
 

@@ -13,11 +13,12 @@ ghost use Rattle.state.specs.Status.{Status, journal_of};
 ghost use Rattle.state.specs.View.{FitsState};
 
 use acts::{Act, Answer, Fault, Id, NoMemory, Row, Timer};
+use state::arguments::whole_number;
 use state::leaf::{empty, raises, stops};
 use state::variables::{consulted, store};
 use state::{Leaf, Selection, State, Stop};
 use std::alloc::Allocator;
-use tcltext::{Value, read_int};
+use tcltext::Value;
 
 /// The array whose elements a match sets (expect(1), expect).
 const EXPECT_OUT: &[u8] = b"expect_out";
@@ -337,7 +338,7 @@ fn timer<A: Allocator + Copy>(
     let Some(text) = consulted(state, TIMEOUT) else {
         return Ok(Ok(Timer::Start(SECONDS)));
     };
-    let Some(seconds) = read_int(text.as_slice()) else {
+    let Some(seconds) = whole_number(text.as_slice()) else {
         let text = Vec::from_slice(alloc, text.as_slice())?;
         return Ok(Err(raises(alloc, &Fault::NotANumber(text))?));
     };

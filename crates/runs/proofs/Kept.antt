@@ -15,7 +15,7 @@ use Rattle.runs.specs.Scripts.{behind, script, plan_of}
 use Rattle.state.proofs.Behaves.{behaves_keeps}
 use Rattle.state.specs.Behaves.{worth}
 use Rattle.state.specs.Dialogue.{Course, Dialogue, tick_of, is_no_more, on_value}
-use Rattle.state.specs.Outcome.{Outcome, Gives, Leaves, Stops, Error, Return, Break, Continue, Again}
+use Rattle.state.specs.Outcome.{Outcome, Gives, Leaves, Stops, Error, Return, Break, Continue, Again, AgainRunning}
 use Rattle.state.specs.Outcome as stop
 use Rattle.state.specs.Piece.{Whole, Script, One, IsTree}
 use Rattle.state.specs.Rows.{Holds}
@@ -106,6 +106,7 @@ closing_keeps s (Leaves Return value) = ends_keeps _ s
 closing_keeps s (Leaves Break value) = reports_keeps (text_of flaw.BreakOutside) s
 closing_keeps s (Leaves Continue value) = reports_keeps (text_of flaw.ContinueOutside) s
 closing_keeps s (Leaves Again value) = reports_keeps (text_of flaw.AgainOutside) s
+closing_keeps s (Leaves AgainRunning value) = reports_keeps (text_of flaw.AgainOutside) s
 closing_keeps s (Stops (stop.Exit status)) = ends_keeps _ s
 closing_keeps s (Stops stop.Limit) = ends_keeps _ s
 closing_keeps s (Stops stop.WriterFailed) = ends_keeps _ s

@@ -16,7 +16,7 @@ use Rattle.runs.specs.Scripts.{behind, script, one, plan_of}
 use Rattle.state.proofs.Behaves.{behaves_pays}
 use Rattle.state.specs.Behaves.{worth, closing_of_log}
 use Rattle.state.specs.Dialogue.{Course, Dialogue, tick_of, is_no_more, on_value}
-use Rattle.state.specs.Outcome.{Outcome, Gives, Leaves, Stops, Code, Error, Return, Break, Continue, Again}
+use Rattle.state.specs.Outcome.{Outcome, Gives, Leaves, Stops, Code, Error, Return, Break, Continue, Again, AgainRunning}
 use Rattle.state.specs.Outcome as stop
 use Rattle.state.specs.Piece.{Piece, Whole, Script, One, IsTree}
 use Rattle.state.specs.Status.{Status, Peer, opened}
@@ -124,6 +124,8 @@ closing_pays s (Leaves Break value) had le =
 closing_pays s (Leaves Continue value) had le =
     reports_pays (text_of flaw.ContinueOutside) s had le
 closing_pays s (Leaves Again value) had le =
+    reports_pays (text_of flaw.AgainOutside) s had le
+closing_pays s (Leaves AgainRunning value) had le =
     reports_pays (text_of flaw.AgainOutside) s had le
 closing_pays s (Stops (stop.Exit status)) had le = ends_pays _ s had (omega (arith, le))
 closing_pays s (Stops stop.Limit) had le = ends_pays _ s had (omega (arith, le))

@@ -8,7 +8,7 @@ use Rattle.plan.specs.Plan.{Ends, Asks}
 use Rattle.runs.specs.Ending.{Ending, Over, With, Unfit, stopped}
 use Rattle.runs.specs.Ending as ending
 use Rattle.state.specs.Dialogue.{Dialogue, judged}
-use Rattle.state.specs.Outcome.{Outcome, Gives, Leaves, Stops, Code, Error, Return, Break, Continue, Again}
+use Rattle.state.specs.Outcome.{Outcome, Gives, Leaves, Stops, Code, Error, Return, Break, Continue, Again, AgainRunning}
 use Rattle.state.specs.Outcome as stop
 use Rattle.state.specs.Status.{Status, Peer, opened}
 
@@ -47,6 +47,7 @@ leaves Return value s = ends_with (ending.Exit (pos 0)) s
 leaves Break value s = reports (text_of flaw.BreakOutside) s
 leaves Continue value s = reports (text_of flaw.ContinueOutside) s
 leaves Again value s = reports (text_of flaw.AgainOutside) s
+leaves AgainRunning value s = reports (text_of flaw.AgainOutside) s
 
 -- after a wrong answer or none, nothing follows
 abbrev pub closing : Status → Outcome → Dialogue Over

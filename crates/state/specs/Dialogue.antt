@@ -22,6 +22,10 @@ Course = Dialogue (Status × Outcome)
 abbrev pub gives : List ℕ → Status → Course
 gives value s = Ends (s, Gives value)
 
+-- it is over with another code than ok, and a value (Tcl(n), return codes)
+abbrev pub leaves : Code → List ℕ → Status → Course
+leaves code value s = Ends (s, Leaves code value)
+
 -- it is over with an error, whose value is the error's text (Tcl(n), return codes)
 abbrev pub raises : Flaw → Status → Course
 raises flaw s = Ends (s, Leaves Error (text_of flaw))

@@ -1,13 +1,15 @@
 -- How a part of a run ends.
 use Rattle.std.specs.Prelude.{ℕ, ℤ, List}
 
--- the codes other than ok (Tcl(n), return codes); the last one is that of exp_continue (expect(1))
+-- the codes other than ok (Tcl(n), return codes); the last two are those of exp_continue, by which
+-- the timer starts anew or runs on (expect(1), exp_continue)
 pub data Code : Type 0 where
   Error : Code
   Return : Code
   Break : Code
   Continue : Code
   Again : Code
+  AgainRunning : Code
 
 -- what ends the whole run (this project's own rule; exit(n)); the answer that does not fit is the
 -- last one, so that its number is how many there were

@@ -8,7 +8,7 @@ use Rattle.state.specs.declared.outcome.Stop.TheVariants as halt
 use Rattle.state.specs.declared.outcome.Leave.{Leave}
 use Rattle.state.specs.declared.outcome.Leave.TheVariants as leave
 use Rattle.state.specs.declared.state.State.{State}
-use Rattle.state.specs.Outcome.{Code, Error, Return, Break, Continue, Again, Stop, Outcome, Gives, Leaves, Stops}
+use Rattle.state.specs.Outcome.{Code, Error, Return, Break, Continue, Again, AgainRunning, Stop, Outcome, Gives, Leaves, Stops}
 use Rattle.state.specs.Outcome as stop
 use Rattle.state.specs.Standing.{no_standing}
 use Rattle.state.specs.Status.{Logging, Status, opened}
@@ -21,6 +21,7 @@ code_of code.Return = Return
 code_of code.Break = Break
 code_of code.Continue = Continue
 code_of code.Again = Again
+code_of code.AgainRunning = AgainRunning
 
 -- the stop that one of the code's stands for
 abbrev pub stop_of : halted.Stop → Stop

@@ -6,6 +6,7 @@ ghost use Rattle.acts.specs.Flaw.{text_of};
 ghost use Rattle.state.specs.Arguments as words;
 ghost use Rattle.state.specs.Leaf.{HasOutcome};
 ghost use Rattle.state.specs.Outcome.{Leaves, Error};
+ghost use Rattle.state.specs.Variables.{whole_of};
 ghost use Rattle.tcltext.specs.Numbers as numbers;
 
 use crate::leaf::{Leaf, raises};
@@ -50,6 +51,13 @@ pub fn is_flag(word: &[u8]) -> bool
     ensures { result ≡ words.is_flag word.now }
 {
     begins_with_dash(word) && !is_number(word)
+}
+
+/// The whole number within 64 bits that a word is, if it is one.
+pub fn whole_number(word: &[u8]) -> Option<i64>
+    ensures { result ≡ whole_of word.now }
+{
+    read_int(word)
 }
 
 /// Whether a word is a whole number within 64 bits.

@@ -4,7 +4,7 @@ ghost use Rattle.std.specs.Prelude.{◌≡◌, [], IfOk};
 ghost use Rattle.acts.specs.Flaw.{flaw_of, text_of};
 ghost use Rattle.state.specs.Leaf.{HasOutcome, raised};
 ghost use Rattle.state.specs.Outcome as outcome;
-ghost use Rattle.state.specs.View.{stop_of};
+ghost use Rattle.state.specs.View.{code_of, stop_of};
 
 use crate::outcome::{Code, Leave, Outcome, Stop};
 use acts::{Act, Fault, NoMemory};
@@ -33,6 +33,13 @@ pub fn empty<A: Allocator, W: Drop>() -> Leaf<A, W>
     ensures { HasOutcome result (outcome.Gives []) }
 {
     Leaf::Has(Ok(Value::empty()))
+}
+
+/// The command is over with another code than ok, and a value.
+pub fn leaves<A: Allocator, W: Drop>(code: Code, value: Value<A>) -> Leaf<A, W>
+    ensures { HasOutcome result (outcome.Leaves (code_of code) value) }
+{
+    Leaf::Has(Err(Leave::Coded(code, value)))
 }
 
 /// The command is over with an error.

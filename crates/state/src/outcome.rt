@@ -14,8 +14,10 @@ pub enum Code {
     Break,
     /// 4: the loop around it goes on with its next turn.
     Continue,
-    /// 5: the `expect` around it goes on (expect(1), exp_continue).
+    /// 5: the `expect` around it goes on, and its timer starts anew (expect(1), exp_continue).
     Again,
+    /// 5: the `expect` around it goes on, and its timer runs on (expect(1), exp_continue).
+    AgainRunning,
 }
 
 /// What stops a whole run.

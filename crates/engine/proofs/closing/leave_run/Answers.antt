@@ -27,3 +27,12 @@ returns-in_ok-text-in-Again-clause-stands g c = λ frames s answers fits.
     (subst (λ text. IfOk c.report-in-Again.result (λ phase. Stands phase frames state answers
     (reports text s))) c.in_ok-text-in-Again.ensures
     (c.report-in-Again.ensures.stands frames s answers state fits))
+
+pub returns-in_ok-text-in-AgainRunning-clause-stands :
+    goal.returns-in_ok-text-in-AgainRunning-clause-stands
+returns-in_ok-text-in-AgainRunning-clause-stands g c = λ frames s answers fits.
+    let state = c.args.state.now in
+    rw c.in-AgainRunning.is
+    (subst (λ text. IfOk c.report-in-AgainRunning.result (λ phase. Stands phase frames state answers
+    (reports text s))) c.in_ok-text-in-AgainRunning.ensures
+    (c.report-in-AgainRunning.ensures.stands frames s answers state fits))
