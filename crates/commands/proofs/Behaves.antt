@@ -3,10 +3,16 @@ use Rattle.std.proofs.Common.{ℕ, ◌+◌, List, [], ◌∷◌, Option, Some, N
 use Rattle.commands.specs.Builtin as builtin
 use Rattle.commands.specs.Builtin.{Builtin}
 use Rattle.commands.specs.Commands.{named, does, called, command}
+use Rattle.commands.specs.LeftOut.{is_left_out}
 use Rattle.expects.proofs.Behaves.{expect_behaves}
+use Rattle.leaving.proofs.Behaves.{breaks_behaves, continues_behaves, returns_behaves, error_behaves, exit_behaves, exp_continue_behaves}
 use Rattle.lists.proofs.Behaves.{list_behaves}
+use Rattle.logs.proofs.Behaves.{send_error_behaves}
+use Rattle.peers.proofs.Behaves.{close_behaves}
+use Rattle.processes.proofs.SleepBehaves.{sleep_behaves}
 use Rattle.processes.proofs.SendBehaves.{send_behaves}
 use Rattle.processes.proofs.SpawnBehaves.{spawn_behaves}
+use Rattle.state.proofs.Behaves.{if_behaves}
 use Rattle.state.specs.Behaves.{Behaves, worth}
 use Rattle.state.specs.Status.{Status}
 use Rattle.variables.proofs.Behaves.{set_behaves, append_behaves, incr_behaves, unset_behaves, global_behaves, info_behaves}
@@ -16,6 +22,12 @@ does_behaves : (builtin : Builtin) (args : List (List ℕ)) (s : Status) →
     Behaves s.left (worth s + 3) (does builtin args s)
 does_behaves builtin.Puts args s = puts_behaves args s
 does_behaves builtin.List args s = list_behaves args s
+does_behaves builtin.Break args s = breaks_behaves args s
+does_behaves builtin.Continue args s = continues_behaves args s
+does_behaves builtin.Return args s = returns_behaves args s
+does_behaves builtin.Error args s = error_behaves args s
+does_behaves builtin.Exit args s = exit_behaves args s
+does_behaves builtin.ExpContinue args s = exp_continue_behaves args s
 does_behaves builtin.Set args s = set_behaves args s
 does_behaves builtin.Append args s = append_behaves args s
 does_behaves builtin.Incr args s = incr_behaves args s
@@ -24,12 +36,17 @@ does_behaves builtin.Global args s = global_behaves args s
 does_behaves builtin.Info args s = info_behaves args s
 does_behaves builtin.Spawn args s = spawn_behaves args s
 does_behaves builtin.Send args s = send_behaves args s
+does_behaves builtin.Sleep args s = sleep_behaves args s
+does_behaves builtin.Close args s = close_behaves args s
+does_behaves builtin.SendError args s = send_error_behaves args s
 does_behaves builtin.Expect args s = expect_behaves args s
 
 called_behaves : (o : Option Builtin) (name : List ℕ) (args : List (List ℕ)) (s : Status) →
     Behaves s.left (worth s + 3) (called o name args s)
 called_behaves (Some found) name args s = does_behaves found args s
-called_behaves None name args s = (omega arith, omega arith)
+called_behaves None name args s =
+    if_behaves s.left (worth s + 3) (is_left_out name) _ _
+    (omega arith, omega arith) (omega arith, omega arith)
 
 pub command_behaves : (s : Status) (words : List (List ℕ)) →
     Behaves s.left (worth s + 3) (command s words)

@@ -1,10 +1,15 @@
 -- The commands.
 
--- one for each name (puts(n), list(n), set(n), append(n), incr(n), unset(n), global(n), info(n);
--- expect(1), spawn, send and expect)
+-- one for each name (the manual pages of these names; expect(1) for its own)
 pub data Builtin : Type 0 where
   Puts : Builtin
   List : Builtin
+  Break : Builtin
+  Continue : Builtin
+  Return : Builtin
+  Error : Builtin
+  Exit : Builtin
+  ExpContinue : Builtin
   Set : Builtin
   Append : Builtin
   Incr : Builtin
@@ -13,4 +18,7 @@ pub data Builtin : Type 0 where
   Info : Builtin
   Spawn : Builtin
   Send : Builtin
+  Sleep : Builtin
+  Close : Builtin
+  SendError : Builtin
   Expect : Builtin

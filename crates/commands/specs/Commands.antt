@@ -4,11 +4,21 @@ use Rattle.std.specs.Str.{bytes_eq}
 use Rattle.acts.specs.Flaw as flaw
 use Rattle.commands.specs.Builtin as builtin
 use Rattle.commands.specs.Builtin.{Builtin}
+use Rattle.commands.specs.LeftOut.{is_left_out}
 use Rattle.state.specs.Dialogue.{Course, gives, raises}
 use Rattle.state.specs.Status.{Status}
 use Rattle.expects.specs.Expect.{expect}
+use Rattle.leaving.specs.Breaks.{breaks}
+use Rattle.leaving.specs.Continues.{continues}
+use Rattle.leaving.specs.Error.{error}
+use Rattle.leaving.specs.Exit.{exit}
+use Rattle.leaving.specs.ExpContinue.{exp_continue}
+use Rattle.leaving.specs.Returns.{returns}
 use Rattle.lists.specs.List.{list}
+use Rattle.logs.specs.SendError.{send_error}
+use Rattle.peers.specs.Close.{close}
 use Rattle.processes.specs.Send.{send}
+use Rattle.processes.specs.Sleep.{sleep}
 use Rattle.processes.specs.Spawn.{spawn}
 use Rattle.variables.specs.Append.{append}
 use Rattle.variables.specs.Global.{global}
@@ -23,6 +33,12 @@ abbrev pub named : List ℕ → Option Builtin
 named name =
     if bytes_eq name (codes "puts") then Some builtin.Puts
     else if bytes_eq name (codes "list") then Some builtin.List
+    else if bytes_eq name (codes "break") then Some builtin.Break
+    else if bytes_eq name (codes "continue") then Some builtin.Continue
+    else if bytes_eq name (codes "return") then Some builtin.Return
+    else if bytes_eq name (codes "error") then Some builtin.Error
+    else if bytes_eq name (codes "exit") then Some builtin.Exit
+    else if bytes_eq name (codes "exp_continue") then Some builtin.ExpContinue
     else if bytes_eq name (codes "set") then Some builtin.Set
     else if bytes_eq name (codes "append") then Some builtin.Append
     else if bytes_eq name (codes "incr") then Some builtin.Incr
@@ -31,6 +47,9 @@ named name =
     else if bytes_eq name (codes "info") then Some builtin.Info
     else if bytes_eq name (codes "spawn") then Some builtin.Spawn
     else if bytes_eq name (codes "send") then Some builtin.Send
+    else if bytes_eq name (codes "sleep") then Some builtin.Sleep
+    else if bytes_eq name (codes "close") then Some builtin.Close
+    else if bytes_eq name (codes "send_error") then Some builtin.SendError
     else if bytes_eq name (codes "expect") then Some builtin.Expect
     else None
 
@@ -38,6 +57,12 @@ named name =
 abbrev pub does : Builtin → List (List ℕ) → Status → Course
 does builtin.Puts args s = puts args s
 does builtin.List args s = list args s
+does builtin.Break args s = breaks args s
+does builtin.Continue args s = continues args s
+does builtin.Return args s = returns args s
+does builtin.Error args s = error args s
+does builtin.Exit args s = exit args s
+does builtin.ExpContinue args s = exp_continue args s
 does builtin.Set args s = set args s
 does builtin.Append args s = append args s
 does builtin.Incr args s = incr args s
@@ -46,12 +71,22 @@ does builtin.Global args s = global args s
 does builtin.Info args s = info args s
 does builtin.Spawn args s = spawn args s
 does builtin.Send args s = send args s
+does builtin.Sleep args s = sleep args s
+does builtin.Close args s = close args s
+does builtin.SendError args s = send_error args s
 does builtin.Expect args s = expect args s
 
--- the command that a name has; a name without one is the script's error (Tcl(n), rule 2)
+-- a name that no command has is the script's error, which tells the names of commands that this
+-- profile leaves out from all others (Tcl(n), rule 2)
+abbrev pub unknown : List ℕ → Status → Course
+unknown name s =
+    if is_left_out name then raises (flaw.NotInProfile name) s
+    else raises (flaw.InvalidCommand name) s
+
+-- the command that a name has (Tcl(n), rule 2)
 abbrev pub called : Option Builtin → List ℕ → List (List ℕ) → Status → Course
 called (Some found) name args s = does found args s
-called None name args s = raises (flaw.InvalidCommand name) s
+called None name args s = unknown name s
 
 -- a command by its words, of which the first names it; where there are none, nothing is done
 -- (Tcl(n), rules 1, 2 and 5)

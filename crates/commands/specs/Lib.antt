@@ -1,3 +1,4 @@
 pub mod Builtin
+pub mod LeftOut
 pub mod Commands
 pub mod View

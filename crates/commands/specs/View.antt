@@ -12,7 +12,10 @@ use Rattle.state.specs.Dialogue.{Course}
 use Rattle.state.specs.Leaf.{course_of}
 use Rattle.state.specs.Status.{Status}
 use Rattle.expects.specs.Expect as expect
+use Rattle.logs.specs.SendError as send_error
+use Rattle.peers.specs.Close as close
 use Rattle.processes.specs.Send as send
+use Rattle.processes.specs.Sleep as sleep
 use Rattle.processes.specs.Spawn as spawn
 use Rattle.writing.specs.Puts as puts
 
@@ -20,6 +23,12 @@ use Rattle.writing.specs.Puts as puts
 abbrev pub builtin_of : named.Builtin → Builtin
 builtin_of builtin.Puts = meant.Puts
 builtin_of builtin.List = meant.List
+builtin_of builtin.Break = meant.Break
+builtin_of builtin.Continue = meant.Continue
+builtin_of builtin.Return = meant.Return
+builtin_of builtin.Error = meant.Error
+builtin_of builtin.Exit = meant.Exit
+builtin_of builtin.ExpContinue = meant.ExpContinue
 builtin_of builtin.Set = meant.Set
 builtin_of builtin.Append = meant.Append
 builtin_of builtin.Incr = meant.Incr
@@ -28,6 +37,9 @@ builtin_of builtin.Global = meant.Global
 builtin_of builtin.Info = meant.Info
 builtin_of builtin.Spawn = meant.Spawn
 builtin_of builtin.Send = meant.Send
+builtin_of builtin.Sleep = meant.Sleep
+builtin_of builtin.Close = meant.Close
+builtin_of builtin.SendError = meant.SendError
 builtin_of builtin.Expect = meant.Expect
 
 -- what follows the answer to an act of a command
@@ -35,6 +47,9 @@ abbrev pub next_of : {A : Type 0} → Waits A → Deed → Status → Reply → 
 next_of (waits.Puts own) = puts.next_of own
 next_of (waits.Spawn own) = spawn.next_of own
 next_of (waits.Send own) = send.next_of own
+next_of (waits.Sleep own) = sleep.next_of own
+next_of (waits.Close own) = close.next_of own
+next_of (waits.SendError own) = send_error.next_of own
 next_of (waits.Expect own) = expect.next_of own
 
 -- what is at hand of one command is the same course as one of all commands

@@ -2,6 +2,7 @@
 #![tactic(auto)]
 
 pub mod laws;
+mod left_out;
 mod table;
 mod waits;
 

@@ -8,13 +8,18 @@ ghost use Rattle.state.specs.Leaf.{Shows};
 ghost use Rattle.state.specs.Status.{Status};
 ghost use Rattle.state.specs.View.{FitsState};
 
+use crate::left_out::is_left_out;
 use crate::waits::{
-    Waits, from_expect, from_list, from_puts, from_send, from_spawn, from_variables,
+    Waits, from_close, from_expect, from_leaving, from_list, from_puts, from_send, from_send_error,
+    from_sleep, from_spawn, from_variables,
 };
 use acts::{Act, Answer, Fault, NoMemory};
 use expects::expect;
+use leaving::{breaks, continues, error, exit, exp_continue, returns};
 use lists::list;
-use processes::{send, spawn};
+use logs::send_error;
+use peers::close;
+use processes::{send, sleep, spawn};
 use state::leaf::{empty, raises};
 use state::{Leaf, State};
 use std::alloc::Allocator;
@@ -27,6 +32,12 @@ use writing::puts;
 enum Builtin {
     Puts,
     List,
+    Break,
+    Continue,
+    Return,
+    Error,
+    Exit,
+    ExpContinue,
     Set,
     Append,
     Incr,
@@ -35,6 +46,9 @@ enum Builtin {
     Info,
     Spawn,
     Send,
+    Sleep,
+    Close,
+    SendError,
     Expect,
 }
 
@@ -47,6 +61,18 @@ impl Builtin {
             Some(Builtin::Puts)
         } else if name == b"list".as_slice() {
             Some(Builtin::List)
+        } else if name == b"break".as_slice() {
+            Some(Builtin::Break)
+        } else if name == b"continue".as_slice() {
+            Some(Builtin::Continue)
+        } else if name == b"return".as_slice() {
+            Some(Builtin::Return)
+        } else if name == b"error".as_slice() {
+            Some(Builtin::Error)
+        } else if name == b"exit".as_slice() {
+            Some(Builtin::Exit)
+        } else if name == b"exp_continue".as_slice() {
+            Some(Builtin::ExpContinue)
         } else if name == b"set".as_slice() {
             Some(Builtin::Set)
         } else if name == b"append".as_slice() {
@@ -63,6 +89,12 @@ impl Builtin {
             Some(Builtin::Spawn)
         } else if name == b"send".as_slice() {
             Some(Builtin::Send)
+        } else if name == b"sleep".as_slice() {
+            Some(Builtin::Sleep)
+        } else if name == b"close".as_slice() {
+            Some(Builtin::Close)
+        } else if name == b"send_error".as_slice() {
+            Some(Builtin::SendError)
         } else if name == b"expect".as_slice() {
             Some(Builtin::Expect)
         } else {
@@ -89,10 +121,24 @@ pub fn begin<A: Allocator + Copy>(
     };
     match Builtin::read(name.as_slice()) {
         Some(builtin) => call(alloc, state, builtin, args),
-        None => {
-            let name = Vec::from_slice(alloc, name.as_slice())?;
-            raises(alloc, &Fault::InvalidCommand(name))
-        }
+        None => unknown(alloc, state, name.as_slice()),
+    }
+}
+
+/// Refuses a name that no command has.
+fn unknown<A: Allocator + Copy>(
+    alloc: A,
+    state: &State<A>,
+    name: &[u8],
+) -> Result<Leaf<A, Waits<A>>, NoMemory>
+    ensures { (s : Status) → FitsState state.now s → IfOk result (λ leaf.
+        Shows next_of leaf state.now (definition.unknown name.now s)) }
+{
+    let copy = Vec::from_slice(alloc, name)?;
+    if is_left_out(name) {
+        raises(alloc, &Fault::NotInProfile(copy))
+    } else {
+        raises(alloc, &Fault::InvalidCommand(copy))
     }
 }
 
@@ -110,6 +156,12 @@ fn call<A: Allocator + Copy>(
     match builtin {
         Builtin::Puts => Ok(from_puts(puts::begin(alloc, state, args)?)),
         Builtin::List => Ok(from_list(list::begin(alloc, state, args)?)),
+        Builtin::Break => Ok(from_leaving(breaks::begin(alloc, state, args)?)),
+        Builtin::Continue => Ok(from_leaving(continues::begin(alloc, state, args)?)),
+        Builtin::Return => Ok(from_leaving(returns::begin(alloc, state, args)?)),
+        Builtin::Error => Ok(from_leaving(error::begin(alloc, state, args)?)),
+        Builtin::Exit => Ok(from_leaving(exit::begin(alloc, state, args)?)),
+        Builtin::ExpContinue => Ok(from_leaving(exp_continue::begin(alloc, state, args)?)),
         Builtin::Set => Ok(from_variables(set::begin(alloc, state, args)?)),
         Builtin::Append => Ok(from_variables(append::begin(alloc, state, args)?)),
         Builtin::Incr => Ok(from_variables(incr::begin(alloc, state, args)?)),
@@ -118,6 +170,9 @@ fn call<A: Allocator + Copy>(
         Builtin::Info => Ok(from_variables(info::begin(alloc, state, args)?)),
         Builtin::Spawn => Ok(from_spawn(spawn::begin(alloc, state, args)?)),
         Builtin::Send => Ok(from_send(send::begin(alloc, state, args)?)),
+        Builtin::Sleep => Ok(from_sleep(sleep::begin(alloc, state, args)?)),
+        Builtin::Close => Ok(from_close(close::begin(alloc, state, args)?)),
+        Builtin::SendError => Ok(from_send_error(send_error::begin(alloc, state, args)?)),
         Builtin::Expect => Ok(from_expect(expect::begin(alloc, state, args)?)),
     }
 }
@@ -141,6 +196,11 @@ pub fn answered<A: Allocator + Copy>(
         Waits::Puts(own) => Ok(from_puts(puts::answered(alloc, state, act, own, answer)?)),
         Waits::Spawn(own) => Ok(from_spawn(spawn::answered(alloc, state, act, own, answer)?)),
         Waits::Send(own) => Ok(from_send(send::answered(alloc, state, act, own, answer)?)),
+        Waits::Sleep(own) => Ok(from_sleep(sleep::answered(alloc, state, act, own, answer)?)),
+        Waits::Close(own) => Ok(from_close(close::answered(alloc, state, act, own, answer)?)),
+        Waits::SendError(own) => {
+            Ok(from_send_error(send_error::answered(alloc, state, act, own, answer)?))
+        }
         Waits::Expect(own) => Ok(from_expect(expect::answered(alloc, state, act, own, answer)?)),
     }
 }

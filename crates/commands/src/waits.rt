@@ -2,15 +2,21 @@
 
 ghost use Rattle.commands.specs.View.{IsLifted};
 ghost use Rattle.expects.specs.Expect as expects;
+ghost use Rattle.leaving.specs.Waits as leavings;
 ghost use Rattle.lists.specs.List as lists;
+ghost use Rattle.logs.specs.SendError as send_errors;
+ghost use Rattle.peers.specs.Close as closes;
 ghost use Rattle.processes.specs.Send as sends;
+ghost use Rattle.processes.specs.Sleep as sleeps;
 ghost use Rattle.processes.specs.Spawn as spawns;
 ghost use Rattle.variables.specs.Waits as variables;
 ghost use Rattle.writing.specs.Puts as writing;
 
 use expects::expect;
 use lists::list;
-use processes::{send, spawn};
+use logs::send_error;
+use peers::close;
+use processes::{send, sleep, spawn};
 use state::Leaf;
 use std::alloc::Allocator;
 use writing::puts;
@@ -21,6 +27,9 @@ pub enum Waits<A: Allocator> {
     Puts(puts::Waits),
     Spawn(spawn::Waits<A>),
     Send(send::Waits),
+    Sleep(sleep::Waits),
+    Close(close::Waits),
+    SendError(send_error::Waits),
     Expect(expect::Waits<A>),
 }
 
@@ -37,6 +46,16 @@ pub(crate) fn from_puts<A: Allocator>(leaf: Leaf<A, puts::Waits>) -> Leaf<A, Wai
 /// How far `list` has come, as a command.
 pub(crate) fn from_list<A: Allocator>(leaf: Leaf<A, list::Waits>) -> Leaf<A, Waits<A>>
     ensures { IsLifted lists.next_of leaf result }
+{
+    match leaf {
+        Leaf::Has(outcome) => Leaf::Has(outcome),
+        Leaf::Asks(_, waits) => match waits {},
+    }
+}
+
+/// How far a command that ends a part of a script has come, as a command.
+pub(crate) fn from_leaving<A: Allocator>(leaf: Leaf<A, leaving::Waits>) -> Leaf<A, Waits<A>>
+    ensures { IsLifted leavings.next_of leaf result }
 {
     match leaf {
         Leaf::Has(outcome) => Leaf::Has(outcome),
@@ -71,6 +90,36 @@ pub(crate) fn from_send<A: Allocator>(leaf: Leaf<A, send::Waits>) -> Leaf<A, Wai
     match leaf {
         Leaf::Has(outcome) => Leaf::Has(outcome),
         Leaf::Asks(act, waits) => Leaf::Asks(act, Waits::Send(waits)),
+    }
+}
+
+/// How far `sleep` has come, as a command.
+pub(crate) fn from_sleep<A: Allocator>(leaf: Leaf<A, sleep::Waits>) -> Leaf<A, Waits<A>>
+    ensures { IsLifted sleeps.next_of leaf result }
+{
+    match leaf {
+        Leaf::Has(outcome) => Leaf::Has(outcome),
+        Leaf::Asks(act, waits) => Leaf::Asks(act, Waits::Sleep(waits)),
+    }
+}
+
+/// How far `close` has come, as a command.
+pub(crate) fn from_close<A: Allocator>(leaf: Leaf<A, close::Waits>) -> Leaf<A, Waits<A>>
+    ensures { IsLifted closes.next_of leaf result }
+{
+    match leaf {
+        Leaf::Has(outcome) => Leaf::Has(outcome),
+        Leaf::Asks(act, waits) => Leaf::Asks(act, Waits::Close(waits)),
+    }
+}
+
+/// How far `send_error` has come, as a command.
+pub(crate) fn from_send_error<A: Allocator>(leaf: Leaf<A, send_error::Waits>) -> Leaf<A, Waits<A>>
+    ensures { IsLifted send_errors.next_of leaf result }
+{
+    match leaf {
+        Leaf::Has(outcome) => Leaf::Has(outcome),
+        Leaf::Asks(act, waits) => Leaf::Asks(act, Waits::SendError(waits)),
     }
 }
 

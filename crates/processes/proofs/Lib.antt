@@ -2,3 +2,4 @@ pub mod SpawnBehaves
 pub mod SendBehaves
 pub mod Launches
 pub mod Runs
+pub mod SleepBehaves

@@ -1,3 +1,4 @@
 pub mod View
 pub mod Spawn
 pub mod Send
+pub mod Sleep

@@ -2,6 +2,7 @@
 
 ghost use Rattle.std.specs.Prelude.{ℕ, ◌+◌, List};
 ghost use Rattle.processes.specs.Send.{send};
+ghost use Rattle.processes.specs.Sleep.{sleep};
 ghost use Rattle.processes.specs.Spawn.{spawn};
 ghost use Rattle.state.specs.Behaves.{Behaves, worth};
 ghost use Rattle.state.specs.Status.{Status};
@@ -16,4 +17,10 @@ pub fn spawn_behaves()
 #[tactic(auto, using(crate::proofs::SendBehaves::send_behaves))]
 pub fn send_behaves()
     ensures { (args : List (List ℕ)) (s : Status) → Behaves s.left (worth s + 3) (send args s) }
+{}
+
+/// `sleep` runs no script, uses up no tick, and makes its act out of three.
+#[tactic(auto, using(crate::proofs::SleepBehaves::sleep_behaves))]
+pub fn sleep_behaves()
+    ensures { (args : List (List ℕ)) (s : Status) → Behaves s.left (worth s + 3) (sleep args s) }
 {}

@@ -1,6 +1,7 @@
-//! The commands that start programs and write to them.
+//! The commands that start programs, write to them, and let time pass.
 #![tactic(auto)]
 
 pub mod laws;
 pub mod send;
+pub mod sleep;
 pub mod spawn;

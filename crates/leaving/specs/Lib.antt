@@ -1,0 +1,7 @@
+pub mod Waits
+pub mod Breaks
+pub mod Continues
+pub mod Returns
+pub mod Error
+pub mod Exit
+pub mod ExpContinue

@@ -1,0 +1,56 @@
+//! `exp_continue ?-continue_timer?` (expect(1), exp_continue).
+
+ghost use Rattle.std.specs.Prelude.{◌≡◌, ◌≤◌, IfOk};
+ghost use Rattle.leaving.specs.ExpContinue as definition;
+ghost use Rattle.leaving.specs.Waits.{next_of};
+ghost use Rattle.state.specs.Leaf.{Shows};
+ghost use Rattle.state.specs.Status.{Status};
+ghost use Rattle.state.specs.View.{FitsState};
+
+use crate::waits::Waits;
+use acts::NoMemory;
+use state::arguments::{bad_argument, wrong_args};
+use state::leaf::leaves;
+use state::{Code, Leaf, State};
+use std::alloc::Allocator;
+use tcltext::Value;
+
+/// Goes on with the `expect` around it, whose timer starts anew unless the flag keeps it running.
+pub fn begin<A: Allocator + Copy>(
+    alloc: A,
+    state: &mut State<A>,
+    args: &[Value<A>],
+) -> Result<Leaf<A, Waits>, NoMemory>
+    ensures shows { (s : Status) → FitsState state.old s →
+        IfOk result (λ leaf. Shows next_of leaf state.new (definition.exp_continue args.now s)) }
+    ensures left { state.new.left ≤ state.old.left }
+{
+    match args {
+        [] => Ok(leaves(Code::Again, Value::empty())),
+        [word] => exp_continue_by(alloc, state, word.as_slice()),
+        _ => wrong_args(alloc, b"exp_continue"),
+    }
+}
+
+/// Whether a word is the flag that keeps the timer running.
+fn is_continue_timer(word: &[u8]) -> bool
+    ensures { result ≡ definition.is_continue_timer word.now }
+{
+    word == b"-continue_timer".as_slice()
+}
+
+/// Goes on with the `expect` around it, where its one word is the flag.
+fn exp_continue_by<A: Allocator + Copy>(
+    alloc: A,
+    state: &State<A>,
+    word: &[u8],
+) -> Result<Leaf<A, Waits>, NoMemory>
+    ensures { (s : Status) → FitsState state.now s → IfOk result (λ leaf.
+        Shows next_of leaf state.now (definition.by_word word.now s)) }
+{
+    if is_continue_timer(word) {
+        Ok(leaves(Code::AgainRunning, Value::empty()))
+    } else {
+        bad_argument(alloc, word, b"exp_continue")
+    }
+}

@@ -1,0 +1,12 @@
+use Rattle.peers.specs.Close.{next_of}
+use Rattle.peers.proofs.Named.{close-more}
+use Rattle.peers.proofs.Shows.{over_ok}
+use Rattle.peers.proofs.close.begin.Goals as goal
+
+pub returns-in-len3-up-clause-shows : goal.returns-in-len3-up-clause-shows
+returns-in-len3-up-clause-shows g c = λ s fits.
+    over_ok next_of c.surplus.result c.surplus.ensures fits
+    (close-more c.args.args.now c.flag-item-2.result c.word-item-2.result
+    c.as_slice-in-len3-up.result.now c.as_slice-in-len3-up-2.result.now s
+    c.in-len3-up.len_at_least c.flag-item-2.is c.word-item-2.is
+    c.as_slice-in-len3-up.ensures c.as_slice-in-len3-up-2.ensures)
