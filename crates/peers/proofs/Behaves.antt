@@ -8,7 +8,7 @@ use Rattle.state.specs.Arguments.{is_flag}
 use Rattle.state.specs.Behaves.{Behaves, worth}
 use Rattle.state.specs.Status.{Peer, Status, opened, closed}
 use Rattle.state.specs.Variables.{named, on_open}
-use Rattle.peers.specs.Close.{close, closes, shut}
+use Rattle.peers.specs.Close.{close, closes, over}
 use Rattle.peers.specs.Words.{is_id_flag}
 
 without_by : (i : Id) (p : Peer) (ps : List Peer) (b : Bool) →
@@ -27,7 +27,7 @@ no_more i ps = omega (arith, ap length (opened-closed i ps), length-without i (o
 
 closes_behaves : (s : Status) (i : Id) → Behaves s.left (worth s + 3) (closes s i)
 closes_behaves s i =
-    ask_behaves s.left (worth s + 3) (said.Close i) s (shut i) tt (omega arith) (omega arith)
+    ask_behaves s.left (worth s + 3) (said.Close i) s (over i) tt (omega arith) (omega arith)
     (λ reply. (omega arith, omega (arith, no_more i s.peers)))
 
 open_behaves : (o : Option Id) (name : List ℕ) (s : Status) →

@@ -1,3 +1,2 @@
 pub mod Behaves
-pub mod Shows
 pub mod Named

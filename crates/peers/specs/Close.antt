@@ -8,16 +8,16 @@ use Rattle.peers.specs.declared.close.Waits.{Waits}
 use Rattle.peers.specs.Words.{is_id_flag, misplaced, surplus}
 use Rattle.state.specs.Arguments.{is_flag}
 use Rattle.state.specs.Dialogue.{Course, gives, raises, ask}
-use Rattle.state.specs.Status.{Status, opened, closed}
+use Rattle.state.specs.Status.{Status, opened, shut}
 use Rattle.state.specs.Variables.{named, on_open, with_current}
 
--- the id is closed (expect(1), close)
-abbrev pub shut : Id → Status → Reply → Course
-shut i s reply = gives [] (record s { peers = closed i s.peers })
+-- the id is closed, and its standing pairs are gone (expect(1), close)
+abbrev pub over : Id → Status → Reply → Course
+over i s reply = gives [] (shut i s)
 
 -- an open id is closed (expect(1), close)
 abbrev pub closes : Status → Id → Course
-closes s i = ask (said.Close i) s (shut i)
+closes s i = ask (said.Close i) s (over i)
 
 -- the id of a name is closed, where it is open (expect(1), close)
 abbrev pub closes_named : List ℕ → Status → Course
@@ -44,4 +44,4 @@ close (w ∷ name ∷ v ∷ vs) s = raises (surplus w v (codes "close")) s
 
 -- what follows the answer to its act (expect(1), close)
 abbrev pub next_of : Waits → Deed → Status → Reply → Course
-next_of waits deed = shut waits.id
+next_of waits deed = over waits.id

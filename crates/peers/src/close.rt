@@ -61,7 +61,7 @@ pub fn answered<A: Allocator + Copy>(
 /// Closes an id, whose connection is closed.
 fn close_id<A: Allocator + Copy>(state: &mut State<A>, id: Id) -> Leaf<A, Waits>
     ensures shows { (s : Status) (reply : Reply) → FitsState state.old s →
-        Shows definition.next_of result state.new (definition.shut id s reply) }
+        Shows definition.next_of result state.new (definition.over id s reply) }
     ensures left { state.new.left ≡ state.old.left }
 {
     state.table.close(id);

@@ -10,6 +10,7 @@ pub changed : {A : Type 0} → (state : State A) (scopes : Scopes) (s : Status) 
 changed state scopes s fits = record {
   scopes = refl;
   peers = fits.peers;
+  standing = fits.standing;
   logging = fits.logging;
   size = fits.size;
   next = fits.next;

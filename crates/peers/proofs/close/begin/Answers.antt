@@ -1,6 +1,6 @@
 use Rattle.peers.specs.Close.{next_of}
 use Rattle.peers.proofs.Named.{close-more}
-use Rattle.peers.proofs.Shows.{over_ok}
+use Rattle.state.proofs.Shown.{over_ok}
 use Rattle.peers.proofs.close.begin.Goals as goal
 
 pub returns-in-len3-up-clause-shows : goal.returns-in-len3-up-clause-shows
