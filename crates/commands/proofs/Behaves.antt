@@ -15,7 +15,7 @@ use Rattle.processes.proofs.SpawnBehaves.{spawn_behaves}
 use Rattle.state.proofs.Behaves.{if_behaves}
 use Rattle.state.specs.Behaves.{Behaves, worth}
 use Rattle.state.specs.Status.{Status}
-use Rattle.variables.proofs.Behaves.{set_behaves, append_behaves, incr_behaves, unset_behaves, global_behaves, info_behaves}
+use Rattle.variables.proofs.Behaves.{set_behaves, append_behaves, incr_behaves, lappend_behaves, unset_behaves, global_behaves, info_behaves}
 use Rattle.writing.proofs.Behaves.{puts_behaves}
 
 does_behaves : (builtin : Builtin) (args : List (List ℕ)) (s : Status) →
@@ -31,6 +31,7 @@ does_behaves builtin.ExpContinue args s = exp_continue_behaves args s
 does_behaves builtin.Set args s = set_behaves args s
 does_behaves builtin.Append args s = append_behaves args s
 does_behaves builtin.Incr args s = incr_behaves args s
+does_behaves builtin.Lappend args s = lappend_behaves args s
 does_behaves builtin.Unset args s = unset_behaves args s
 does_behaves builtin.Global args s = global_behaves args s
 does_behaves builtin.Info args s = info_behaves args s

@@ -13,6 +13,7 @@ pub data Builtin : Type 0 where
   Set : Builtin
   Append : Builtin
   Incr : Builtin
+  Lappend : Builtin
   Unset : Builtin
   Global : Builtin
   Info : Builtin

@@ -24,6 +24,7 @@ use Rattle.variables.specs.Append.{append}
 use Rattle.variables.specs.Global.{global}
 use Rattle.variables.specs.Incr.{incr}
 use Rattle.variables.specs.Info.{info}
+use Rattle.variables.specs.Lappend.{lappend}
 use Rattle.variables.specs.Set.{set}
 use Rattle.variables.specs.Unset.{unset}
 use Rattle.writing.specs.Puts.{puts}
@@ -42,6 +43,7 @@ named name =
     else if bytes_eq name (codes "set") then Some builtin.Set
     else if bytes_eq name (codes "append") then Some builtin.Append
     else if bytes_eq name (codes "incr") then Some builtin.Incr
+    else if bytes_eq name (codes "lappend") then Some builtin.Lappend
     else if bytes_eq name (codes "unset") then Some builtin.Unset
     else if bytes_eq name (codes "global") then Some builtin.Global
     else if bytes_eq name (codes "info") then Some builtin.Info
@@ -66,6 +68,7 @@ does builtin.ExpContinue args s = exp_continue args s
 does builtin.Set args s = set args s
 does builtin.Append args s = append args s
 does builtin.Incr args s = incr args s
+does builtin.Lappend args s = lappend args s
 does builtin.Unset args s = unset args s
 does builtin.Global args s = global args s
 does builtin.Info args s = info args s

@@ -32,6 +32,7 @@ builtin_of builtin.ExpContinue = meant.ExpContinue
 builtin_of builtin.Set = meant.Set
 builtin_of builtin.Append = meant.Append
 builtin_of builtin.Incr = meant.Incr
+builtin_of builtin.Lappend = meant.Lappend
 builtin_of builtin.Unset = meant.Unset
 builtin_of builtin.Global = meant.Global
 builtin_of builtin.Info = meant.Info

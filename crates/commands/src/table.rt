@@ -24,7 +24,7 @@ use state::leaf::{empty, raises};
 use state::{Leaf, State};
 use std::alloc::Allocator;
 use tcltext::Value;
-use variables::{append, global, incr, info, set, unset};
+use variables::{append, global, incr, info, lappend, set, unset};
 use writing::puts;
 
 /// The commands.
@@ -41,6 +41,7 @@ enum Builtin {
     Set,
     Append,
     Incr,
+    Lappend,
     Unset,
     Global,
     Info,
@@ -79,6 +80,8 @@ impl Builtin {
             Some(Builtin::Append)
         } else if name == b"incr".as_slice() {
             Some(Builtin::Incr)
+        } else if name == b"lappend".as_slice() {
+            Some(Builtin::Lappend)
         } else if name == b"unset".as_slice() {
             Some(Builtin::Unset)
         } else if name == b"global".as_slice() {
@@ -165,6 +168,7 @@ fn call<A: Allocator + Copy>(
         Builtin::Set => Ok(from_variables(set::begin(alloc, state, args)?)),
         Builtin::Append => Ok(from_variables(append::begin(alloc, state, args)?)),
         Builtin::Incr => Ok(from_variables(incr::begin(alloc, state, args)?)),
+        Builtin::Lappend => Ok(from_variables(lappend::begin(alloc, state, args)?)),
         Builtin::Unset => Ok(from_variables(unset::begin(alloc, state, args)?)),
         Builtin::Global => Ok(from_variables(global::begin(alloc, state, args)?)),
         Builtin::Info => Ok(from_variables(info::begin(alloc, state, args)?)),

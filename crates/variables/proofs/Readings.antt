@@ -57,8 +57,9 @@ module _ {A : Type 0} (name : List ℕ) (index : Option (List ℕ)) (s : Status)
       ∙ ap (λ f. raises f s) (sym is.2)
   held_list text (Err refusal) is holds = tt
 
-  pub missing_list :
-      ((other : List ℕ) (next : List ℕ → Course) → reads_or other name index s next ≡ next other) →
-      (next : List (List ℕ) → Course) → with_list name index s next ≡ next []
-  missing_list holds next =
-      holds [] (λ t. on_list (list_of t) s next) ∙ ap (λ l. on_list l s next) empty_list
+-- a missing variable has the empty list
+pub missing_list : (name : List ℕ) (index : Option (List ℕ)) (s : Status) →
+    ((other : List ℕ) (next : List ℕ → Course) → reads_or other name index s next ≡ next other) →
+    (next : List (List ℕ) → Course) → with_list name index s next ≡ next []
+missing_list name index s holds next =
+    holds [] (λ t. on_list (list_of t) s next) ∙ ap (λ l. on_list l s next) empty_list
