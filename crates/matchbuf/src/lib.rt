@@ -5,8 +5,6 @@
 mod buffer;
 mod error;
 mod laws;
-#[cfg(test)]
-mod tests;
 
 pub use buffer::{MAX_SIZE, MatchBuf};
 pub use error::MatchBufError;

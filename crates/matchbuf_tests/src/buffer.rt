@@ -1,5 +1,6 @@
 //! Worked rows, every refusal of memory, and a long run.
-use crate::{MatchBuf, MatchBufError};
+
+use matchbuf::{MatchBuf, MatchBufError};
 use refusal::Refusing;
 use std::test::Fail;
 
