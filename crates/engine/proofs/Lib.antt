@@ -3,6 +3,7 @@ pub mod Silent
 pub mod Closings
 pub mod Scripted
 pub mod Machines
+pub mod Held
 pub mod Added
 pub mod Sessions
 pub mod Worlds

@@ -4,7 +4,7 @@ use Rattle.std.specs.declared.rc.Rc.{Rc}
 use Rattle.std.specs.declared.vec.Vec.{Vec}
 use Rattle.tclparse.specs.declared.tree.Command.{Command}
 use Rattle.acts.specs.Flaw as flaw
-use Rattle.commands.specs.Commands.{command}
+use Rattle.runs.specs.Commands.{command}
 use Rattle.commands.specs.View as table
 use Rattle.commands.specs.declared.waits.Waits.{Waits}
 use Rattle.engine.specs.Frames.{IsWhole, next_of, onward_of, left_of}
@@ -12,6 +12,7 @@ use Rattle.engine.specs.Goes.{Goes, here, calls, reads}
 use Rattle.engine.specs.Phases.{Leads, Begins, Unwinds, Stands}
 use Rattle.engine.specs.declared.frame.Frame.{Frame}
 use Rattle.engine.specs.declared.frame.Frame.TheVariants as frame
+use Rattle.engine.specs.declared.frame.Script.{Script}
 use Rattle.engine.specs.declared.machine.Unwound.{Unwound}
 use Rattle.engine.specs.declared.machine.Unwound.TheVariants as unwound
 use Rattle.engine.specs.declared.phase.Phase.{Phase}
@@ -21,7 +22,7 @@ use Rattle.engine.proofs.Silent.{same_goes, then_goes, same_left}
 use Rattle.plan.specs.Plan.{Ends}
 use Rattle.runs.specs.Ending.{Over}
 use Rattle.runs.specs.Run.{initial, whole}
-use Rattle.state.specs.Dialogue.{Course, Dialogue, raises}
+use Rattle.state.specs.Dialogue.{Course, Dialogue, gives, raises}
 use Rattle.state.specs.Leaf.{HasOutcome, Shows, course_of}
 use Rattle.state.specs.Outcome.{Outcome, Gives}
 use Rattle.state.specs.Piece.{ScriptText, ScriptTree}
@@ -68,6 +69,11 @@ module _ {A : Type 0} (fs : List (Frame A)) (state : State A) {p q : Dialogue Ov
     fits = begins.fits;
     goes = then_goes goes begins.goes;
   }
+  unwinds_from unwound.Runs begins = record {
+    status = begins.status;
+    fits = begins.fits;
+    goes = then_goes goes begins.goes;
+  }
 
   pub stands_from : {at : Phase A} {answers : ℕ} → Stands at fs state answers q →
       Stands at fs state answers p
@@ -104,7 +110,7 @@ module _ {A : Type 0} (fs : List (Frame A)) where
   -- a script in a word is put on the stack above the words behind it
   pub nest_goes : (levels inner : ℕ) (cs : Rc (Vec (Command A) A) A) (box : Box (Gathering A) A)
       (s : Status) → levels ≡ suc inner →
-      Goes (left_of (nested levels (commands_of cs) s (gathering_on levels box.value command)) fs)
+      Goes (left_of (nested levels (commands_of cs) s (gathering_on levels box.value (command levels))) fs)
       (left_of (Ends (s, Gives [])) (frame.Script
       (record { commands = cs; next = 0; levels = inner; fault = None })
       ∷ frame.Words box levels ∷ fs))
@@ -142,19 +148,23 @@ pub nested_over : (levels : ℕ) (cs : Commands) (s : Status)
     nested levels cs s next ≡ raises flaw.TooManyNested s
 nested_over levels cs s next is = rw is refl
 
--- an outcome that is no value passes through a frame
-pub passes : {A : Type 0} (f : Frame A) (s : Status) (l : Leave A) →
-    next_of f s (outcome_of (Err l)) ≡ Ends (s, outcome_of (Err l))
-passes (frame.Script own) s (leave.Coded code value) = refl
-passes (frame.Script own) s (leave.Stopped stop) = refl
-passes (frame.Words gathering levels) s (leave.Coded code value) = refl
-passes (frame.Words gathering levels) s (leave.Stopped stop) = refl
+-- an outcome that is no value passes through a script, and through words
+pub script_passes : {A : Type 0} (own : Script A) (s : Status) (l : Leave A) →
+    next_of (frame.Script own) s (outcome_of (Err l)) ≡ Ends (s, outcome_of (Err l))
+script_passes own s (leave.Coded code value) = refl
+script_passes own s (leave.Stopped stop) = refl
+
+pub words_passes : {A : Type 0} (box : Box (Gathering A) A) (levels : ℕ) (s : Status)
+    (l : Leave A) →
+    next_of (frame.Words box levels) s (outcome_of (Err l)) ≡ Ends (s, outcome_of (Err l))
+words_passes box levels s (leave.Coded code value) = refl
+words_passes box levels s (leave.Stopped stop) = refl
 
 -- a value goes into the word in which its script stood
 pub words_at : {A : Type 0} (f : Frame A) (o : Result (List ℕ) (Leave A))
     (box : Box (Gathering A) A) (levels : ℕ) (value : List ℕ) (g : Gathering A) (s : Status) →
     f ≡ frame.Words box levels → o ≡ Ok value → g ≡ box.value →
-    next_of f s (outcome_of o) ≡ gathering_on levels g command s value
+    next_of f s (outcome_of o) ≡ gathering_on levels g (command levels) s value
 words_at f o box levels value g s f_is o_is g_is = rw (f_is, o_is, g_is) refl
 
 -- a whole run begins with the text's script
@@ -164,5 +174,5 @@ pub whole_goes : {A : Type 0} (f : Frame A) (text : List ℕ) (args : List (List
 whole_goes {A = A} f text args limit is =
     let tree : ScriptTree = record { commands = is.commands; fault = is.fault } in
     let none : List (Frame A) = [] in
-    calls (reads {text = ScriptText text} tree is.is
+    reads {text = ScriptText text} tree is.is (calls
     (same_left none (sym (is.next (initial args limit)))))

@@ -6,7 +6,7 @@ use Rattle.engine.specs.Goes.{Goes, here, calls}
 use Rattle.engine.specs.declared.frame.Frame.{Frame}
 use Rattle.engine.specs.declared.frame.Frame.TheVariants as frame
 use Rattle.engine.specs.declared.frame.Script.{Script}
-use Rattle.commands.specs.Commands.{command}
+use Rattle.runs.specs.Commands.{command}
 use Rattle.plan.specs.Plan.{Ends, and_then, onward}
 use Rattle.runs.specs.Ending.{Over}
 use Rattle.runs.specs.Scripts.{behind, script, one}

@@ -12,8 +12,8 @@ use Rattle.runs.specs.Scripts.{plan_of}
 use Rattle.runs.proofs.Trees.{one_tree}
 use Rattle.state.specs.Dialogue.{Course, Dialogue}
 use Rattle.state.specs.Piece.{Text, Tree, IsTree}
-use Rattle.words.specs.Reaches as words_reach
-use Rattle.words.specs.Reaches.{Reaches}
+use Rattle.state.specs.Reaches as words_reach
+use Rattle.state.specs.Reaches.{Reaches}
 
 pub same_goes : {p q : Dialogue Over} → p ≡ q → Goes p q
 same_goes {p = p} is = subst (λ r. Goes p r) is here

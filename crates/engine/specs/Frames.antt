@@ -1,11 +1,13 @@
 -- What is done next: the frames of a session.
 use Rattle.std.specs.Prelude.{◌≡◌, ℕ, ◌+◌, ◌*◌, List, [], ◌∷◌, map, reverse, drop, Option, option_map}
 use Rattle.std.specs.declared.vec.Vec.{Vec}
-use Rattle.commands.specs.Commands.{command}
+use Rattle.control.specs.View as control
 use Rattle.engine.specs.declared.frame.Frame.{Frame}
 use Rattle.engine.specs.declared.frame.Frame.TheVariants as frame
+use Rattle.engine.specs.declared.frame.Script.{Script}
 use Rattle.plan.specs.Plan.{Plan, and_then, onward, after}
 use Rattle.runs.specs.Closing.{closing}
+use Rattle.runs.specs.Commands.{command}
 use Rattle.runs.specs.Ending.{Over}
 use Rattle.runs.specs.Run.{most_levels}
 use Rattle.runs.specs.Scripts.{script}
@@ -17,6 +19,7 @@ use Rattle.tclparse.specs.Grammar.{IsScript}
 use Rattle.tclparse.specs.Seen.{fault_of}
 use Rattle.tclparse.specs.Tree.{Commands, no_commands}
 use Rattle.tclparse.specs.View.{commands_then}
+use Rattle.tclparse.specs.declared.script.Script as read
 use Rattle.words.specs.Gathering.{gathering_on}
 use Rattle.words.specs.Scripts.{scripts_left}
 
@@ -25,13 +28,20 @@ abbrev pub stack : {A : Type 0} → Vec (Frame A) A → List (Frame A)
 stack frames = reverse frames.items
 
 -- a frame is what is done next with how the part within it ended: the commands of a script that are
--- left, or the words of a command behind a script in one of them
+-- left, the words of a command behind a script in one of them, or a command behind a script that it
+-- ran
 abbrev pub next_of : {A : Type 0} → Frame A → Status → Outcome → Course
 next_of (frame.Script s) =
     on_value (script s.levels (commands_then (drop s.next s.commands.value.items) no_commands)
     (option_map fault_of s.fault))
 next_of (frame.Words gathering levels) =
-    on_value (gathering_on levels gathering.value command)
+    on_value (gathering_on levels gathering.value (command levels))
+next_of (frame.Held held) = control.next_of held
+
+-- a script of which nothing is done yet, in which so many levels may stand
+abbrev pub begun : {A : Type 0} → read.Script A → ℕ → Script A
+begun script levels =
+    record { commands = script.commands; next = 0; levels = levels; fault = script.fault }
 
 -- a frame is a whole text, of which nothing is done yet
 pub record IsWhole {A : Type 0} (f : Frame A) (text : List ℕ) : Type 0 where
@@ -51,7 +61,8 @@ left_of course frames = and_then course (onward (onward_of frames))
 -- how much a frame may still put on the stack between two ticks
 abbrev pub weight_of : {A : Type 0} → Frame A → ℕ
 weight_of (frame.Script s) = 1
-weight_of (frame.Words gathering levels) = 2 + 2 * scripts_left gathering.value
+weight_of (frame.Words gathering levels) = 3 + 2 * scripts_left gathering.value
+weight_of (frame.Held held) = 1
 
 -- how much all frames may
 abbrev pub weight : {A : Type 0} → List (Frame A) → ℕ

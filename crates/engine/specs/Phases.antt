@@ -5,7 +5,6 @@ use Rattle.acts.specs.Deed.{Deed, Reply, deed_of, reply_of}
 use Rattle.acts.specs.History.{History}
 use Rattle.acts.specs.declared.act.Act.{Act}
 use Rattle.acts.specs.declared.answer.Answer.{Answer}
-use Rattle.commands.specs.Commands.{command}
 use Rattle.commands.specs.View as table
 use Rattle.commands.specs.declared.waits.Waits.{Waits}
 use Rattle.engine.specs.Frames.{onward_of, left_of, weight}
@@ -21,9 +20,10 @@ use Rattle.engine.specs.declared.phase.Phase.{Phase}
 use Rattle.engine.specs.declared.phase.Phase.TheVariants as phase
 use Rattle.memory.specs.declared.NoMemory.{NoMemory}
 use Rattle.plan.specs.Plan.{Ends, Asks}
+use Rattle.runs.specs.Commands.{command}
 use Rattle.runs.specs.Closing.{does, ends_with, reported}
 use Rattle.runs.specs.Ending.{Ending, Over, numbered}
-use Rattle.state.specs.Dialogue.{Dialogue, Course}
+use Rattle.state.specs.Dialogue.{Dialogue, Course, gives}
 use Rattle.state.specs.Leaf.{course_of}
 use Rattle.state.specs.Outcome.{Outcome}
 use Rattle.state.specs.Status.{Status}
@@ -54,19 +54,22 @@ abbrev pub Unwinds : {A : Type 0} → Unwound A → List (Frame A) → State A �
 Unwinds (unwound.Has outcome) frames state p = Leads (leaf.Has outcome) frames state p
 Unwinds (unwound.Asks act waits) frames state p = Leads (leaf.Asks act waits) frames state p
 Unwinds (unwound.Command ws levels) frames state p =
-    Begins (λ s. words levels (words_of ws) [] s command) frames state p
+    Begins (λ s. words levels (words_of ws) [] s (command levels)) frames state p
+Unwinds unwound.Runs frames state p = Begins (gives []) frames state p
 
 -- and lightens the frames, or takes a tick
 abbrev pub Lightens : {A : Type 0} → Unwound A → List (Frame A) → State A → ℕ → ℕ → Type 0
 Lightens (unwound.Has outcome) frames state most left = (weight frames < most) × (state.left ≤ left)
 Lightens (unwound.Asks act waits) frames state most left = Unit {0}
 Lightens (unwound.Command ws levels) frames state most left = state.left < left
+Lightens unwound.Runs frames state most left = state.left < left
 
 -- all frames are gone where there is an outcome
 abbrev pub IsEmptied : {A : Type 0} → Unwound A → List (Frame A) → Type 0
 IsEmptied (unwound.Has outcome) frames = frames ≡ []
 IsEmptied (unwound.Asks act waits) frames = Unit {0}
 IsEmptied (unwound.Command ws levels) frames = Unit {0}
+IsEmptied unwound.Runs frames = Unit {0}
 
 -- what is done with the answer to an act that closes a run, where it fits
 abbrev pub closing_on : {A : Type 0} → Closing A → Status → Reply → Dialogue Over

@@ -3,6 +3,7 @@
 ghost use Rattle.std.specs.Prelude.{◌≡◌, [], ◌∷◌, OnOk, MatchOption};
 
 use acts::NoMemory;
+use control::Held;
 use std::alloc::Allocator;
 use std::rc::Rc;
 use tclparse::{Command, Fault};
@@ -27,6 +28,8 @@ pub enum Frame<A: Allocator> {
     /// The words of a command behind a script in one of them, and the levels that may still stand
     /// in the command.
     Words(Box<Gathering<A>, A>, u8),
+    /// A command behind a script that it ran.
+    Held(Held<A>),
 }
 
 impl<A: Allocator> Frame<A> {

@@ -1,16 +1,18 @@
 //! The steps of a session between two acts.
 
-ghost use Rattle.std.specs.Prelude.{◌≡◌, ℕ, ◌+◌, ◌*◌, ◌<◌, ◌≤◌, [], option_map, IfOk};
+ghost use Rattle.std.specs.Prelude.{◌≡◌, ℕ, ◌+◌, ◌*◌, ◌<◌, ◌≤◌, [], ◌∷◌, option_map, IfOk};
 ghost use Rattle.acts.specs.Flaw.{flaw_of};
-ghost use Rattle.commands.specs.Commands.{command};
 ghost use Rattle.commands.specs.View as table;
-ghost use Rattle.engine.specs.Frames.{left_of, next_of, onward_of, stack, weight, weight_of};
+ghost use Rattle.control.specs.View as control;
+ghost use Rattle.engine.specs.Frames.{begun, left_of, next_of, onward_of, stack, weight, weight_of};
 ghost use Rattle.engine.specs.Goes.{Goes};
 ghost use Rattle.engine.specs.Phases.{IsEmptied, IsTold, Leads, Lightens, Stands, Unwinds};
 ghost use Rattle.engine.specs.declared.frame.Frame.TheVariants as frames_are;
+ghost use Rattle.runs.specs.Commands.{command};
 ghost use Rattle.runs.specs.Scripts.{flaw_of_fault, behind as meant_behind};
 ghost use Rattle.plan.specs.Plan.{Ends};
 ghost use Rattle.state.specs.Leaf.{course_of};
+ghost use Rattle.state.specs.Nesting.{course_of as course_of_nesting};
 ghost use Rattle.state.specs.Outcome.{Gives};
 ghost use Rattle.state.specs.Status.{Status};
 ghost use Rattle.state.specs.View.{FitsState, outcome_of};
@@ -25,8 +27,9 @@ use crate::frame::{Frame, Script};
 use crate::phase::Phase;
 use acts::{Act, Fault, NoMemory};
 use commands::Waits;
+use control::{Control, Held};
 use state::leaf::{empty, raises};
-use state::{Code, Leaf, Leave, Outcome, State, Stop};
+use state::{Code, Leaf, Leave, Nesting, Outcome, State, Stop};
 use std::alloc::Allocator;
 use std::rc::Rc;
 use tclparse::{Command, Word};
@@ -42,6 +45,8 @@ pub enum Unwound<A: Allocator> {
     Asks(Act<A>, Waits<A>),
     /// A command begins, by its words, and has taken its tick.
     Command(Rc<Vec<Word<A>, A>, A>, u8),
+    /// A command runs its script again, and has taken a tick.
+    Runs,
 }
 
 /// Silent steps up to the next act or the end, from how a part ended.
@@ -62,6 +67,10 @@ pub fn advance<A: Allocator + Copy>(
             Unwound::Command(words, levels) => (words, levels),
             Unwound::Asks(act, waits) => return Ok(Phase::Asks(act, waits)),
             Unwound::Has(last) => return close_run(alloc, state, answers, last),
+            Unwound::Runs => {
+                outcome = Ok(Value::empty());
+                continue 'commands;
+            }
         };
         let gathered = words::begin(alloc, &state.scopes, words)?;
         match take(alloc, frames, state, gathered, levels)? {
@@ -94,6 +103,7 @@ fn unwind<A: Allocator + Copy>(
             Unwound::Has(next) => outcome = next,
             Unwound::Asks(act, waits) => return Ok(Unwound::Asks(act, waits)),
             Unwound::Command(words, levels) => return Ok(Unwound::Command(words, levels)),
+            Unwound::Runs => return Ok(Unwound::Runs),
         }
     }
 }
@@ -113,22 +123,19 @@ fn resume<A: Allocator + Copy>(
         Lightens unwound (stack frames.new) state.new
         (weight_of frame + weight (stack frames.old)) state.old.left) }
 {
-    let value = match outcome {
-        Ok(value) => value,
-        Err(leave) => return Ok(Unwound::Has(Err(leave))),
-    };
     match frame {
-        Frame::Script(script) => script_on(alloc, frames, state, script, value),
-        Frame::Words(gathering, levels) => {
-            words_on(
-                alloc,
-                frames,
-                state,
-                Box::into_inner(gathering),
-                levels,
-                value,
-            )
-        }
+        Frame::Script(script) => match outcome {
+            Ok(value) => script_on(alloc, frames, state, script, value),
+            Err(leave) => Ok(Unwound::Has(Err(leave))),
+        },
+        Frame::Words(gathering, levels) => match outcome {
+            Ok(value) => {
+                let gathering = Box::into_inner(gathering);
+                words_on(alloc, frames, state, gathering, levels, value)
+            }
+            Err(leave) => Ok(Unwound::Has(Err(leave))),
+        },
+        Frame::Held(held) => held_on(alloc, frames, state, held, outcome),
     }
 }
 
@@ -216,10 +223,10 @@ fn words_on<A: Allocator + Copy>(
 ) -> Result<Unwound<A>, NoMemory>
     ensures unwinds { (s : Status) → FitsState state.old s →
         IfOk result (λ unwound. Unwinds unwound (stack frames.new) state.new
-        (left_of (gathering_on levels gathering command s value) (stack frames.old))) }
+        (left_of (gathering_on levels gathering (command levels) s value) (stack frames.old))) }
     ensures lightens { IfOk result (λ unwound.
         Lightens unwound (stack frames.new) state.new
-        (2 + 2 * scripts_left gathering + weight (stack frames.old)) state.old.left) }
+        (3 + 2 * scripts_left gathering + weight (stack frames.old)) state.old.left) }
 {
     let gathered = words::resume(alloc, &state.scopes, gathering, value)?;
     match take(alloc, frames, state, gathered, levels)? {
@@ -238,16 +245,109 @@ fn take<A: Allocator + Copy>(
 ) -> Result<Leaf<A, Waits<A>>, NoMemory>
     ensures leads { (s : Status) → FitsState state.old s →
         IfOk result (λ leaf. Leads leaf (stack frames.new) state.new
-        (left_of (course_of_gathered levels gathered command s) (stack frames.old))) }
+        (left_of (course_of_gathered levels gathered (command levels) s) (stack frames.old))) }
     ensures weighs { (most : ℕ) → HasFewer gathered most →
         IfOk result (λ leaf.
-        weight (stack frames.new) < 2 + 2 * most + weight (stack frames.old)) }
+        weight (stack frames.new) < 3 + 2 * most + weight (stack frames.old)) }
     ensures left { state.new.left ≤ state.old.left }
 {
     match gathered {
-        Gathered::Values(values) => commands::begin(alloc, state, &values),
+        Gathered::Values(values) => call(alloc, frames, state, &values, levels),
         Gathered::Script(commands, gathering) => nest(alloc, frames, commands, gathering, levels),
         Gathered::Fault(fault) => raises(alloc, &fault),
+    }
+}
+
+/// Begins a command by its words.
+fn call<A: Allocator + Copy>(
+    alloc: A,
+    frames: &mut Vec<Frame<A>, A>,
+    state: &mut State<A>,
+    words: &[Value<A>],
+    levels: u8,
+) -> Result<Leaf<A, Waits<A>>, NoMemory>
+    ensures leads { (s : Status) → FitsState state.old s →
+        IfOk result (λ leaf. Leads leaf (stack frames.new) state.new
+        (left_of (command levels s words.now) (stack frames.old))) }
+    ensures weighs { IfOk result (λ leaf.
+        weight (stack frames.new) ≤ 2 + weight (stack frames.old)) }
+    ensures left { state.new.left ≤ state.old.left }
+{
+    let [name, args @ ..] = words else {
+        return Ok(empty());
+    };
+    match Control::read(name.as_slice()) {
+        Some(control) => {
+            let nesting = control::begin(alloc, state, control, args, levels)?;
+            hold(frames, nesting)
+        }
+        None => commands::begin(alloc, state, words),
+    }
+}
+
+/// Puts a script that a command runs on the stack, above what the command holds.
+fn hold<A: Allocator>(
+    frames: &mut Vec<Frame<A>, A>,
+    nesting: Nesting<A, Held<A>>,
+) -> Result<Leaf<A, Waits<A>>, NoMemory>
+    ensures leads { (s : Status) → IfOk result (λ leaf.
+        Goes (left_of (course_of_nesting control.next_of nesting s) (stack frames.old))
+        (left_of (course_of table.next_of leaf s) (stack frames.new))) }
+    ensures weighs { IfOk result (λ leaf.
+        weight (stack frames.new) ≤ 2 + weight (stack frames.old)) }
+{
+    match nesting {
+        Nesting::Has(outcome) => Ok(Leaf::Has(outcome)),
+        Nesting::Runs(script, levels, held) => {
+            hold_script(frames, script, levels, held)?;
+            Ok(empty())
+        }
+    }
+}
+
+/// Puts a script on the stack, above the command that runs it.
+fn hold_script<A: Allocator>(
+    frames: &mut Vec<Frame<A>, A>,
+    script: tclparse::Script<A>,
+    levels: u8,
+    held: Held<A>,
+) -> Result<(), NoMemory>
+    ensures { IfOk result (λ _. stack frames.new ≡ frames_are.Script (begun script levels)
+        ∷ frames_are.Held held ∷ stack frames.old) }
+{
+    Frame::Held(held).push(frames)?;
+    let tclparse::Script { commands, fault } = script;
+    let script = Frame::Script(Script {
+        commands,
+        next: 0,
+        levels,
+        fault,
+    });
+    script.push(frames)?;
+    Ok(())
+}
+
+/// Goes on with a command behind a script that it ran.
+fn held_on<A: Allocator + Copy>(
+    alloc: A,
+    frames: &mut Vec<Frame<A>, A>,
+    state: &mut State<A>,
+    held: Held<A>,
+    outcome: Outcome<A>,
+) -> Result<Unwound<A>, NoMemory>
+    ensures unwinds { (s : Status) → FitsState state.old s →
+        IfOk result (λ unwound. Unwinds unwound (stack frames.new) state.new
+        (left_of (control.next_of held s (outcome_of outcome)) (stack frames.old))) }
+    ensures lightens { IfOk result (λ unwound.
+        Lightens unwound (stack frames.new) state.new
+        (1 + weight (stack frames.old)) state.old.left) }
+{
+    match control::resumed(alloc, state, held, outcome)? {
+        Nesting::Has(outcome) => Ok(Unwound::Has(outcome)),
+        Nesting::Runs(script, levels, held) => {
+            hold_script(frames, script, levels, held)?;
+            Ok(Unwound::Runs)
+        }
     }
 }
 
@@ -261,11 +361,11 @@ fn nest<A: Allocator + Copy>(
 ) -> Result<Leaf<A, Waits<A>>, NoMemory>
     ensures leads { (s : Status) → IfOk result (λ leaf.
         Goes (left_of (nested levels (commands_of commands) s
-        (gathering_on levels gathering command)) (stack frames.old))
+        (gathering_on levels gathering (command levels))) (stack frames.old))
         (left_of (course_of table.next_of leaf s) (stack frames.new))) }
     ensures weighs { IfOk result (λ leaf.
         weight (stack frames.new)
-        ≤ 3 + 2 * scripts_left gathering + weight (stack frames.old)) }
+        ≤ 4 + 2 * scripts_left gathering + weight (stack frames.old)) }
 {
     let Some(inner) = levels.checked_sub(1) else {
         return raises(alloc, &Fault::TooManyNested);

@@ -1,17 +1,20 @@
 -- No piece goes on for ever: a command takes a tick, and a script is above its commands.
 use Rattle.std.proofs.Common.{◌≡◌, ℕ, zero, suc, ◌+◌, ◌≤◌, List, [], Option, Some, None, refl, arith}
 use Rattle.acts.specs.Deed as said
-use Rattle.commands.specs.Commands.{command}
+use Rattle.commands.specs.Commands as leaf
 use Rattle.commands.proofs.Behaves.{command_behaves}
 use Rattle.plan.specs.Finished.{Falls, Finite}
 use Rattle.plan.proofs.Falls.{more_falls}
+use Rattle.runs.specs.Commands.{command}
 use Rattle.runs.specs.Scripts.{behind, script, one, plan_of}
+use Rattle.runs.proofs.Command.{command_closed}
 use Rattle.runs.proofs.Trees.{has_tree}
+use Rattle.state.proofs.Closed.{Closed}
 use Rattle.state.proofs.Behaves.{behaves_falls, more_behaves}
 use Rattle.state.specs.Behaves.{worth}
 use Rattle.state.specs.Dialogue.{Course, tick_of, on_value}
 use Rattle.state.specs.Outcome.{Outcome, Gives, Leaves, Stops}
-use Rattle.state.specs.Piece.{Piece, Whole, Script, One, IsTree}
+use Rattle.state.specs.Piece.{Piece, Script, One, IsTree}
 use Rattle.state.specs.Status.{Status}
 use Rattle.tclparse.specs.Fault.{Fault}
 use Rattle.tclparse.specs.Tree.{Words, Commands, no_commands}
@@ -23,9 +26,8 @@ use Rattle.words.proofs.Holds.{words_falls}
 abbrev pub ticks : Status → ℕ
 ticks s = s.left
 
--- a text is above its script, and a script above its commands
+-- a script is above its commands
 abbrev pub rank : Piece → ℕ
-rank (Whole _ _) = 2
 rank (Script _ _) = 1
 rank (One _ _) = 0
 
@@ -56,27 +58,42 @@ script_falls t r levels (tree.command ws cs) fault s value one le = (
       (λ v w within. script_falls t r levels cs fault v w one within) u o (omega (arith, le, less)),
 )
 
+-- from a state with so many ticks at most a course falls
+abbrev FallsFrom : ℕ → Status → Course → Type 0
+FallsFrom t s c = s.left ≤ t → CourseFalls t 2 c
+
+falls_closed : (t : ℕ) → Closed (FallsFrom t)
+falls_closed t = record {
+  over = λ s o le. le;
+  runs = λ levels tree s next each le.
+      (le, λ same. omega arith, λ u o less. each u o (omega (arith, le, less)));
+  reading = λ text s next each le tree is. each tree le;
+  writing = λ scopes s course falls. falls;
+  ticking = λ left s course is falls le. falls (omega (arith, is, le));
+}
+
+plain_falls : (t : ℕ) (s : Status) (words : List (List ℕ)) → FallsFrom t s (leaf.command s words)
+plain_falls t s words le =
+    behaves_falls rank said.NoMore t 2 (worth s + 3) (leaf.command s words)
+    (more_behaves s.left t (worth s + 3) (worth s + 3) (leaf.command s words) le (omega arith)
+    (command_behaves s words))
+
 tick_falls : (left levels : ℕ) (ws : Words) (s : Status) → s.left ≡ left →
-    CourseFalls left 0 (tick_of left s (λ t. words levels ws [] t command))
+    CourseFalls left 0 (tick_of left s (λ t. words levels ws [] t (command levels)))
 tick_falls zero levels ws s is = omega (arith, is)
 tick_falls (suc left) levels ws s is =
     let after : Status = record s { left = left } in
     more_falls IsTree ticks rank said.NoMore left 2 (suc left) 0
-    (words levels ws [] after command) (omega arith) (λ not. absurd (omega (arith, not)))
-    (words_falls rank said.NoMore left 2 (λ cs n. omega arith) levels ws [] after command
+    (words levels ws [] after (command levels)) (omega arith) (λ not. absurd (omega (arith, not)))
+    (words_falls rank said.NoMore left 2 (λ tree n. omega arith) levels ws [] after (command levels)
     (omega arith)
     (λ u vs le.
-    behaves_falls rank said.NoMore left 2 (worth u + 3) (command u vs)
-    (more_behaves u.left left (worth u + 3) (worth u + 3) (command u vs) le (omega arith)
-    (command_behaves u vs))))
+    command_closed (FallsFrom left) (falls_closed left) (plain_falls left) levels u vs le))
 
 piece_falls : (piece : Piece) (s : Status) →
     CourseFalls (ticks s) (rank piece) (plan_of piece s)
-piece_falls (Whole text levels) s =
-    λ tree is.
-    script_falls s.left 2 levels tree.commands tree.fault s [] (omega arith) (omega arith)
-piece_falls (Script commands levels) s =
-    script_falls s.left 1 levels commands None s [] (omega arith) (omega arith)
+piece_falls (Script tree levels) s =
+    script_falls s.left 1 levels tree.commands tree.fault s [] (omega arith) (omega arith)
 piece_falls (One ws levels) s = tick_falls s.left levels ws s refl
 
 pub finite : Finite plan_of IsTree

@@ -5,19 +5,22 @@ use Rattle.acts.specs.Deed as said
 use Rattle.acts.specs.Fits.{fits}
 use Rattle.acts.specs.Flaw as flaw
 use Rattle.acts.specs.Flaw.{text_of}
-use Rattle.commands.specs.Commands.{command}
+use Rattle.commands.specs.Commands as leaf
 use Rattle.commands.proofs.Behaves.{command_behaves}
 use Rattle.plan.specs.Kept.{Keeps, EachKeeps}
 use Rattle.plan.specs.Plan.{Ends}
+use Rattle.runs.specs.Commands.{command}
 use Rattle.runs.specs.Closing.{does, closes, closes_log, ends_with, reported, reports, closing}
 use Rattle.runs.specs.Ending.{Ending, Over, stopped}
 use Rattle.runs.specs.Scripts.{behind, script, plan_of}
+use Rattle.runs.proofs.Command.{command_closed}
 use Rattle.state.proofs.Behaves.{behaves_keeps}
+use Rattle.state.proofs.Closed.{Closed}
 use Rattle.state.specs.Behaves.{worth}
 use Rattle.state.specs.Dialogue.{Course, Dialogue, tick_of, is_no_more, on_value}
 use Rattle.state.specs.Outcome.{Outcome, Gives, Leaves, Stops, Error, Return, Break, Continue, Again, AgainRunning}
 use Rattle.state.specs.Outcome as stop
-use Rattle.state.specs.Piece.{Whole, Script, One, IsTree}
+use Rattle.state.specs.Piece.{Script, One, IsTree}
 use Rattle.state.specs.Rows.{Holds}
 use Rattle.state.specs.Status.{Status, Peer, opened}
 use Rattle.tclparse.specs.Fault.{Fault}
@@ -55,17 +58,32 @@ script_keeps levels (tree.command ws cs) fault s value = (
       value_keeps (script levels cs fault) (λ t v. script_keeps levels cs fault t v) u o,
 )
 
+-- the same, from any state
+abbrev KeepsFrom : Status → Course → Type 0
+KeepsFrom s c = CourseKeeps c
+
+keeps_closed : Closed KeepsFrom
+keeps_closed = record {
+  over = λ s o. tt;
+  runs = λ levels tree s next each. (tt, λ u o kept. each u o);
+  reading = λ text s next each tree is. each tree;
+  writing = λ scopes s course keeps. keeps;
+  ticking = λ left s course is keeps. keeps;
+}
+
+plain_keeps : (s : Status) (words : List (List ℕ)) → KeepsFrom s (leaf.command s words)
+plain_keeps s words =
+    behaves_keeps s.left (worth s + 3) (leaf.command s words) (command_behaves s words)
+
 tick_keeps : (left : ℕ) (levels : ℕ) (ws : Words) (s : Status) →
-    CourseKeeps (tick_of left s (λ t. words levels ws [] t command))
+    CourseKeeps (tick_of left s (λ t. words levels ws [] t (command levels)))
 tick_keeps zero levels ws s = tt
 tick_keeps (suc left) levels ws s =
-    words_keeps AnyState Holds levels ws [] (record s { left = left }) command tt
-    (λ u vs kept. behaves_keeps u.left (worth u + 3) (command u vs) (command_behaves u vs))
+    words_keeps AnyState Holds levels ws [] (record s { left = left }) (command levels) tt
+    (λ u vs kept. command_closed KeepsFrom keeps_closed plain_keeps levels u vs)
 
 pub each_keeps : EachKeeps IsTree AnyState Holds plan_of
-each_keeps (Whole text levels) s kept =
-    λ tree is. script_keeps levels tree.commands tree.fault s []
-each_keeps (Script commands levels) s kept = script_keeps levels commands None s []
+each_keeps (Script tree levels) s kept = script_keeps levels tree.commands tree.fault s []
 each_keeps (One ws levels) s kept = tick_keeps s.left levels ws s
 
 -- a dialogue that closes a run waits for nothing

@@ -1,4 +1,5 @@
 pub mod Trees
+pub mod Command
 pub mod Paid
 pub mod Kept
 pub mod Finite

@@ -5,20 +5,23 @@ use Rattle.acts.specs.Deed as said
 use Rattle.acts.specs.Fits.{fits}
 use Rattle.acts.specs.Flaw as flaw
 use Rattle.acts.specs.Flaw.{text_of}
-use Rattle.commands.specs.Commands.{command}
+use Rattle.commands.specs.Commands as leaf
 use Rattle.commands.proofs.Behaves.{command_behaves}
 use Rattle.plan.specs.Paid.{Pays, EachPays}
 use Rattle.plan.specs.Plan.{Ends}
 use Rattle.plan.proofs.Paid.{more_pays}
+use Rattle.runs.specs.Commands.{command}
 use Rattle.runs.specs.Closing.{does, closes, closes_log, ends_with, reported, reports, closing}
 use Rattle.runs.specs.Ending.{Ending, Over, stopped}
 use Rattle.runs.specs.Scripts.{behind, script, one, plan_of}
+use Rattle.runs.proofs.Command.{command_closed}
 use Rattle.state.proofs.Behaves.{behaves_pays}
+use Rattle.state.proofs.Closed.{Closed}
 use Rattle.state.specs.Behaves.{worth, closing_of_log}
 use Rattle.state.specs.Dialogue.{Course, Dialogue, tick_of, is_no_more, on_value}
 use Rattle.state.specs.Outcome.{Outcome, Gives, Leaves, Stops, Code, Error, Return, Break, Continue, Again, AgainRunning}
 use Rattle.state.specs.Outcome as stop
-use Rattle.state.specs.Piece.{Piece, Whole, Script, One, IsTree}
+use Rattle.state.specs.Piece.{Piece, Script, One, IsTree}
 use Rattle.state.specs.Status.{Status, Peer, opened}
 use Rattle.tclparse.specs.Fault.{Fault}
 use Rattle.tclparse.specs.Tree.{Words, Commands, no_commands}
@@ -57,20 +60,43 @@ script_pays levels (tree.command ws cs) fault s value = (
       (value_pays (script levels cs fault) (λ t v. script_pays levels cs fault t v) u o),
 )
 
+-- a course pays out of what its state is worth, and of three
+abbrev PaysFrom : Status → Course → Type 0
+PaysFrom s c = CoursePays (worth s + 3) c
+
+pays_closed : Closed PaysFrom
+pays_closed = record {
+  over = λ s o. omega arith;
+  runs = λ levels tree s next each. (
+    omega arith,
+    λ u o less.
+        more_pays IsTree price worth (λ left. worth left.0) (worth u + 3)
+        (worth u + ((worth s + 3) - worth s)) (next u o) (omega arith) (each u o),
+  );
+  reading = λ text s next each tree is. each tree;
+  writing = λ scopes s course pays. pays;
+  ticking = λ left s course is pays.
+      let after : Status = record s { left = left } in
+      more_pays IsTree price worth (λ left. worth left.0) (worth after + 3) (worth s + 3) course
+      (omega (arith, is)) pays;
+}
+
+plain_pays : (s : Status) (words : List (List ℕ)) → PaysFrom s (leaf.command s words)
+plain_pays s words =
+    behaves_pays price s.left (worth s + 3) (leaf.command s words) (command_behaves s words)
+
 tick_pays : (left : ℕ) (levels : ℕ) (ws : Words) (s : Status) → s.left ≡ left →
-    CoursePays (worth s) (tick_of left s (λ t. words levels ws [] t command))
+    CoursePays (worth s) (tick_of left s (λ t. words levels ws [] t (command levels)))
 tick_pays zero levels ws s is = omega arith
 tick_pays (suc left) levels ws s is =
     let after : Status = record s { left = left } in
     more_pays IsTree price worth (λ left. worth left.0) (worth after + 3) (worth s)
-    (words levels ws [] after command) (omega (arith, is))
-    (words_pays price worth 3 (λ cs n t. omega arith) levels ws [] after command
-    (λ u vs. behaves_pays price u.left (worth u + 3) (command u vs) (command_behaves u vs)))
+    (words levels ws [] after (command levels)) (omega (arith, is))
+    (words_pays price worth 3 (λ tree n t. omega arith) levels ws [] after (command levels)
+    (command_closed PaysFrom pays_closed plain_pays levels))
 
 pub each_pays : EachPays IsTree price worth plan_of
-each_pays (Whole text levels) s =
-    λ tree is. script_pays levels tree.commands tree.fault s []
-each_pays (Script commands levels) s = script_pays levels commands None s []
+each_pays (Script tree levels) s = script_pays levels tree.commands tree.fault s []
 each_pays (One ws levels) s = tick_pays s.left levels ws s refl
 
 -- a dialogue that closes a run pays so, and keeps nothing

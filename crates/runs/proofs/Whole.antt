@@ -13,11 +13,12 @@ use Rattle.state.specs.Rows.{Holds}
 
 pub whole_pays : (text : List ℕ) (args : List (List ℕ)) (limit : ℕ) →
     Pays IsTree price worth (λ (o : Over). 0) (most_acts limit) (whole text args limit)
-whole_pays text args limit = (
+whole_pays text args limit = λ tree is. (
   omega arith,
   λ left outcome less. closing_pays left outcome _ (omega (arith, less)),
 )
 
 pub whole_keeps : (text : List ℕ) (args : List (List ℕ)) (limit : ℕ) →
     Keeps IsTree AnyState Holds (λ (o : Over). Unit {0}) (whole text args limit)
-whole_keeps text args limit = (tt, λ left outcome kept. closing_keeps left outcome)
+whole_keeps text args limit =
+    λ tree is. (tt, λ left outcome kept. closing_keeps left outcome)

@@ -1,4 +1,5 @@
 pub mod Ending
+pub mod Commands
 pub mod Scripts
 pub mod Closing
 pub mod Run

@@ -3,13 +3,13 @@ use Rattle.std.specs.Prelude.{◌≡◌, ℕ, true, false, List, [], ◌∷◌, 
 use Rattle.acts.specs.History.{History, Past}
 use Rattle.acts.specs.Deed.{Deed, Reply}
 use Rattle.plan.specs.Kept.{Throughout}
-use Rattle.plan.specs.Plan.{Calls}
+use Rattle.plan.specs.Plan.{Reads, Calls}
 use Rattle.plan.specs.Runs.{Runs}
 use Rattle.runs.specs.Closing.{closing}
 use Rattle.runs.specs.Ending.{Ending, Over, numbered}
 use Rattle.runs.specs.Scripts.{plan_of}
 use Rattle.state.specs.Dialogue.{Dialogue}
-use Rattle.state.specs.Piece.{Whole, IsTree}
+use Rattle.state.specs.Piece.{Script, ScriptText, IsTree}
 use Rattle.state.specs.Rows.{Holds}
 use Rattle.state.specs.Standing.{no_standing}
 use Rattle.state.specs.Status.{Status}
@@ -56,7 +56,9 @@ initial args limit = record {
 
 -- first the script, and then the run is closed
 abbrev pub whole : List ℕ → List (List ℕ) → ℕ → Dialogue Over
-whole text args limit = Calls (Whole text most_levels) (initial args limit) closing
+whole text args limit =
+    Reads (ScriptText text)
+    (λ tree. Calls (Script tree most_levels) (initial args limit) closing)
 
 -- a script, its arguments and a limit have a run of these acts and answers, with this end
 pub record Run (text : List ℕ) (args : List (List ℕ)) (limit : ℕ) (h : History)

@@ -2,10 +2,10 @@
 use Rattle.std.specs.Prelude.{ℕ, List, [], Option, Some, None}
 use Rattle.acts.specs.Flaw as flaw
 use Rattle.acts.specs.Flaw.{Flaw}
-use Rattle.commands.specs.Commands.{command}
-use Rattle.plan.specs.Plan.{Reads, Calls}
+use Rattle.plan.specs.Plan.{Calls}
+use Rattle.runs.specs.Commands.{command}
 use Rattle.state.specs.Dialogue.{Course, gives, raises, tick, on_value}
-use Rattle.state.specs.Piece.{Piece, Whole, Script, One, ScriptText}
+use Rattle.state.specs.Piece.{Piece, Script, One}
 use Rattle.state.specs.Status.{Status}
 use Rattle.tclparse.specs.Fault.{Fault, open_brace, open_bracket, open_quote, after_brace, after_quote, too_deep, escape_not_here, bad_variable}
 use Rattle.tclparse.specs.Tree.{Words, Commands, no_commands}
@@ -38,11 +38,9 @@ script levels (tree.command ws cs) fault s value =
 -- a command takes a tick before its words are substituted; then it does what it does (Tcl(n), rule
 -- 2)
 abbrev pub one : ℕ → Words → Status → Course
-one levels ws s = tick s (λ t. words levels ws [] t command)
+one levels ws s = tick s (λ t. words levels ws [] t (command levels))
 
 -- what each piece does
 abbrev pub plan_of : Piece → Status → Course
-plan_of (Whole text levels) s =
-    Reads (ScriptText text) (λ tree. script levels tree.commands tree.fault s [])
-plan_of (Script commands levels) s = script levels commands None s []
+plan_of (Script tree levels) s = script levels tree.commands tree.fault s []
 plan_of (One ws levels) s = one levels ws s

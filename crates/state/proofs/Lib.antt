@@ -5,6 +5,9 @@ pub mod Spelled
 pub mod Stored
 pub mod Behaves
 pub mod Fits
+pub mod Reaches
+pub mod Closed
+pub mod Nestings
 pub mod Refused
 pub mod Numbers
 pub mod Shown

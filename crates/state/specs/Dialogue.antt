@@ -4,10 +4,11 @@ use Rattle.acts.specs.Deed.{Deed, Reply}
 use Rattle.acts.specs.Deed as said
 use Rattle.acts.specs.Fits.{fits}
 use Rattle.acts.specs.Flaw.{Flaw, text_of}
-use Rattle.plan.specs.Plan.{Plan, Ends, Asks}
+use Rattle.acts.specs.Flaw as flaw
+use Rattle.plan.specs.Plan.{Plan, Ends, Asks, Reads, Calls}
 use Rattle.state.specs.Outcome.{Code, Error, Stop, Outcome, Gives, Leaves, Stops}
 use Rattle.state.specs.Outcome as stop
-use Rattle.state.specs.Piece.{Piece, Text, Tree}
+use Rattle.state.specs.Piece.{Piece, Script, ScriptTree, ScriptText, Text, Tree}
 use Rattle.state.specs.Status.{Status}
 
 -- a plan over the pieces, the states, the outcomes, the acts and the texts of a run
@@ -39,6 +40,16 @@ abbrev pub on_value : (Status → List ℕ → Course) → Status → Outcome �
 on_value next s (Gives value) = next s value
 on_value next s (Leaves code value) = Ends (s, Leaves code value)
 on_value next s (Stops stop) = Ends (s, Stops stop)
+
+-- a script one level deeper, and on with how it ends; where no level is left, that is how it ends
+-- (Tcl(n), rule 7; interp(n), recursionlimit)
+abbrev pub inside : ℕ → ScriptTree → Status → (Status → Outcome → Course) → Course
+inside zero tree s next = next s (Leaves Error (text_of flaw.TooManyNested))
+inside (suc levels) tree s next = Calls (Script tree levels) s next
+
+-- the same, of a script by its text
+abbrev pub within : ℕ → List ℕ → Status → (Status → Outcome → Course) → Course
+within levels text s next = Reads (ScriptText text) (λ tree. inside levels tree s next)
 
 -- takes a tick, where one is left; else the run stops (this project's own rule)
 abbrev pub tick_of : ℕ → Status → (Status → Course) → Course

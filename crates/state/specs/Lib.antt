@@ -3,11 +3,13 @@ pub mod Standing
 pub mod Status
 pub mod Piece
 pub mod Dialogue
+pub mod Reaches
 pub mod Variables
 pub mod Rows
 pub mod Tables
 pub mod View
 pub mod Leaf
+pub mod Nesting
 pub mod Behaves
 pub mod Arguments
 pub mod Stores

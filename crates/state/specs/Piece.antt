@@ -6,22 +6,21 @@ use Rattle.tclparse.specs.Tree.{Words, Commands}
 use Rattle.tclparse.specs.Grammar.{IsScript}
 use Rattle.tclparse.specs.Fault.{Fault}
 
--- a script by its text, a script by its tree, a command by its words' trees; each with the levels
--- that may still stand in it (Tcl(n), rules 1, 2 and 7)
+-- a script's commands, and the fault that ends its text early (Tcl(n))
+pub record ScriptTree : Type 0 where
+  pub commands : Commands
+  pub fault : Option Fault
+
+-- a script, or one command by its words; each with the levels that may still stand in it (Tcl(n),
+-- rules 1, 2 and 7)
 pub data Piece : Type 0 where
-  Whole : (text : List ℕ) (levels : ℕ) → Piece
-  Script : (commands : Commands) (levels : ℕ) → Piece
+  Script : (tree : ScriptTree) (levels : ℕ) → Piece
   One : (words : Words) (levels : ℕ) → Piece
 
 -- a text that is read: as a script (Tcl(n)), as a list (Tcl_SplitList(3))
 pub data Text : Type 0 where
   ScriptText : (text : List ℕ) → Text
   ListText : (text : List ℕ) → Text
-
--- a script's commands, and the fault that ends its text early (Tcl(n))
-pub record ScriptTree : Type 0 where
-  pub commands : Commands
-  pub fault : Option Fault
 
 -- what a text may be read as
 abbrev pub Tree : Text → Type 0

@@ -6,6 +6,7 @@ use Rattle.acts.specs.Flaw.{Flaw}
 use Rattle.acts.specs.Flaw as flaw
 use Rattle.acts.specs.Id.{id_text}
 use Rattle.tcltext.specs.Numbers.{numeral, is_in_range}
+use Rattle.tclparse.specs.Variable as variable
 use Rattle.tclstate.specs.Scopes.{Scopes, Trouble, NoVariable, IsArray, NotArray, NoElement, read, read_global, written}
 use Rattle.state.specs.Dialogue.{Course, raises}
 use Rattle.state.specs.Status.{Peer, Status, opened}
@@ -40,6 +41,16 @@ stored (Err trouble) name s next = raises (flaw_of_trouble trouble name) s
 abbrev pub writes : List ℕ → Option (List ℕ) → List ℕ → Status → (Status → Course) → Course
 writes name index value s next =
     stored (written s.scopes name index value) (spelled name index) s next
+
+-- on with a name and the index of an element, where there is a name
+abbrev pub on_name : Option (List ℕ × Option (List ℕ)) → Status →
+    (List ℕ → Option (List ℕ) → Course) → Course
+on_name None s next = raises flaw.BadVariable s
+on_name (Some n) s next = next n.0 n.1
+
+-- on with the variable or the element that a word names (set(n); Tcl(n), rule 8)
+abbrev pub with_name : List ℕ → Status → (List ℕ → Option (List ℕ) → Course) → Course
+with_name word s next = on_name (variable.named word) s next
 
 -- the first of two values
 abbrev pub first_of : Result (List ℕ) Trouble → Result (List ℕ) Trouble → Option (List ℕ)

@@ -3,12 +3,14 @@
 
 pub mod arguments;
 pub mod leaf;
+pub mod nesting;
 pub mod outcome;
 pub mod state;
 pub mod table;
 pub mod variables;
 
 pub use leaf::Leaf;
+pub use nesting::Nesting;
 pub use outcome::{Code, Leave, Outcome, Stop};
 pub use state::State;
 pub use table::{Selection, Table};

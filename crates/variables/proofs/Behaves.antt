@@ -23,7 +23,7 @@ use Rattle.variables.specs.Info.{info, exists}
 use Rattle.variables.specs.Lappend as lists
 use Rattle.variables.specs.Lappend.{lappend}
 use Rattle.variables.specs.Listed.{list_of, on_list}
-use Rattle.variables.specs.Named.{on_name}
+use Rattle.state.specs.Variables.{on_name}
 use Rattle.variables.specs.Set.{set, get, put}
 use Rattle.variables.specs.Unset.{cleared, removes, removes_named, some_words, is_nocomplain, behind_flag, unset}
 

@@ -13,7 +13,7 @@ use Rattle.tclstate.specs.ScopeError.{HasTrouble}
 use Rattle.tclstate.specs.Scopes.{Trouble}
 use Rattle.tclstate.specs.declared.error.ScopeError.{ScopeError}
 use Rattle.tclstate.specs.declared.error.ScopeError.TheVariants as error
-use Rattle.variables.specs.Named.{with_name}
+use Rattle.state.specs.Variables.{with_name}
 use Rattle.variables.specs.Set.{set, get, put}
 
 module _ (word : List ℕ) (s : Status) (next : List ℕ → Option (List ℕ) → Course) where

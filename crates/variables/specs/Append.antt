@@ -5,7 +5,7 @@ use Rattle.acts.specs.Flaw as flaw
 use Rattle.state.specs.Dialogue.{Course, raises}
 use Rattle.state.specs.Status.{Status}
 use Rattle.variables.specs.Held.{reads_or, puts}
-use Rattle.variables.specs.Named.{with_name}
+use Rattle.state.specs.Variables.{with_name}
 
 -- a text is put behind that of a variable, and the whole is given; a missing one counts as empty
 -- (append(n))

@@ -7,7 +7,7 @@ use Rattle.state.specs.Status.{Status}
 use Rattle.state.specs.Variables.{whole_of}
 use Rattle.tcltext.specs.Numbers.{is_in_range}
 use Rattle.variables.specs.Held.{reads_or, puts}
-use Rattle.variables.specs.Named.{with_name}
+use Rattle.state.specs.Variables.{with_name}
 
 -- on with a number, where a text is one
 abbrev pub on_number : Option ℤ → List ℕ → Status → (ℤ → Course) → Course

@@ -5,7 +5,7 @@ use Rattle.acts.specs.Flaw as flaw
 use Rattle.state.specs.Dialogue.{Course, gives, raises}
 use Rattle.state.specs.Status.{Status}
 use Rattle.tclstate.specs.Scopes.{Trouble, IsArray, read}
-use Rattle.variables.specs.Named.{with_name}
+use Rattle.state.specs.Variables.{with_name}
 
 -- a variable is there that can be read, or is an array (info(n), info exists)
 abbrev pub is_there : Result (List ℕ) Trouble → Bool

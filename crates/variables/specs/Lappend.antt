@@ -6,7 +6,7 @@ use Rattle.state.specs.Status.{Status}
 use Rattle.tcltext.specs.Canonical.{canonical}
 use Rattle.variables.specs.Held.{reads_or, puts}
 use Rattle.variables.specs.Listed.{list_of, on_list}
-use Rattle.variables.specs.Named.{with_name}
+use Rattle.state.specs.Variables.{with_name}
 
 -- on with the elements of a variable's list; a missing one has none (lappend(n))
 abbrev pub with_list : List ℕ → Option (List ℕ) → Status → (List (List ℕ) → Course) → Course

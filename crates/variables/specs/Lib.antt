@@ -1,5 +1,4 @@
 pub mod Waits
-pub mod Named
 pub mod Held
 pub mod Listed
 pub mod Set

@@ -5,7 +5,7 @@ use Rattle.state.specs.Dialogue.{Course, gives, raises}
 use Rattle.state.specs.Status.{Status}
 use Rattle.state.specs.Variables.{reads}
 use Rattle.variables.specs.Held.{puts}
-use Rattle.variables.specs.Named.{with_name}
+use Rattle.state.specs.Variables.{with_name}
 
 -- the value of what a word names (set(n))
 abbrev pub get : List ℕ → Status → Course

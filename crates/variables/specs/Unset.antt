@@ -9,7 +9,7 @@ use Rattle.state.specs.Status.{Status}
 use Rattle.state.specs.Variables.{spelled, flaw_of_trouble}
 use Rattle.tclparse.specs.Variable.{named}
 use Rattle.tclstate.specs.Scopes.{Scopes, Trouble, NoVariable, NoElement, removed}
-use Rattle.variables.specs.Named.{with_name}
+use Rattle.state.specs.Variables.{with_name}
 
 -- on with what is left where a name is removed; a missing one is passed over quietly, or is the
 -- script's error (unset(n))

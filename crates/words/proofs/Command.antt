@@ -13,9 +13,9 @@ use Rattle.state.specs.Dialogue.{Course, raises}
 use Rattle.state.specs.Piece.{ListText}
 use Rattle.state.specs.Status.{Status}
 use Rattle.words.specs.Gathering.{Adds, taken}
-use Rattle.words.specs.Reaches.{Reaches, here, reads}
+use Rattle.state.specs.Reaches.{Reaches, here, reads}
 use Rattle.words.specs.Words.{parts, words, expanded, flaw_of_list}
-use Rattle.words.proofs.Reaches.{same_reaches}
+use Rattle.state.proofs.Reaches.{same_reaches}
 
 module _ {A : Type 0} (ws : List (Word A)) where
   -- the words from a place on

@@ -12,10 +12,14 @@ use Rattle.tclparse.specs.Tree.{Parts, no_parts, byte, variable, element, script
 use Rattle.tclstate.specs.Scopes.{Trouble, read}
 use Rattle.state.specs.Dialogue.{Course, raises, on_value}
 use Rattle.state.specs.Outcome.{Outcome, Gives, Leaves, Stops}
-use Rattle.state.specs.Piece.{Piece, Script, ListText, Tree, IsTree}
+use Rattle.state.specs.Piece.{Piece, Script, ScriptTree, ListText, Tree, IsTree}
 use Rattle.state.specs.Status.{Status}
 use Rattle.state.specs.Variables.{found, spelled, flaw_of_trouble}
 use Rattle.words.specs.Words.{nested, parts, flaw_of_list, spread, expanded, words}
+
+-- the tree of a script in a word, which has no fault
+abbrev bare : Commands → ScriptTree
+bare commands = record { commands = commands; fault = None }
 
 -- P says from which states which courses are so: errors are so, and so are a script in a word and a
 -- list that is read, where all that may follow them is
@@ -74,7 +78,7 @@ module _ (P : Status → Course → Type 0) (raised : (s : Status) (flaw : Flaw)
 
 -- calls fall
 module _ (rank : Piece → ℕ) (last : Reply) (t r : ℕ)
-    (below : (commands : Commands) (levels : ℕ) → rank (Script commands levels) < r) where
+    (below : (tree : ScriptTree) (levels : ℕ) → rank (Script tree levels) < r) where
   abbrev FallsFrom : Status → Course → Type 0
   FallsFrom s p = s.left ≤ t → Falls IsTree (λ (u : Status). u.left) rank last t r p
 
@@ -89,8 +93,12 @@ module _ (rank : Piece → ℕ) (last : Reply) (t r : ℕ)
       (next : Status → List ℕ → Course) → ((u : Status) (v : List ℕ) → FallsFrom u (next u v)) →
       FallsFrom s (nested levels commands s next)
   nested_falls zero _ s next each le = le
-  nested_falls (suc levels) commands s next each le =
-      (le, λ same. below commands levels, λ u o less. value_falls next each u o (omega arith))
+  nested_falls (suc levels) commands s next each le = (
+    le,
+    λ same. below (bare commands) levels,
+    λ u o less.
+        value_falls next each u o (omega arith),
+  )
 
   -- a command's words fall where all that may follow them does
   pub words_falls : (levels : ℕ) (ws : Words) (values : List (List ℕ)) (s : Status)
@@ -105,8 +113,8 @@ module _ (rank : Piece → ℕ) (last : Reply) (t r : ℕ)
 
 -- acts are paid for
 module _ (price : Piece → Status → ℕ) (worth : Status → ℕ) (by : ℕ)
-    (cheap : (commands : Commands) (levels : ℕ) (s : Status) →
-    price (Script commands levels) s ≤ worth s) where
+    (cheap : (tree : ScriptTree) (levels : ℕ) (s : Status) →
+    price (Script tree levels) s ≤ worth s) where
   abbrev PaysFrom : Status → Course → Type 0
   PaysFrom s p = Pays IsTree price worth (λ left. worth left.0) (worth s + by) p
 
@@ -122,8 +130,8 @@ module _ (price : Piece → Status → ℕ) (worth : Status → ℕ) (by : ℕ)
       PaysFrom s (nested levels commands s next)
   nested_pays zero _ s next each = omega arith
   nested_pays (suc levels) commands s next each =
-      let low = cheap commands levels s in
-      let cost = price (Script commands levels) s in (
+      let low = cheap (bare commands) levels s in
+      let cost = price (Script (bare commands) levels) s in (
         omega (arith, low),
         λ u o less.
             more_pays IsTree price worth (λ left. worth left.0) (worth u + by)

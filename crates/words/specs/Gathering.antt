@@ -14,7 +14,7 @@ use Rattle.words.specs.declared.gathering.Gathering.{Gathering}
 use Rattle.words.specs.declared.gathering.Gathered.{Gathered}
 use Rattle.words.specs.declared.gathering.Gathered.TheVariants as gathered
 use Rattle.words.specs.Words.{nested, flaw_of_list, expanded, words}
-use Rattle.words.specs.Reaches.{Reaches}
+use Rattle.state.specs.Reaches.{Reaches}
 use Rattle.words.specs.View.{resumed}
 
 -- the words of a command from a place on

@@ -2,18 +2,18 @@
 use Rattle.std.specs.Prelude.{ℕ, zero, suc, Bool, true, false, List, [], ◌∷◌, ◌++◌, Some, None, Result, Ok, Err}
 use Rattle.acts.specs.Flaw.{Flaw}
 use Rattle.acts.specs.Flaw as flaw
-use Rattle.plan.specs.Plan.{Reads, Calls}
+use Rattle.plan.specs.Plan.{Reads}
 use Rattle.tcltext.specs.Flaw as list
 use Rattle.tclparse.specs.Tree.{Parts, no_parts, byte, variable, element, script, Words, no_words, word, Commands}
-use Rattle.state.specs.Dialogue.{Course, raises, on_value}
-use Rattle.state.specs.Piece.{Script, ListText}
+use Rattle.state.specs.Dialogue.{Course, raises, inside, on_value}
+use Rattle.state.specs.Piece.{ListText}
 use Rattle.state.specs.Status.{Status}
 use Rattle.state.specs.Variables.{reads}
 
 -- a script in a word is one level deeper, and its value counts (Tcl(n), rule 7)
 abbrev pub nested : ℕ → Commands → Status → (Status → List ℕ → Course) → Course
-nested zero _ s next = raises flaw.TooManyNested s
-nested (suc levels) commands s next = Calls (Script commands levels) s (on_value next)
+nested levels commands s next =
+    inside levels (record { commands = commands; fault = None }) s (on_value next)
 
 -- the rest of a word's parts after the bytes so far, and on with the word's value: variables and
 -- scripts are substituted from left to right, each once (Tcl(n), rules 7, 8 and 11)

@@ -7,7 +7,7 @@ ghost use Rattle.state.specs.Status.{Status};
 ghost use Rattle.tclparse.specs.Tree.{no_words};
 ghost use Rattle.tclparse.specs.View.{words_of, words_then};
 ghost use Rattle.words.specs.Words.{words as meant};
-ghost use Rattle.words.specs.Reaches.{Reaches};
+ghost use Rattle.state.specs.Reaches.{Reaches};
 ghost use Rattle.words.specs.Gathering.{Adds, TellsFlaw, course_of_gathered, gathering_on, taken, words_from};
 ghost use Rattle.words.specs.Scripts.{HasFewer, scripts_left, scripts_of};
 ghost use Rattle.words.specs.View.{course_of_met};

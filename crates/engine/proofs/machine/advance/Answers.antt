@@ -1,8 +1,9 @@
-use Rattle.std.proofs.Common.{subst, ap}
-use Rattle.commands.specs.Commands.{command}
+use Rattle.std.proofs.Common.{subst, sym, ap}
+use Rattle.runs.specs.Commands.{command}
 use Rattle.engine.specs.Frames.{left_of, onward_of, stack}
 use Rattle.engine.specs.Goes.{here}
 use Rattle.engine.specs.Phases.{IsEmptied, Leads, Unwinds}
+use Rattle.state.specs.Outcome.{Gives}
 use Rattle.state.specs.View.{outcome_of}
 use Rattle.words.specs.Gathering.{course_of_gathered}
 use Rattle.engine.proofs.Machines.{asks_stands, on_ok, over_comes, stands_from}
@@ -44,11 +45,12 @@ commands-preserved g c = λ s fits.
     let begins = subst (λ u. Unwinds u frames c.unwind.new.state
     (onward_of (stack c.commands.frames) before.status (outcome_of c.commands.outcome)))
     c.in-Command.is (c.in_ok-words.ensures.unwinds before.status before.fits) in
-    let reaches = c.in_ok-gathered.ensures levels begins.status command begins.fits.scopes in
+    let reaches = c.in_ok-gathered.ensures levels begins.status (command levels) begins.fits.scopes in
     over_comes c.in-Has-2.next
     (then_goes before.goes (then_goes begins.goes (reaches_goes frames reaches)))
     (subst (λ leaf. Leads leaf (stack c.take.new.frames) c.take.new.state
-    (left_of (course_of_gathered levels c.in_ok-gathered.gathered command begins.status) frames))
+    (left_of (course_of_gathered levels c.in_ok-gathered.gathered (command levels) begins.status)
+    frames))
     c.in-Has-2.is (c.in_ok-next.ensures.leads begins.status begins.fits))
 
 pub returns-in-Asks-2-clause-stands : goal.returns-in-Asks-2-clause-stands
@@ -59,9 +61,24 @@ returns-in-Asks-2-clause-stands g c = λ s fits.
     let begins = subst (λ u. Unwinds u frames c.unwind.new.state
     (onward_of (stack c.commands.frames) before.status (outcome_of c.commands.outcome)))
     c.in-Command.is (c.in_ok-words.ensures.unwinds before.status before.fits) in
-    let reaches = c.in_ok-gathered.ensures levels begins.status command begins.fits.scopes in
+    let reaches = c.in_ok-gathered.ensures levels begins.status (command levels) begins.fits.scopes in
     asks_stands c.in-Asks-2.act c.in-Asks-2.waits c.args.answers
     (then_goes before.goes (then_goes begins.goes (reaches_goes frames reaches)))
     (subst (λ leaf. Leads leaf (stack c.take.new.frames) c.take.new.state
-    (left_of (course_of_gathered levels c.in_ok-gathered.gathered command begins.status) frames))
+    (left_of (course_of_gathered levels c.in_ok-gathered.gathered (command levels) begins.status)
+    frames))
     c.in-Asks-2.is (c.in_ok-next.ensures.leads begins.status begins.fits))
+
+pub commands-preserved-in-Runs : goal.commands-preserved-in-Runs
+commands-preserved-in-Runs g c = λ s fits.
+    let frames = stack c.unwind.new.frames in
+    let before = c.commands.invariant s fits in
+    let begins = subst (λ u. Unwinds u frames c.unwind.new.state
+    (onward_of (stack c.commands.frames) before.status (outcome_of c.commands.outcome)))
+    c.in-Runs.is (c.in_ok-words.ensures.unwinds before.status before.fits) in
+    record {
+      status = begins.status;
+      fits = begins.fits;
+      goes = then_goes before.goes (then_goes begins.goes
+          (same_goes (ap (λ v. onward_of frames begins.status (Gives v)) (sym c.empty.ensures))));
+    }

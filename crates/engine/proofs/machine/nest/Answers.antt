@@ -1,7 +1,7 @@
 use Rattle.std.proofs.Common.{◌≡◌, ◌∙◌, ◌∷◌, [], suc, None, sym, ap, rules, arith}
 use Rattle.acts.specs.Flaw as flaw
 use Rattle.acts.specs.Flaw.{text_of}
-use Rattle.commands.specs.Commands.{command}
+use Rattle.runs.specs.Commands.{command}
 use Rattle.engine.specs.Frames.{left_of, stack}
 use Rattle.engine.specs.declared.frame.Frame.TheVariants as frame
 use Rattle.plan.specs.Plan.{Ends}
@@ -21,7 +21,7 @@ returns-in_default-clause-leads g c = λ s.
     on_ok c.raises.result (λ leaf is.
     then_goes
     (same_left frames (nested_over c.args.levels (commands_of c.args.commands) s
-    (gathering_on c.args.levels c.args.gathering command) zero))
+    (gathering_on c.args.levels c.args.gathering (command c.args.levels)) zero))
     (over_goes frames leaf (Leaves Error (text_of flaw.TooManyNested)) s is))
     c.raises.ensures
 
@@ -39,7 +39,7 @@ returns-clause-leads g c = λ s.
     then_goes
     (same_left frames (ap (λ gathering.
     nested c.args.levels (commands_of c.args.commands) s
-    (gathering_on c.args.levels gathering command)) own))
+    (gathering_on c.args.levels gathering (command c.args.levels))) own))
     (then_goes
     (nest_goes frames c.args.levels c.in-Some.inner c.args.commands c.in_ok-new.field-0 s is)
     (then_goes

@@ -1,5 +1,5 @@
 use Rattle.std.proofs.Common.{◌≡◌, ◌∙◌, ◌+◌, ◌-◌, ◌<◌, ◌≤◌, [], ◌∷◌, suc, length, get_or, option_map, refl, sym, ap, rules, arith}
-use Rattle.commands.specs.Commands.{command}
+use Rattle.runs.specs.Commands.{command}
 use Rattle.engine.specs.Frames.{left_of, stack}
 use Rattle.engine.specs.declared.frame.Frame.TheVariants as frame
 use Rattle.engine.specs.declared.frame.Script.{Script}
@@ -70,7 +70,7 @@ returns-clause-unwinds g c = λ s fits.
           (script_goes frames own rest ws s c.args.value at refl refl)
           (then_goes
           (same_left (frame.Script rest ∷ frames)
-          (tick_taken s left (λ t. words own.levels ws [] t command) some))
-          (same_goes (ap (λ fs. left_of (words own.levels ws [] after command) fs)
+          (tick_taken s left (λ t. words own.levels ws [] t (command own.levels)) some))
+          (same_goes (ap (λ fs. left_of (words own.levels ws [] after (command own.levels)) fs)
           (sym c.in_ok-push.ensures))));
     }

@@ -1,22 +1,22 @@
 use Rattle.std.proofs.Common.{◌∙◌, sym, ap}
-use Rattle.commands.specs.Commands.{command}
+use Rattle.runs.specs.Commands.{command}
 use Rattle.engine.specs.Frames.{stack}
 use Rattle.state.specs.Leaf.{raised}
 use Rattle.words.specs.Gathering.{course_of_gathered}
-use Rattle.engine.proofs.Machines.{on_ok, leads_from, shown_leads, over_leads}
+use Rattle.engine.proofs.Machines.{on_ok, leads_from, over_leads}
 use Rattle.engine.proofs.Silent.{same_left, then_goes}
 use Rattle.engine.proofs.machine.take.Goals as goal
 
 pub returns-in-Values-clause-leads : goal.returns-in-Values-clause-leads
 returns-in-Values-clause-leads g c = λ s fits.
-    let frames = stack c.args.frames.now in
-    on_ok c.begin.result (λ leaf shown.
-    leads_from frames c.begin.new.state
-    (same_left frames
-    (ap (λ gathered. course_of_gathered c.args.levels gathered command s) c.in-Values.is
-    ∙ ap (λ words. command s words) (sym c.deref.ensures.value)))
-    (shown_leads frames shown))
-    (c.begin.ensures.shows s fits)
+    let levels = c.args.levels in
+    on_ok c.call.result (λ leaf leads.
+    leads_from (stack c.call.new.frames) c.call.new.state
+    (same_left (stack c.args.frames.now)
+    (ap (λ gathered. course_of_gathered levels gathered (command levels) s) c.in-Values.is
+    ∙ ap (λ words. command levels s words) (sym c.deref.ensures.value)))
+    leads)
+    (c.call.ensures.leads s fits)
 
 pub returns-in-Script-clause-leads : goal.returns-in-Script-clause-leads
 returns-in-Script-clause-leads g c = λ s fits.
@@ -26,7 +26,8 @@ returns-in-Script-clause-leads g c = λ s fits.
       fits = fits;
       goes = then_goes
           (same_left frames
-          (ap (λ gathered. course_of_gathered c.args.levels gathered command s) c.in-Script.is))
+          (ap (λ gathered. course_of_gathered c.args.levels gathered (command c.args.levels) s)
+          c.in-Script.is))
           goes;
     })
     (c.nest.ensures.leads s)
@@ -37,6 +38,7 @@ returns-in-Fault-clause-leads g c = λ s fits.
     on_ok c.raises.result (λ leaf is.
     leads_from frames c.args.state.now
     (same_left frames
-    (ap (λ gathered. course_of_gathered c.args.levels gathered command s) c.in-Fault.is))
+    (ap (λ gathered. course_of_gathered c.args.levels gathered (command c.args.levels) s)
+    c.in-Fault.is))
     (over_leads frames leaf (raised c.in-Fault.fault) s c.args.state.now fits is))
     c.raises.ensures

@@ -68,3 +68,17 @@ returns-in-Command-clause-unwinds g c = λ s fits.
     (unwound.Command c.in-Command.words c.in-Command.levels)
     (subst (λ u. Unwinds u new c.resume.new.state (left_of (next_of f before.status o) rest))
     c.in-Command.is (c.in_ok-next.ensures.unwinds before.status before.fits))
+
+pub returns-in-Runs-clause-unwinds : goal.returns-in-Runs-clause-unwinds
+returns-in-Runs-clause-unwinds g c = λ s fits.
+    let f = c.in-Some.frame in
+    let rest = stack c.pop.new.frames in
+    let new = stack c.resume.new.frames in
+    let o = outcome_of c.frames.outcome in
+    let before = c.frames.invariant.comes s fits in
+    unwinds_from new c.resume.new.state
+    (then_goes before.goes
+    (top_goes (stack c.frames.frames) rest f before.status o c.in-Some.ensures))
+    unwound.Runs
+    (subst (λ u. Unwinds u new c.resume.new.state (left_of (next_of f before.status o) rest))
+    c.in-Runs.is (c.in_ok-next.ensures.unwinds before.status before.fits))

@@ -2,7 +2,7 @@ use Rattle.std.proofs.Common.{◌≡◌, ◌++◌, IfSome, true, false, sym, ap,
 use Rattle.tcltext.specs.Elements.{IsList, HasFlaw}
 use Rattle.tcltext.specs.Seen as list
 use Rattle.words.specs.Words.{expanded}
-use Rattle.words.proofs.Reaches.{same_reaches, then_reaches}
+use Rattle.state.proofs.Reaches.{same_reaches, then_reaches}
 use Rattle.words.proofs.Command.{list_reaches, flaw_reaches}
 use Rattle.words.proofs.gathering.add_words.Goals as goal
 

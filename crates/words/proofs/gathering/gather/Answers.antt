@@ -5,7 +5,7 @@ use Rattle.words.specs.Scripts.{MeetsFewer, scripts_in, scripts_of}
 use Rattle.words.specs.View.{course_of_met, resumed}
 use Rattle.words.specs.Words.{nested, words}
 use Rattle.words.proofs.Command.{left, next_word, at_word, added, not_added}
-use Rattle.words.proofs.Reaches.{same_reaches, then_reaches}
+use Rattle.state.proofs.Reaches.{same_reaches, then_reaches}
 use Rattle.words.proofs.gathering.gather.Goals as goal
 
 pub words-init : goal.words-init

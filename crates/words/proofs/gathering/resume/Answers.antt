@@ -1,11 +1,11 @@
 use Rattle.std.proofs.Common.{◌∙◌, ap, subst, arith}
 use Rattle.words.specs.Gathering.{course_of_gathered, gathering_on, taken}
-use Rattle.words.specs.Reaches.{Reaches}
+use Rattle.state.specs.Reaches.{Reaches}
 use Rattle.words.specs.Scripts.{HasFewer, MeetsFewer, scripts_behind, scripts_left, scripts_of}
 use Rattle.words.specs.View.{course_of_met}
 use Rattle.words.specs.Words.{words}
 use Rattle.words.proofs.Command.{left, added, on_ok}
-use Rattle.words.proofs.Reaches.{same_reaches, then_reaches}
+use Rattle.state.proofs.Reaches.{same_reaches, then_reaches}
 use Rattle.words.proofs.Scripts.{has_more}
 use Rattle.words.proofs.gathering.resume.Goals as goal
 

@@ -1,7 +1,7 @@
 -- Courses up to texts that are read, one after the other.
 use Rattle.std.proofs.Common.{◌≡◌, subst}
 use Rattle.state.specs.Dialogue.{Course}
-use Rattle.words.specs.Reaches.{Reaches, here, reads}
+use Rattle.state.specs.Reaches.{Reaches, here, reads}
 
 pub same_reaches : {p q : Course} → p ≡ q → Reaches p q
 same_reaches {p = p} is = subst (λ q. Reaches p q) is here

@@ -1,0 +1,41 @@
+-- What holds of each command that runs scripts, where it holds of all that is put together so.
+use Rattle.std.proofs.Common.{ℕ, List, [], ◌∷◌, Option, Some, None}
+use Rattle.acts.specs.Flaw as flaw
+use Rattle.acts.specs.Flaw.{text_of}
+use Rattle.control.specs.Catch.{catch, caught, runs_into, stores_in, number_of}
+use Rattle.control.specs.Commands.{does}
+use Rattle.control.specs.Control as control
+use Rattle.control.specs.Control.{Control}
+use Rattle.state.proofs.Closed.{Closed, within_closed, writes_closed, named_closed}
+use Rattle.state.specs.Dialogue.{Course, gives, within}
+use Rattle.state.specs.Outcome.{Outcome, Gives, Leaves, Stops, Error}
+use Rattle.state.specs.Status.{Status}
+use Rattle.state.specs.Variables.{writes}
+use Rattle.std.specs.Prelude.{codes, decimal}
+
+module _ (P : Status → Course → Type 0) (closed : Closed P) where
+  stores_closed : (word : Option (List ℕ)) (number : ℕ) (value : List ℕ) (s : Status) →
+      P s (stores_in word number value s)
+  stores_closed None number value s = closed.over s (Gives (decimal number))
+  stores_closed (Some word) number value s =
+      named_closed P closed word s _ (λ name index.
+      writes_closed P closed name index value s _ (λ u. closed.over u (Gives (decimal number))))
+
+  caught_closed : (word : Option (List ℕ)) (s : Status) (o : Outcome) → P s (caught word s o)
+  caught_closed word s (Gives value) = stores_closed word 0 value s
+  caught_closed word s (Leaves code value) = stores_closed word (number_of code) value s
+  caught_closed word s (Stops stop) = closed.over s (Stops stop)
+
+  catch_closed : (levels : ℕ) (args : List (List ℕ)) (s : Status) → P s (catch levels args s)
+  catch_closed levels [] s = closed.over s _
+  catch_closed levels (text ∷ []) s =
+      within_closed P closed levels text s (caught None) (caught_closed None)
+  catch_closed levels (text ∷ word ∷ []) s =
+      named_closed P closed word s _ (λ name index.
+      within_closed P closed levels text s (caught (Some word)) (caught_closed (Some word)))
+  catch_closed levels (text ∷ word ∷ other ∷ more) s = closed.over s _
+
+  -- each command
+  pub does_closed : (c : Control) (levels : ℕ) (args : List (List ℕ)) (s : Status) →
+      P s (does c levels args s)
+  does_closed control.Catch levels args s = catch_closed levels args s

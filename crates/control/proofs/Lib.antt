@@ -1,0 +1,2 @@
+pub mod Behaves
+pub mod Catching

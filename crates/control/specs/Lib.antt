@@ -1,0 +1,4 @@
+pub mod Catch
+pub mod Control
+pub mod Commands
+pub mod View

@@ -1,0 +1,33 @@
+-- How the commands of the code, and what they hold, stand to those of the definition.
+use Rattle.std.specs.Prelude.{◌≡◌, ℕ, ◌<◌}
+use Rattle.control.specs.Catch as catch
+use Rattle.control.specs.Control as meant
+use Rattle.control.specs.Control.{Control}
+use Rattle.control.specs.declared.held.Held.{Held}
+use Rattle.control.specs.declared.held.Held.TheVariants as held
+use Rattle.control.specs.declared.table.Control as coded
+use Rattle.control.specs.declared.table.Control.TheVariants as control
+use Rattle.state.specs.Dialogue.{Course}
+use Rattle.state.specs.Nesting.{course_of}
+use Rattle.state.specs.Outcome.{Outcome}
+use Rattle.state.specs.Status.{Status}
+use Rattle.state.specs.declared.nesting.Nesting.{Nesting}
+use Rattle.state.specs.declared.nesting.Nesting.TheVariants as nesting
+
+-- the command that one of the code's stands for
+abbrev pub control_of : coded.Control → Control
+control_of control.Catch = meant.Catch
+
+-- what follows the script that runs within a command
+abbrev pub next_of : {A : Type 0} → Held A → Status → Outcome → Course
+next_of (held.Catch own) = catch.next_of own
+
+-- a script runs again only after a tick (this project's own rule)
+abbrev pub TicksFirst : {A H : Type 0} → Nesting A H → ℕ → ℕ → Type 0
+TicksFirst (nesting.Has outcome) new old = Unit {0}
+TicksFirst (nesting.Runs script levels held) new old = new < old
+
+-- what is at hand of one command is the same course as one of all commands
+abbrev pub IsLifted : {A H : Type 0} → (H → Status → Outcome → Course) → Nesting A H →
+    Nesting A (Held A) → Type 0
+IsLifted own nesting lifted = (s : Status) → course_of own nesting s ≡ course_of next_of lifted s

@@ -1,0 +1,26 @@
+//! What a command holds while a script runs within it.
+
+ghost use Rattle.std.specs.Prelude.{ℕ};
+ghost use Rattle.control.specs.View.{IsLifted, TicksFirst};
+ghost use Rattle.control.specs.Catch as catches;
+
+use crate::catch;
+use state::Nesting;
+use std::alloc::Allocator;
+
+/// What a command holds while a script runs within it, by the commands that run scripts.
+#[derive(Drop)]
+pub enum Held<A: Allocator> {
+    Catch(catch::Held<A>),
+}
+
+/// How far `catch` has come, as a command.
+pub(crate) fn from_catch<A: Allocator>(nesting: Nesting<A, catch::Held<A>>) -> Nesting<A, Held<A>>
+    ensures lifted { IsLifted catches.next_of nesting result }
+    ensures ticks { (new old : ℕ) → TicksFirst nesting new old → TicksFirst result new old }
+{
+    match nesting {
+        Nesting::Has(outcome) => Nesting::Has(outcome),
+        Nesting::Runs(script, levels, held) => Nesting::Runs(script, levels, Held::Catch(held)),
+    }
+}

@@ -1,0 +1,10 @@
+//! The commands that run scripts within them.
+#![tactic(auto)]
+
+mod arguments;
+pub mod catch;
+mod held;
+mod table;
+
+pub use held::Held;
+pub use table::{Control, begin, resumed};

@@ -1,0 +1,76 @@
+//! The table of names.
+
+ghost use Rattle.std.specs.Prelude.{◌≡◌, ◌≤◌, IfOk, option_map};
+ghost use Rattle.control.specs.Commands as definition;
+ghost use Rattle.control.specs.View.{TicksFirst, control_of, next_of};
+ghost use Rattle.state.specs.Nesting.{Nests};
+ghost use Rattle.state.specs.Status.{Status};
+ghost use Rattle.state.specs.View.{FitsState, outcome_of};
+
+use crate::catch;
+use crate::held::{Held, from_catch};
+use acts::NoMemory;
+use state::{Nesting, Outcome, State};
+use std::alloc::Allocator;
+use tcltext::Value;
+
+/// The commands that run scripts within them.
+#[derive(Clone, Copy, Debug, PartialEq, Eq)]
+pub enum Control {
+    Catch,
+}
+
+impl Control {
+    /// The command of a name.
+    pub fn read(name: &[u8]) -> Option<Control>
+        ensures { option_map control_of result ≡ definition.named name.now }
+    {
+        if name == b"catch".as_slice() {
+            Some(Control::Catch)
+        } else {
+            None
+        }
+    }
+}
+
+/// Begins a command with the words behind its name, in which so many levels may still stand.
+///
+/// # Errors
+/// `NoMemory` where memory is refused.
+pub fn begin<A: Allocator + Copy>(
+    alloc: A,
+    state: &mut State<A>,
+    control: Control,
+    args: &[Value<A>],
+    levels: u8,
+) -> Result<Nesting<A, Held<A>>, NoMemory>
+    ensures nests { (s : Status) → FitsState state.old s → IfOk result (λ nesting.
+        Nests next_of nesting state.new
+        (definition.does (control_of control) levels args.now s)) }
+    ensures left { state.new.left ≤ state.old.left }
+{
+    match control {
+        Control::Catch => Ok(from_catch(catch::begin(alloc, state, args, levels)?)),
+    }
+}
+
+/// Goes on with how the script within a command ended.
+///
+/// # Errors
+/// `NoMemory` where memory is refused.
+pub fn resumed<A: Allocator + Copy>(
+    alloc: A,
+    state: &mut State<A>,
+    held: Held<A>,
+    outcome: Outcome<A>,
+) -> Result<Nesting<A, Held<A>>, NoMemory>
+    ensures nests { (s : Status) → FitsState state.old s → IfOk result (λ nesting.
+        Nests next_of nesting state.new (next_of held s (outcome_of outcome))) }
+    ensures left { state.new.left ≤ state.old.left }
+    ensures ticks { IfOk result (λ nesting.
+        TicksFirst nesting state.new.left state.old.left) }
+{
+    match held {
+        Held::Catch(own) => Ok(from_catch(catch::resumed(alloc, state, own, outcome)?)),
+    }
+}

@@ -1,0 +1,105 @@
+-- Commands that run scripts, and what they hold meanwhile.
+use Rattle.std.proofs.Common.{◌≡◌, ◌∙◌, ◌-◌, ℕ, ◌≤◌, List, [], ◌∷◌, drop, get_or, length, take, Option, Some, None, option_map, Result, refl, sym, ap, arith}
+use Rattle.std.proofs.lemmas.List.{length-drop, take_all}
+use Rattle.commands.specs.Commands as leaf
+use Rattle.commands.specs.View as table
+use Rattle.commands.specs.declared.waits.Waits.{Waits}
+use Rattle.control.specs.Commands.{does, named}
+use Rattle.control.specs.Control.{Control}
+use Rattle.control.specs.View as control
+use Rattle.control.specs.declared.held.Held.{Held}
+use Rattle.engine.specs.Frames.{begun, left_of}
+use Rattle.engine.specs.Goes.{Goes, here, calls}
+use Rattle.engine.specs.Phases.{Begins, Leads}
+use Rattle.engine.specs.declared.frame.Frame.{Frame}
+use Rattle.engine.specs.declared.frame.Frame.TheVariants as frame
+use Rattle.engine.proofs.Machines.{over_goes}
+use Rattle.engine.proofs.Silent.{reaches_goes, same_goes, then_goes}
+use Rattle.plan.specs.Plan.{Ends}
+use Rattle.runs.specs.Commands.{command}
+use Rattle.state.specs.Dialogue.{Course, gives}
+use Rattle.state.specs.Leaf.{HasOutcome, course_of}
+use Rattle.state.specs.Nesting.{Nests}
+use Rattle.state.specs.Nesting as nests
+use Rattle.state.specs.Outcome.{Gives}
+use Rattle.state.specs.Status.{Status}
+use Rattle.state.specs.declared.leaf.Leaf.{Leaf}
+use Rattle.state.specs.declared.leaf.Leaf.TheVariants as at_hand
+use Rattle.state.specs.declared.nesting.Nesting.{Nesting}
+use Rattle.state.specs.declared.nesting.Nesting.TheVariants as nesting
+use Rattle.state.specs.declared.outcome.Leave.{Leave}
+use Rattle.state.specs.declared.state.State.{State}
+use Rattle.tclparse.specs.declared.script.Script.{Script}
+
+module _ {A : Type 0} (fs : List (Frame A)) where
+  -- a command that is over goes on under the frames
+  pub over_held : (r : Result (List ℕ) (Leave A)) (state : State A) (course : Course) →
+      Nests (control.next_of {A = A}) (nesting.Has r) state course →
+      Leads (at_hand.Has r) fs state (left_of course fs)
+  over_held r state course shown = record {
+    status = shown.status;
+    fits = shown.fits;
+    goes = reaches_goes fs shown.reaches;
+  }
+
+  -- a script stands on the stack above the command that runs it
+  pub held_goes : (script : Script A) (levels : ℕ) (held : Held A) (new : List (Frame A))
+      (s : Status) →
+      new ≡ frame.Script (begun script levels) ∷ frame.Held held ∷ fs →
+      Goes (left_of (nests.course_of (control.next_of {A = A}) (nesting.Runs script levels held) s) fs)
+      (left_of (gives [] s) new)
+  held_goes script levels held new s on =
+      then_goes (calls here) (same_goes (ap (λ l. left_of (gives [] s) l) (sym on)))
+
+  pub runs_held : (script : Script A) (levels : ℕ) (held : Held A) (new : List (Frame A))
+      (state : State A) (course : Course) →
+      new ≡ frame.Script (begun script levels) ∷ frame.Held held ∷ fs →
+      Nests (control.next_of {A = A}) (nesting.Runs script levels held) state course →
+      Begins (gives []) new state (left_of course fs)
+  runs_held script levels held new state course on shown = record {
+    status = shown.status;
+    fits = shown.fits;
+    goes = then_goes (reaches_goes fs shown.reaches)
+        (held_goes script levels held new shown.status on);
+  }
+
+  -- what a command has come to is at hand, with the frames that it left
+  pub nests_lead : (n : Nesting A (Held A)) (l : Leaf A (Waits A)) (new : List (Frame A))
+      (state : State A) (course : Course) →
+      ((s : Status) → Goes (left_of (nests.course_of (control.next_of {A = A}) n s) fs)
+      (left_of (course_of table.next_of l s) new)) →
+      Nests (control.next_of {A = A}) n state course → Leads l new state (left_of course fs)
+  nests_lead n l new state course each shown = record {
+    status = shown.status;
+    fits = shown.fits;
+    goes = then_goes (reaches_goes fs shown.reaches) (each shown.status);
+  }
+
+module _ (levels : ℕ) (words : List (List ℕ)) (s : Status) where
+  pub command_none : words ≡ [] → command levels s words ≡ gives [] s
+  command_none is = rw is refl
+
+  module _ (name : List ℕ) (args : List (List ℕ)) (is : words ≡ name ∷ args) where
+    pub command_runs : (c : Control) → named name ≡ Some c →
+        command levels s words ≡ does c levels args s
+    command_runs c found = rw (is, found) refl
+
+    pub command_plain : named name ≡ None → command levels s words ≡ leaf.command s words
+    command_plain found = rw (is, found) refl
+
+-- words of which the first is known
+pub first_word : (words : List (List ℕ)) (first : List ℕ) → 1 ≤ length words →
+    first ≡ get_or words 0 first → words ≡ first ∷ drop 1 words
+first_word [] first some is = absurd (omega arith)
+first_word (x ∷ xs) first some is = ap (λ (w : List ℕ). w ∷ xs) (sym is)
+
+-- those behind the first, as they are cut out
+pub rest_words : (words : List (List ℕ)) → drop 1 words ≡ take (length words - 1) (drop 1 words)
+rest_words words =
+    let len : length (drop 1 words) ≡ length words - 1 = length-drop 1 words in
+    sym (take_all (length words - 1) (drop 1 words) (omega (arith, len)))
+
+-- no words at all
+pub no_word : (words : List (List ℕ)) → length words ≡ 0 → words ≡ []
+no_word [] none = refl
+no_word (x ∷ xs) none = absurd (omega (arith, none))

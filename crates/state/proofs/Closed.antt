@@ -1,0 +1,93 @@
+-- What holds of each course that is put together so.
+use Rattle.std.proofs.Common.{◌≡◌, ℕ, zero, suc, List, Option, Some, None, Result, Ok, Err, refl}
+use Rattle.acts.specs.Flaw as flaw
+use Rattle.acts.specs.Flaw.{text_of}
+use Rattle.plan.specs.Plan.{Ends, Reads, Calls}
+use Rattle.state.specs.Dialogue.{Course, inside, tick, tick_of, within}
+use Rattle.state.specs.Outcome.{Outcome, Leaves, Stops, Error}
+use Rattle.state.specs.Outcome as stop
+use Rattle.state.specs.Piece.{Script, ScriptTree, ScriptText, Text, Tree}
+use Rattle.state.specs.Status.{Status}
+use Rattle.state.specs.Variables.{reads, writes, found, stored, spelled, flaw_of_trouble, on_name, with_name}
+use Rattle.tclparse.specs.Variable.{named}
+use Rattle.tclstate.specs.Scopes.{Scopes, Trouble, read, written}
+
+-- P says from which states which courses are so: ends are, and so is what begins with a script, a
+-- text that is read, a variable that is written or a tick, where all that may follow is
+pub record Closed (P : Status → Course → Type 0) : Type 0 where
+  pub over : (s : Status) (o : Outcome) → P s (Ends (s, o))
+  pub runs : (levels : ℕ) (tree : ScriptTree) (s : Status) (next : Status → Outcome → Course) →
+      ((u : Status) (o : Outcome) → P u (next u o)) → P s (Calls (Script tree levels) s next)
+  pub reading : (text : Text) (s : Status) (next : Tree text → Course) →
+      ((tree : Tree text) → P s (next tree)) → P s (Reads text next)
+  pub writing : (scopes : Scopes) (s : Status) (course : Course) →
+      P (record s { scopes = scopes }) course → P s course
+  pub ticking : (left : ℕ) (s : Status) (course : Course) → s.left ≡ suc left →
+      P (record s { left = left }) course → P s course
+
+module _ (P : Status → Course → Type 0) (closed : Closed P) where
+  -- a script one level deeper
+  pub inside_closed : (levels : ℕ) (tree : ScriptTree) (s : Status)
+      (next : Status → Outcome → Course) → ((u : Status) (o : Outcome) → P u (next u o)) →
+      P s (inside levels tree s next)
+  inside_closed zero tree s next each = each s (Leaves Error (text_of flaw.TooManyNested))
+  inside_closed (suc levels) tree s next each = closed.runs levels tree s next each
+
+  pub within_closed : (levels : ℕ) (text : List ℕ) (s : Status)
+      (next : Status → Outcome → Course) → ((u : Status) (o : Outcome) → P u (next u o)) →
+      P s (within levels text s next)
+  within_closed levels text s next each =
+      closed.reading (ScriptText text) s (λ tree. inside levels tree s next)
+      (λ tree. inside_closed levels tree s next each)
+
+  tick_of_closed : (left : ℕ) (s : Status) (next : Status → Course) → s.left ≡ left →
+      ((u : Status) → P u (next u)) → P s (tick_of left s next)
+  tick_of_closed zero s next is each = closed.over s (Stops stop.Limit)
+  tick_of_closed (suc left) s next is each =
+      closed.ticking left s (next (record s { left = left })) is (each (record s { left = left }))
+
+  -- a tick
+  pub tick_closed : (s : Status) (next : Status → Course) → ((u : Status) → P u (next u)) →
+      P s (tick s next)
+  tick_closed s next each = tick_of_closed s.left s next refl each
+
+  found_closed : (r : Result (List ℕ) Trouble) (name : List ℕ) (s : Status)
+      (next : List ℕ → Course) → ((v : List ℕ) → P s (next v)) → P s (found r name s next)
+  found_closed (Ok value) name s next each = each value
+  found_closed (Err trouble) name s next each =
+      closed.over s (Leaves Error (text_of (flaw_of_trouble trouble name)))
+
+  -- a variable that is read
+  pub reads_closed : (name : List ℕ) (index : Option (List ℕ)) (s : Status)
+      (next : List ℕ → Course) → ((v : List ℕ) → P s (next v)) → P s (reads name index s next)
+  reads_closed name index s next each =
+      found_closed (read s.scopes name index) (spelled name index) s next each
+
+  stored_closed : (r : Result Scopes Trouble) (name : List ℕ) (s : Status)
+      (next : Status → Course) → ((u : Status) → P u (next u)) → P s (stored r name s next)
+  stored_closed (Ok scopes) name s next each =
+      closed.writing scopes s (next (record s { scopes = scopes }))
+      (each (record s { scopes = scopes }))
+  stored_closed (Err trouble) name s next each =
+      closed.over s (Leaves Error (text_of (flaw_of_trouble trouble name)))
+
+  -- a variable that is written
+  pub writes_closed : (name : List ℕ) (index : Option (List ℕ)) (value : List ℕ) (s : Status)
+      (next : Status → Course) → ((u : Status) → P u (next u)) →
+      P s (writes name index value s next)
+  writes_closed name index value s next each =
+      stored_closed (written s.scopes name index value) (spelled name index) s next each
+
+  name_closed : (n : Option (List ℕ × Option (List ℕ))) (s : Status)
+      (next : List ℕ → Option (List ℕ) → Course) →
+      ((name : List ℕ) (index : Option (List ℕ)) → P s (next name index)) →
+      P s (on_name n s next)
+  name_closed None s next each = closed.over s (Leaves Error (text_of flaw.BadVariable))
+  name_closed (Some n) s next each = each n.0 n.1
+
+  -- a word that names a variable
+  pub named_closed : (word : List ℕ) (s : Status)
+      (next : List ℕ → Option (List ℕ) → Course) →
+      ((name : List ℕ) (index : Option (List ℕ)) → P s (next name index)) →
+      P s (with_name word s next)
+  named_closed word s next each = name_closed (named word) s next each

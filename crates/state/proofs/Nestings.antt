@@ -1,0 +1,68 @@
+-- What a command that runs scripts has come to.
+use Rattle.std.proofs.Common.{◌≡◌, ◌∙◌, ℕ, suc, List, Option, option_map, Result, Ok, Err, IfOk, refl, sym, ap, subst}
+use Rattle.acts.specs.Flaw as flaw
+use Rattle.acts.specs.Flaw.{text_of}
+use Rattle.plan.specs.Plan.{Ends, Calls}
+use Rattle.state.proofs.Reaches.{same_reaches, then_reaches}
+use Rattle.state.specs.declared.nesting.Nesting.{Nesting}
+use Rattle.state.specs.declared.nesting.Nesting.TheVariants as nesting
+use Rattle.state.specs.declared.outcome.Leave.{Leave}
+use Rattle.state.specs.declared.state.State.{State}
+use Rattle.state.specs.Dialogue.{Course, inside, within}
+use Rattle.state.specs.Nesting.{Nests, course_of, tree_of}
+use Rattle.state.specs.Outcome.{Outcome, Leaves, Error}
+use Rattle.state.specs.Piece.{Script, ScriptText, ScriptTree}
+use Rattle.state.specs.Reaches.{Reaches, here, reads}
+use Rattle.state.specs.Status.{Status}
+use Rattle.state.specs.View.{FitsState, outcome_of}
+use Rattle.tclparse.specs.Grammar.{IsScript}
+use Rattle.tclparse.specs.Seen.{fault_of}
+use Rattle.tclparse.specs.View.{commands_of}
+use Rattle.tclparse.specs.declared.script.Script as coded
+
+module _ {A H : Type 0} (next : H → Status → Outcome → Course) (state : State A) where
+  -- it has ended so
+  pub over : (r : Result (List ℕ) (Leave A)) (o : Outcome) (s : Status) (course : Course) →
+      FitsState state s → outcome_of r ≡ o → course ≡ Ends (s, o) →
+      Nests next (nesting.Has r) state course
+  over r o s course fits is ends = record {
+    status = s;
+    fits = fits;
+    reaches = same_reaches
+        (ends ∙ ap (λ (x : Outcome). let c : Course = Ends (s, x) in c) (sym is));
+  }
+
+  -- an equal course comes to the same
+  pub nests_from : (n : Nesting A H) (c d : Course) → c ≡ d → Nests next n state d →
+      Nests next n state c
+  nests_from n c d is nests = subst (λ x. Nests next n state x) (sym is) nests
+
+  -- and so does one that reads texts first
+  pub nests_after : (n : Nesting A H) (c d : Course) → Reaches c d → Nests next n state d →
+      Nests next n state c
+  nests_after n c d first nests = record {
+    status = nests.status;
+    fits = nests.fits;
+    reaches = then_reaches first nests.reaches;
+  }
+
+  -- a script runs one level deeper
+  pub script_nests : (script : coded.Script A) (levels inner : ℕ) (held : H) (s : Status) →
+      FitsState state s → levels ≡ suc inner →
+      Nests next (nesting.Runs script inner held) state
+      (inside levels (tree_of script) s (next held))
+  script_nests script levels inner held s fits deeper =
+      rw deeper (record { status = s; fits = fits; reaches = here })
+
+-- a text is read as the script that it is
+pub text_reaches : {A : Type 0} (script : coded.Script A) (levels : ℕ) (text : List ℕ) (s : Status)
+    (next : Status → Outcome → Course) →
+    IsScript (commands_of script.commands) (option_map fault_of script.fault) text →
+    Reaches (within levels text s next) (inside levels (tree_of script) s next)
+text_reaches script levels text s next is = reads {text = ScriptText text} (tree_of script) is here
+
+-- where no level is left, that is how it ends
+pub inside_over : (levels : ℕ) (tree : ScriptTree) (s : Status)
+    (next : Status → Outcome → Course) → levels ≡ 0 →
+    inside levels tree s next ≡ next s (Leaves Error (text_of flaw.TooManyNested))
+inside_over levels tree s next is = rw is refl

@@ -1,0 +1,34 @@
+-- How far a command that runs scripts has come, as a course.
+use Rattle.std.specs.Prelude.{option_map}
+use Rattle.plan.specs.Plan.{Ends, Calls}
+use Rattle.state.specs.declared.nesting.Nesting.{Nesting}
+use Rattle.state.specs.declared.nesting.Nesting.TheVariants as nesting
+use Rattle.state.specs.declared.state.State.{State}
+use Rattle.state.specs.Dialogue.{Course}
+use Rattle.state.specs.Outcome.{Outcome}
+use Rattle.state.specs.Piece.{Script, ScriptTree}
+use Rattle.state.specs.Reaches.{Reaches}
+use Rattle.state.specs.Status.{Status}
+use Rattle.state.specs.View.{FitsState, outcome_of}
+use Rattle.tclparse.specs.Seen.{fault_of}
+use Rattle.tclparse.specs.View.{commands_of}
+use Rattle.tclparse.specs.declared.script.Script as coded
+
+-- the tree that one of the code's stands for
+abbrev pub tree_of : {A : Type 0} → coded.Script A → ScriptTree
+tree_of script =
+    record { commands = commands_of script.commands; fault = option_map fault_of script.fault }
+
+-- it has ended, or a script runs and what is held goes on with its outcome (Tcl(n), rule 7)
+abbrev pub course_of : {A H : Type 0} → (H → Status → Outcome → Course) → Nesting A H → Status →
+    Course
+course_of next (nesting.Has outcome) s = Ends (s, outcome_of outcome)
+course_of next (nesting.Runs script levels held) s =
+    Calls (Script (tree_of script) levels) s (next held)
+
+-- for some state that the code's fits, the course comes to what is at hand, once its texts are read
+pub record Nests {A H : Type 0} (next : H → Status → Outcome → Course) (n : Nesting A H)
+    (state : State A) (course : Course) : Type 0 where
+  pub status : Status
+  pub fits : FitsState state status
+  pub reaches : Reaches course (course_of next n status)
