@@ -1,0 +1,5 @@
+pub mod Error
+pub mod View
+pub mod Seen
+pub mod Group
+pub mod Reads

@@ -1,0 +1,29 @@
+//! Whole formulas.
+
+ghost use Rattle.formulas.specs.Reads.{ReadsFormula};
+
+use crate::error::ReadError;
+use crate::fault::Fault;
+use crate::read::read_whole;
+use crate::tree::Formula;
+use std::alloc::Allocator;
+use tclparse::MAX_OPEN;
+
+impl<A: Allocator + Copy> Formula<A> {
+    /// Reads a whole text (expr(n)). Each text is one formula or has one fault (`laws`).
+    ///
+    /// Takes time in the length of the text, and stack in what is open at one place.
+    ///
+    /// # Errors
+    /// The text's first fault from the left; want of memory. Nothing is left.
+    pub fn read(alloc: A, text: &[u8]) -> Result<Formula<A>, ReadError>
+        ensures { ReadsFormula text.now result }
+    {
+        let (formula, end) = read_whole(alloc, MAX_OPEN, text)?;
+        if end.is_empty() {
+            Ok(formula)
+        } else {
+            Err(ReadError::Fault(Fault::Syntax))
+        }
+    }
+}

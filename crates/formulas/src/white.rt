@@ -1,0 +1,20 @@
+//! White between the tokens of a formula.
+
+ghost use Rattle.std.specs.Prelude.{◌≡◌, ◌≤◌, length};
+ghost use Rattle.tcltext.specs.White.{skip_white};
+
+/// The text behind its first blanks, tabs, newlines, vertical tabs, form feeds and carriage
+/// returns.
+pub(crate) fn skip_white(text: &[u8]) -> &[u8]
+    ensures rest { result.now ≡ skip_white text.now }
+    ensures shorter { length result.now ≤ length text.now }
+{
+    let mut rest = text;
+    while let [c, behind @ ..] = rest {
+        if *c != b' ' && !(9 <= *c && *c <= 13) {
+            break;
+        }
+        rest = behind;
+    }
+    rest
+}
