@@ -1,0 +1,9 @@
+use Rattle.std.proofs.Common.{◌≡◌, ◌++◌, ◌∷◌, [], drop}
+use Rattle.pure.specs.Concat.{kept}
+use Rattle.pure.specs.Joined.{separated, joined}
+use Rattle.pure.proofs.concat.concat.Given as goal
+
+abbrev pub invariant-loop-word : goal.invariant-loop-word
+invariant-loop-word g l =
+    l.text.items ++ separated l.first (32 ∷ []) (kept (drop l.word-index l.words))
+    ≡ joined (32 ∷ []) (kept l.words)

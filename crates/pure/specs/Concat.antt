@@ -1,0 +1,14 @@
+-- What concat does.
+use Rattle.std.specs.Prelude.{ℕ, List, map, filter, not, codes}
+use Rattle.pure.specs.Joined.{joined}
+use Rattle.pure.specs.Meaning.{Meaning, Gives}
+use Rattle.pure.specs.Trim.{trim, white}
+use Rattle.tcltext.specs.Canonical.{is_empty}
+
+-- the words without white at their ends, and without those that are empty then (concat(n))
+abbrev pub kept : List (List ℕ) → List (List ℕ)
+kept words = filter (λ x. not (is_empty x)) (map (trim white) words)
+
+-- concat w .. gives these words with a blank between them (concat(n))
+abbrev pub concat : List (List ℕ) → Meaning
+concat words = Gives (joined (codes " ") (kept words))

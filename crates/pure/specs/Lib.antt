@@ -1,0 +1,14 @@
+pub mod Meaning
+pub mod Refused
+pub mod View
+pub mod Place
+pub mod Trim
+pub mod Joined
+pub mod Llength
+pub mod Lindex
+pub mod Lrange
+pub mod Join
+pub mod Concat
+pub mod Split
+pub mod Strings
+pub mod Pure

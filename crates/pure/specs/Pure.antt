@@ -1,0 +1,35 @@
+-- Which command a name has, and what it says of its words.
+use Rattle.std.specs.Prelude.{ℕ, List, codes, Option, Some, None, if◌then◌else◌}
+use Rattle.std.specs.Str.{bytes_eq}
+use Rattle.pure.specs.declared.command.Pure.{Pure}
+use Rattle.pure.specs.declared.command.Pure.TheVariants as pure
+use Rattle.pure.specs.Concat.{concat}
+use Rattle.pure.specs.Join.{join}
+use Rattle.pure.specs.Lindex.{lindex}
+use Rattle.pure.specs.Llength.{llength}
+use Rattle.pure.specs.Lrange.{lrange}
+use Rattle.pure.specs.Meaning.{Meaning}
+use Rattle.pure.specs.Split.{split}
+use Rattle.pure.specs.Strings.{string}
+
+-- the command of a name (concat(n), join(n), lindex(n), llength(n), lrange(n), split(n), string(n))
+abbrev pub named : List ℕ → Option Pure
+named name =
+    if bytes_eq name (codes "concat") then Some pure.Concat
+    else if bytes_eq name (codes "join") then Some pure.Join
+    else if bytes_eq name (codes "lindex") then Some pure.Lindex
+    else if bytes_eq name (codes "llength") then Some pure.Llength
+    else if bytes_eq name (codes "lrange") then Some pure.Lrange
+    else if bytes_eq name (codes "split") then Some pure.Split
+    else if bytes_eq name (codes "string") then Some pure.String
+    else None
+
+-- what a command says of the words behind its name (Tcl(n), rule 2)
+abbrev pub says : Pure → List (List ℕ) → Meaning
+says pure.Concat words = concat words
+says pure.Join words = join words
+says pure.Lindex words = lindex words
+says pure.Llength words = llength words
+says pure.Lrange words = lrange words
+says pure.Split words = split words
+says pure.String words = string words

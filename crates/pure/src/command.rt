@@ -1,0 +1,77 @@
+//! The commands by their names.
+
+ghost use Rattle.std.specs.Prelude.{◌≡◌};
+ghost use Rattle.pure.specs.Pure as meant;
+ghost use Rattle.pure.specs.View.{Answers};
+
+use crate::concat::concat;
+use crate::fault::PureFault;
+use crate::join::join;
+use crate::lindex::lindex;
+use crate::llength::llength;
+use crate::lrange::lrange;
+use crate::split::split;
+use crate::string::string;
+use std::alloc::Allocator;
+use tcltext::Value;
+
+/// A command that is a function of its words.
+#[derive(Clone, Copy, Debug, PartialEq, Eq)]
+pub enum Pure {
+    Concat,
+    Join,
+    Lindex,
+    Llength,
+    Lrange,
+    Split,
+    String,
+}
+
+impl Pure {
+    /// The command of a name.
+    pub fn named(name: &[u8]) -> Option<Pure>
+        ensures { result ≡ meant.named name.now }
+    {
+        if name == b"concat".as_slice() {
+            Some(Pure::Concat)
+        } else if name == b"join".as_slice() {
+            Some(Pure::Join)
+        } else if name == b"lindex".as_slice() {
+            Some(Pure::Lindex)
+        } else if name == b"llength".as_slice() {
+            Some(Pure::Llength)
+        } else if name == b"lrange".as_slice() {
+            Some(Pure::Lrange)
+        } else if name == b"split".as_slice() {
+            Some(Pure::Split)
+        } else if name == b"string".as_slice() {
+            Some(Pure::String)
+        } else {
+            None
+        }
+    }
+
+    /// What the command says of the words behind its name.
+    ///
+    /// # Errors
+    /// The script's error, the first one where there are several: of an unknown word behind
+    /// `string`, of a wrong number of words, of the words from left to right. `NoMemory` where
+    /// memory is refused.
+    pub fn apply<A: Allocator + Copy>(
+        self,
+        alloc: A,
+        words: &[Value<A>],
+    ) -> Result<Value<A>, PureFault<A>>
+        ensures { Answers (meant.says self words.now) result }
+    {
+        match self {
+            Pure::Concat => concat(alloc, words),
+            Pure::Join => join(alloc, words),
+            Pure::Lindex => lindex(alloc, words),
+            Pure::Llength => llength(alloc, words),
+            Pure::Lrange => lrange(alloc, words),
+            Pure::Split => split(alloc, words),
+            Pure::String => string(alloc, words),
+        }
+    }
+}

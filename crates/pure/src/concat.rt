@@ -1,0 +1,40 @@
+//! `concat w ..` (concat(n)).
+
+ghost use Rattle.std.specs.Prelude.{◌≡◌, [], ◌∷◌, ◌++◌, if◌then◌else◌, OnOk};
+ghost use Rattle.pure.specs.Concat as meant;
+ghost use Rattle.pure.specs.View.{Answers};
+
+use crate::fault::PureFault;
+use crate::trim::{WHITE, trim};
+use memory::NoMemory;
+use std::alloc::Allocator;
+use tcltext::Value;
+
+/// The words without white at their ends, with a blank between them.
+pub fn concat<A: Allocator + Copy>(alloc: A, words: &[Value<A>]) -> Result<Value<A>, PureFault<A>>
+    ensures { Answers (meant.concat words.now) result }
+{
+    let mut text = Vec::new(alloc);
+    let mut first = true;
+    for word in words {
+        let word = trim(WHITE, word.as_slice());
+        if word.is_empty() {
+            continue;
+        }
+        push_next(&mut text, first, word)?;
+        first = false;
+    }
+    Ok(Value::new(alloc, text)?)
+}
+
+/// Writes a word behind a text, with a blank before it where it is not the first.
+fn push_next<A: Allocator>(text: &mut Vec<u8, A>, first: bool, word: &[u8]) -> Result<(), NoMemory>
+    ensures { OnOk result (text.new.items ≡
+        text.old.items ++ ((if first then [] else 32 ∷ []) ++ word.now)) }
+{
+    if !first {
+        text.push(b' ')?;
+    }
+    text.extend_from_slice(word)?;
+    Ok(())
+}

@@ -1,0 +1,55 @@
+//! `lindex l ?i?` (lindex(n)).
+
+ghost use Rattle.std.specs.Prelude.{[], ◌∷◌};
+ghost use Rattle.pure.specs.Lindex as meant;
+ghost use Rattle.pure.specs.View.{Answers};
+
+use crate::fault::PureFault;
+use crate::place::{item_at, place_of};
+use crate::words::{bad_argument, elements, wrong_args};
+use std::alloc::Allocator;
+use tcltext::Value;
+
+/// An element of a list; without an index the list as it stands.
+pub fn lindex<A: Allocator + Copy>(alloc: A, words: &[Value<A>]) -> Result<Value<A>, PureFault<A>>
+    ensures { Answers (meant.lindex words.now) result }
+{
+    match words {
+        [list] => whole(alloc, list),
+        [list, index] => at(alloc, list.as_slice(), index.as_slice()),
+        _ => wrong_args(alloc, b"lindex"),
+    }
+}
+
+/// The list as it stands, where it is one.
+fn whole<A: Allocator + Copy>(alloc: A, list: &Value<A>) -> Result<Value<A>, PureFault<A>>
+    ensures { Answers (meant.lindex (list.now ∷ [])) result }
+{
+    elements(alloc, list.as_slice())?;
+    Ok(list.share()?)
+}
+
+/// The element at the place that an index word names.
+fn at<A: Allocator + Copy>(alloc: A, list: &[u8], index: &[u8]) -> Result<Value<A>, PureFault<A>>
+    ensures { Answers (meant.lindex (list.now ∷ index.now ∷ [])) result }
+{
+    let elements = elements(alloc, list)?;
+    element(alloc, index, &elements)
+}
+
+/// One of the elements, or the empty text where the index lies outside.
+fn element<A: Allocator + Copy>(
+    alloc: A,
+    index: &[u8],
+    elements: &[Value<A>],
+) -> Result<Value<A>, PureFault<A>>
+    ensures { Answers (meant.element index.now elements.now) result }
+{
+    let Some(place) = place_of(index, elements.len()) else {
+        return bad_argument(alloc, index, b"lindex");
+    };
+    match item_at(elements, place) {
+        Some(element) => Ok(element.share()?),
+        None => Ok(Value::empty()),
+    }
+}

@@ -1,0 +1,28 @@
+//! `llength l` (llength(n)).
+
+ghost use Rattle.std.specs.Prelude.{[], ◌∷◌};
+ghost use Rattle.pure.specs.Llength as meant;
+ghost use Rattle.pure.specs.View.{Answers};
+
+use crate::fault::PureFault;
+use crate::words::{elements, number, wrong_args};
+use std::alloc::Allocator;
+use tcltext::Value;
+
+/// The number of the elements of a list.
+pub fn llength<A: Allocator + Copy>(alloc: A, words: &[Value<A>]) -> Result<Value<A>, PureFault<A>>
+    ensures { Answers (meant.llength words.now) result }
+{
+    match words {
+        [list] => count(alloc, list.as_slice()),
+        _ => wrong_args(alloc, b"llength"),
+    }
+}
+
+/// The number of the elements of the list that a word is.
+fn count<A: Allocator + Copy>(alloc: A, list: &[u8]) -> Result<Value<A>, PureFault<A>>
+    ensures { Answers (meant.llength (list.now ∷ [])) result }
+{
+    let elements = elements(alloc, list)?;
+    Ok(number(alloc, elements.len())?)
+}

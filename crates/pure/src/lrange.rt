@@ -1,0 +1,55 @@
+//! `lrange l i j` (lrange(n)).
+
+ghost use Rattle.std.specs.Prelude.{[], ◌∷◌};
+ghost use Rattle.pure.specs.Lrange as meant;
+ghost use Rattle.pure.specs.View.{Answers};
+
+use crate::fault::PureFault;
+use crate::place::{items_from, place_of};
+use crate::words::{bad_argument, elements, wrong_args};
+use std::alloc::Allocator;
+use tcltext::{Value, join_values};
+
+/// A part of a list.
+pub fn lrange<A: Allocator + Copy>(alloc: A, words: &[Value<A>]) -> Result<Value<A>, PureFault<A>>
+    ensures { Answers (meant.lrange words.now) result }
+{
+    match words {
+        [list, first, last] => {
+            part_of(alloc, list.as_slice(), first.as_slice(), last.as_slice())
+        }
+        _ => wrong_args(alloc, b"lrange"),
+    }
+}
+
+/// The part of the list that a word is.
+fn part_of<A: Allocator + Copy>(
+    alloc: A,
+    list: &[u8],
+    first: &[u8],
+    last: &[u8],
+) -> Result<Value<A>, PureFault<A>>
+    ensures { Answers (meant.lrange (list.now ∷ first.now ∷ last.now ∷ [])) result }
+{
+    let elements = elements(alloc, list)?;
+    part(alloc, first, last, &elements)
+}
+
+/// The list of the elements from one place up to another.
+fn part<A: Allocator + Copy>(
+    alloc: A,
+    first: &[u8],
+    last: &[u8],
+    elements: &[Value<A>],
+) -> Result<Value<A>, PureFault<A>>
+    ensures { Answers (meant.part first.now last.now elements.now) result }
+{
+    let Some(from) = place_of(first, elements.len()) else {
+        return bad_argument(alloc, first, b"lrange");
+    };
+    let Some(to) = place_of(last, elements.len()) else {
+        return bad_argument(alloc, last, b"lrange");
+    };
+    let text = join_values(alloc, items_from(elements, from, to))?;
+    Ok(Value::new(alloc, text)?)
+}

@@ -1,0 +1,81 @@
+//! The places that index words name in lists and strings.
+
+ghost use Rattle.std.specs.Prelude.{◌≡◌, ◌+ℤ◌, pos, min, option_copied};
+ghost use Rattle.pure.specs.Place as meant;
+
+use tcltext::read_int;
+
+/// The place that an index word names among so many elements, which may lie before or behind them
+/// all; `None` where the word is no index (string(n), string index).
+pub fn place_of(word: &[u8], len: usize) -> Option<i128>
+    ensures { result ≡ meant.place_of word.now len }
+{
+    match word.strip_prefix(b"end".as_slice()) {
+        Some(rest) => behind_end(rest, len),
+        None => Some(i128::from(whole_of(word)?)),
+    }
+}
+
+/// The place that `end` with this text behind it names.
+fn behind_end(text: &[u8], len: usize) -> Option<i128>
+    ensures { result ≡ meant.behind_end len text.now }
+{
+    let last = len as i128 - 1;
+    match text {
+        [] => Some(last),
+        [b'-', number @ ..] => Some(last - i128::from(whole_of(number)?)),
+        _ => None,
+    }
+}
+
+/// The whole number that a text is, where 64 bits hold it.
+fn whole_of(text: &[u8]) -> Option<i64>
+    ensures { result ≡ meant.whole_of text.now }
+{
+    read_int(text)
+}
+
+/// What stands at a place.
+pub fn item_at<T>(items: &[T], place: i128) -> Option<&T>
+    ensures { option_copied result ≡ meant.item_at items.now place }
+{
+    if place < 0 || items.len() as i128 <= place {
+        return None;
+    }
+    items.get(place as usize)
+}
+
+/// What stands from one place up to another, as far as there is anything.
+pub fn items_from<T>(items: &[T], first: i128, last: i128) -> &[T]
+    ensures { result.now ≡ meant.items_from items.now first last }
+{
+    let from = up_to(first, items.len());
+    let to = behind(last, items.len());
+    if from < to { &items[from..to] } else { &[] }
+}
+
+/// How many of so many elements stand before a place.
+fn up_to(place: i128, len: usize) -> usize
+    ensures { result ≡ min (meant.natural place) len }
+{
+    if place < 0 {
+        0
+    } else if len as i128 <= place {
+        len
+    } else {
+        place as usize
+    }
+}
+
+/// How many of so many elements stand before a place or at it.
+fn behind(place: i128, len: usize) -> usize
+    ensures { result ≡ min (meant.natural (place +ℤ pos 1)) len }
+{
+    if place < 0 {
+        0
+    } else if len as i128 <= place {
+        len
+    } else {
+        place as usize + 1
+    }
+}

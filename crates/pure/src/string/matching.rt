@@ -1,0 +1,35 @@
+//! `string match` (string(n)).
+
+ghost use Rattle.pure.specs.Strings.Match as meant;
+ghost use Rattle.pure.specs.View.{Answers};
+
+use crate::fault::PureFault;
+use crate::words::{truth, wrong_args};
+use acts::Fault;
+use std::alloc::Allocator;
+use tcltext::{Pattern, PatternError, Value};
+
+/// Whether a pattern takes a whole string.
+pub fn matches<A: Allocator + Copy>(alloc: A, words: &[Value<A>]) -> Result<Value<A>, PureFault<A>>
+    ensures { Answers (meant.matches words.now) result }
+{
+    match words {
+        [pattern, string] => takes(alloc, pattern.as_slice(), string.as_slice()),
+        _ => wrong_args(alloc, b"string"),
+    }
+}
+
+/// Whether the pattern with this text takes a whole string.
+fn takes<A: Allocator + Copy>(
+    alloc: A,
+    pattern: &[u8],
+    string: &[u8],
+) -> Result<Value<A>, PureFault<A>>
+    ensures { Answers (meant.takes pattern.now string.now) result }
+{
+    match Pattern::plain(alloc, pattern) {
+        Ok(pattern) => Ok(truth(alloc, pattern.whole(string))?),
+        Err(PatternError::TooLong) => Err(PureFault::Fault(Fault::PatternTooLong)),
+        Err(PatternError::NoMemory(refusal)) => Err(PureFault::NoMemory(refusal)),
+    }
+}

@@ -1,0 +1,79 @@
+//! `string length`, `string index` and `string range` (string(n)).
+
+ghost use Rattle.pure.specs.Strings.Index as bytes;
+ghost use Rattle.pure.specs.Strings.Length as lengths;
+ghost use Rattle.pure.specs.Strings.Range as ranges;
+ghost use Rattle.pure.specs.View.{Answers};
+
+use crate::fault::PureFault;
+use crate::place::{item_at, items_from, place_of};
+use crate::words::{bad_argument, number, wrong_args};
+use std::alloc::Allocator;
+use tcltext::Value;
+
+/// The number of the bytes of a string.
+pub fn length<A: Allocator + Copy>(alloc: A, words: &[Value<A>]) -> Result<Value<A>, PureFault<A>>
+    ensures { Answers (lengths.length words.now) result }
+{
+    match words {
+        [string] => Ok(number(alloc, string.as_slice().len())?),
+        _ => wrong_args(alloc, b"string"),
+    }
+}
+
+/// A byte of a string.
+pub fn index<A: Allocator + Copy>(alloc: A, words: &[Value<A>]) -> Result<Value<A>, PureFault<A>>
+    ensures { Answers (bytes.index words.now) result }
+{
+    match words {
+        [string, index] => byte_at(alloc, string.as_slice(), index.as_slice()),
+        _ => wrong_args(alloc, b"string"),
+    }
+}
+
+/// The byte at the place that an index names, or the empty text where it lies outside.
+fn byte_at<A: Allocator + Copy>(
+    alloc: A,
+    string: &[u8],
+    index: &[u8],
+) -> Result<Value<A>, PureFault<A>>
+    ensures { Answers (bytes.byte_at string.now index.now) result }
+{
+    let Some(place) = place_of(index, string.len()) else {
+        return bad_argument(alloc, index, b"string");
+    };
+    match item_at(string, place) {
+        Some(byte) => Ok(Value::from_slice(alloc, &[*byte])?),
+        None => Ok(Value::empty()),
+    }
+}
+
+/// A part of a string.
+pub fn range<A: Allocator + Copy>(alloc: A, words: &[Value<A>]) -> Result<Value<A>, PureFault<A>>
+    ensures { Answers (ranges.range words.now) result }
+{
+    match words {
+        [string, first, last] => {
+            part(alloc, string.as_slice(), first.as_slice(), last.as_slice())
+        }
+        _ => wrong_args(alloc, b"string"),
+    }
+}
+
+/// The bytes from one place up to another.
+fn part<A: Allocator + Copy>(
+    alloc: A,
+    string: &[u8],
+    first: &[u8],
+    last: &[u8],
+) -> Result<Value<A>, PureFault<A>>
+    ensures { Answers (ranges.part string.now first.now last.now) result }
+{
+    let Some(from) = place_of(first, string.len()) else {
+        return bad_argument(alloc, first, b"string");
+    };
+    let Some(to) = place_of(last, string.len()) else {
+        return bad_argument(alloc, last, b"string");
+    };
+    Ok(Value::from_slice(alloc, items_from(string, from, to))?)
+}
