@@ -1,0 +1,187 @@
+//! Acts, answers and ends out of the words of a line.
+
+use crate::end::End;
+use crate::fault::RowFault;
+use crate::row::copies_in;
+use crate::words::{Words, number};
+use acts::{Act, Answer, LogMode, Row, Timer, fits};
+use std::alloc::Global;
+use tcltext::split_list;
+
+/// Whether the words are those of an act; those of an answer begin with a small letter.
+pub fn is_act(line: &[Vec<u8>]) -> bool {
+    match line {
+        [name, ..] => matches!(name.as_slice(), [b'A'..=b'Z', ..]),
+        [] => false,
+    }
+}
+
+/// The act of a line.
+pub fn act_of(alloc: Global, line: &[Vec<u8>]) -> Result<Act<Global>, RowFault> {
+    let mut words = Words::new(line);
+    let name = words.take()?;
+    let act = named_act(alloc, name, &mut words)?;
+    words.close()?;
+    Ok(act)
+}
+
+/// The act of a name and the words behind it.
+fn named_act(alloc: Global, name: &[u8], words: &mut Words<'_>) -> Result<Act<Global>, RowFault> {
+    match name {
+        b"Out" => Ok(Act::Out(words.take_copy(alloc)?)),
+        b"Err" => Ok(Act::Err(words.take_copy(alloc)?)),
+        b"Log" => Ok(Act::Log(words.take_copy(alloc)?)),
+        b"Send" => Ok(Act::Send(words.take_id()?, words.take_copy(alloc)?)),
+        b"Spawn" => Ok(Act::Spawn(words.take_id()?, copies_in(alloc, words.take_rest())?)),
+        b"Connect" => connect_of(alloc, words),
+        b"OpenLog" => Ok(Act::OpenLog(words.take_copy(alloc)?, mode_of(words.take()?)?)),
+        b"Close" => Ok(Act::Close(words.take_id()?)),
+        b"Sleep" => Ok(Act::Sleep(words.take_number()?)),
+        b"CloseLog" => Ok(Act::CloseLog),
+        b"Reap" => Ok(Act::Reap(words.take_id()?)),
+        b"Wait" => wait_of(alloc, words.take_rest()),
+        _ => Err(RowFault::NoAct),
+    }
+}
+
+/// The call of a server.
+fn connect_of(alloc: Global, words: &mut Words<'_>) -> Result<Act<Global>, RowFault> {
+    let id = words.take_id()?;
+    let host = words.take_copy(alloc)?;
+    let port = words.take_number()?;
+    Ok(Act::Connect(id, host, port))
+}
+
+fn mode_of(word: &[u8]) -> Result<LogMode, RowFault> {
+    match word {
+        b"append" => Ok(LogMode::Append),
+        b"truncate" => Ok(LogMode::Truncate),
+        _ => Err(RowFault::NoMode),
+    }
+}
+
+/// The wait of these rows and this timer.
+fn wait_of(alloc: Global, line: &[Vec<u8>]) -> Result<Act<Global>, RowFault> {
+    let (timer, places) = timer_of(line)?;
+    let mut rows = Vec::new(alloc);
+    for place in places {
+        rows.push(row_of(alloc, place)?)?;
+    }
+    Ok(Act::Wait { rows, timer })
+}
+
+/// The timer at the end of a line, and the words before it.
+fn timer_of(line: &[Vec<u8>]) -> Result<(Timer, &[Vec<u8>]), RowFault> {
+    let Some((last, before)) = line.split_last() else {
+        return Err(RowFault::NoTimer);
+    };
+    match last.as_slice() {
+        b"Running" => Ok((Timer::Running, before)),
+        b"Endless" => Ok((Timer::Endless, before)),
+        seconds => match before.split_last() {
+            Some((start, places)) if start.as_slice() == b"Start".as_slice() => {
+                Ok((Timer::Start(number(seconds)?), places))
+            }
+            _ => Err(RowFault::NoTimer),
+        },
+    }
+}
+
+/// A row of a wait: an id, how many bytes its buffer holds, may hold and wants.
+fn row_of(alloc: Global, place: &[u8]) -> Result<Row, RowFault> {
+    let parts = split_list(alloc, place)?;
+    let mut words = Words::new(&parts);
+    let row = Row {
+        id: words.take_id()?,
+        held: words.take_number()?,
+        max: words.take_number()?,
+        want: words.take_number()?,
+    };
+    words.close()?;
+    Ok(row)
+}
+
+/// The answer of a line.
+pub fn answer_of(alloc: Global, line: &[Vec<u8>]) -> Result<Answer<Global>, RowFault> {
+    let mut words = Words::new(line);
+    let name = words.take()?;
+    let answer = named_answer(alloc, name, &mut words)?;
+    words.close()?;
+    Ok(answer)
+}
+
+/// The answer of a name and the words behind it.
+fn named_answer(
+    alloc: Global,
+    name: &[u8],
+    words: &mut Words<'_>,
+) -> Result<Answer<Global>, RowFault> {
+    match name {
+        b"done" => Ok(Answer::Done),
+        b"failed" => Ok(Answer::Failed(words.take_number()?)),
+        b"started" => Ok(Answer::Started(words.take_number()?)),
+        b"refused" => Ok(Answer::Refused),
+        b"exited" => Ok(Answer::Exited(status_of(words.take()?)?)),
+        b"arrive" => Ok(Answer::Arrive(words.take_id()?, words.take_copy(alloc)?)),
+        b"ended" => Ok(Answer::Ended(words.take_id()?)),
+        b"timeout" => Ok(Answer::TimedOut),
+        b"nomore" => Ok(Answer::NoMore),
+        _ => Err(RowFault::NoAnswer),
+    }
+}
+
+/// The status of a process, or `-` for one that a signal ended.
+fn status_of(word: &[u8]) -> Result<Option<u8>, RowFault> {
+    if word == b"-".as_slice() {
+        Ok(None)
+    } else {
+        Ok(Some(number(word)?))
+    }
+}
+
+/// The answer to an act of which none is written: Done, where that fits.
+pub fn usual_answer(act: &Act<Global>) -> Result<Answer<Global>, RowFault> {
+    if fits(act, &Answer::<Global>::Done) {
+        Ok(Answer::Done)
+    } else {
+        Err(RowFault::AnswerMissing)
+    }
+}
+
+/// The end of a line. The text of an error is the one that was written, where the line has none.
+pub fn end_of(alloc: Global, line: &[Vec<u8>], written: Option<&[u8]>) -> Result<End, RowFault> {
+    let mut words = Words::new(line);
+    let name = words.take()?;
+    let end = named_end(alloc, name, &mut words, written)?;
+    words.close()?;
+    Ok(end)
+}
+
+/// The end of a name and the words behind it.
+fn named_end(
+    alloc: Global,
+    name: &[u8],
+    words: &mut Words<'_>,
+    written: Option<&[u8]>,
+) -> Result<End, RowFault> {
+    match name {
+        b"Exit" => Ok(End::Exit(words.take_number()?)),
+        b"Error" => error_of(alloc, words, written),
+        b"Limit" => Ok(End::Limit),
+        b"WriterFailed" => Ok(End::WriterFailed),
+        b"BadAnswer" => Ok(End::BadAnswer(words.take_number()?)),
+        b"NoMore" => Ok(End::NoMore),
+        _ => Err(RowFault::NoEnd),
+    }
+}
+
+/// The end by an error, of the text that is the next word or else was written.
+fn error_of(alloc: Global, words: &mut Words<'_>, written: Option<&[u8]>) -> Result<End, RowFault> {
+    if !words.is_empty() {
+        return Ok(End::Error(words.take_copy(alloc)?));
+    }
+    match written {
+        Some(text) => Ok(End::Error(Vec::from_slice(alloc, text)?)),
+        None => Err(RowFault::NoErrorText),
+    }
+}
