@@ -1,0 +1,106 @@
+//! The course of a run: its acts, a line each, and its end.
+
+use rowfiles::spelling::{push_act, push_end};
+use rowfiles::{End, Row};
+use std::alloc::{AllocError, Global};
+
+/// What a run came to.
+#[derive(Drop)]
+pub enum Ended {
+    /// Its end.
+    End(End),
+    /// Memory was refused.
+    NoMemory,
+    /// A session did what none may do.
+    Broken(Breach),
+}
+
+/// What no session may do.
+#[derive(Clone, Copy)]
+pub enum Breach {
+    /// It asks for acts without an end.
+    Endless,
+    /// It goes on behind its end.
+    GoesOn,
+    /// It has lost the end that it gave.
+    EndLost,
+    /// It goes on behind a refusal of memory.
+    GoesOnRefused,
+    /// It has an end although memory was refused.
+    EndsRefused,
+}
+
+impl Breach {
+    /// What the session did.
+    fn text(self) -> &'static str {
+        match self {
+            Breach::Endless => "a session has no end",
+            Breach::GoesOn => "a session goes on behind its end",
+            Breach::EndLost => "a session has lost its end",
+            Breach::GoesOnRefused => "a session goes on behind a refusal of memory",
+            Breach::EndsRefused => "a refused session has an end",
+        }
+    }
+}
+
+/// The acts of a run as lines, each with its newline, and its end.
+#[derive(Drop)]
+pub struct Course {
+    pub acts: String,
+    pub end: String,
+}
+
+/// The end of a run that was refused memory.
+const REFUSED: &str = "NoMemory";
+
+impl Course {
+    /// The course of a run that told these acts.
+    pub fn of_run(alloc: Global, acts: String, ended: &Ended) -> Result<Course, AllocError> {
+        let end = match ended {
+            Ended::End(end) => end_text(alloc, end)?,
+            Ended::NoMemory => String::from_str(alloc, REFUSED)?,
+            Ended::Broken(breach) => String::from_str(alloc, breach.text())?,
+        };
+        Ok(Course { acts, end })
+    }
+
+    /// The course that a row has.
+    pub fn of_row(alloc: Global, row: &Row) -> Result<Course, AllocError> {
+        let acts = acts_before(alloc, row, row.exchanges.len())?;
+        let end = end_text(alloc, &row.end)?;
+        Ok(Course { acts, end })
+    }
+
+    /// The acts and the end.
+    pub fn text(&self) -> Result<String, AllocError> {
+        let mut text = self.acts.clone()?;
+        text.push_str(self.end.as_str())?;
+        text.push_str("\n")?;
+        Ok(text)
+    }
+
+    /// Whether this is the whole course, or, where memory was refused, a beginning of it.
+    pub fn is_like(&self, whole: &Course, is_refused: bool) -> bool {
+        if is_refused && self.end.as_str() == REFUSED {
+            whole.acts.as_str().starts_with(self.acts.as_str())
+        } else {
+            self.acts.as_str() == whole.acts.as_str() && self.end.as_str() == whole.end.as_str()
+        }
+    }
+}
+
+fn end_text(alloc: Global, end: &End) -> Result<String, AllocError> {
+    let mut text = String::new(alloc);
+    push_end(&mut text, end)?;
+    Ok(text)
+}
+
+/// The first acts of a row as lines.
+pub fn acts_before(alloc: Global, row: &Row, place: usize) -> Result<String, AllocError> {
+    let mut text = String::new(alloc);
+    for exchange in row.exchanges.iter().take(place) {
+        push_act(&mut text, &exchange.act)?;
+        text.push_str("\n")?;
+    }
+    Ok(text)
+}
