@@ -1,45 +1,13 @@
 //! The families of rows, in folders, and the examples.
 
-use crate::cuts::run_cuts;
-use crate::played::{Call, run_call, run_played};
-use crate::printed::Prints;
-use crate::read::read_rows;
-use crate::refused::{run_refused, run_starved};
-use crate::report::Report;
-use crate::row::Row;
-use crate::turned::run_turned;
-use crate::whole::run_whole;
+use crate::product::Rx;
 use acts::Limits;
-use anyhow::{Context, Result};
-use std::alloc::Global;
+use anyhow::{Context, Result, bail};
+use rowfiles::families::Family;
+use rowfiles::{LineFault, read_rows};
+use rowrules::{Call, Prints, Report, run_call, run_rows};
 use std::fs;
 use std::rt::Files;
-
-/// A family that is run: its folder, and whether its rows are played under their records too.
-#[derive(Drop)]
-pub struct Family {
-    pub name: String,
-    pub is_played: bool,
-}
-
-/// The families of a list: a line each, the name and, where the rows are played, `play`.
-pub fn read_families(alloc: Global, list: &str) -> Result<Vec<Family>> {
-    let mut families = Vec::new(alloc);
-    for line in list.lines() {
-        let mut words = line.split_whitespace();
-        let Some(name) = words.next() else {
-            continue;
-        };
-        if name.starts_with('#') {
-            continue;
-        }
-        families.push(Family {
-            name: String::from_str(alloc, name)?,
-            is_played: words.next() == Some("play"),
-        })?;
-    }
-    Ok(families)
-}
 
 /// The paths of what a folder holds, in order.
 fn paths_in<R: Files + AllocGlobal + Clone + Drop>(rt: &R, folder: &str) -> Result<Vec<String>> {
@@ -61,34 +29,24 @@ pub fn run_family<R: Files + AllocGlobal + Clone + Drop>(
     let folder = format!(in rt.alloc(); "rows/{}", family.name)?;
     for path in paths_in(rt, folder.as_str())? {
         if path.ends_with(".rows") {
-            let text = fs::read_to_string(rt, path.as_str())?;
-            let rows = read_rows(rt.alloc(), text.as_str()).context(path.as_str())?;
-            for row in &rows {
-                run_row(rt.alloc(), report, row, family.is_played)?;
-            }
+            run_file(rt, report, path.as_str(), family.is_played).context(path.as_str())?;
         }
     }
     Ok(())
 }
 
-/// Runs a row by each way.
-fn run_row(alloc: Global, report: &mut Report, row: &Row, is_played: bool) -> Result<()> {
-    report.count_row();
-    if row.record.is_none() {
-        run_whole(alloc, report, row)?;
-        run_starved(alloc, report, row)?;
+/// Runs the rows of a file.
+fn run_file<R: Files + AllocGlobal>(
+    rt: &R,
+    report: &mut Report,
+    path: &str,
+    is_played: bool,
+) -> Result<()> {
+    let text = fs::read_to_string(rt, path)?;
+    match read_rows(rt.alloc(), text.as_str()) {
+        Ok(rows) => Ok(run_rows(rt.alloc(), &Rx, report, &rows, is_played)?),
+        Err(LineFault { line, fault }) => bail!("line {line}: {}", fault.text()),
     }
-    if row.record.is_none() && !row.is_bulky() {
-        run_turned(alloc, report, row)?;
-        run_refused(alloc, report, row)?;
-    }
-    if is_played {
-        run_played(alloc, report, row)?;
-    }
-    if is_played && row.record.is_none() {
-        run_cuts(alloc, report, row)?;
-    }
-    Ok(())
 }
 
 /// Plays each example: a folder with a script, a record, and what is printed.
@@ -106,16 +64,9 @@ pub fn run_examples<R: Files + AllocGlobal + Clone + Drop>(
 
 fn run_example<R: Files + AllocGlobal>(rt: &R, report: &mut Report, folder: &str) -> Result<()> {
     report.count_row();
-    let alloc = rt.alloc();
-    let script = fs::read(rt, format!(in alloc; "{folder}/script.exp")?.as_str())?;
-    let record = fs::read(rt, format!(in alloc; "{folder}/record")?.as_str())?;
-    let out = fs::read(rt, format!(in alloc; "{folder}/stdout")?.as_str())?;
-    let status = fs::read_to_string(rt, format!(in alloc; "{folder}/status")?.as_str())?;
-    let wanted = Prints {
-        out,
-        err: Vec::new(alloc),
-        status: status.trim().parse::<u8>().context("status")?,
-    };
+    let script = read_part(rt, folder, "script.exp")?;
+    let record = read_part(rt, folder, "record")?;
+    let wanted = wanted(rt, folder)?;
     let call = Call {
         title: folder,
         script: &script,
@@ -123,5 +74,27 @@ fn run_example<R: Files + AllocGlobal>(rt: &R, report: &mut Report, folder: &str
         limits: Limits::new(10_000_000).context("ticks")?,
         record: &record,
     };
-    run_call(alloc, report, &call, &wanted)
+    run_call(rt.alloc(), &Rx, report, &call, &wanted)?;
+    Ok(())
+}
+
+/// What an example has to print.
+fn wanted<R: Files + AllocGlobal>(rt: &R, folder: &str) -> Result<Prints> {
+    let status = read_part(rt, folder, "status")?;
+    let status = std::str::from_utf8(&status)?
+        .trim()
+        .parse::<u8>()
+        .context("status")?;
+    let out = read_part(rt, folder, "stdout")?;
+    Ok(Prints {
+        out,
+        err: Vec::new(rt.alloc()),
+        status,
+    })
+}
+
+/// A file of an example.
+fn read_part<R: Files + AllocGlobal>(rt: &R, folder: &str, name: &str) -> Result<Vec<u8>> {
+    let path = format!(in rt.alloc(); "{folder}/{name}")?;
+    Ok(fs::read(rt, path.as_str())?)
 }

@@ -1,30 +1,15 @@
 //! Runs the rows, which are scripts with their courses, and the examples, by every way there is.
 #![tactic(auto)]
 
-mod closings;
-mod course;
-mod cuts;
 mod families;
-mod listed;
-mod played;
-mod printed;
-mod read;
-mod record;
-mod refused;
-mod report;
-mod row;
+mod product;
 mod scripts;
-mod spelled;
-mod spelling;
-mod turned;
-mod way;
-mod whole;
-mod world;
 
-use crate::families::{read_families, run_examples, run_family};
-use crate::report::Report;
+use crate::families::{run_examples, run_family};
 use crate::scripts::run_scripts;
 use anyhow::{Context, Result, ensure};
+use rowfiles::families::read_families;
+use rowrules::Report;
 use std::io::{BufWriter, Write};
 use std::process::ExitCode;
 use std::rt::{Env, Files};

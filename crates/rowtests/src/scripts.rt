@@ -1,9 +1,9 @@
 //! Scripts of a file, one a line in hexadecimal digits: what each prints, and its error.
 
-use crate::record::push_hex;
 use acts::{Act, Answer, Limits, World, fits};
 use anyhow::{Context, Result};
 use engine::{End, run};
+use rowfiles::record::push_hex;
 use std::alloc::{Allocator, Global};
 use std::fs;
 use std::io::Write;
@@ -36,8 +36,7 @@ impl<A: Allocator> World<A> for Printing {
 }
 
 /// Runs each script of a file, and writes a line for each: what it printed, and the text of its
-/// error
-/// or `-`, in hexadecimal digits.
+/// error or `-`, in hexadecimal digits.
 pub fn run_scripts<R: Files + AllocGlobal, W: Write>(
     rt: &R,
     writer: &mut W,
