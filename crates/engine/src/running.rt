@@ -10,8 +10,7 @@ use acts::{Limits, NoMemory, World};
 use std::alloc::Allocator;
 
 /// Runs a script with its arguments, of which the first is `argv0`, in a world, for so many ticks
-/// at
-/// most. Only want of memory stops a run without an end; what was done by then stays done.
+/// at most. Only want of memory stops a run without an end; what was done by then stays done.
 pub fn run<A: Allocator + Copy, W: World<A>>(
     alloc: A,
     script: &[u8],

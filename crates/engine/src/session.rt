@@ -76,8 +76,7 @@ impl<A: Allocator + Copy> Session<A> {
         })
     }
 
-    /// Goes on to the next act or to the end, and lends it. The first call is without an answer
-    /// (one
+    /// Goes on to the next act or to the end, and lends it. The first call is without an answer (one
     /// that is given is dropped), each later one has the answer to the last act. After an end each
     /// call gives the same end.
     ///

@@ -10,8 +10,7 @@ abbrev pub is_dashes : List ℕ → Bool
 is_dashes w = bytes_eq w (codes "--")
 
 -- the error of a word where a flag could stand and no text does: one that begins as flags do is
--- told
--- for itself, else there are too few words or too many (expect(1), send)
+-- told for itself, else there are too few words or too many (expect(1), send)
 abbrev pub misplaced : List ℕ → List ℕ → Flaw
 misplaced w command =
     if is_dashes w then flaw.WrongArgs command

@@ -22,7 +22,7 @@ pub fn answers_decide<L: Language, X>()
 /// No step of a session adds a run to those that are left, and none loses one: neither a call, with
 /// or without something that is put onto the stack for later, nor a text that is read, nor an act
 /// that is answered, nor the end.
-#[tactic(auto, using(crate::proofs::Exact::end_is_exact, crate::proofs::Exact::call_is_exact, crate::proofs::Exact::push_is_exact, crate::proofs::Exact::go_is_exact, crate::proofs::Exact::act_is_exact, crate::proofs::Exact::act_comes_first, crate::proofs::Exact::read_is_exact))]
+#[tactic(auto, using(crate::proofs::Exact::exact_steps))]
 pub fn steps_are_exact<L: Language, X>()
     ensures end { EndIsExact X L.plan_of L.is_tree }
     ensures call { CallIsExact X L.plan_of L.is_tree }
@@ -58,7 +58,7 @@ pub fn acts_are_kept<L: Language, X, Q: Rule<L, X>>()
 
 /// Where the calls of pieces fall, each plan can be finished, and by one number of steps where each
 /// act has the last answer; and at each act of a run any other answer leads on to an end too.
-#[tactic(auto, using(crate::proofs::Finished::each_plan_runs, crate::proofs::Finished::any_answer_leads_on, crate::proofs::Settled::each_plan_settles, crate::proofs::Settled::settles_once))]
+#[tactic(auto, using(crate::proofs::Finished::finished_plans))]
 pub fn plans_can_be_finished<L: Language, X>()
     ensures run { Finite L.plan_of L.is_tree → EachPlanRuns X L.plan_of L.is_tree }
     ensures otherwise { Finite L.plan_of L.is_tree → AnyAnswerLeadsOn X L.plan_of L.is_tree }

@@ -1,6 +1,5 @@
 -- Records: each list of answers has one text at most, no two lists have the same, and a text that
--- has a
--- bad line is of none.
+-- has a bad line is of none.
 use Rattle.std.proofs.Common.{◌≡◌, ◌≢◌, ℕ, suc, List, [], ◌∷◌, ◌++◌, length, length-append, map, drop, refl, sym, ap, ◌∙◌, ◌+◌, ◌≤◌, arith}
 use Rattle.std.proofs.lemmas.List.{append_assoc, length_push, map_push}
 use Rattle.std.specs.List.{AllByRecursion}

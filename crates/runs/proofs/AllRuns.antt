@@ -69,3 +69,8 @@ any_answer_leads_on text args limit h act reply other goes =
     goes_from text args limit (h ++ ((act, other) ∷ []))
     (plan_finished.any_answer_leads_on finite (whole text args limit) h act reply other
     (runs_from text args limit (h ++ ((act, reply) ∷ [])) goes))
+
+pub ruleset finished_runs = (
+  each_script_runs,
+  any_answer_leads_on,
+)

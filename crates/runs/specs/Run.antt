@@ -39,9 +39,8 @@ variables args =
     ∷ (codes "timeout", Text (codes "10")) ∷ []
 
 -- the beginning: the variables, no procedure, no id, no standing pair, arrivals are shown and no
--- log
--- is open, buffers of 2,000 bytes, the first number is 4, and all ticks are left (expect(1), spawn
--- and match_max)
+-- log is open, buffers of 2,000 bytes, the first number is 4, and all ticks are left (expect(1),
+-- spawn and match_max)
 abbrev pub initial : List (List ℕ) → ℕ → Status
 initial args limit = record {
   scopes = record { locals = []; globals = variables args };

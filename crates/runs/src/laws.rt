@@ -21,7 +21,7 @@ pub fn waits_hold()
 {}
 
 /// Each script has a run, and at each act of a run any other answer leads on to an end too.
-#[tactic(auto, using(crate::proofs::AllRuns::each_script_runs, crate::proofs::AllRuns::any_answer_leads_on))]
+#[tactic(auto, using(crate::proofs::AllRuns::finished_runs))]
 pub fn runs_can_be_finished()
     ensures run { EachScriptRuns }
     ensures otherwise { AnyAnswerLeadsOn }

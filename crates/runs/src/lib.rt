@@ -1,5 +1,4 @@
-//! What a whole run is, and what holds of all runs. Nothing here runs: the crate is definitions,
-//! and
+//! What a whole run is, and what holds of all runs. Nothing here runs: the crate is definitions and
 //! laws.
 #![tactic(auto)]
 

@@ -47,8 +47,7 @@ abbrev pub plain_logging : Logging
 plain_logging = record { shows = true; is_open = false; takes_all = false }
 
 -- the state of the code holds what that of the definition says; no pairs stand, and the log
--- settings
--- and the size of later buffers are those of the start
+-- settings and the size of later buffers are those of the start
 pub record FitsState {A : Type 0} (state : State A) (s : Status) : Type 0 where
   pub scopes : s.scopes ≡ state.scopes
   pub peers : FitsAll state.table.entries.items (opened s.peers)

@@ -162,8 +162,7 @@ impl<A: Allocator + Copy> Scopes<A> {
     }
 
     /// Writes a name, or its element at an index, and makes what is absent (set(n); array(n)). What
-    /// is there is
-    /// overwritten in place and takes no memory; what is new goes last.
+    /// is there is overwritten in place and takes no memory; what is new goes last.
     ///
     /// # Errors
     /// `IsArray` where the name means an array and there is no index, `NotArray` where it means a
@@ -204,9 +203,8 @@ impl<A: Allocator + Copy> Scopes<A> {
     }
 
     /// Links a name of the innermost procedure to the global of that name (global(n)). A local of
-    /// that name is
-    /// dropped, and the link goes last; a link that is there stays. At the top level nothing
-    /// changes.
+    /// that name is dropped, and the link goes last; a link that is there stays. At the top level
+    /// nothing changes.
     pub fn link_global(&mut self, alloc: A, name: &[u8]) -> Result<(), NoMemory>
         ensures ok { OnOk result (self.new ≡ spec.linked self.old name.now) }
         ensures unchanged { OnErr result (self.new ≡ self.old) }
