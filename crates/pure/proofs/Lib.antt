@@ -1,7 +1,5 @@
-pub mod Splits
 pub mod Whole
 pub mod Cuts
 pub mod Kept
 pub mod Stands
 pub mod Places
-pub mod Once

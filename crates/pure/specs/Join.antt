@@ -2,7 +2,7 @@
 use Rattle.std.specs.Prelude.{ℕ, List, [], ◌∷◌, codes}
 use Rattle.acts.specs.Flaw as flaw
 use Rattle.pure.specs.Joined.{joined}
-use Rattle.pure.specs.Meaning.{Meaning, Gives, Raises, Splits}
+use Rattle.meanings.specs.Meaning.{Meaning, Gives, Raises, Splits}
 
 -- the elements with a separator between them (join(n))
 abbrev pub text_of : List ℕ → List (List ℕ) → Meaning

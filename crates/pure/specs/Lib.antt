@@ -1,6 +1,3 @@
-pub mod Meaning
-pub mod Refused
-pub mod View
 pub mod Place
 pub mod Trim
 pub mod Joined

@@ -1,7 +1,7 @@
 -- What lindex does.
 use Rattle.std.specs.Prelude.{ℕ, List, [], ◌∷◌, length, codes, unwrap_or}
 use Rattle.acts.specs.Flaw as flaw
-use Rattle.pure.specs.Meaning.{Meaning, Gives, Raises, Splits}
+use Rattle.meanings.specs.Meaning.{Meaning, Gives, Raises, Splits}
 use Rattle.pure.specs.Place.{on_place, item_at}
 
 -- one of the elements, or the empty text where the index lies outside (lindex(n))

@@ -1,7 +1,7 @@
 -- What llength does.
 use Rattle.std.specs.Prelude.{ℕ, List, [], ◌∷◌, length, codes, decimal}
 use Rattle.acts.specs.Flaw as flaw
-use Rattle.pure.specs.Meaning.{Meaning, Gives, Raises, Splits}
+use Rattle.meanings.specs.Meaning.{Meaning, Gives, Raises, Splits}
 
 -- the number of the elements (llength(n))
 abbrev pub count : List (List ℕ) → Meaning

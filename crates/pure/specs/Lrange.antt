@@ -1,7 +1,7 @@
 -- What lrange does.
 use Rattle.std.specs.Prelude.{ℕ, List, [], ◌∷◌, length, codes}
 use Rattle.acts.specs.Flaw as flaw
-use Rattle.pure.specs.Meaning.{Meaning, Gives, Raises, Splits}
+use Rattle.meanings.specs.Meaning.{Meaning, Gives, Raises, Splits}
 use Rattle.pure.specs.Place.{on_place, items_from}
 use Rattle.tcltext.specs.Canonical.{canonical}
 

@@ -2,7 +2,7 @@
 use Rattle.std.specs.Prelude.{ℕ, ◌==◌, List, [], ◌∷◌, take, drop, slice_get, slice_range, codes, Option, Some, None, option_map, ℤ, pos, negsuc, ◌+ℤ◌, ◌-ℤ◌, if◌then◌else◌}
 use Rattle.std.specs.Str.{bytes_eq}
 use Rattle.acts.specs.Flaw as flaw
-use Rattle.pure.specs.Meaning.{Meaning, Raises}
+use Rattle.meanings.specs.Meaning.{Meaning, Raises}
 use Rattle.tcltext.specs.Numbers.{numeral, is_number}
 
 -- the whole number that a text is, where 64 bits hold it (expr(n), operands)

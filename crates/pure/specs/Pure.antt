@@ -8,7 +8,7 @@ use Rattle.pure.specs.Join.{join}
 use Rattle.pure.specs.Lindex.{lindex}
 use Rattle.pure.specs.Llength.{llength}
 use Rattle.pure.specs.Lrange.{lrange}
-use Rattle.pure.specs.Meaning.{Meaning}
+use Rattle.meanings.specs.Meaning.{Meaning}
 use Rattle.pure.specs.Split.{split}
 use Rattle.pure.specs.Strings.{string}
 

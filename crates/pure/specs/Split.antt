@@ -2,7 +2,7 @@
 use Rattle.std.specs.Prelude.{ℕ, List, [], ◌∷◌, map, codes}
 use Rattle.std.specs.List.{slice_split}
 use Rattle.acts.specs.Flaw as flaw
-use Rattle.pure.specs.Meaning.{Meaning, Gives, Raises}
+use Rattle.meanings.specs.Meaning.{Meaning, Gives, Raises}
 use Rattle.pure.specs.Trim.{is_among}
 use Rattle.tcltext.specs.Canonical.{canonical}
 

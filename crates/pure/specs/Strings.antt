@@ -4,7 +4,7 @@ use Rattle.std.specs.Str.{bytes_eq}
 use Rattle.acts.specs.Flaw as flaw
 use Rattle.pure.specs.declared.string.Subcommand.{Subcommand}
 use Rattle.pure.specs.declared.string.Subcommand.TheVariants as subcommand
-use Rattle.pure.specs.Meaning.{Meaning, Raises}
+use Rattle.meanings.specs.Meaning.{Meaning, Raises}
 use Rattle.pure.specs.Strings.Case.{tolower, toupper}
 use Rattle.pure.specs.Strings.Compare.{equal, compare}
 use Rattle.pure.specs.Strings.Index.{index}

@@ -2,16 +2,16 @@
 
 ghost use Rattle.std.specs.Prelude.{◌≡◌};
 ghost use Rattle.pure.specs.Pure as meant;
-ghost use Rattle.pure.specs.View.{Answers};
+ghost use Rattle.meanings.specs.View.{Answers};
 
 use crate::concat::concat;
-use crate::fault::PureFault;
 use crate::join::join;
 use crate::lindex::lindex;
 use crate::llength::llength;
 use crate::lrange::lrange;
 use crate::split::split;
 use crate::string::string;
+use meanings::MeaningFault;
 use std::alloc::Allocator;
 use tcltext::Value;
 
@@ -61,7 +61,7 @@ impl Pure {
         self,
         alloc: A,
         words: &[Value<A>],
-    ) -> Result<Value<A>, PureFault<A>>
+    ) -> Result<Value<A>, MeaningFault<A>>
         ensures { Answers (meant.says self words.now) result }
     {
         match self {

@@ -2,16 +2,19 @@
 
 ghost use Rattle.std.specs.Prelude.{◌≡◌, [], ◌∷◌, ◌++◌, if◌then◌else◌, OnOk};
 ghost use Rattle.pure.specs.Concat as meant;
-ghost use Rattle.pure.specs.View.{Answers};
+ghost use Rattle.meanings.specs.View.{Answers};
 
-use crate::fault::PureFault;
 use crate::trim::{WHITE, trim};
+use meanings::MeaningFault;
 use memory::NoMemory;
 use std::alloc::Allocator;
 use tcltext::Value;
 
 /// The words without white at their ends, with a blank between them.
-pub fn concat<A: Allocator + Copy>(alloc: A, words: &[Value<A>]) -> Result<Value<A>, PureFault<A>>
+pub fn concat<A: Allocator + Copy>(
+    alloc: A,
+    words: &[Value<A>],
+) -> Result<Value<A>, MeaningFault<A>>
     ensures { Answers (meant.concat words.now) result }
 {
     let mut text = Vec::new(alloc);

@@ -3,17 +3,17 @@
 ghost use Rattle.std.specs.Prelude.{◌≡◌, IfOk};
 ghost use Rattle.pure.specs.Join as meant;
 ghost use Rattle.pure.specs.Joined as spaced;
-ghost use Rattle.pure.specs.Meaning.{Splits};
-ghost use Rattle.pure.specs.View.{Answers};
+ghost use Rattle.meanings.specs.Meaning.{Splits};
+ghost use Rattle.meanings.specs.View.{Answers};
 
-use crate::fault::PureFault;
-use crate::words::{elements, wrong_args};
+use crate::words::wrong_args;
+use meanings::{MeaningFault, elements};
 use memory::NoMemory;
 use std::alloc::Allocator;
 use tcltext::Value;
 
 /// The elements of a list as one text.
-pub fn join<A: Allocator + Copy>(alloc: A, words: &[Value<A>]) -> Result<Value<A>, PureFault<A>>
+pub fn join<A: Allocator + Copy>(alloc: A, words: &[Value<A>]) -> Result<Value<A>, MeaningFault<A>>
     ensures { Answers (meant.join words.now) result }
 {
     match words {
@@ -28,7 +28,7 @@ fn text_of<A: Allocator + Copy>(
     alloc: A,
     list: &[u8],
     separator: &[u8],
-) -> Result<Value<A>, PureFault<A>>
+) -> Result<Value<A>, MeaningFault<A>>
     ensures { Answers (Splits list.now (meant.text_of separator.now)) result }
 {
     let elements = elements(alloc, list)?;

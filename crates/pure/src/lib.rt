@@ -3,9 +3,7 @@
 
 mod command;
 mod concat;
-mod fault;
 mod join;
-pub mod laws;
 mod lindex;
 mod llength;
 mod lrange;
@@ -16,5 +14,4 @@ mod trim;
 mod words;
 
 pub use command::Pure;
-pub use fault::PureFault;
 pub use string::Subcommand;

@@ -2,16 +2,19 @@
 
 ghost use Rattle.std.specs.Prelude.{[], ◌∷◌};
 ghost use Rattle.pure.specs.Lindex as meant;
-ghost use Rattle.pure.specs.View.{Answers};
+ghost use Rattle.meanings.specs.View.{Answers};
 
-use crate::fault::PureFault;
 use crate::place::{item_at, place_of};
-use crate::words::{bad_argument, elements, wrong_args};
+use crate::words::{bad_argument, wrong_args};
+use meanings::{MeaningFault, elements};
 use std::alloc::Allocator;
 use tcltext::Value;
 
 /// An element of a list; without an index the list as it stands.
-pub fn lindex<A: Allocator + Copy>(alloc: A, words: &[Value<A>]) -> Result<Value<A>, PureFault<A>>
+pub fn lindex<A: Allocator + Copy>(
+    alloc: A,
+    words: &[Value<A>],
+) -> Result<Value<A>, MeaningFault<A>>
     ensures { Answers (meant.lindex words.now) result }
 {
     match words {
@@ -22,7 +25,7 @@ pub fn lindex<A: Allocator + Copy>(alloc: A, words: &[Value<A>]) -> Result<Value
 }
 
 /// The list as it stands, where it is one.
-fn whole<A: Allocator + Copy>(alloc: A, list: &Value<A>) -> Result<Value<A>, PureFault<A>>
+fn whole<A: Allocator + Copy>(alloc: A, list: &Value<A>) -> Result<Value<A>, MeaningFault<A>>
     ensures { Answers (meant.lindex (list.now ∷ [])) result }
 {
     elements(alloc, list.as_slice())?;
@@ -30,7 +33,7 @@ fn whole<A: Allocator + Copy>(alloc: A, list: &Value<A>) -> Result<Value<A>, Pur
 }
 
 /// The element at the place that an index word names.
-fn at<A: Allocator + Copy>(alloc: A, list: &[u8], index: &[u8]) -> Result<Value<A>, PureFault<A>>
+fn at<A: Allocator + Copy>(alloc: A, list: &[u8], index: &[u8]) -> Result<Value<A>, MeaningFault<A>>
     ensures { Answers (meant.lindex (list.now ∷ index.now ∷ [])) result }
 {
     let elements = elements(alloc, list)?;
@@ -42,7 +45,7 @@ fn element<A: Allocator + Copy>(
     alloc: A,
     index: &[u8],
     elements: &[Value<A>],
-) -> Result<Value<A>, PureFault<A>>
+) -> Result<Value<A>, MeaningFault<A>>
     ensures { Answers (meant.element index.now elements.now) result }
 {
     let Some(place) = place_of(index, elements.len()) else {

@@ -2,15 +2,18 @@
 
 ghost use Rattle.std.specs.Prelude.{[], ◌∷◌};
 ghost use Rattle.pure.specs.Llength as meant;
-ghost use Rattle.pure.specs.View.{Answers};
+ghost use Rattle.meanings.specs.View.{Answers};
 
-use crate::fault::PureFault;
-use crate::words::{elements, number, wrong_args};
+use crate::words::{number, wrong_args};
+use meanings::{MeaningFault, elements};
 use std::alloc::Allocator;
 use tcltext::Value;
 
 /// The number of the elements of a list.
-pub fn llength<A: Allocator + Copy>(alloc: A, words: &[Value<A>]) -> Result<Value<A>, PureFault<A>>
+pub fn llength<A: Allocator + Copy>(
+    alloc: A,
+    words: &[Value<A>],
+) -> Result<Value<A>, MeaningFault<A>>
     ensures { Answers (meant.llength words.now) result }
 {
     match words {
@@ -20,7 +23,7 @@ pub fn llength<A: Allocator + Copy>(alloc: A, words: &[Value<A>]) -> Result<Valu
 }
 
 /// The number of the elements of the list that a word is.
-fn count<A: Allocator + Copy>(alloc: A, list: &[u8]) -> Result<Value<A>, PureFault<A>>
+fn count<A: Allocator + Copy>(alloc: A, list: &[u8]) -> Result<Value<A>, MeaningFault<A>>
     ensures { Answers (meant.llength (list.now ∷ [])) result }
 {
     let elements = elements(alloc, list)?;

@@ -2,16 +2,19 @@
 
 ghost use Rattle.std.specs.Prelude.{[], ◌∷◌};
 ghost use Rattle.pure.specs.Lrange as meant;
-ghost use Rattle.pure.specs.View.{Answers};
+ghost use Rattle.meanings.specs.View.{Answers};
 
-use crate::fault::PureFault;
 use crate::place::{items_from, place_of};
-use crate::words::{bad_argument, elements, wrong_args};
+use crate::words::{bad_argument, wrong_args};
+use meanings::{MeaningFault, elements};
 use std::alloc::Allocator;
 use tcltext::{Value, join_values};
 
 /// A part of a list.
-pub fn lrange<A: Allocator + Copy>(alloc: A, words: &[Value<A>]) -> Result<Value<A>, PureFault<A>>
+pub fn lrange<A: Allocator + Copy>(
+    alloc: A,
+    words: &[Value<A>],
+) -> Result<Value<A>, MeaningFault<A>>
     ensures { Answers (meant.lrange words.now) result }
 {
     match words {
@@ -28,7 +31,7 @@ fn part_of<A: Allocator + Copy>(
     list: &[u8],
     first: &[u8],
     last: &[u8],
-) -> Result<Value<A>, PureFault<A>>
+) -> Result<Value<A>, MeaningFault<A>>
     ensures { Answers (meant.lrange (list.now ∷ first.now ∷ last.now ∷ [])) result }
 {
     let elements = elements(alloc, list)?;
@@ -41,7 +44,7 @@ fn part<A: Allocator + Copy>(
     first: &[u8],
     last: &[u8],
     elements: &[Value<A>],
-) -> Result<Value<A>, PureFault<A>>
+) -> Result<Value<A>, MeaningFault<A>>
     ensures { Answers (meant.part first.now last.now elements.now) result }
 {
     let Some(from) = place_of(first, elements.len()) else {

@@ -4,17 +4,17 @@ ghost use Rattle.std.specs.Prelude.{◌≡◌, ◌<◌, [], ◌∷◌, ◌++◌,
 ghost use Rattle.std.specs.List.{slice_split};
 ghost use Rattle.pure.specs.Split as meant;
 ghost use Rattle.pure.specs.Trim.{is_among};
-ghost use Rattle.pure.specs.View.{Answers};
+ghost use Rattle.meanings.specs.View.{Answers};
 ghost use Rattle.tcltext.specs.Canonical.{canonical, written};
 
-use crate::fault::PureFault;
 use crate::words::wrong_args;
+use meanings::MeaningFault;
 use memory::NoMemory;
 use std::alloc::Allocator;
 use tcltext::{Value, push_element};
 
 /// The list of the pieces of a text.
-pub fn split<A: Allocator + Copy>(alloc: A, words: &[Value<A>]) -> Result<Value<A>, PureFault<A>>
+pub fn split<A: Allocator + Copy>(alloc: A, words: &[Value<A>]) -> Result<Value<A>, MeaningFault<A>>
     ensures { Answers (meant.split words.now) result }
 {
     let list = match words {

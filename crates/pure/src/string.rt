@@ -2,7 +2,7 @@
 
 ghost use Rattle.std.specs.Prelude.{◌≡◌};
 ghost use Rattle.pure.specs.Strings as meant;
-ghost use Rattle.pure.specs.View.{Answers};
+ghost use Rattle.meanings.specs.View.{Answers};
 
 mod case;
 mod compare;
@@ -11,11 +11,11 @@ mod part;
 mod search;
 mod trimming;
 
-use crate::fault::PureFault;
 use crate::words::{bad_argument, wrong_args};
 use case::{tolower, toupper};
 use compare::{compare, equal};
 use matching::matches;
+use meanings::MeaningFault;
 use part::{index, length, range};
 use search::{first, last};
 use std::alloc::Allocator;
@@ -81,7 +81,7 @@ impl Subcommand {
         self,
         alloc: A,
         words: &[Value<A>],
-    ) -> Result<Value<A>, PureFault<A>>
+    ) -> Result<Value<A>, MeaningFault<A>>
         ensures { Answers (meant.does self words.now) result }
     {
         match self {
@@ -103,7 +103,10 @@ impl Subcommand {
 }
 
 /// A subcommand by its name, and what it does with the words behind it.
-pub fn string<A: Allocator + Copy>(alloc: A, words: &[Value<A>]) -> Result<Value<A>, PureFault<A>>
+pub fn string<A: Allocator + Copy>(
+    alloc: A,
+    words: &[Value<A>],
+) -> Result<Value<A>, MeaningFault<A>>
     ensures { Answers (meant.string words.now) result }
 {
     let [name, words @ ..] = words else {

@@ -2,7 +2,7 @@
 use Rattle.std.specs.Prelude.{ℕ, List, [], ◌∷◌, map, codes}
 use Rattle.std.specs.Char.{to_ascii_lowercase, to_ascii_uppercase}
 use Rattle.acts.specs.Flaw as flaw
-use Rattle.pure.specs.Meaning.{Meaning, Gives, Raises}
+use Rattle.meanings.specs.Meaning.{Meaning, Gives, Raises}
 
 -- string tolower s gives a string with its ASCII letters in lower case (string(n), tolower)
 abbrev pub tolower : List (List ℕ) → Meaning

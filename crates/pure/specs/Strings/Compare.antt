@@ -6,7 +6,7 @@ use Rattle.std.specs.Str.{bytes_eq}
 use Rattle.std.specs.declared.cmp.Ordering.{Ordering}
 use Rattle.std.specs.declared.cmp.Ordering.TheVariants.{Less, Equal, Greater}
 use Rattle.acts.specs.Flaw as flaw
-use Rattle.pure.specs.Meaning.{Meaning, Gives, Raises, truth}
+use Rattle.meanings.specs.Meaning.{Meaning, Gives, Raises, truth}
 
 -- string equal a b tells whether two strings have the same bytes (string(n), equal)
 abbrev pub equal : List (List ℕ) → Meaning

@@ -1,7 +1,7 @@
 -- What string index does.
 use Rattle.std.specs.Prelude.{ℕ, List, [], ◌∷◌, length, codes, option_to_list}
 use Rattle.acts.specs.Flaw as flaw
-use Rattle.pure.specs.Meaning.{Meaning, Gives, Raises}
+use Rattle.meanings.specs.Meaning.{Meaning, Gives, Raises}
 use Rattle.pure.specs.Place.{on_place, item_at}
 
 -- one of the bytes, or the empty text where the index lies outside (string(n), index)

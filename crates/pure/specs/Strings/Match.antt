@@ -1,7 +1,7 @@
 -- What string match does.
 use Rattle.std.specs.Prelude.{ℕ, List, [], ◌∷◌, length, nat_lt, codes, if◌then◌else◌}
 use Rattle.acts.specs.Flaw as flaw
-use Rattle.pure.specs.Meaning.{Meaning, Gives, Raises, Matches, truth}
+use Rattle.meanings.specs.Meaning.{Meaning, Gives, Raises, Matches, truth}
 use Rattle.tcltext.specs.Pattern.Glob.{plain}
 
 -- whether a pattern takes a whole text; a pattern has at most 1,000,000 bytes (string(n), match;

@@ -1,7 +1,7 @@
 -- What string range does.
 use Rattle.std.specs.Prelude.{ℕ, List, [], ◌∷◌, length, codes}
 use Rattle.acts.specs.Flaw as flaw
-use Rattle.pure.specs.Meaning.{Meaning, Gives, Raises}
+use Rattle.meanings.specs.Meaning.{Meaning, Gives, Raises}
 use Rattle.pure.specs.Place.{on_place, items_from}
 
 -- the bytes from one place up to another (string(n), range)

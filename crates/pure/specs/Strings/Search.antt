@@ -2,7 +2,7 @@
 use Rattle.std.specs.Prelude.{ℕ, zero, suc, List, [], ◌∷◌, length, drop, nat_eq, find, codes, decimal, Bool, Option, Some, None}
 use Rattle.std.specs.List.{starts_with, range_with_len}
 use Rattle.acts.specs.Flaw as flaw
-use Rattle.pure.specs.Meaning.{Meaning, Gives, Raises}
+use Rattle.meanings.specs.Meaning.{Meaning, Gives, Raises}
 
 -- a text stands in another from this place on (string(n), first)
 abbrev pub stands_at : List ℕ → List ℕ → ℕ → Bool

@@ -1,7 +1,7 @@
 -- What string trim, string trimleft and string trimright do.
 use Rattle.std.specs.Prelude.{ℕ, List, [], ◌∷◌, codes}
 use Rattle.acts.specs.Flaw as flaw
-use Rattle.pure.specs.Meaning.{Meaning, Gives, Raises}
+use Rattle.meanings.specs.Meaning.{Meaning, Gives, Raises}
 use Rattle.pure.specs.Trim.{white}
 
 -- string trim s ?bytes? at the ends that the side names; where no bytes are named it takes white

@@ -3,15 +3,18 @@
 ghost use Rattle.std.specs.Prelude.{◌≡◌, map, IfOk};
 ghost use Rattle.std.specs.Char.{to_ascii_lowercase, to_ascii_uppercase};
 ghost use Rattle.pure.specs.Strings.Case as meant;
-ghost use Rattle.pure.specs.View.{Answers};
+ghost use Rattle.meanings.specs.View.{Answers};
 
-use crate::fault::PureFault;
 use crate::words::wrong_args;
+use meanings::MeaningFault;
 use std::alloc::{AllocError, Allocator};
 use tcltext::Value;
 
 /// A string with its ASCII letters in lower case.
-pub fn tolower<A: Allocator + Copy>(alloc: A, words: &[Value<A>]) -> Result<Value<A>, PureFault<A>>
+pub fn tolower<A: Allocator + Copy>(
+    alloc: A,
+    words: &[Value<A>],
+) -> Result<Value<A>, MeaningFault<A>>
     ensures { Answers (meant.tolower words.now) result }
 {
     match words {
@@ -21,7 +24,10 @@ pub fn tolower<A: Allocator + Copy>(alloc: A, words: &[Value<A>]) -> Result<Valu
 }
 
 /// A string with its ASCII letters in upper case.
-pub fn toupper<A: Allocator + Copy>(alloc: A, words: &[Value<A>]) -> Result<Value<A>, PureFault<A>>
+pub fn toupper<A: Allocator + Copy>(
+    alloc: A,
+    words: &[Value<A>],
+) -> Result<Value<A>, MeaningFault<A>>
     ensures { Answers (meant.toupper words.now) result }
 {
     match words {

@@ -2,16 +2,16 @@
 
 ghost use Rattle.std.specs.Prelude.{◌≡◌};
 ghost use Rattle.pure.specs.Strings.Compare as meant;
-ghost use Rattle.pure.specs.View.{Answers};
+ghost use Rattle.meanings.specs.View.{Answers};
 
-use crate::fault::PureFault;
-use crate::words::{truth, wrong_args};
+use crate::words::wrong_args;
+use meanings::{MeaningFault, truth};
 use std::alloc::Allocator;
 use std::cmp::Ordering;
 use tcltext::Value;
 
 /// Whether two strings have the same bytes.
-pub fn equal<A: Allocator + Copy>(alloc: A, words: &[Value<A>]) -> Result<Value<A>, PureFault<A>>
+pub fn equal<A: Allocator + Copy>(alloc: A, words: &[Value<A>]) -> Result<Value<A>, MeaningFault<A>>
     ensures { Answers (meant.equal words.now) result }
 {
     match words {
@@ -21,7 +21,10 @@ pub fn equal<A: Allocator + Copy>(alloc: A, words: &[Value<A>]) -> Result<Value<
 }
 
 /// How two strings are ordered: -1, 0 or 1.
-pub fn compare<A: Allocator + Copy>(alloc: A, words: &[Value<A>]) -> Result<Value<A>, PureFault<A>>
+pub fn compare<A: Allocator + Copy>(
+    alloc: A,
+    words: &[Value<A>],
+) -> Result<Value<A>, MeaningFault<A>>
     ensures { Answers (meant.compare words.now) result }
 {
     match words {

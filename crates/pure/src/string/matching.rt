@@ -1,16 +1,19 @@
 //! `string match` (string(n)).
 
 ghost use Rattle.pure.specs.Strings.Match as meant;
-ghost use Rattle.pure.specs.View.{Answers};
+ghost use Rattle.meanings.specs.View.{Answers};
 
-use crate::fault::PureFault;
-use crate::words::{truth, wrong_args};
+use crate::words::wrong_args;
 use acts::Fault;
+use meanings::{MeaningFault, truth};
 use std::alloc::Allocator;
 use tcltext::{Pattern, PatternError, Value};
 
 /// Whether a pattern takes a whole string.
-pub fn matches<A: Allocator + Copy>(alloc: A, words: &[Value<A>]) -> Result<Value<A>, PureFault<A>>
+pub fn matches<A: Allocator + Copy>(
+    alloc: A,
+    words: &[Value<A>],
+) -> Result<Value<A>, MeaningFault<A>>
     ensures { Answers (meant.matches words.now) result }
 {
     match words {
@@ -24,12 +27,12 @@ fn takes<A: Allocator + Copy>(
     alloc: A,
     pattern: &[u8],
     string: &[u8],
-) -> Result<Value<A>, PureFault<A>>
+) -> Result<Value<A>, MeaningFault<A>>
     ensures { Answers (meant.takes pattern.now string.now) result }
 {
     match Pattern::plain(alloc, pattern) {
         Ok(pattern) => Ok(truth(alloc, pattern.whole(string))?),
-        Err(PatternError::TooLong) => Err(PureFault::Fault(Fault::PatternTooLong)),
-        Err(PatternError::NoMemory(refusal)) => Err(PureFault::NoMemory(refusal)),
+        Err(PatternError::TooLong) => Err(MeaningFault::Fault(Fault::PatternTooLong)),
+        Err(PatternError::NoMemory(refusal)) => Err(MeaningFault::NoMemory(refusal)),
     }
 }

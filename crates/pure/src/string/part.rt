@@ -3,16 +3,19 @@
 ghost use Rattle.pure.specs.Strings.Index as bytes;
 ghost use Rattle.pure.specs.Strings.Length as lengths;
 ghost use Rattle.pure.specs.Strings.Range as ranges;
-ghost use Rattle.pure.specs.View.{Answers};
+ghost use Rattle.meanings.specs.View.{Answers};
 
-use crate::fault::PureFault;
 use crate::place::{item_at, items_from, place_of};
 use crate::words::{bad_argument, number, wrong_args};
+use meanings::MeaningFault;
 use std::alloc::Allocator;
 use tcltext::Value;
 
 /// The number of the bytes of a string.
-pub fn length<A: Allocator + Copy>(alloc: A, words: &[Value<A>]) -> Result<Value<A>, PureFault<A>>
+pub fn length<A: Allocator + Copy>(
+    alloc: A,
+    words: &[Value<A>],
+) -> Result<Value<A>, MeaningFault<A>>
     ensures { Answers (lengths.length words.now) result }
 {
     match words {
@@ -22,7 +25,7 @@ pub fn length<A: Allocator + Copy>(alloc: A, words: &[Value<A>]) -> Result<Value
 }
 
 /// A byte of a string.
-pub fn index<A: Allocator + Copy>(alloc: A, words: &[Value<A>]) -> Result<Value<A>, PureFault<A>>
+pub fn index<A: Allocator + Copy>(alloc: A, words: &[Value<A>]) -> Result<Value<A>, MeaningFault<A>>
     ensures { Answers (bytes.index words.now) result }
 {
     match words {
@@ -36,7 +39,7 @@ fn byte_at<A: Allocator + Copy>(
     alloc: A,
     string: &[u8],
     index: &[u8],
-) -> Result<Value<A>, PureFault<A>>
+) -> Result<Value<A>, MeaningFault<A>>
     ensures { Answers (bytes.byte_at string.now index.now) result }
 {
     let Some(place) = place_of(index, string.len()) else {
@@ -49,7 +52,7 @@ fn byte_at<A: Allocator + Copy>(
 }
 
 /// A part of a string.
-pub fn range<A: Allocator + Copy>(alloc: A, words: &[Value<A>]) -> Result<Value<A>, PureFault<A>>
+pub fn range<A: Allocator + Copy>(alloc: A, words: &[Value<A>]) -> Result<Value<A>, MeaningFault<A>>
     ensures { Answers (ranges.range words.now) result }
 {
     match words {
@@ -66,7 +69,7 @@ fn part<A: Allocator + Copy>(
     string: &[u8],
     first: &[u8],
     last: &[u8],
-) -> Result<Value<A>, PureFault<A>>
+) -> Result<Value<A>, MeaningFault<A>>
     ensures { Answers (ranges.part string.now first.now last.now) result }
 {
     let Some(from) = place_of(first, string.len()) else {

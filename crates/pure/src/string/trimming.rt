@@ -2,11 +2,11 @@
 
 ghost use Rattle.pure.specs.Strings.Trimming as meant;
 ghost use Rattle.pure.specs.Trim as side;
-ghost use Rattle.pure.specs.View.{Answers};
+ghost use Rattle.meanings.specs.View.{Answers};
 
-use crate::fault::PureFault;
 use crate::trim;
 use crate::words::wrong_args;
+use meanings::MeaningFault;
 use std::alloc::Allocator;
 use tcltext::Value;
 
@@ -17,7 +17,7 @@ const BYTES: &[u8] = b"\0\t\n\x0b\x0c\r ";
 pub fn at_both_ends<A: Allocator + Copy>(
     alloc: A,
     words: &[Value<A>],
-) -> Result<Value<A>, PureFault<A>>
+) -> Result<Value<A>, MeaningFault<A>>
     ensures { Answers (meant.trimmed side.trim words.now) result }
 {
     let part = match words {
@@ -29,7 +29,10 @@ pub fn at_both_ends<A: Allocator + Copy>(
 }
 
 /// A string without white, or the named bytes, in front.
-pub fn in_front<A: Allocator + Copy>(alloc: A, words: &[Value<A>]) -> Result<Value<A>, PureFault<A>>
+pub fn in_front<A: Allocator + Copy>(
+    alloc: A,
+    words: &[Value<A>],
+) -> Result<Value<A>, MeaningFault<A>>
     ensures { Answers (meant.trimmed side.trim_left words.now) result }
 {
     let part = match words {
@@ -44,7 +47,7 @@ pub fn in_front<A: Allocator + Copy>(alloc: A, words: &[Value<A>]) -> Result<Val
 pub fn at_the_end<A: Allocator + Copy>(
     alloc: A,
     words: &[Value<A>],
-) -> Result<Value<A>, PureFault<A>>
+) -> Result<Value<A>, MeaningFault<A>>
     ensures { Answers (meant.trimmed side.trim_right words.now) result }
 {
     let part = match words {

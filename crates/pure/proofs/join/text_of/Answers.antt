@@ -1,6 +1,6 @@
 use Rattle.std.proofs.Common.{Ok, rules}
 use Rattle.pure.specs.Join.{text_of}
-use Rattle.pure.proofs.Splits.{no_list}
+use Rattle.meanings.proofs.Splits.{no_list}
 use Rattle.pure.proofs.join.text_of.Goals as goal
 
 pub returns-in_err-elements : goal.returns-in_err-elements

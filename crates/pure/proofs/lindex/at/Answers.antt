@@ -1,7 +1,7 @@
 use Rattle.std.proofs.Common.{subst}
 use Rattle.pure.specs.Lindex.{element}
-use Rattle.pure.specs.View.{Answers}
-use Rattle.pure.proofs.Splits.{no_list, follows}
+use Rattle.meanings.specs.View.{Answers}
+use Rattle.meanings.proofs.Splits.{no_list, follows}
 use Rattle.pure.proofs.lindex.at.Goals as goal
 
 pub returns-in_err-elements : goal.returns-in_err-elements

@@ -1,7 +1,7 @@
 use Rattle.std.proofs.Common.{Ok, subst, rules}
 use Rattle.pure.specs.Lindex.{as_it_stands}
-use Rattle.pure.specs.View.{IsNoList}
-use Rattle.pure.proofs.Splits.{no_list}
+use Rattle.meanings.specs.View.{IsNoList}
+use Rattle.meanings.proofs.Splits.{no_list}
 use Rattle.pure.proofs.lindex.whole.Goals as goal
 use Rattle.tcltext.specs.Elements.{IsList}
 

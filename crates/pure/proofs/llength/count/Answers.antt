@@ -1,6 +1,6 @@
 use Rattle.std.proofs.Common.{Ok, rules}
 use Rattle.pure.specs.Llength.{count}
-use Rattle.pure.proofs.Splits.{no_list}
+use Rattle.meanings.proofs.Splits.{no_list}
 use Rattle.pure.proofs.llength.count.Goals as goal
 
 pub returns-in_err-elements : goal.returns-in_err-elements

@@ -1,6 +1,6 @@
--- A command comes to one answer alone.
+-- A meaning comes to one answer alone.
 use Rattle.std.proofs.Common.{◌≡◌, ◌↔◌, ℕ, Bool, true, false, List, Result, Ok, Err, MatchResult, IsTrue, refl, sym, ap, subst, ◌∙◌}
-use Rattle.pure.specs.Meaning.{Answer, Meaning, Gives, Raises, Splits, Matches, Comes, IsSplit, flaw_of_list}
+use Rattle.meanings.specs.Meaning.{Answer, Meaning, Gives, Raises, Splits, Matches, Comes, IsSplit, flaw_of_list}
 use Rattle.tcltext.specs.Flaw.{Flaw}
 use Rattle.tcltext.proofs.Unique.{one_list, one_flaw, no_list_with_flaw}
 

@@ -1,4 +1,4 @@
--- What a command comes to that is a function of its words.
+-- What a function of texts comes to: a command that is one of its words, an operator of a formula.
 use Rattle.std.specs.Prelude.{◌≡◌, ◌↔◌, ℕ, List, codes, Bool, if◌then◌else◌, IsTrue, Result, Ok, Err, MatchResult}
 use Rattle.acts.specs.Flaw.{Flaw}
 use Rattle.acts.specs.Flaw as flaw
@@ -8,14 +8,14 @@ use Rattle.tcltext.specs.Pattern.Item.{Item}
 use Rattle.tcltext.specs.Pattern.Match.{Whole}
 
 -- a value; an error; what follows the elements of a text that is read as a list; what follows the
--- test whether a pattern takes a text (Tcl(n), rule 2)
+-- test whether a pattern takes a text (Tcl(n), rule 2; expr(n))
 pub data Meaning : Type 0 where
   Gives : (value : List ℕ) → Meaning
   Raises : (flaw : Flaw) → Meaning
   Splits : (text : List ℕ) → (List (List ℕ) → Meaning) → Meaning
   Matches : (pattern : List Item) → (text : List ℕ) → (Bool → Meaning) → Meaning
 
--- a command's value, or its error (Tcl(n), rule 2)
+-- the value, or the error (Tcl(n), rule 2; expr(n))
 abbrev pub Answer : Type 0
 Answer = Result (List ℕ) Flaw
 

@@ -1,15 +1,15 @@
--- What a command says of a word that it reads as a list.
+-- What is said of a text that is read as a list.
 use Rattle.std.proofs.Common.{◌≡◌, ℕ, List, Option, Some, None, option_map, IfSome, Result, Ok, Err, IsErrAnd, ap}
 use Rattle.acts.specs.Flaw.{flaw_of}
-use Rattle.pure.specs.declared.fault.PureFault.{PureFault}
-use Rattle.pure.specs.declared.fault.PureFault.TheVariants as fault
-use Rattle.pure.specs.Meaning.{Meaning, Splits, flaw_of_list}
-use Rattle.pure.specs.View.{Answers, Tells, IsNoList}
+use Rattle.meanings.specs.declared.fault.MeaningFault.{MeaningFault}
+use Rattle.meanings.specs.declared.fault.MeaningFault.TheVariants as fault
+use Rattle.meanings.specs.Meaning.{Meaning, Splits, flaw_of_list}
+use Rattle.meanings.specs.View.{Answers, Tells, IsNoList}
 use Rattle.tcltext.specs.Elements.{IsList, HasFlaw}
 use Rattle.tcltext.specs.Flaw.{Flaw}
 
 -- the text has a flaw, and the fault tells it
-pub is_no_list : {A : Type 0} (text : List ℕ) (told : PureFault A) (seen : Option Flaw) →
+pub is_no_list : {A : Type 0} (text : List ℕ) (told : MeaningFault A) (seen : Option Flaw) →
     Tells told (option_map flaw_of_list seen) → IfSome seen (λ flaw. HasFlaw flaw text) →
     IsNoList text told
 is_no_list text (fault.Fault why) None tells has next = absurd (cc)
@@ -19,13 +19,13 @@ is_no_list text (fault.NoMemory refusal) seen tells has next = tt
 
 module _ {A : Type 0} (text : List ℕ) (next : List (List ℕ) → Meaning) where
   -- the text is no list, and the reason is handed on
-  pub no_list : (r : Result (List ℕ) (PureFault A)) (why : PureFault A) →
+  pub no_list : (r : Result (List ℕ) (MeaningFault A)) (why : MeaningFault A) →
       IsNoList text why → IsErrAnd r (λ passed. passed ≡ why) → Answers (Splits text next) r
   no_list (Ok value) why is passed = absurd passed
   no_list (Err passed) why is same = rw same (is next)
 
   -- the text is a list, and the answer is that which follows its elements
-  pub follows : (r : Result (List ℕ) (PureFault A)) (elements : List (List ℕ)) →
+  pub follows : (r : Result (List ℕ) (MeaningFault A)) (elements : List (List ℕ)) →
       IsList elements text → Answers (next elements) r → Answers (Splits text next) r
   follows (Ok value) elements is says = (Ok elements, is, says)
   follows (Err (fault.Fault told)) elements is says = (Ok elements, is, says)

@@ -1,0 +1,44 @@
+//! The reading of a text as a list.
+
+ghost use Rattle.std.specs.Prelude.{IfOk, IfErr, option_map};
+ghost use Rattle.meanings.specs.Meaning.{flaw_of_list};
+ghost use Rattle.meanings.specs.View.{Tells, IsNoList};
+ghost use Rattle.tcltext.specs.Elements.{IsList};
+ghost use Rattle.tcltext.specs.Seen.{flaw_of};
+
+use crate::fault::MeaningFault;
+use acts::Fault;
+use std::alloc::Allocator;
+use tcltext::{ListFault, Value, split_values};
+
+/// The elements of the list that a text is (Tcl_SplitList(3)).
+///
+/// # Errors
+/// The script's error where the text is no list. `NoMemory` where memory is refused.
+pub fn elements<A: Allocator + Copy>(
+    alloc: A,
+    text: &[u8],
+) -> Result<Vec<Value<A>, A>, MeaningFault<A>>
+    ensures list { IfOk result (λ elements. IsList elements.items text.now) }
+    ensures fault { IfErr result (IsNoList text.now) }
+{
+    match split_values(alloc, text) {
+        Ok(elements) => Ok(elements),
+        Err(fault) => Err(no_list(fault)),
+    }
+}
+
+/// Why a text is no list.
+fn no_list<A: Allocator>(fault: ListFault) -> MeaningFault<A>
+    ensures { Tells result (option_map flaw_of_list (flaw_of fault)) }
+{
+    let told = match fault {
+        ListFault::OpenBrace => Fault::ListOpenBrace,
+        ListFault::OpenQuote => Fault::ListOpenQuote,
+        ListFault::AfterBrace => Fault::ListAfterBrace,
+        ListFault::AfterQuote => Fault::ListAfterQuote,
+        ListFault::EscapeNotHere => Fault::EscapeNotHere,
+        ListFault::NoMemory(refusal) => return MeaningFault::NoMemory(refusal),
+    };
+    MeaningFault::Fault(told)
+}

@@ -1,8 +1,0 @@
-use Rattle.pure.proofs.Splits.{is_no_list}
-use Rattle.pure.proofs.words.elements.Goals as goal
-use Rattle.tcltext.specs.Seen.{flaw_of}
-
-pub returns-in-Err-clause-fault : goal.returns-in-Err-clause-fault
-returns-in-Err-clause-fault g c =
-    is_no_list c.args.word.now c.no_list.result (flaw_of c.in-Err.fault) c.no_list.ensures
-    c.in-Err.ensures.fault
