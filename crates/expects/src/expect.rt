@@ -1,4 +1,5 @@
 //! `expect -ex p` (expect(1), expect).
+#![tactic(auto, using(state::proofs::Reaches::same_reaches))]
 
 ghost use Rattle.std.specs.Prelude.{◌≤◌, IfOk};
 ghost use Rattle.expects.specs.Expect as definition;

@@ -1,4 +1,5 @@
 //! The turn of `expect`: the test, the waits and what their answers lead to (expect(1), expect).
+#![tactic(auto, using(state::proofs::Reaches::same_reaches))]
 
 ghost use Rattle.std.specs.Prelude.{◌≡◌, ◌≢◌, ◌≤◌, List, IfOk, OnErr, Some, None, vec_capacity};
 ghost use Rattle.acts.specs.Deed.{deed_of, reply_of};

@@ -1,4 +1,5 @@
 //! `break` (break(n)).
+#![tactic(auto, using(state::proofs::Reaches::same_reaches))]
 
 ghost use Rattle.std.specs.Prelude.{◌≡◌, ◌≤◌, IfOk};
 ghost use Rattle.leaving.specs.Breaks as definition;

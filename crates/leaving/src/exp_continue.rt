@@ -1,4 +1,5 @@
 //! `exp_continue ?-continue_timer?` (expect(1), exp_continue).
+#![tactic(auto, using(state::proofs::Reaches::same_reaches))]
 
 ghost use Rattle.std.specs.Prelude.{◌≡◌, ◌≤◌, IfOk};
 ghost use Rattle.leaving.specs.ExpContinue as definition;

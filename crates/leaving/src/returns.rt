@@ -1,4 +1,5 @@
 //! `return ?v?` (return(n)).
+#![tactic(auto, using(state::proofs::Reaches::same_reaches))]
 
 ghost use Rattle.std.specs.Prelude.{◌≡◌, ◌≤◌, IfOk};
 ghost use Rattle.leaving.specs.Returns as definition;

@@ -1,4 +1,5 @@
 //! `send_error ?--? t` (expect(1), send_error).
+#![tactic(auto, using(state::proofs::Reaches::same_reaches))]
 
 ghost use Rattle.std.specs.Prelude.{◌≡◌, ◌≤◌, IfOk};
 ghost use Rattle.acts.specs.Deed.{deed_of, reply_of};

@@ -1,4 +1,5 @@
 //! `close ?-i id?`, `close channel` (expect(1), close; close(n)).
+#![tactic(auto, using(state::proofs::Reaches::same_reaches))]
 
 ghost use Rattle.std.specs.Prelude.{◌≡◌, ◌≤◌, IfOk};
 ghost use Rattle.acts.specs.Deed.{Reply, deed_of, reply_of};

@@ -1,15 +1,16 @@
 -- What a start comes to, where it is known how many ids are open and which number is next.
-use Rattle.std.proofs.Common.{◌≡◌, ℕ, ◌+◌, ◌^◌, ◌<◌, nat_le, Bool, true, false, List, length, Option, Some, None, refl, arith}
+use Rattle.std.proofs.Common.{◌≡◌, ℕ, ◌+◌, ◌^◌, ◌<◌, ◌≤◌, nat_le, Bool, true, false, List, [], ◌∷◌, length, get_or, codes, Option, Some, None, refl, sym, arith}
 use Rattle.std.specs.Option.{SomeIff}
 use Rattle.std.proofs.lemmas.Bool.Decides.{nat_tests}
 use Rattle.acts.specs.Deed as said
 use Rattle.acts.specs.Flaw as flaw
+use Rattle.state.specs.Arguments.{is_flag}
 use Rattle.state.specs.Dialogue.{raises, ask, written}
 use Rattle.state.specs.Status.{Status, opened}
 use Rattle.state.specs.declared.state.State.{State}
 use Rattle.state.specs.View.{IsNext, FitsState}
 use Rattle.state.proofs.Fits.{next_fits}
-use Rattle.processes.specs.Spawn.{launches, numbered, echo_of, starts}
+use Rattle.processes.specs.Spawn.{is_noecho, launches, numbered, echo_of, spawns, starts}
 
 -- the number after the next one
 after_next : (r : Option ℕ) (n m : ℕ) → SomeIff r (n + 1 < 2 ^ 64) (n + 1) → n ≡ m →
@@ -30,6 +31,13 @@ left_over n m e lt = grind (arith, nat_tests)
 pub launches-full : (echo : Bool) (words : List (List ℕ)) (s : Status) →
     nat_le 64 (length (opened s.peers)) ≡ true → launches echo words s ≡ raises flaw.TooManyIds s
 launches-full echo words s full = rw full refl
+
+-- the first word is a flag
+pub spawns-flag : (echo : Bool) (words : List (List ℕ)) (a w : List ℕ) (s : Status) →
+    1 ≤ length words → a ≡ get_or words 0 a → w ≡ a → is_noecho a ≡ false → is_flag a ≡ true →
+    spawns echo words s ≡ raises (flaw.BadArgument w (codes "spawn")) s
+spawns-flag echo [] a w s some first same bare flag = absurd (omega arith)
+spawns-flag echo (x ∷ xs) a w s some first same bare flag = rw (same, sym first) (rw (bare, flag) refl)
 
 module _ (echo : Bool) (words : List (List ℕ)) (s : Status) (n : ℕ) (copies : List (List ℕ))
     (room : nat_le 64 (length (opened s.peers)) ≡ false) (some : nat_le (2 ^ 64) s.next ≡ false)

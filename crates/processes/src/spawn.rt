@@ -1,4 +1,5 @@
 //! `spawn ?-noecho? word ..` (expect(1), spawn).
+#![tactic(auto, using(state::proofs::Reaches::same_reaches))]
 
 ghost use Rattle.std.specs.Prelude.{◌≡◌, ◌∷◌, ◌≤◌, ℕ, List, IfOk};
 ghost use Rattle.acts.specs.Deed.{deed_of, reply_of};

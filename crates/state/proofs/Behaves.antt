@@ -5,12 +5,15 @@ use Rattle.acts.specs.Deed.{Deed, Reply}
 use Rattle.acts.specs.Deed as said
 use Rattle.acts.specs.Fits.{fits}
 use Rattle.acts.specs.Flaw as flaw
+use Rattle.meanings.specs.Meaning.{Meaning, Gives, Raises, Splits, Matches}
 use Rattle.plan.specs.Finished.{Falls}
 use Rattle.plan.specs.Kept.{Keeps}
 use Rattle.plan.specs.Paid.{Pays}
 use Rattle.plan.specs.Plan.{Ends, Asks, Reads, Calls}
 use Rattle.state.specs.Behaves.{Behaves, worth}
 use Rattle.state.specs.Dialogue.{Course, ask, judged, is_no_more, stopping, written as after_write}
+use Rattle.state.specs.Listed.{with_list}
+use Rattle.state.specs.Meant.{meant}
 use Rattle.state.specs.Outcome as stop
 use Rattle.state.specs.Outcome.{Stop}
 use Rattle.state.specs.Piece.{Piece, IsTree}
@@ -36,6 +39,25 @@ more_behaves t u had more (Asks deed next) le up behaves =
 more_behaves t u had more (Reads text next) le up behaves =
     λ tree is. more_behaves t u had more (next tree) le up (behaves tree is)
 more_behaves t u had more (Calls piece state next) le up behaves = absurd behaves
+
+-- a text that is read as a list, and what is done with its elements
+pub with_list_behaves : (t had : ℕ) (s : Status) → s.left ≤ t → worth s ≤ had →
+    (text : List ℕ) (next : List (List ℕ) → Course) →
+    ((elements : List (List ℕ)) → Behaves t had (next elements)) →
+    Behaves t had (with_list text s next)
+with_list_behaves t had s le paid text next each (Ok elements) is = each elements
+with_list_behaves t had s le paid text next each (Err why) is = (le, paid)
+
+-- what a function of texts comes to
+pub meant_behaves : (t had : ℕ) (s : Status) → s.left ≤ t → worth s ≤ had → (m : Meaning) →
+    Behaves t had (meant m s)
+meant_behaves t had s le paid (Gives value) = (le, paid)
+meant_behaves t had s le paid (Raises flaw) = (le, paid)
+meant_behaves t had s le paid (Splits text next) =
+    with_list_behaves t had s le paid text (λ elements. meant (next elements) s)
+    (λ elements. meant_behaves t had s le paid (next elements))
+meant_behaves t had s le paid (Matches pattern text next) = λ takes is.
+    meant_behaves t had s le paid (next takes)
 
 -- an answer that does not fit, or none, ends the run
 judged_behaves : (t had : ℕ) (s : Status) (next : Course) (none fit : Bool) →

@@ -11,3 +11,5 @@ pub mod Nestings
 pub mod Refused
 pub mod Numbers
 pub mod Shown
+pub mod Listed
+pub mod Meant

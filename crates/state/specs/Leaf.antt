@@ -3,12 +3,15 @@ use Rattle.std.specs.Prelude.{◌≡◌, ℕ, List, Result, Ok, Err}
 use Rattle.acts.specs.Deed.{Deed, Reply, deed_of}
 use Rattle.acts.specs.declared.fault.Fault.{Fault}
 use Rattle.acts.specs.Flaw.{flaw_of, text_of}
+use Rattle.meanings.specs.Meaning.{Answer, Comes, Meaning}
 use Rattle.plan.specs.Plan.{Ends, Asks}
 use Rattle.state.specs.declared.leaf.Leaf.{Leaf}
 use Rattle.state.specs.declared.leaf.Leaf.TheVariants as leaf
 use Rattle.state.specs.declared.state.State.{State}
 use Rattle.state.specs.Outcome.{Outcome, Leaves, Error}
 use Rattle.state.specs.Dialogue.{Course, replied}
+use Rattle.state.specs.Meant.{told}
+use Rattle.state.specs.Reaches.{Reaches}
 use Rattle.state.specs.Status.{Status}
 use Rattle.state.specs.View.{FitsState, outcome_of}
 
@@ -19,17 +22,21 @@ course_of next (leaf.Has outcome) s = Ends (s, outcome_of outcome)
 course_of next (leaf.Asks act waits) s =
     Asks (deed_of act) (replied (deed_of act) s (next waits (deed_of act)))
 
--- for some state that the code's fits, what is at hand is this course
+-- for some state that the code's fits, the course comes to what is at hand, once its texts are read
 pub record Shows {A W : Type 0} (next : W → Deed → Status → Reply → Course)
     (l : Leaf A W) (state : State A) (course : Course) : Type 0 where
   pub status : Status
   pub fits : FitsState state status
-  pub same : course ≡ course_of next l status
+  pub reaches : Reaches course (course_of next l status)
 
 -- it has ended so
 abbrev pub HasOutcome : {A W : Type 0} → Leaf A W → Outcome → Type 0
 HasOutcome (leaf.Has outcome) o = outcome_of outcome ≡ o
 HasOutcome (leaf.Asks act waits) o = ⊥
+
+-- it has ended with what a function of texts comes to (Tcl(n), rule 2)
+abbrev pub IsMeant : {A W : Type 0} → Leaf A W → Meaning → Type 0
+IsMeant l meaning = (answer : Answer) × Comes meaning answer × HasOutcome l (told answer)
 
 -- the error of a script with this text
 abbrev pub raised : {A : Type 0} → Fault A → Outcome

@@ -4,6 +4,8 @@ pub mod Status
 pub mod Piece
 pub mod Dialogue
 pub mod Reaches
+pub mod Listed
+pub mod Meant
 pub mod Variables
 pub mod Rows
 pub mod Tables

@@ -2,12 +2,15 @@
 
 ghost use Rattle.std.specs.Prelude.{◌≡◌, [], IfOk};
 ghost use Rattle.acts.specs.Flaw.{flaw_of, text_of};
-ghost use Rattle.state.specs.Leaf.{HasOutcome, raised};
+ghost use Rattle.meanings.specs.Meaning.{Meaning};
+ghost use Rattle.meanings.specs.View.{Answers};
+ghost use Rattle.state.specs.Leaf.{HasOutcome, IsMeant, raised};
 ghost use Rattle.state.specs.Outcome as outcome;
 ghost use Rattle.state.specs.View.{code_of, stop_of};
 
 use crate::outcome::{Code, Leave, Outcome, Stop};
 use acts::{Act, Fault, NoMemory};
+use meanings::MeaningFault;
 use std::alloc::Allocator;
 use tcltext::Value;
 
@@ -51,6 +54,21 @@ pub fn raises<A: Allocator + Copy, W: Drop>(
 {
     let text = Value::new(alloc, fault.text(alloc)?)?;
     Ok(Leaf::Has(Err(Leave::Coded(Code::Error, text))))
+}
+
+/// The command is over with what a function of texts came to: its value, or its error.
+pub fn answers<A: Allocator + Copy, W: Drop>(
+    alloc: A,
+    answer: Result<Value<A>, MeaningFault<A>>,
+) -> Result<Leaf<A, W>, NoMemory>
+    ensures { (meaning : Meaning) → Answers meaning answer →
+        IfOk result (λ leaf. IsMeant leaf meaning) }
+{
+    match answer {
+        Ok(value) => Ok(gives(value)),
+        Err(MeaningFault::Fault(fault)) => raises(alloc, &fault),
+        Err(MeaningFault::NoMemory(refusal)) => Err(refusal),
+    }
 }
 
 /// The whole run stops.

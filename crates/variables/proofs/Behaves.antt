@@ -4,15 +4,15 @@ use Rattle.std.specs.List.{list_all, concat}
 use Rattle.std.specs.Str.{bytes_eq}
 use Rattle.std.specs.Fmt.{signed_decimal}
 use Rattle.acts.specs.Flaw.{Flaw}
-use Rattle.state.proofs.Behaves.{reads_behaves, writes_behaves, if_behaves}
+use Rattle.state.proofs.Behaves.{reads_behaves, writes_behaves, if_behaves, with_list_behaves}
 use Rattle.state.specs.Arguments.{is_flag}
 use Rattle.state.specs.Behaves.{Behaves, worth}
 use Rattle.state.specs.Dialogue.{Course, gives, raises}
+use Rattle.state.specs.Listed.{with_list}
 use Rattle.state.specs.Status.{Status}
 use Rattle.state.specs.Variables.{reads, writes, whole_of, spelled}
 use Rattle.tclparse.specs.Variable.{named}
 use Rattle.tcltext.specs.Canonical.{canonical}
-use Rattle.tcltext.specs.Flaw as list
 use Rattle.tcltext.specs.Numbers.{is_in_range}
 use Rattle.tclstate.specs.Scopes.{Scopes, Trouble, NoVariable, IsArray, NotArray, NoElement, read, removed}
 use Rattle.variables.specs.Append.{append, extends}
@@ -22,7 +22,6 @@ use Rattle.variables.specs.Incr.{incr, add_one, add_text, add, put_in_range, wit
 use Rattle.variables.specs.Info.{info, exists}
 use Rattle.variables.specs.Lappend as lists
 use Rattle.variables.specs.Lappend.{lappend}
-use Rattle.variables.specs.Listed.{list_of, on_list}
 use Rattle.state.specs.Variables.{on_name}
 use Rattle.variables.specs.Set.{set, get, put}
 use Rattle.variables.specs.Unset.{cleared, removes, removes_named, some_words, is_nocomplain, behind_flag, unset}
@@ -110,20 +109,13 @@ incr_behaves (n ∷ k ∷ []) s =
     (λ by. add_behaves name index by s))
 incr_behaves (n ∷ k ∷ w ∷ ws) s = (omega arith, omega arith)
 
-listed_behaves : (r : Result (List (List ℕ)) list.Flaw) (s : Status)
-    (next : List (List ℕ) → Course) → ((elements : List (List ℕ)) → Keeps s (next elements)) →
-    Keeps s (on_list r s next)
-listed_behaves (Ok elements) s next each = each elements
-listed_behaves (Err why) s next each = (omega arith, omega arith)
-
 pub lappend_behaves : (args : List (List ℕ)) (s : Status) → Keeps s (lappend args s)
 lappend_behaves [] s = (omega arith, omega arith)
 lappend_behaves (n ∷ vs) s =
     on_name_behaves (named n) s (λ name index. lists.extends name index vs s)
     (λ name index. held_behaves [] (read s.scopes name index) (spelled name index) s
-    (λ text. on_list (list_of text) s
-    (λ elements. puts name index (canonical (elements ++ vs)) s))
-    (λ text. listed_behaves (list_of text) s
+    (λ text. with_list text s (λ elements. puts name index (canonical (elements ++ vs)) s))
+    (λ text. with_list_behaves s.left (worth s + 3) s (omega arith) (omega arith) text
     (λ elements. puts name index (canonical (elements ++ vs)) s)
     (λ elements. put_behaves_at name index (canonical (elements ++ vs)) s)))
 

@@ -1,6 +1,5 @@
 pub mod Waits
 pub mod Held
-pub mod Listed
 pub mod Set
 pub mod Append
 pub mod Incr

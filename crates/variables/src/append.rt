@@ -1,4 +1,5 @@
 //! `append n v ..` (append(n)).
+#![tactic(auto, using(state::proofs::Reaches::same_reaches))]
 
 ghost use Rattle.std.specs.Prelude.{◌≡◌, ◌≤◌, ◌++◌, IfOk, OnOk, option_copied};
 ghost use Rattle.std.specs.List.{concat};

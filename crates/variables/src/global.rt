@@ -1,4 +1,5 @@
 //! `global n ..` (global(n)).
+#![tactic(auto, using(state::proofs::Reaches::same_reaches))]
 
 ghost use Rattle.std.specs.Prelude.{◌≡◌, ◌≤◌, IfOk, OnOk, option_map};
 ghost use Rattle.acts.specs.Flaw.{flaw_of};

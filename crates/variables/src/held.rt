@@ -1,4 +1,5 @@
 //! What variables hold: it may be missing, and what is written is given.
+#![tactic(auto, using(state::proofs::Reaches::same_reaches))]
 
 ghost use Rattle.std.specs.Prelude.{◌≤◌, IfOk, option_copied};
 ghost use Rattle.state.specs.Leaf.{Shows};

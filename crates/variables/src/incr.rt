@@ -1,4 +1,5 @@
 //! `incr n ?k?` (incr(n)).
+#![tactic(auto, using(state::proofs::Reaches::same_reaches))]
 
 ghost use Rattle.std.specs.Prelude.{◌≡◌, ◌≤◌, ◌+ℤ◌, IfOk, option_copied};
 ghost use Rattle.state.specs.Leaf.{Shows};

@@ -1,4 +1,5 @@
 //! `info exists n` (info(n)).
+#![tactic(auto, using(state::proofs::Reaches::same_reaches))]
 
 ghost use Rattle.std.specs.Prelude.{◌≡◌, ◌≤◌, IfOk, option_copied};
 ghost use Rattle.state.specs.Leaf.{Shows};

@@ -1,4 +1,5 @@
 //! `lappend n ?v ..?` (lappend(n)).
+#![tactic(auto, using(state::proofs::Reaches::same_reaches))]
 
 ghost use Rattle.std.specs.Prelude.{◌≡◌, ◌≤◌, ◌++◌, IfOk, OnOk, option_copied};
 ghost use Rattle.state.specs.Leaf.{Shows};
@@ -11,9 +12,9 @@ ghost use Rattle.variables.specs.Lists.{HoldsList};
 ghost use Rattle.variables.specs.Waits.{next_of};
 
 use crate::held::{self, held};
-use crate::listed::elements_of;
 use crate::waits::Waits;
 use acts::{Fault, NoMemory};
+use meanings::{MeaningFault, elements};
 use state::arguments::wrong_args;
 use state::leaf::raises;
 use state::{Leaf, State};
@@ -53,9 +54,10 @@ fn extend<A: Allocator + Copy>(
         (definition.extends name.now (option_copied index.entry) more.now s)) }
     ensures left { state.new.left ≤ state.old.left }
 {
-    match list_in(alloc, state, name, index)? {
+    match list_in(alloc, state, name, index) {
         Ok(elements) => put(alloc, state, name, index, elements, more),
-        Err(fault) => raises(alloc, &fault),
+        Err(MeaningFault::Fault(fault)) => raises(alloc, &fault),
+        Err(MeaningFault::NoMemory(refusal)) => Err(refusal),
     }
 }
 
@@ -66,14 +68,14 @@ fn list_in<A: Allocator + Copy>(
     state: &State<A>,
     name: &[u8],
     index: Option<&[u8]>,
-) -> Result<Result<Vec<Value<A>, A>, Fault<A>>, NoMemory>
+) -> Result<Vec<Value<A>, A>, MeaningFault<A>>
     ensures { (s : Status) → FitsState state.now s →
-        IfOk result (λ r. HoldsList r name.now (option_copied index.entry) s) }
+        HoldsList result name.now (option_copied index.entry) s }
 {
     match held(alloc, state, name, index)? {
-        Ok(Some(text)) => elements_of(alloc, text.as_slice()),
-        Ok(None) => Ok(Ok(Vec::new(alloc))),
-        Err(fault) => Ok(Err(fault)),
+        Ok(Some(text)) => elements(alloc, text.as_slice()),
+        Ok(None) => Ok(Vec::new(alloc)),
+        Err(fault) => Err(MeaningFault::Fault(fault)),
     }
 }
 

@@ -8,7 +8,6 @@ pub mod incr;
 pub mod info;
 pub mod lappend;
 pub mod laws;
-mod listed;
 pub mod set;
 pub mod unset;
 mod waits;

@@ -1,4 +1,5 @@
 //! `set n ?v?` (set(n)).
+#![tactic(auto, using(state::proofs::Reaches::same_reaches))]
 
 ghost use Rattle.std.specs.Prelude.{◌≡◌, ◌≤◌, IfOk, option_copied};
 ghost use Rattle.state.specs.Leaf.{Shows};

@@ -1,4 +1,5 @@
 //! `unset ?-nocomplain? ?--? n ..` (unset(n)).
+#![tactic(auto, using(state::proofs::Reaches::same_reaches))]
 
 ghost use Rattle.std.specs.Prelude.{◌≡◌, ◌≤◌, IfOk, is_some, option_copied};
 ghost use Rattle.std.specs.List.{list_all};

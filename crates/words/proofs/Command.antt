@@ -14,7 +14,7 @@ use Rattle.state.specs.Piece.{ListText}
 use Rattle.state.specs.Status.{Status}
 use Rattle.words.specs.Gathering.{Adds, taken}
 use Rattle.state.specs.Reaches.{Reaches, here, reads}
-use Rattle.words.specs.Words.{parts, words, expanded, flaw_of_list}
+use Rattle.words.specs.Words.{parts, words, expanded}
 use Rattle.state.proofs.Reaches.{same_reaches}
 
 module _ {A : Type 0} (ws : List (Word A)) where
@@ -39,23 +39,6 @@ module _ {A : Type 0} (ws : List (Word A)) where
       (taken levels (out-Word A w).expands (left (i + 1)) values call)
   at_word i w lt is levels values s call =
       ap (λ x. words levels x values s call) (next_word i w lt is)
-
--- a value behind {*} that is a list gives its elements
-pub list_reaches : (value : List ℕ) (elements : List (List ℕ)) (s : Status)
-    (next : List (List ℕ) → Course) → IsList elements value →
-    Reaches (expanded true value s next) (next elements)
-list_reaches value elements s next is =
-    reads {text = ListText value} (Ok elements) is here
-
--- one that is none raises the error that is told
-pub flaw_reaches : {A : Type 0} (value : List ℕ) (o : Option list.Flaw) (fault : Fault A)
-    (s : Status) (next : List (List ℕ) → Course) → IfSome o (λ why. HasFlaw why value) →
-    IsSomeAnd o (λ why. flaw_of fault ≡ flaw_of_list why) →
-    Reaches (expanded true value s next) (raises (flaw_of fault) s)
-flaw_reaches value None fault s next has told = absurd told
-flaw_reaches value (Some why) fault s next has told =
-    reads {text = ListText value} (Err why) has
-    (same_reaches (ap (λ f. raises f s) (sym told)))
 
 -- what holds of a value holds of another where the one gives the other
 pub on_ok : {X E : Type 0} (r : Result X E) (P Q : X → Type 0) → ((x : X) → P x → Q x) →

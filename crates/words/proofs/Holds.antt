@@ -2,6 +2,7 @@
 use Rattle.std.proofs.Common.{ℕ, zero, suc, ◌+◌, ◌-◌, ◌<◌, ◌≤◌, ◌++◌, List, [], ◌∷◌, Bool, true, false, Some, None, Result, Ok, Err, arith}
 use Rattle.acts.specs.Deed.{Deed, Reply}
 use Rattle.acts.specs.Flaw.{Flaw}
+use Rattle.meanings.specs.Meaning.{flaw_of_list}
 use Rattle.plan.specs.Finished.{Falls}
 use Rattle.plan.specs.Kept.{Keeps}
 use Rattle.plan.specs.Paid.{Pays}
@@ -11,11 +12,12 @@ use Rattle.tcltext.specs.Flaw as list
 use Rattle.tclparse.specs.Tree.{Parts, no_parts, byte, variable, element, script, Words, no_words, word, Commands}
 use Rattle.tclstate.specs.Scopes.{Trouble, read}
 use Rattle.state.specs.Dialogue.{Course, raises, on_value}
+use Rattle.state.specs.Listed.{on_list}
 use Rattle.state.specs.Outcome.{Outcome, Gives, Leaves, Stops}
 use Rattle.state.specs.Piece.{Piece, Script, ScriptTree, ListText, Tree, IsTree}
 use Rattle.state.specs.Status.{Status}
 use Rattle.state.specs.Variables.{found, spelled, flaw_of_trouble}
-use Rattle.words.specs.Words.{nested, parts, flaw_of_list, spread, expanded, words}
+use Rattle.words.specs.Words.{nested, parts, expanded, words}
 
 -- the tree of a script in a word, which has no fault
 abbrev bare : Commands → ScriptTree
@@ -53,18 +55,18 @@ module _ (P : Status → Course → Type 0) (raised : (s : Status) (flaw : Flaw)
     parts_hold levels (script commands ps) bytes s next each =
         within levels commands s _ (λ t value. parts_hold levels ps (bytes ++ value) t next each)
 
-    spread_holds : (r : Result (List (List ℕ)) list.Flaw) (s : Status)
-        (next : List (List ℕ) → Course) → ((more : List (List ℕ)) → P s (next more)) →
-        P s (spread r s next)
-    spread_holds (Ok elements) s next each = each elements
-    spread_holds (Err why) s next each = raised s (flaw_of_list why)
+    list_holds : (s : Status) (next : List (List ℕ) → Course) →
+        ((more : List (List ℕ)) → P s (next more)) →
+        (r : Result (List (List ℕ)) list.Flaw) → P s (on_list s next r)
+    list_holds s next each (Ok elements) = each elements
+    list_holds s next each (Err why) = raised s (flaw_of_list why)
 
     expanded_holds : (expands : Bool) (value : List ℕ) (s : Status)
         (next : List (List ℕ) → Course) → ((more : List (List ℕ)) → P s (next more)) →
         P s (expanded expands value s next)
     expanded_holds false value s next each = each (value ∷ [])
     expanded_holds true value s next each =
-        listed s value (λ r. spread r s next) (λ r. spread_holds r s next each)
+        listed s value (on_list s next) (list_holds s next each)
 
     pub words_hold : (levels : ℕ) (ws : Words) (values : List (List ℕ)) (s : Status)
         (call : Status → List (List ℕ) → Course) →

@@ -1,10 +1,8 @@
 -- What is done with the words of a command that are substituted up to a script in one of them.
-use Rattle.std.specs.Prelude.{◌≡◌, ℕ, List, ◌++◌, drop, Bool, Option, Some, None, IsSomeAnd, Vec}
+use Rattle.std.specs.Prelude.{ℕ, List, ◌++◌, drop, Bool, Option, Some, None, Vec}
 use Rattle.std.specs.declared.rc.Rc.{Rc}
 use Rattle.acts.specs.declared.fault.Fault.{Fault}
 use Rattle.acts.specs.Flaw.{flaw_of}
-use Rattle.tcltext.specs.declared.list.fault.ListFault.{ListFault}
-use Rattle.tcltext.specs.Seen as list
 use Rattle.tclparse.specs.Tree.{Words, no_words}
 use Rattle.tclparse.specs.View.{words_then, commands_of}
 use Rattle.tclparse.specs.declared.tree.Word.{Word}
@@ -13,7 +11,7 @@ use Rattle.state.specs.Status.{Status}
 use Rattle.words.specs.declared.gathering.Gathering.{Gathering}
 use Rattle.words.specs.declared.gathering.Gathered.{Gathered}
 use Rattle.words.specs.declared.gathering.Gathered.TheVariants as gathered
-use Rattle.words.specs.Words.{nested, flaw_of_list, expanded, words}
+use Rattle.words.specs.Words.{nested, expanded, words}
 use Rattle.state.specs.Reaches.{Reaches}
 use Rattle.words.specs.View.{resumed}
 
@@ -41,10 +39,6 @@ course_of_gathered levels (gathered.Values values) call s = call s values.items
 course_of_gathered levels (gathered.Script commands gathering) call s =
     nested levels (commands_of commands) s (gathering_on levels gathering call)
 course_of_gathered levels (gathered.Fault fault) call s = raises (flaw_of fault) s
-
--- the script's error tells why a text is no list
-abbrev pub TellsFlaw : {A : Type 0} → Fault A → ListFault → Type 0
-TellsFlaw told fault = IsSomeAnd (list.flaw_of fault) (λ why. flaw_of told ≡ flaw_of_list why)
 
 -- the words that a word's value stands for are put behind the values, or the script has this error
 abbrev pub Adds : {A : Type 0} → Option (Fault A) → Bool → List ℕ → List (List ℕ) →

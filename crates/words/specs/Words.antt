@@ -1,12 +1,8 @@
 -- What the words of a command stand for.
-use Rattle.std.specs.Prelude.{ℕ, zero, suc, Bool, true, false, List, [], ◌∷◌, ◌++◌, Some, None, Result, Ok, Err}
-use Rattle.acts.specs.Flaw.{Flaw}
-use Rattle.acts.specs.Flaw as flaw
-use Rattle.plan.specs.Plan.{Reads}
-use Rattle.tcltext.specs.Flaw as list
+use Rattle.std.specs.Prelude.{ℕ, zero, suc, Bool, true, false, List, [], ◌∷◌, ◌++◌, Some, None}
 use Rattle.tclparse.specs.Tree.{Parts, no_parts, byte, variable, element, script, Words, no_words, word, Commands}
-use Rattle.state.specs.Dialogue.{Course, raises, inside, on_value}
-use Rattle.state.specs.Piece.{ListText}
+use Rattle.state.specs.Dialogue.{Course, inside, on_value}
+use Rattle.state.specs.Listed.{with_list}
 use Rattle.state.specs.Status.{Status}
 use Rattle.state.specs.Variables.{reads}
 
@@ -28,23 +24,10 @@ parts levels (element name is ps) bytes s next =
 parts levels (script commands ps) bytes s next =
     nested levels commands s (λ t value. parts levels ps (bytes ++ value) t next)
 
--- why a text is no list, as the script's error (list(n))
-abbrev pub flaw_of_list : list.Flaw → Flaw
-flaw_of_list list.open_brace = flaw.ListOpenBrace
-flaw_of_list list.open_quote = flaw.ListOpenQuote
-flaw_of_list list.after_brace = flaw.ListAfterBrace
-flaw_of_list list.after_quote = flaw.ListAfterQuote
-flaw_of_list list.escape_not_here = flaw.EscapeNotHere
-
--- on with the elements of a list, where the text is one (Tcl(n), rule 5)
-abbrev pub spread : Result (List (List ℕ)) list.Flaw → Status → (List (List ℕ) → Course) → Course
-spread (Ok elements) s next = next elements
-spread (Err why) s next = raises (flaw_of_list why) s
-
 -- on with the words that one word stands for: itself, or behind {*} its elements (Tcl(n), rule 5)
 abbrev pub expanded : Bool → List ℕ → Status → (List (List ℕ) → Course) → Course
 expanded false value s next = next (value ∷ [])
-expanded true value s next = Reads (ListText value) (λ list. spread list s next)
+expanded true value s next = with_list value s next
 
 -- the rest of a command's words after the values so far, and on with all of them (Tcl(n), rule 2)
 abbrev pub words : ℕ → Words → List (List ℕ) → Status → (Status → List (List ℕ) → Course) → Course

@@ -8,17 +8,18 @@ ghost use Rattle.tclparse.specs.Tree.{no_words};
 ghost use Rattle.tclparse.specs.View.{words_of, words_then};
 ghost use Rattle.words.specs.Words.{words as meant};
 ghost use Rattle.state.specs.Reaches.{Reaches};
-ghost use Rattle.words.specs.Gathering.{Adds, TellsFlaw, course_of_gathered, gathering_on, taken, words_from};
+ghost use Rattle.words.specs.Gathering.{Adds, course_of_gathered, gathering_on, taken, words_from};
 ghost use Rattle.words.specs.Scripts.{HasFewer, scripts_left, scripts_of};
 ghost use Rattle.words.specs.View.{course_of_met};
 
 use crate::word::{Met, OpenWord, begin as begin_word};
 use acts::{Fault, NoMemory};
+use meanings::{MeaningFault, elements};
 use std::alloc::Allocator;
 use std::rc::Rc;
 use tclparse::{Command, Word};
 use tclstate::Scopes;
-use tcltext::{ListFault, Value, split_values};
+use tcltext::Value;
 
 /// A command whose words are substituted up to a script in one of them: the values so far, that
 /// word, and the words behind it.
@@ -42,20 +43,6 @@ pub enum Gathered<A: Allocator> {
     Fault(Fault<A>),
 }
 
-/// Why a text is no list, as the script's error (list(n)).
-fn no_list<A: Allocator>(fault: ListFault) -> Result<Fault<A>, NoMemory>
-    ensures { IfOk result (λ told. TellsFlaw told fault) }
-{
-    match fault {
-        ListFault::OpenBrace => Ok(Fault::ListOpenBrace),
-        ListFault::OpenQuote => Ok(Fault::ListOpenQuote),
-        ListFault::AfterBrace => Ok(Fault::ListAfterBrace),
-        ListFault::AfterQuote => Ok(Fault::ListAfterQuote),
-        ListFault::EscapeNotHere => Ok(Fault::EscapeNotHere),
-        ListFault::NoMemory(refusal) => Err(refusal),
-    }
-}
-
 /// Adds the words that a word's value stands for: itself, or behind `{*}` its elements. Answers the
 /// script's error where these are to be had from no list.
 fn add_words<A: Allocator + Copy>(
@@ -70,12 +57,13 @@ fn add_words<A: Allocator + Copy>(
         values.push(value)?;
         return Ok(None);
     }
-    match split_values(alloc, value.as_slice()) {
+    match elements(alloc, value.as_slice()) {
         Ok(mut elements) => {
             values.append(&mut elements)?;
             Ok(None)
         }
-        Err(fault) => Ok(Some(no_list(fault)?)),
+        Err(MeaningFault::Fault(fault)) => Ok(Some(fault)),
+        Err(MeaningFault::NoMemory(refusal)) => Err(refusal),
     }
 }
 

@@ -1,4 +1,5 @@
 //! `puts ?-nonewline? ?stdout|stderr? t` (puts(n)).
+#![tactic(auto, using(state::proofs::Reaches::same_reaches))]
 
 ghost use Rattle.std.specs.Prelude.{◌≡◌, ◌++◌, ◌∷◌, ◌≤◌, [], if◌then◌else◌, IfOk, option_map};
 ghost use Rattle.acts.specs.Deed.{deed_of, reply_of};

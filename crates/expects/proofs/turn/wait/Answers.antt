@@ -7,6 +7,7 @@ use Rattle.state.specs.Rows.{row_of}
 use Rattle.expects.specs.Turn.{turn, waited, later}
 use Rattle.expects.proofs.Turns.{waits-next}
 use Rattle.state.proofs.Fits.{left_fits}
+use Rattle.state.proofs.Reaches.{same_reaches}
 use Rattle.expects.proofs.turn.wait.Goals as goal
 
 pub returns-clause-shows : goal.returns-clause-shows
@@ -20,10 +21,10 @@ returns-clause-shows g c = λ s j fits told.
     record {
       status = record s { left = more };
       fits = left_fits _ s fits more;
-      same =
-          waits-next s.left more p i clock s j (omega (arith, fits.left, c.if-state-eq0.false))
+      reaches = same_reaches
+          (waits-next s.left more p i clock s j (omega (arith, fits.left, c.if-state-eq0.false))
           ∙ ap (λ (rs : List Row). ask (said.Wait rs clock) (record s { left = more })
           (waited (turn more p i (later clock)))) (sym rows)
           ∙ ap (λ (k : Timer). ask (said.Wait c.push.new.self.items clock)
-          (record s { left = more }) (waited (turn more p i k))) (sym c.later.ensures);
+          (record s { left = more }) (waited (turn more p i k))) (sym c.later.ensures));
     }

@@ -1,7 +1,16 @@
-use Rattle.peers.specs.Close.{next_of}
+use Rattle.std.proofs.Common.{◌∙◌, sym, ap, arith}
+use Rattle.peers.specs.Close.{by_word, close, next_of}
 use Rattle.peers.proofs.Named.{close-more}
-use Rattle.state.proofs.Shown.{over_ok}
+use Rattle.state.proofs.Lists.{single}
+use Rattle.state.proofs.Shown.{over_ok, shows_ok}
 use Rattle.peers.proofs.close.begin.Goals as goal
+
+pub returns-in-len1-clause-shows : goal.returns-in-len1-clause-shows
+returns-in-len1-clause-shows g c = λ s fits.
+    let one = single c.args.args.now c.word-item.result (omega arith) c.word-item.is in
+    shows_ok next_of c.args.state.now c.refuse.result
+    (ap (λ words. close words s) one ∙ ap (λ w. by_word w s) (sym c.as_slice.ensures))
+    (c.refuse.ensures s fits)
 
 pub returns-in-len3-up-clause-shows : goal.returns-in-len3-up-clause-shows
 returns-in-len3-up-clause-shows g c = λ s fits.

@@ -3,6 +3,7 @@ use Rattle.state.proofs.Tables.{length-fits}
 use Rattle.state.specs.Status.{opened}
 use Rattle.processes.specs.Spawn.{numbered}
 use Rattle.processes.proofs.Launches.{numbered_fits, left_over, launches-full, launches-echoed, launches-quietly}
+use Rattle.state.proofs.Reaches.{same_reaches}
 use Rattle.state.proofs.Shown.{over_ok}
 use Rattle.processes.proofs.spawn.launch.Goals as goal
 
@@ -21,8 +22,9 @@ returns-then-not-echo-clause-shows g c = λ s fits.
     record {
       status = numbered s;
       fits = numbered_fits _ s c.in-Some.number _ fits next.0 c.checked_add-state.ensures;
-      same = launches-quietly c.args.echo c.args.words.now s c.in-Some.number _ room
-          (left_over _ s.next next.0 next.1) next.0 c.in_ok-copies.ensures c.if-not-echo.true;
+      reaches = same_reaches
+          (launches-quietly c.args.echo c.args.words.now s c.in-Some.number _ room
+          (left_over _ s.next next.0 next.1) next.0 c.in_ok-copies.ensures c.if-not-echo.true);
     }
 
 pub returns-clause-shows : goal.returns-clause-shows
@@ -33,7 +35,8 @@ returns-clause-shows g c = λ s fits.
     record {
       status = numbered s;
       fits = numbered_fits _ s c.in-Some.number _ fits next.0 c.checked_add-state.ensures;
-      same = launches-echoed c.args.echo c.args.words.now s c.in-Some.number _ room
+      reaches = same_reaches
+          (launches-echoed c.args.echo c.args.words.now s c.in-Some.number _ room
           (left_over _ s.next next.0 next.1) next.0 c.in_ok-copies.ensures c.in_ok-line.line.items
-          c.if-not-echo.false c.in_ok-line.ensures;
+          c.if-not-echo.false c.in_ok-line.ensures);
     }

@@ -1,9 +1,10 @@
-use Rattle.std.proofs.Common.{◌≡◌, ◌++◌, IfSome, true, false, sym, ap, subst, rules}
-use Rattle.tcltext.specs.Elements.{IsList, HasFlaw}
-use Rattle.tcltext.specs.Seen as list
+use Rattle.std.proofs.Common.{◌≡◌, ◌++◌, true, false, sym, ap, subst, rules}
+use Rattle.meanings.specs.declared.fault.MeaningFault.TheVariants as meant
+use Rattle.meanings.specs.View.{IsNoList}
+use Rattle.tcltext.specs.Elements.{IsList}
 use Rattle.words.specs.Words.{expanded}
 use Rattle.state.proofs.Reaches.{same_reaches, then_reaches}
-use Rattle.words.proofs.Command.{list_reaches, flaw_reaches}
+use Rattle.state.proofs.Listed.{list_reaches, no_list_reaches}
 use Rattle.words.proofs.gathering.add_words.Goals as goal
 
 pub returns-then-not-expands : goal.returns-then-not-expands
@@ -24,15 +25,16 @@ returns-in-Ok g c = λ s next.
     then_reaches
     (same_reaches (ap (λ b. expanded b c.args.value s (λ more. next (old ++ more))) spread))
     (then_reaches
-    (list_reaches c.args.value elements s (λ more. next (old ++ more)) is)
+    (list_reaches c.args.value s (λ more. next (old ++ more)) elements is)
     (same_reaches (ap next (sym c.in_ok-append-in-Ok.ensures.items))))
 
-pub returns : goal.returns
-returns g c = λ s next.
+pub returns-in-Err-Fault : goal.returns-in-Err-Fault
+returns-in-Err-Fault g c = λ s next.
     let spread : c.args.expands ≡ true = search rules in
-    let has : IfSome (list.flaw_of c.in-Err.fault) (λ why. HasFlaw why c.args.value) =
-    subst (λ text. IfSome (list.flaw_of c.in-Err.fault) (λ why. HasFlaw why text))
-    c.as_slice.ensures c.in-Err.ensures.fault in
+    let fault = c.in-Err-Fault.fault in
+    let none : IsNoList c.args.value (meant.Fault fault) =
+    subst (λ text. IsNoList text (meant.Fault fault)) c.as_slice.ensures
+    (subst (λ why. IsNoList c.as_slice.result.now why) c.in-Err-Fault.field-0-is
+    c.in-Err-Fault.ensures.fault) in
     then_reaches (same_reaches (ap (λ b. expanded b c.args.value s next) spread))
-    (flaw_reaches c.args.value (list.flaw_of c.in-Err.fault) c.in_ok-no_list-in-Err.field-0 s next
-    has c.in_ok-no_list-in-Err.ensures)
+    (no_list_reaches c.args.value s next fault none)

@@ -1,0 +1,13 @@
+use Rattle.std.proofs.Common.{◌≡◌, ◌∙◌, sym, ap, arith}
+use Rattle.leaving.specs.ExpContinue.{by_word, exp_continue}
+use Rattle.leaving.specs.Waits.{next_of}
+use Rattle.state.proofs.Lists.{single}
+use Rattle.state.proofs.Shown.{shows_ok}
+use Rattle.leaving.proofs.exp_continue.begin.Goals as goal
+
+pub returns-in-len1-clause-shows : goal.returns-in-len1-clause-shows
+returns-in-len1-clause-shows g c = λ s fits.
+    let one = single c.args.args.now c.word-item.result (omega arith) c.word-item.is in
+    shows_ok next_of c.args.state.now c.exp_continue_by.result
+    (ap (λ words. exp_continue words s) one ∙ ap (λ w. by_word w s) (sym c.as_slice.ensures))
+    (c.exp_continue_by.ensures s fits)
