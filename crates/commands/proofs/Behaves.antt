@@ -15,6 +15,7 @@ use Rattle.processes.proofs.SpawnBehaves.{spawn_behaves}
 use Rattle.state.proofs.Behaves.{if_behaves}
 use Rattle.state.specs.Behaves.{Behaves, worth}
 use Rattle.state.specs.Status.{Status}
+use Rattle.texts.proofs.Behaves.{text_behaves}
 use Rattle.variables.proofs.Behaves.{set_behaves, append_behaves, incr_behaves, lappend_behaves, unset_behaves, global_behaves, info_behaves}
 use Rattle.writing.proofs.Behaves.{puts_behaves}
 
@@ -41,6 +42,7 @@ does_behaves builtin.Sleep args s = sleep_behaves args s
 does_behaves builtin.Close args s = close_behaves args s
 does_behaves builtin.SendError args s = send_error_behaves args s
 does_behaves builtin.Expect args s = expect_behaves args s
+does_behaves (builtin.Text command) args s = text_behaves command args s
 
 called_behaves : (o : Option Builtin) (name : List ℕ) (args : List (List ℕ)) (s : Status) →
     Behaves s.left (worth s + 3) (called o name args s)

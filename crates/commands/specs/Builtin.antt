@@ -1,6 +1,8 @@
 -- The commands.
+use Rattle.pure.specs.declared.command.Pure.{Pure}
 
--- one for each name (the manual pages of these names; expect(1) for its own)
+-- one for each name, and one for all that are functions of their words (the manual pages of these
+-- names; expect(1) for its own)
 pub data Builtin : Type 0 where
   Puts : Builtin
   List : Builtin
@@ -23,3 +25,4 @@ pub data Builtin : Type 0 where
   Close : Builtin
   SendError : Builtin
   Expect : Builtin
+  Text : (command : Pure) → Builtin

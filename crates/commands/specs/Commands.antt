@@ -1,5 +1,5 @@
 -- Which command a name has, and what it does.
-use Rattle.std.specs.Prelude.{ℕ, List, [], ◌∷◌, codes, Option, Some, None, if◌then◌else◌}
+use Rattle.std.specs.Prelude.{ℕ, List, [], ◌∷◌, codes, Option, Some, None, option_map, if◌then◌else◌}
 use Rattle.std.specs.Str.{bytes_eq}
 use Rattle.acts.specs.Flaw as flaw
 use Rattle.commands.specs.Builtin as builtin
@@ -20,6 +20,8 @@ use Rattle.peers.specs.Close.{close}
 use Rattle.processes.specs.Send.{send}
 use Rattle.processes.specs.Sleep.{sleep}
 use Rattle.processes.specs.Spawn.{spawn}
+use Rattle.pure.specs.Pure as pure
+use Rattle.texts.specs.Text.{text}
 use Rattle.variables.specs.Append.{append}
 use Rattle.variables.specs.Global.{global}
 use Rattle.variables.specs.Incr.{incr}
@@ -53,7 +55,7 @@ named name =
     else if bytes_eq name (codes "close") then Some builtin.Close
     else if bytes_eq name (codes "send_error") then Some builtin.SendError
     else if bytes_eq name (codes "expect") then Some builtin.Expect
-    else None
+    else option_map builtin.Text (pure.named name)
 
 -- what a command does with the words behind its name
 abbrev pub does : Builtin → List (List ℕ) → Status → Course
@@ -78,6 +80,7 @@ does builtin.Sleep args s = sleep args s
 does builtin.Close args s = close args s
 does builtin.SendError args s = send_error args s
 does builtin.Expect args s = expect args s
+does (builtin.Text command) args s = text command args s
 
 -- a name that no command has is the script's error, which tells the names of commands that this
 -- profile leaves out from all others (Tcl(n), rule 2)

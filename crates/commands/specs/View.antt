@@ -42,6 +42,7 @@ builtin_of builtin.Sleep = meant.Sleep
 builtin_of builtin.Close = meant.Close
 builtin_of builtin.SendError = meant.SendError
 builtin_of builtin.Expect = meant.Expect
+builtin_of (builtin.Text command) = meant.Text command
 
 -- what follows the answer to an act of a command
 abbrev pub next_of : {A : Type 0} → Waits A → Deed → Status → Reply → Course

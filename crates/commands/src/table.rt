@@ -1,4 +1,5 @@
 //! The table of names.
+#![tactic(auto, using(state::proofs::Reaches::same_reaches, crate::proofs::Lifted::lifted_shows))]
 
 ghost use Rattle.std.specs.Prelude.{◌≡◌, ◌≤◌, IfOk, option_map};
 ghost use Rattle.acts.specs.Deed.{deed_of, reply_of};
@@ -11,7 +12,7 @@ ghost use Rattle.state.specs.View.{FitsState};
 use crate::left_out::is_left_out;
 use crate::waits::{
     Waits, from_close, from_expect, from_leaving, from_list, from_puts, from_send, from_send_error,
-    from_sleep, from_spawn, from_variables,
+    from_sleep, from_spawn, from_text, from_variables,
 };
 use acts::{Act, Answer, Fault, NoMemory};
 use expects::expect;
@@ -20,10 +21,12 @@ use lists::list;
 use logs::send_error;
 use peers::close;
 use processes::{send, sleep, spawn};
+use pure::Pure;
 use state::leaf::{empty, raises};
 use state::{Leaf, State};
 use std::alloc::Allocator;
 use tcltext::Value;
+use texts::text;
 use variables::{append, global, incr, info, lappend, set, unset};
 use writing::puts;
 
@@ -51,6 +54,7 @@ enum Builtin {
     Close,
     SendError,
     Expect,
+    Text(Pure),
 }
 
 impl Builtin {
@@ -101,7 +105,10 @@ impl Builtin {
         } else if name == b"expect".as_slice() {
             Some(Builtin::Expect)
         } else {
-            None
+            match Pure::named(name) {
+                Some(text) => Some(Builtin::Text(text)),
+                None => None,
+            }
         }
     }
 }
@@ -178,6 +185,7 @@ fn call<A: Allocator + Copy>(
         Builtin::Close => Ok(from_close(close::begin(alloc, state, args)?)),
         Builtin::SendError => Ok(from_send_error(send_error::begin(alloc, state, args)?)),
         Builtin::Expect => Ok(from_expect(expect::begin(alloc, state, args)?)),
+        Builtin::Text(own) => Ok(from_text(text::begin(alloc, state, own, args)?)),
     }
 }
 

@@ -9,6 +9,7 @@ ghost use Rattle.peers.specs.Close as closes;
 ghost use Rattle.processes.specs.Send as sends;
 ghost use Rattle.processes.specs.Sleep as sleeps;
 ghost use Rattle.processes.specs.Spawn as spawns;
+ghost use Rattle.texts.specs.Text as texts;
 ghost use Rattle.variables.specs.Waits as variables;
 ghost use Rattle.writing.specs.Puts as writing;
 
@@ -19,6 +20,7 @@ use peers::close;
 use processes::{send, sleep, spawn};
 use state::Leaf;
 use std::alloc::Allocator;
+use texts::text;
 use writing::puts;
 
 /// What waits in a command for the answer to an act, by the commands that make acts.
@@ -46,6 +48,16 @@ pub(crate) fn from_puts<A: Allocator>(leaf: Leaf<A, puts::Waits>) -> Leaf<A, Wai
 /// How far `list` has come, as a command.
 pub(crate) fn from_list<A: Allocator>(leaf: Leaf<A, list::Waits>) -> Leaf<A, Waits<A>>
     ensures { IsLifted lists.next_of leaf result }
+{
+    match leaf {
+        Leaf::Has(outcome) => Leaf::Has(outcome),
+        Leaf::Asks(_, waits) => match waits {},
+    }
+}
+
+/// How far a command that is a function of its words has come, as a command.
+pub(crate) fn from_text<A: Allocator>(leaf: Leaf<A, text::Waits>) -> Leaf<A, Waits<A>>
+    ensures { IsLifted texts.next_of leaf result }
 {
     match leaf {
         Leaf::Has(outcome) => Leaf::Has(outcome),

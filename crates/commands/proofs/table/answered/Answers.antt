@@ -1,5 +1,6 @@
-use Rattle.std.proofs.Common.{◌∙◌, ap}
+use Rattle.std.proofs.Common.{ap}
 use Rattle.acts.specs.Deed.{deed_of, reply_of}
+use Rattle.state.proofs.Reaches.{same_reaches, then_reaches}
 use Rattle.commands.specs.View.{next_of}
 use Rattle.commands.proofs.table.answered.Goals as goal
 
@@ -8,9 +9,9 @@ returns-in_ok-answered-in-Spawn-clause-shows g c = λ s fits.
     let shown = c.in_ok-answered-in-Spawn.ensures.shows s fits in record {
       status = shown.status;
       fits = shown.fits;
-      same =
-          ap (λ waits. next_of waits (deed_of c.args.act) s (reply_of c.args.answer)) c.in-Spawn.is
-          ∙ shown.same ∙ c.from_spawn.ensures shown.status;
+      reaches = then_reaches
+          (same_reaches (ap (λ waits. next_of waits (deed_of c.args.act) s (reply_of c.args.answer)) c.in-Spawn.is))
+          (then_reaches shown.reaches (same_reaches (c.from_spawn.ensures shown.status)));
     }
 
 pub returns-in_ok-answered-in-Expect-clause-shows :
@@ -19,7 +20,7 @@ returns-in_ok-answered-in-Expect-clause-shows g c = λ s fits.
     let shown = c.in_ok-answered-in-Expect.ensures.shows s fits in record {
       status = shown.status;
       fits = shown.fits;
-      same =
-          ap (λ waits. next_of waits (deed_of c.args.act) s (reply_of c.args.answer)) c.in-Expect.is
-          ∙ shown.same ∙ c.from_expect.ensures shown.status;
+      reaches = then_reaches
+          (same_reaches (ap (λ waits. next_of waits (deed_of c.args.act) s (reply_of c.args.answer)) c.in-Expect.is))
+          (then_reaches shown.reaches (same_reaches (c.from_expect.ensures shown.status)));
     }

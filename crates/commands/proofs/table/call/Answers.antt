@@ -1,4 +1,5 @@
-use Rattle.std.proofs.Common.{◌∙◌, ap}
+use Rattle.std.proofs.Common.{ap}
+use Rattle.state.proofs.Reaches.{same_reaches, then_reaches}
 use Rattle.commands.specs.Commands.{does}
 use Rattle.commands.specs.View.{builtin_of}
 use Rattle.commands.proofs.table.call.Goals as goal
@@ -8,9 +9,9 @@ returns-in_ok-begin-in-Spawn-clause-shows g c = λ s fits.
     let shown = c.in_ok-begin-in-Spawn.ensures.shows s fits in record {
       status = shown.status;
       fits = shown.fits;
-      same =
-          ap (λ builtin. does (builtin_of builtin) c.args.args.now s) c.in-Spawn.is
-          ∙ shown.same ∙ c.from_spawn.ensures shown.status;
+      reaches = then_reaches
+          (same_reaches (ap (λ builtin. does (builtin_of builtin) c.args.args.now s) c.in-Spawn.is))
+          (then_reaches shown.reaches (same_reaches (c.from_spawn.ensures shown.status)));
     }
 
 pub returns-in_ok-begin-in-Expect-clause-shows : goal.returns-in_ok-begin-in-Expect-clause-shows
@@ -18,7 +19,7 @@ returns-in_ok-begin-in-Expect-clause-shows g c = λ s fits.
     let shown = c.in_ok-begin-in-Expect.ensures.shows s fits in record {
       status = shown.status;
       fits = shown.fits;
-      same =
-          ap (λ builtin. does (builtin_of builtin) c.args.args.now s) c.in-Expect.is
-          ∙ shown.same ∙ c.from_expect.ensures shown.status;
+      reaches = then_reaches
+          (same_reaches (ap (λ builtin. does (builtin_of builtin) c.args.args.now s) c.in-Expect.is))
+          (then_reaches shown.reaches (same_reaches (c.from_expect.ensures shown.status)));
     }
