@@ -4,8 +4,10 @@ use Rattle.acts.specs.Flaw as flaw
 use Rattle.acts.specs.Flaw.{text_of}
 use Rattle.control.specs.Catch.{catch, caught, runs_into, stores_in, number_of}
 use Rattle.control.specs.Commands.{does}
+use Rattle.control.specs.Eval.{eval, passed}
 use Rattle.control.specs.Control as control
 use Rattle.control.specs.Control.{Control}
+use Rattle.pure.specs.Concat.{concatenated}
 use Rattle.state.proofs.Closed.{Closed, within_closed, writes_closed, named_closed}
 use Rattle.state.specs.Dialogue.{Course, gives, within}
 use Rattle.state.specs.Outcome.{Outcome, Gives, Leaves, Stops, Error}
@@ -35,7 +37,13 @@ module _ (P : Status → Course → Type 0) (closed : Closed P) where
       within_closed P closed levels text s (caught (Some word)) (caught_closed (Some word)))
   catch_closed levels (text ∷ word ∷ other ∷ more) s = closed.over s _
 
+  eval_closed : (levels : ℕ) (args : List (List ℕ)) (s : Status) → P s (eval levels args s)
+  eval_closed levels [] s = closed.over s _
+  eval_closed levels (w ∷ ws) s =
+      within_closed P closed levels (concatenated (w ∷ ws)) s passed (λ u o. closed.over u o)
+
   -- each command
   pub does_closed : (c : Control) (levels : ℕ) (args : List (List ℕ)) (s : Status) →
       P s (does c levels args s)
   does_closed control.Catch levels args s = catch_closed levels args s
+  does_closed control.Eval levels args s = eval_closed levels args s

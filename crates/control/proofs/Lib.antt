@@ -1,2 +1,3 @@
 pub mod Behaves
 pub mod Catching
+pub mod Evaluating

@@ -1,5 +1,6 @@
 -- The commands that run scripts.
 
--- one for each name (catch(n))
+-- one for each name (catch(n), eval(n))
 pub data Control : Type 0 where
   Catch : Control
+  Eval : Control

@@ -1,4 +1,5 @@
 pub mod Catch
+pub mod Eval
 pub mod Control
 pub mod Commands
 pub mod View

@@ -1,6 +1,7 @@
 -- How the commands of the code, and what they hold, stand to those of the definition.
 use Rattle.std.specs.Prelude.{◌≡◌, ℕ, ◌<◌}
 use Rattle.control.specs.Catch as catch
+use Rattle.control.specs.Eval as eval
 use Rattle.control.specs.Control as meant
 use Rattle.control.specs.Control.{Control}
 use Rattle.control.specs.declared.held.Held.{Held}
@@ -17,10 +18,12 @@ use Rattle.state.specs.declared.nesting.Nesting.TheVariants as nesting
 -- the command that one of the code's stands for
 abbrev pub control_of : coded.Control → Control
 control_of control.Catch = meant.Catch
+control_of control.Eval = meant.Eval
 
 -- what follows the script that runs within a command
 abbrev pub next_of : {A : Type 0} → Held A → Status → Outcome → Course
 next_of (held.Catch own) = catch.next_of own
+next_of (held.Eval own) = eval.next_of own
 
 -- a script runs again only after a tick (this project's own rule)
 abbrev pub TicksFirst : {A H : Type 0} → Nesting A H → ℕ → ℕ → Type 0

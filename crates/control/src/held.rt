@@ -3,8 +3,10 @@
 ghost use Rattle.std.specs.Prelude.{ℕ};
 ghost use Rattle.control.specs.View.{IsLifted, TicksFirst};
 ghost use Rattle.control.specs.Catch as catches;
+ghost use Rattle.control.specs.Eval as evals;
 
 use crate::catch;
+use crate::eval;
 use state::Nesting;
 use std::alloc::Allocator;
 
@@ -12,6 +14,7 @@ use std::alloc::Allocator;
 #[derive(Drop)]
 pub enum Held<A: Allocator> {
     Catch(catch::Held<A>),
+    Eval(eval::Held),
 }
 
 /// How far `catch` has come, as a command.
@@ -22,5 +25,16 @@ pub(crate) fn from_catch<A: Allocator>(nesting: Nesting<A, catch::Held<A>>) -> N
     match nesting {
         Nesting::Has(outcome) => Nesting::Has(outcome),
         Nesting::Runs(script, levels, held) => Nesting::Runs(script, levels, Held::Catch(held)),
+    }
+}
+
+/// How far `eval` has come, as a command.
+pub(crate) fn from_eval<A: Allocator>(nesting: Nesting<A, eval::Held>) -> Nesting<A, Held<A>>
+    ensures lifted { IsLifted evals.next_of nesting result }
+    ensures ticks { (new old : ℕ) → TicksFirst nesting new old → TicksFirst result new old }
+{
+    match nesting {
+        Nesting::Has(outcome) => Nesting::Has(outcome),
+        Nesting::Runs(script, levels, held) => Nesting::Runs(script, levels, Held::Eval(held)),
     }
 }

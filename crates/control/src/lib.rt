@@ -3,6 +3,7 @@
 
 mod arguments;
 pub mod catch;
+pub mod eval;
 mod held;
 mod table;
 

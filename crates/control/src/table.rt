@@ -8,7 +8,8 @@ ghost use Rattle.state.specs.Status.{Status};
 ghost use Rattle.state.specs.View.{FitsState, outcome_of};
 
 use crate::catch;
-use crate::held::{Held, from_catch};
+use crate::eval;
+use crate::held::{Held, from_catch, from_eval};
 use acts::NoMemory;
 use state::{Nesting, Outcome, State};
 use std::alloc::Allocator;
@@ -18,6 +19,7 @@ use tcltext::Value;
 #[derive(Clone, Copy, Debug, PartialEq, Eq)]
 pub enum Control {
     Catch,
+    Eval,
 }
 
 impl Control {
@@ -27,6 +29,8 @@ impl Control {
     {
         if name == b"catch".as_slice() {
             Some(Control::Catch)
+        } else if name == b"eval".as_slice() {
+            Some(Control::Eval)
         } else {
             None
         }
@@ -51,6 +55,7 @@ pub fn begin<A: Allocator + Copy>(
 {
     match control {
         Control::Catch => Ok(from_catch(catch::begin(alloc, state, args, levels)?)),
+        Control::Eval => Ok(from_eval(eval::begin(alloc, state, args, levels)?)),
     }
 }
 
@@ -72,5 +77,6 @@ pub fn resumed<A: Allocator + Copy>(
 {
     match held {
         Held::Catch(own) => Ok(from_catch(catch::resumed(alloc, state, own, outcome)?)),
+        Held::Eval(own) => Ok(from_eval(eval::resumed(state, own, outcome))),
     }
 }

@@ -9,6 +9,10 @@ use Rattle.tcltext.specs.Canonical.{is_empty}
 abbrev pub kept : List (List ℕ) → List (List ℕ)
 kept words = filter (λ x. not (is_empty x)) (map (trim white) words)
 
--- concat w .. gives these words with a blank between them (concat(n))
+-- these words with a blank between them (concat(n))
+abbrev pub concatenated : List (List ℕ) → List ℕ
+concatenated words = joined (codes " ") (kept words)
+
+-- concat w .. gives that text (concat(n))
 abbrev pub concat : List (List ℕ) → Meaning
-concat words = Gives (joined (codes " ") (kept words))
+concat words = Gives (concatenated words)

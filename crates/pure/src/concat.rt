@@ -1,6 +1,6 @@
 //! `concat w ..` (concat(n)).
 
-ghost use Rattle.std.specs.Prelude.{◌≡◌, [], ◌∷◌, ◌++◌, if◌then◌else◌, OnOk};
+ghost use Rattle.std.specs.Prelude.{◌≡◌, [], ◌∷◌, ◌++◌, if◌then◌else◌, IfOk, OnOk};
 ghost use Rattle.pure.specs.Concat as meant;
 ghost use Rattle.meanings.specs.View.{Answers};
 
@@ -10,12 +10,26 @@ use memory::NoMemory;
 use std::alloc::Allocator;
 use tcltext::Value;
 
-/// The words without white at their ends, with a blank between them.
+/// Gives the words without white at their ends, with a blank between them.
 pub fn concat<A: Allocator + Copy>(
     alloc: A,
     words: &[Value<A>],
 ) -> Result<Value<A>, MeaningFault<A>>
     ensures { Answers (meant.concat words.now) result }
+{
+    let text = concatenated(alloc, words)?;
+    Ok(Value::new(alloc, text)?)
+}
+
+/// The words without white at their ends, with a blank between them (concat(n)).
+///
+/// # Errors
+/// Where memory is refused.
+pub fn concatenated<A: Allocator>(
+    alloc: A,
+    words: &[Value<A>],
+) -> Result<Vec<u8, A>, NoMemory>
+    ensures { IfOk result (λ text. text.items ≡ meant.concatenated words.now) }
 {
     let mut text = Vec::new(alloc);
     let mut first = true;
@@ -27,7 +41,7 @@ pub fn concat<A: Allocator + Copy>(
         push_next(&mut text, first, word)?;
         first = false;
     }
-    Ok(Value::new(alloc, text)?)
+    Ok(text)
 }
 
 /// Writes a word behind a text, with a blank before it where it is not the first.

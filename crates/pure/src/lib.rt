@@ -14,4 +14,5 @@ mod trim;
 mod words;
 
 pub use command::Pure;
+pub use concat::concatenated;
 pub use string::Subcommand;

@@ -3,7 +3,7 @@ use Rattle.pure.specs.Concat.{kept}
 use Rattle.pure.specs.Joined.{joined}
 use Rattle.pure.specs.Trim.{trim, white}
 use Rattle.pure.proofs.Kept.{added}
-use Rattle.pure.proofs.concat.concat.Goals as goal
+use Rattle.pure.proofs.concat.concatenated.Goals as goal
 
 pub loop-word-preserved : goal.loop-word-preserved
 loop-word-preserved g c =

@@ -1,7 +1,7 @@
 use Rattle.std.proofs.Common.{◌≡◌, ◌++◌, ◌∷◌, [], drop}
 use Rattle.pure.specs.Concat.{kept}
 use Rattle.pure.specs.Joined.{separated, joined}
-use Rattle.pure.proofs.concat.concat.Given as goal
+use Rattle.pure.proofs.concat.concatenated.Given as goal
 
 abbrev pub invariant-loop-word : goal.invariant-loop-word
 invariant-loop-word g l =
