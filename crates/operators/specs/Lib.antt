@@ -1,0 +1,5 @@
+pub mod View
+pub mod Number
+pub mod Order
+pub mod Truth
+pub mod Unary

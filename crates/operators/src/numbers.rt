@@ -1,0 +1,50 @@
+//! Operands that are asked for as numbers, and numbers that are told.
+
+ghost use Rattle.std.specs.Prelude.{◌≡◌, ℤ, Some, IfOk, IfErr, SomeIff, FitsSigned};
+ghost use Rattle.std.specs.Int.{w64};
+ghost use Rattle.meanings.specs.View.{Answers};
+ghost use Rattle.operators.specs.Number as meant;
+ghost use Rattle.operators.specs.View.{IsNoNumber, AreNumbers, AreNoNumbers};
+
+use crate::operand::Operand;
+use acts::Fault;
+use itoa::Buffer;
+use meanings::MeaningFault;
+use std::alloc::Allocator;
+
+/// The number that an operand is (expr(n), operators).
+pub fn number<A: Allocator + Copy>(alloc: A, operand: &Operand<A>) -> Result<i64, MeaningFault<A>>
+    ensures ok { IfOk result (λ n. meant.number_of operand.now ≡ Some n) }
+    ensures fault { IfErr result (IsNoNumber operand.now) }
+{
+    if let Some(n) = operand.number_of() {
+        return Ok(n);
+    }
+    let mut buffer = Buffer::new();
+    let text = Vec::from_slice(alloc, operand.bytes(&mut buffer))?;
+    Err(MeaningFault::Fault(Fault::NotANumber(text)))
+}
+
+/// The numbers that two operands are; the left one is looked at first (expr(n), operators).
+pub fn numbers<A: Allocator + Copy>(
+    alloc: A,
+    left: &Operand<A>,
+    right: &Operand<A>,
+) -> Result<(i64, i64), MeaningFault<A>>
+    ensures ok { IfOk result (AreNumbers left.now right.now) }
+    ensures fault { IfErr result (AreNoNumbers left.now right.now) }
+{
+    let x = number(alloc, left)?;
+    let y = number(alloc, right)?;
+    Ok((x, y))
+}
+
+/// A number that 64 bits hold, or the error that they do not (expr(n)).
+pub fn told<A: Allocator>(number: Option<i64>) -> Result<Operand<A>, MeaningFault<A>>
+    ensures { (n : ℤ) → SomeIff number (FitsSigned w64 n) n → Answers (meant.told n) result }
+{
+    match number {
+        Some(n) => Ok(Operand::number(n)),
+        None => Err(MeaningFault::Fault(Fault::OutOfRange)),
+    }
+}

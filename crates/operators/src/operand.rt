@@ -1,0 +1,86 @@
+//! What operators take and give.
+
+ghost use Rattle.std.specs.Prelude.{◌≡◌};
+ghost use Rattle.std.specs.Fmt.{signed_decimal};
+ghost use Rattle.meanings.specs.Meaning as meant;
+ghost use Rattle.operators.specs.Number.{number_of};
+
+use itoa::Buffer;
+use std::alloc::Allocator;
+use std::marker::Model;
+use tcltext::{Value, read_int};
+
+/// A value of a formula, which contracts see as its text. A number is kept as it is, and its text
+/// is the decimal one, so that arithmetic asks for no memory.
+#[derive(Drop)]
+pub struct Operand<A: Allocator> {
+    form: Form<A>,
+}
+
+/// How a value is kept.
+#[derive(Drop)]
+pub enum Form<A: Allocator> {
+    Number(i64),
+    Text(Value<A>),
+}
+
+impl<A: Allocator> Model for Operand<A> {
+    ghost use Rattle.std.specs.Prelude.{List, ℕ};
+
+    ghost Value = { List ℕ };
+
+    ghost use Rattle.operators.specs.View.{text_of};
+
+    ghost view = { λ operand. text_of operand.form };
+}
+
+impl<A: Allocator> Operand<A> {
+    /// A number, whose text is the decimal one.
+    pub fn number(n: i64) -> Operand<A>
+        ensures { result ≡ signed_decimal n }
+    {
+        Operand {
+            form: Form::Number(n),
+        }
+    }
+
+    /// A text as it stands.
+    pub fn text(text: Value<A>) -> Operand<A>
+        ensures { result ≡ text }
+    {
+        Operand {
+            form: Form::Text(text),
+        }
+    }
+
+    /// How a test is told: 1 or 0 (expr(n), operators).
+    pub fn truth(holds: bool) -> Operand<A>
+        ensures { result ≡ meant.truth holds }
+    {
+        if holds {
+            Operand::number(1)
+        } else {
+            Operand::number(0)
+        }
+    }
+
+    /// The number that the operand is, if it is one.
+    pub fn number_of(&self) -> Option<i64>
+        ensures { result ≡ number_of self.now }
+    {
+        match &self.form {
+            Form::Number(n) => Some(*n),
+            Form::Text(text) => read_int(text.as_slice()),
+        }
+    }
+
+    /// The operand's text; that of a number is written into the buffer.
+    pub fn bytes<'a>(&'a self, buffer: &'a mut Buffer) -> &'a [u8]
+        ensures { result.now ≡ self.now }
+    {
+        match &self.form {
+            Form::Number(n) => buffer.format(*n).as_bytes(),
+            Form::Text(text) => text.as_slice(),
+        }
+    }
+}
