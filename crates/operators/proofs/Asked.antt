@@ -1,5 +1,5 @@
 -- What follows the numbers that operands are, or that they are none.
-use Rattle.std.proofs.Common.{◌≡◌, List, ℕ, Option, Some, None, ℤ, Result, Ok, Err, IfErr, IsErrAnd, sym, subst}
+use Rattle.std.proofs.Common.{◌≡◌, List, ℕ, Some, None, ℤ, Result, Ok, Err, IfErr, IsErrAnd, sym, subst}
 use Rattle.acts.specs.Flaw as flaw
 use Rattle.meanings.specs.Meaning.{Meaning, Raises}
 use Rattle.meanings.specs.View.{Answers}

@@ -1,3 +1,7 @@
 mod Decimals
 mod Read
 mod Asked
+mod Found
+mod Fits
+mod Among
+mod Bits

@@ -1,5 +1,5 @@
 -- What a text is read as, and what is told of a number.
-use Rattle.std.proofs.Common.{◌≡◌, ℕ, ◌≤◌, ◌^◌, ◌<◌, Bool, true, false, cond, List, Option, Some, None, MatchOption, IfSome, SomeIff, option_and_then, Result, Ok, Err, ℤ, pos, negsuc, FitsSigned, w64, refl, sym, ap, subst, ◌∙◌, arith}
+use Rattle.std.proofs.Common.{◌≡◌, ℕ, ◌≤◌, Bool, true, false, cond, List, Option, Some, None, MatchOption, IfSome, option_and_then, ℤ, pos, negsuc, FitsSigned, w64, refl, sym, ap, ◌∙◌, arith}
 use Rattle.std.proofs.lemmas.Int.{ints}
 use Rattle.std.proofs.lemmas.Bool.Decides.{nat_tests}
 use Rattle.std.specs.Fmt.{signed_decimal}

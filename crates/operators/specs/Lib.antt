@@ -1,5 +1,13 @@
 pub mod View
 pub mod Number
-pub mod Order
 pub mod Truth
 pub mod Unary
+pub mod Division
+pub mod Shift
+pub mod Bits
+pub mod Arithmetic
+pub mod Order
+pub mod Member
+pub mod Binary
+pub mod Function
+pub mod Value

@@ -1,5 +1,5 @@
 -- What an operand is seen as, and what is said of its reading.
-use Rattle.std.specs.Prelude.{◌≡◌, ℕ, List, ℤ, Some, None, Err}
+use Rattle.std.specs.Prelude.{◌≡◌, ℕ, List, ℤ, Some, Err}
 use Rattle.std.specs.Fmt.{signed_decimal}
 use Rattle.meanings.specs.Meaning.{Meaning}
 use Rattle.meanings.specs.View.{Answers}

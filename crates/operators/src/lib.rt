@@ -2,11 +2,19 @@
 #![tactic(auto)]
 
 mod apply;
+mod arithmetic;
+mod division;
+mod functions;
+mod members;
 mod numbers;
 mod operand;
 mod ordering;
+mod shifts;
 mod truths;
+mod values;
 
-pub use apply::unary;
+pub use apply::{binary, unary};
+pub use functions::call;
 pub use operand::Operand;
 pub use truths::truth;
+pub use values::{result, written};

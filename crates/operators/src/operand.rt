@@ -1,14 +1,16 @@
 //! What operators take and give.
 
-ghost use Rattle.std.specs.Prelude.{◌≡◌};
+ghost use Rattle.std.specs.Prelude.{◌≡◌, IfOk};
 ghost use Rattle.std.specs.Fmt.{signed_decimal};
 ghost use Rattle.meanings.specs.Meaning as meant;
 ghost use Rattle.operators.specs.Number.{number_of};
+ghost use Rattle.operators.specs.Value as value;
 
 use itoa::Buffer;
+use memory::NoMemory;
 use std::alloc::Allocator;
 use std::marker::Model;
-use tcltext::{Value, read_int};
+use tcltext::{Value, print_int, read_int};
 
 /// A value of a formula, which contracts see as its text. A number is kept as it is, and its text
 /// is the decimal one, so that arithmetic asks for no memory.
@@ -70,7 +72,7 @@ impl<A: Allocator> Operand<A> {
     {
         match &self.form {
             Form::Number(n) => Some(*n),
-            Form::Text(text) => read_int(text.as_slice()),
+            Form::Text(text) => number_in(text.as_slice()),
         }
     }
 
@@ -82,5 +84,34 @@ impl<A: Allocator> Operand<A> {
             Form::Number(n) => buffer.format(*n).as_bytes(),
             Form::Text(text) => text.as_slice(),
         }
+    }
+}
+
+impl<A: Allocator + Copy> Operand<A> {
+    /// The operand's text as a formula gives it: a number in decimal (expr(n)).
+    pub fn into_value(self, alloc: A) -> Result<Value<A>, NoMemory>
+        ensures { IfOk result (λ text. text ≡ value.result self) }
+    {
+        match self.form {
+            Form::Number(n) => Value::new(alloc, print_int(alloc, n)?),
+            Form::Text(text) => in_decimal(alloc, text),
+        }
+    }
+}
+
+/// The number that a text is, if it is one (expr(n), operands).
+pub fn number_in(text: &[u8]) -> Option<i64>
+    ensures { result ≡ number_of text.now }
+{
+    read_int(text)
+}
+
+/// A text that is a number in decimal, any other one as it stands.
+fn in_decimal<A: Allocator + Copy>(alloc: A, text: Value<A>) -> Result<Value<A>, NoMemory>
+    ensures { IfOk result (λ told. told ≡ value.result text) }
+{
+    match number_in(text.as_slice()) {
+        Some(n) => Value::new(alloc, print_int(alloc, n)?),
+        None => Ok(text),
     }
 }

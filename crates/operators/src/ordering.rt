@@ -1,6 +1,7 @@
 //! The order of operands.
 
 ghost use Rattle.std.specs.Prelude.{◌≡◌};
+ghost use Rattle.std.specs.Str.{bytes_eq};
 ghost use Rattle.operators.specs.Order as meant;
 
 use crate::operand::Operand;
@@ -19,4 +20,13 @@ pub fn order<A: Allocator>(left: &Operand<A>, right: &Operand<A>) -> Ordering
     let mut buffer = Buffer::new();
     let mut other = Buffer::new();
     left.bytes(&mut buffer).cmp(&right.bytes(&mut other))
+}
+
+/// Whether two operands have the same bytes (expr(n), eq).
+pub fn same_bytes<A: Allocator>(left: &Operand<A>, right: &Operand<A>) -> bool
+    ensures { result ≡ bytes_eq left.now right.now }
+{
+    let mut buffer = Buffer::new();
+    let mut other = Buffer::new();
+    left.bytes(&mut buffer) == right.bytes(&mut other)
 }

@@ -1,8 +1,8 @@
-use Rattle.std.proofs.Common.{◌≡◌, Some, FitsSigned, w64, rules, sym, ap, ◌∙◌}
+use Rattle.std.proofs.Common.{Some, FitsSigned, w64, rules, sym, ap, ◌∙◌}
 use Rattle.std.proofs.lemmas.Int.{to_z-of_z}
 use Rattle.operators.specs.Number.{number_of}
 use Rattle.operators.specs.View.{text_of}
-use Rattle.operators.proofs.Read.{decimal_is, read_is}
+use Rattle.operators.proofs.Read.{decimal_is}
 use Rattle.operators.proofs.operand.Operand.number_of.Goals as goal
 
 pub returns-in-Number : goal.returns-in-Number
@@ -10,8 +10,3 @@ returns-in-Number g c =
     let fits : FitsSigned w64 c.in-Number.n = search rules in
     ap (λ n. Some n) (to_z-of_z w64 c.in-Number.n fits) ∙ sym (decimal_is c.in-Number.n fits)
     ∙ ap number_of (ap text_of (sym c.in-Number.is) ∙ c.self.view_is)
-
-pub returns-in-Text : goal.returns-in-Text
-returns-in-Text g c =
-    read_is c.as_slice.result.now c.read_int.result c.read_int.ensures.value c.read_int.ensures.in_range
-    ∙ ap number_of (c.as_slice.ensures ∙ ap text_of (sym c.in-Text.is) ∙ c.self.view_is)

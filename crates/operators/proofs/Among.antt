@@ -1,0 +1,53 @@
+-- The least or greatest of the numbers that texts are, looked at from left to right.
+use Rattle.std.proofs.Common.{◌≡◌, ℕ, suc, ◌+◌, ◌<◌, List, [], ◌∷◌, length, get_or, drop, Some, ℤ, Result, Err, sym, ap, subst, ◌∙◌, add-one}
+use Rattle.std.proofs.Math.Seq.{drop-cons}
+use Rattle.std.specs.List.{fold}
+use Rattle.meanings.specs.Meaning.{Meaning}
+use Rattle.meanings.specs.View.{Answers}
+use Rattle.meanings.specs.declared.fault.MeaningFault.{MeaningFault}
+use Rattle.operators.specs.declared.functions.Extreme.{Extreme}
+use Rattle.operators.specs.Function.{among, chosen}
+use Rattle.operators.specs.Number.{number_of, follows, with_number, with_all, told}
+use Rattle.operators.specs.View.{IsNoNumber}
+
+module _ (first : List ℕ) (texts : List (List ℕ)) (which : Extreme) (i : ℕ) (best : ℤ) where
+  -- what is left, with the best so far
+  abbrev Left : Type 0
+  Left = with_all (first ∷ texts) (among which)
+      ≡ with_all (drop i texts) (λ numbers. told (fold (chosen which) best numbers))
+
+  module _ (left : Left) where
+    module _ (x : List ℕ) (below : i < length texts) (is : x ≡ get_or texts i x) where
+      -- the next text comes first
+      abbrev next : ℤ → Meaning
+      next n = with_all (drop (i + 1) texts)
+          (λ numbers. told (fold (chosen which) best (n ∷ numbers)))
+
+      at : with_all (first ∷ texts) (among which) ≡ with_number x next
+      at =
+          left
+          ∙ ap (λ ts. with_all ts (λ numbers. told (fold (chosen which) best numbers)))
+          (drop-cons texts i x below ∙ ap (λ y. y ∷ drop (suc i) texts) (sym is)
+          ∙ ap (λ n. x ∷ drop n texts) (sym (add-one i)))
+
+      -- it is no number
+      pub stops : {A : Type 0} (fault : MeaningFault A) → IsNoNumber x fault →
+          Answers (with_all (first ∷ texts) (among which)) (Err fault)
+      stops fault none =
+          subst (λ (m : Meaning). Answers m (Err fault)) (sym at) (none next)
+
+      -- it is a number
+      pub goes_on : (n : ℤ) → number_of x ≡ Some n →
+          with_all (first ∷ texts) (among which)
+          ≡ with_all (drop (i + 1) texts)
+          (λ numbers. told (fold (chosen which) (chosen which best n) numbers))
+      goes_on n number = at ∙ ap (λ o. follows o x next) number
+
+    -- none is left
+    pub ends : {A : Type 0} (r : Result (List ℕ) (MeaningFault A)) → drop i texts ≡ [] →
+        Answers (told best) r → Answers (with_all (first ∷ texts) (among which)) r
+    ends r none says =
+        subst (λ (m : Meaning). Answers m r)
+        (sym
+        (left ∙ ap (λ ts. with_all ts (λ numbers. told (fold (chosen which) best numbers))) none))
+        says

@@ -1,0 +1,35 @@
+//! What a formula writes, and what it gives.
+
+ghost use Rattle.std.specs.Prelude.{◌≡◌, IfOk};
+ghost use Rattle.meanings.specs.View.{Answers};
+ghost use Rattle.operators.specs.Value as meant;
+
+use crate::operand::{Operand, number_in};
+use acts::Fault;
+use meanings::MeaningFault;
+use memory::NoMemory;
+use std::alloc::Allocator;
+use tcltext::Value;
+
+/// A numeral that a formula writes: it stands as it is spelled (expr(n), operands).
+///
+/// # Errors
+/// Where its number is not within 64 bits.
+pub fn written<A: Allocator>(spelling: Value<A>) -> Result<Operand<A>, MeaningFault<A>>
+    ensures { Answers (meant.written spelling) result }
+{
+    if number_in(spelling.as_slice()).is_none() {
+        return Err(MeaningFault::Fault(Fault::OutOfRange));
+    }
+    Ok(Operand::text(spelling))
+}
+
+/// A formula's value as text: a number in decimal, all else as it stands (expr(n)).
+///
+/// # Errors
+/// Where memory is refused.
+pub fn result<A: Allocator + Copy>(alloc: A, value: Operand<A>) -> Result<Value<A>, NoMemory>
+    ensures { IfOk result (λ text. text ≡ meant.result value) }
+{
+    value.into_value(alloc)
+}
