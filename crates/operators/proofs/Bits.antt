@@ -1,12 +1,14 @@
 -- The bits of a pattern of 64 bits, and the number in two's complement that it stands for.
-use Rattle.std.proofs.Common.{◌≡◌, ℕ, zero, suc, ◌+◌, ◌-◌, ◌*◌, ◌/◌, ◌%◌, ◌^◌, ◌<◌, ◌≤◌, ◌==◌, ◌&&◌, ◌||◌, Bool, false, cond, ltb, inl, inr, min, max, ℤ, pos, negsuc, ◌-ℤ◌, FitsSigned, w64, of_z, to_z, refl, sym, ap, subst, ◌∙◌, arith}
+use Rattle.std.proofs.Common.{not, ◌≡◌, ℕ, zero, suc, ◌+◌, ◌-◌, ◌*◌, ◌/◌, ◌%◌, ◌^◌, ◌<◌, ◌≤◌, ◌==◌, ◌&&◌, ◌||◌, Bool, false, cond, ltb, inl, inr, min, max, ℤ, pos, negsuc, ◌-ℤ◌, FitsSigned, w64, of_z, to_z, refl, sym, ap, subst, ◌∙◌, arith}
 use Rattle.std.specs.Int.{bit_at}
 use Rattle.std.specs.Int.RustNames.{bit_and, bit_or, bit_xor}
 use Rattle.std.proofs.lemmas.Bool.Decides.{nat_tests}
+use Rattle.std.proofs.Math.Facts.{sfits_to_z, of_z-to_z}
 use Rattle.std.proofs.lemmas.Int.{ints, to_z_pos}
 use Rattle.std.proofs.lemmas.Nat.{mod-pow-add, and_le_l, or_lt, xor_lt}
 use Rattle.std.proofs.lemmas.Nat.Bits.{bit_at_and, bit_at_or, bit_at_xor, bit_at_not, bit_at-lt}
 use Rattle.operators.proofs.Fits.{le_or_above}
+use Rattle.operators.specs.Unary.{complement}
 use Rattle.operators.specs.Bits.{bit, worth, lowest, of_bits, differ, bits_and, bits_or, bits_xor}
 
 -- whether bit i of a pattern is set
@@ -84,14 +86,13 @@ pattern_is p small =
 
 -- 64 bits hold what a pattern stands for
 fits_from : (p : ℕ) → p < 2 ^ 64 → FitsSigned w64 (to_z w64 p)
-fits_from p small = elim (le_or_above (2 ^ 63) p) [
-  | inl large ↦
-      let test : ltb p (2 ^ 63) ≡ false = grind (arith, nat_tests) in
-      rw test (record { sfits = omega arith })
-  | inr below ↦
-      let is : to_z w64 p ≡ pos p = to_z_pos w64 p below in
-      subst (λ z. FitsSigned w64 z) (sym is) (record { sfits = omega arith })
-]
+fits_from p small = sfits_to_z (record { fits = small })
+
+-- a bit of what a pattern stands for is that of the pattern
+bit_of : (p i : ℕ) → p < 2 ^ 64 → i < 64 → bit (to_z w64 p) i ≡ is_set p i
+bit_of p i small below =
+    bit_is (to_z w64 p) i (fits_from p small) below
+    ∙ ap (λ q. is_set q i) (of_z-to_z {w = w64} (record { fits = small }))
 
 both : (u v : ℕ) → u < 2 → v < 2 → ((u == 1) && (v == 1)) ≡ (min u v == 1)
 both zero v small other = grind (arith, nat_tests)
@@ -134,41 +135,93 @@ module _ (a b : ℤ) (left : FitsSigned w64 a) (right : FitsSigned w64 b) where
   right_small : of_z w64 b < 2 ^ 64
   right_small = of_z_small b right
 
+  and_small : bit_and (of_z w64 a) (of_z w64 b) < 2 ^ 64
+  and_small = omega (arith, and_le_l (of_z w64 a) (of_z w64 b), left_small)
+
+  and_each : (i : ℕ) → (λ (x y : Bool). x && y) (is_set (of_z w64 a) i) (is_set (of_z w64 b) i)
+      ≡ is_set (bit_and (of_z w64 a) (of_z w64 b)) i
+  and_each i =
+      both (bit_at (of_z w64 a) i) (bit_at (of_z w64 b) i) (bit_at-lt (of_z w64 a) i)
+      (bit_at-lt (of_z w64 b) i)
+      ∙ ap (λ v. v == 1) (sym (bit_at_and (of_z w64 a) (of_z w64 b) i))
+
   pub and_is : to_z w64 (bit_and (of_z w64 a) (of_z w64 b)) ≡ bits_and a b
-  and_is =
-      joined (λ x y. x && y) (bit_and (of_z w64 a) (of_z w64 b))
-      (omega (arith, and_le_l (of_z w64 a) (of_z w64 b), left_small))
-      (λ i. both (bit_at (of_z w64 a) i) (bit_at (of_z w64 b) i) (bit_at-lt (of_z w64 a) i)
-      (bit_at-lt (of_z w64 b) i)
-      ∙ ap (λ v. v == 1) (sym (bit_at_and (of_z w64 a) (of_z w64 b) i)))
-
-  pub or_is : to_z w64 (bit_or (of_z w64 a) (of_z w64 b)) ≡ bits_or a b
-  or_is =
-      joined (λ x y. x || y) (bit_or (of_z w64 a) (of_z w64 b))
-      (or_lt 64 (of_z w64 a) (of_z w64 b) left_small right_small)
-      (λ i. either (bit_at (of_z w64 a) i) (bit_at (of_z w64 b) i) (bit_at-lt (of_z w64 a) i)
-      (bit_at-lt (of_z w64 b) i)
-      ∙ ap (λ v. v == 1) (sym (bit_at_or (of_z w64 a) (of_z w64 b) i)))
-
-  pub xor_is : to_z w64 (bit_xor (of_z w64 a) (of_z w64 b)) ≡ bits_xor a b
-  xor_is =
-      joined differ (bit_xor (of_z w64 a) (of_z w64 b))
-      (xor_lt 64 (of_z w64 a) (of_z w64 b) left_small right_small)
-      (λ i. one_alone (bit_at (of_z w64 a) i) (bit_at (of_z w64 b) i) (bit_at-lt (of_z w64 a) i)
-      (bit_at-lt (of_z w64 b) i)
-      ∙ ap (λ v. v == 1) (sym (bit_at_xor (of_z w64 a) (of_z w64 b) i)))
+  and_is = joined (λ (x y : Bool). x && y) (bit_and (of_z w64 a) (of_z w64 b)) and_small and_each
 
   pub and_fits : FitsSigned w64 (bits_and a b)
   and_fits =
       subst (λ z. FitsSigned w64 z) and_is
-      (fits_from (bit_and (of_z w64 a) (of_z w64 b)) (omega (arith, and_le_l (of_z w64 a) (of_z w64 b), left_small)))
+      (fits_from (bit_and (of_z w64 a) (of_z w64 b)) and_small)
+
+  pub and_bit : (i : ℕ) → i < 64 → bit (bits_and a b) i ≡ (bit a i && bit b i)
+  and_bit i below =
+      ap (λ z. bit z i) (sym and_is)
+      ∙ bit_of (bit_and (of_z w64 a) (of_z w64 b)) i and_small below
+      ∙ sym (tests (λ (x y : Bool). x && y) i below ∙ and_each i)
+
+  or_small : bit_or (of_z w64 a) (of_z w64 b) < 2 ^ 64
+  or_small = or_lt 64 (of_z w64 a) (of_z w64 b) left_small right_small
+
+  or_each : (i : ℕ) → (λ (x y : Bool). x || y) (is_set (of_z w64 a) i) (is_set (of_z w64 b) i)
+      ≡ is_set (bit_or (of_z w64 a) (of_z w64 b)) i
+  or_each i =
+      either (bit_at (of_z w64 a) i) (bit_at (of_z w64 b) i) (bit_at-lt (of_z w64 a) i)
+      (bit_at-lt (of_z w64 b) i)
+      ∙ ap (λ v. v == 1) (sym (bit_at_or (of_z w64 a) (of_z w64 b) i))
+
+  pub or_is : to_z w64 (bit_or (of_z w64 a) (of_z w64 b)) ≡ bits_or a b
+  or_is = joined (λ (x y : Bool). x || y) (bit_or (of_z w64 a) (of_z w64 b)) or_small or_each
 
   pub or_fits : FitsSigned w64 (bits_or a b)
   or_fits =
       subst (λ z. FitsSigned w64 z) or_is
-      (fits_from (bit_or (of_z w64 a) (of_z w64 b)) (or_lt 64 (of_z w64 a) (of_z w64 b) left_small right_small))
+      (fits_from (bit_or (of_z w64 a) (of_z w64 b)) or_small)
+
+  pub or_bit : (i : ℕ) → i < 64 → bit (bits_or a b) i ≡ (bit a i || bit b i)
+  or_bit i below =
+      ap (λ z. bit z i) (sym or_is)
+      ∙ bit_of (bit_or (of_z w64 a) (of_z w64 b)) i or_small below
+      ∙ sym (tests (λ (x y : Bool). x || y) i below ∙ or_each i)
+
+  xor_small : bit_xor (of_z w64 a) (of_z w64 b) < 2 ^ 64
+  xor_small = xor_lt 64 (of_z w64 a) (of_z w64 b) left_small right_small
+
+  xor_each : (i : ℕ) → differ (is_set (of_z w64 a) i) (is_set (of_z w64 b) i)
+      ≡ is_set (bit_xor (of_z w64 a) (of_z w64 b)) i
+  xor_each i =
+      one_alone (bit_at (of_z w64 a) i) (bit_at (of_z w64 b) i) (bit_at-lt (of_z w64 a) i)
+      (bit_at-lt (of_z w64 b) i)
+      ∙ ap (λ v. v == 1) (sym (bit_at_xor (of_z w64 a) (of_z w64 b) i))
+
+  pub xor_is : to_z w64 (bit_xor (of_z w64 a) (of_z w64 b)) ≡ bits_xor a b
+  xor_is = joined differ (bit_xor (of_z w64 a) (of_z w64 b)) xor_small xor_each
 
   pub xor_fits : FitsSigned w64 (bits_xor a b)
   xor_fits =
       subst (λ z. FitsSigned w64 z) xor_is
-      (fits_from (bit_xor (of_z w64 a) (of_z w64 b)) (xor_lt 64 (of_z w64 a) (of_z w64 b) left_small right_small))
+      (fits_from (bit_xor (of_z w64 a) (of_z w64 b)) xor_small)
+
+  pub xor_bit : (i : ℕ) → i < 64 → bit (bits_xor a b) i ≡ differ (bit a i) (bit b i)
+  xor_bit i below =
+      ap (λ z. bit z i) (sym xor_is)
+      ∙ bit_of (bit_xor (of_z w64 a) (of_z w64 b)) i xor_small below
+      ∙ sym (tests differ i below ∙ xor_each i)
+
+even : (v : ℕ) → v < 2 → (v == 0) ≡ not (v == 1)
+even zero small = refl
+even (suc zero) small = refl
+even (suc (suc v)) small = absurd (omega arith)
+
+odd : (v : ℕ) → v < 2 → (v == 1) ≡ not (v == 0)
+odd zero small = refl
+odd (suc zero) small = refl
+odd (suc (suc v)) small = absurd (omega arith)
+
+-- each bit is turned
+pub complement_bit : (a : ℤ) (i : ℕ) → bit (complement a) i ≡ not (bit a i)
+complement_bit (pos n) i =
+    let is : complement (pos n) ≡ negsuc n = omega (arith, ints) in
+    ap (λ z. bit z i) is ∙ even (bit_at n i) (bit_at-lt n i)
+complement_bit (negsuc n) i =
+    let is : complement (negsuc n) ≡ pos n = omega (arith, ints) in
+    ap (λ z. bit z i) is ∙ odd (bit_at n i) (bit_at-lt n i)

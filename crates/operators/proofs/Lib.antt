@@ -5,3 +5,4 @@ mod Found
 mod Fits
 mod Among
 mod Bits
+mod Quotients

@@ -29,7 +29,8 @@ with_both left right next = with_number left (λ x. with_number right (λ y. nex
 -- what follows the numbers that texts are, from left to right (mathfunc(n))
 abbrev pub with_all : List (List ℕ) → (List ℤ → Meaning) → Meaning
 with_all [] next = next []
-with_all (text ∷ texts) next = with_number text (λ n. with_all texts (λ numbers. next (n ∷ numbers)))
+with_all (text ∷ texts) next =
+    with_number text (λ n. with_all texts (λ numbers. next (n ∷ numbers)))
 
 -- a number is told in decimal, where 64 bits hold it (expr(n))
 abbrev pub told : ℤ → Meaning

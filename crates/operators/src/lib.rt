@@ -5,6 +5,7 @@ mod apply;
 mod arithmetic;
 mod division;
 mod functions;
+pub mod laws;
 mod members;
 mod numbers;
 mod operand;

@@ -67,7 +67,7 @@ impl<A: Allocator> Operand<A> {
     }
 
     /// The number that the operand is, if it is one.
-    pub fn number_of(&self) -> Option<i64>
+    pub(crate) fn number_of(&self) -> Option<i64>
         ensures { result ≡ number_of self.now }
     {
         match &self.form {
@@ -77,7 +77,7 @@ impl<A: Allocator> Operand<A> {
     }
 
     /// The operand's text; that of a number is written into the buffer.
-    pub fn bytes<'a>(&'a self, buffer: &'a mut Buffer) -> &'a [u8]
+    pub(crate) fn bytes<'a>(&'a self, buffer: &'a mut Buffer) -> &'a [u8]
         ensures { result.now ≡ self.now }
     {
         match &self.form {
@@ -89,7 +89,7 @@ impl<A: Allocator> Operand<A> {
 
 impl<A: Allocator + Copy> Operand<A> {
     /// The operand's text as a formula gives it: a number in decimal (expr(n)).
-    pub fn into_value(self, alloc: A) -> Result<Value<A>, NoMemory>
+    pub(crate) fn into_value(self, alloc: A) -> Result<Value<A>, NoMemory>
         ensures { IfOk result (λ text. text ≡ value.result self) }
     {
         match self.form {
@@ -100,7 +100,7 @@ impl<A: Allocator + Copy> Operand<A> {
 }
 
 /// The number that a text is, if it is one (expr(n), operands).
-pub fn number_in(text: &[u8]) -> Option<i64>
+pub(crate) fn number_in(text: &[u8]) -> Option<i64>
     ensures { result ≡ number_of text.now }
 {
     read_int(text)
