@@ -1,5 +1,5 @@
 -- How the commands of the code, and what they hold, stand to those of the definition.
-use Rattle.std.specs.Prelude.{◌≡◌, ℕ, ◌<◌}
+use Rattle.std.specs.Prelude.{◌≡◌, ℕ, ◌<◌, ◌⊎◌}
 use Rattle.control.specs.Catch as catch
 use Rattle.control.specs.Eval as eval
 use Rattle.control.specs.Control as meant
@@ -29,6 +29,17 @@ next_of (held.Eval own) = eval.next_of own
 abbrev pub TicksFirst : {A H : Type 0} → Nesting A H → ℕ → ℕ → Type 0
 TicksFirst (nesting.Has outcome) new old = Unit {0}
 TicksFirst (nesting.Runs script levels held) new old = new < old
+
+-- the scripts that a command may still run without a tick before them
+abbrev pub scripts_held : {A : Type 0} → Held A → ℕ
+scripts_held (held.Catch own) = 0
+
+-- a script runs again only after a tick, or where fewer may follow it without one (this project's
+-- own rule)
+abbrev pub Advances : {A : Type 0} → Nesting A (Held A) → ℕ → ℕ → ℕ → Type 0
+Advances (nesting.Has outcome) new old most = Unit {0}
+Advances (nesting.Runs script levels held) new old most =
+    (new < old) ⊎ (scripts_held held < most)
 
 -- what is at hand of one command is the same course as one of all commands
 abbrev pub IsLifted : {A H : Type 0} → (H → Status → Outcome → Course) → Nesting A H →

@@ -1,7 +1,7 @@
 //! What a command holds while a script runs within it.
 
 ghost use Rattle.std.specs.Prelude.{ℕ};
-ghost use Rattle.control.specs.View.{IsLifted, TicksFirst};
+ghost use Rattle.control.specs.View.{Advances, IsLifted, TicksFirst};
 ghost use Rattle.control.specs.Catch as catches;
 ghost use Rattle.control.specs.Eval as evals;
 
@@ -20,7 +20,8 @@ pub enum Held<A: Allocator> {
 /// How far `catch` has come, as a command.
 pub(crate) fn from_catch<A: Allocator>(nesting: Nesting<A, catch::Held<A>>) -> Nesting<A, Held<A>>
     ensures lifted { IsLifted catches.next_of nesting result }
-    ensures ticks { (new old : ℕ) → TicksFirst nesting new old → TicksFirst result new old }
+    ensures advances { (new old most : ℕ) →
+        TicksFirst nesting new old → Advances result new old most }
 {
     match nesting {
         Nesting::Has(outcome) => Nesting::Has(outcome),

@@ -2,7 +2,7 @@
 
 ghost use Rattle.std.specs.Prelude.{◌≡◌, ◌≤◌, IfOk, option_map};
 ghost use Rattle.control.specs.Commands as definition;
-ghost use Rattle.control.specs.View.{TicksFirst, control_of, next_of};
+ghost use Rattle.control.specs.View.{Advances, control_of, next_of, scripts_held};
 ghost use Rattle.state.specs.Nesting.{Nests};
 ghost use Rattle.state.specs.Status.{Status};
 ghost use Rattle.state.specs.View.{FitsState, outcome_of};
@@ -72,8 +72,8 @@ pub fn resumed<A: Allocator + Copy>(
     ensures nests { (s : Status) → FitsState state.old s → IfOk result (λ nesting.
         Nests next_of nesting state.new (next_of held s (outcome_of outcome))) }
     ensures left { state.new.left ≤ state.old.left }
-    ensures ticks { IfOk result (λ nesting.
-        TicksFirst nesting state.new.left state.old.left) }
+    ensures advances { IfOk result (λ nesting.
+        Advances nesting state.new.left state.old.left (scripts_held held)) }
 {
     match held {
         Held::Catch(own) => Ok(from_catch(catch::resumed(alloc, state, own, outcome)?)),

@@ -1,5 +1,5 @@
 -- Commands that run scripts, and what they hold meanwhile.
-use Rattle.std.proofs.Common.{◌≡◌, ◌∙◌, ◌-◌, ℕ, ◌≤◌, List, [], ◌∷◌, drop, get_or, length, take, Option, Some, None, option_map, Result, refl, sym, ap, arith}
+use Rattle.std.proofs.Common.{◌≡◌, ◌∙◌, ◌-◌, ℕ, ◌≤◌, List, [], ◌∷◌, drop, get_or, length, take, Option, Some, None, option_map, Result, Ok, refl, sym, ap, arith}
 use Rattle.std.proofs.lemmas.List.{length-drop, take_all}
 use Rattle.commands.specs.Commands as leaf
 use Rattle.commands.specs.View as table
@@ -8,9 +8,10 @@ use Rattle.control.specs.Commands.{does, named}
 use Rattle.control.specs.Control.{Control}
 use Rattle.control.specs.View as control
 use Rattle.control.specs.declared.held.Held.{Held}
-use Rattle.engine.specs.Frames.{begun, left_of}
+use Rattle.engine.specs.Frames.{begun, left_of, onward_of}
 use Rattle.engine.specs.Goes.{Goes, here, calls}
-use Rattle.engine.specs.Phases.{Begins, Leads}
+use Rattle.engine.specs.Phases.{Begins, Leads, course_of_next}
+use Rattle.engine.specs.declared.machine.Next.TheVariants as next
 use Rattle.engine.specs.declared.frame.Frame.{Frame}
 use Rattle.engine.specs.declared.frame.Frame.TheVariants as frame
 use Rattle.engine.proofs.Machines.{over_goes}
@@ -55,12 +56,26 @@ module _ {A : Type 0} (fs : List (Frame A)) where
       (state : State A) (course : Course) →
       new ≡ frame.Script (begun script levels) ∷ frame.Held held ∷ fs →
       Nests (control.next_of {A = A}) (nesting.Runs script levels held) state course →
-      Begins (gives []) new state (left_of course fs)
+      Begins (course_of_next {A = A} next.Again) new state (left_of course fs)
   runs_held script levels held new state course on shown = record {
     status = shown.status;
     fits = shown.fits;
     goes = then_goes (reaches_goes fs shown.reaches)
         (held_goes script levels held new shown.status on);
+  }
+
+  -- the same, where the command took no tick
+  pub runs_on : (script : Script A) (levels : ℕ) (held : Held A) (new : List (Frame A))
+      (state : State A) (course : Course) (none : List ℕ) → none ≡ [] →
+      new ≡ frame.Script (begun script levels) ∷ frame.Held held ∷ fs →
+      Nests (control.next_of {A = A}) (nesting.Runs script levels held) state course →
+      Leads (at_hand.Has (Ok none)) new state (left_of course fs)
+  runs_on script levels held new state course none is on shown = record {
+    status = shown.status;
+    fits = shown.fits;
+    goes = then_goes (reaches_goes fs shown.reaches)
+        (then_goes (held_goes script levels held new shown.status on)
+        (same_goes (ap (λ v. onward_of new shown.status (Gives v)) (sym is))));
   }
 
   -- what a command has come to is at hand, with the frames that it left

@@ -63,13 +63,7 @@ module _ {A : Type 0} (fs : List (Frame A)) (state : State A) {p q : Dialogue Ov
 
   pub unwinds_from : (u : Unwound A) → Unwinds u fs state q → Unwinds u fs state p
   unwinds_from (unwound.Has outcome) leads = leads_from leads
-  unwinds_from (unwound.Asks act waits) leads = leads_from leads
-  unwinds_from (unwound.Command ws levels) begins = record {
-    status = begins.status;
-    fits = begins.fits;
-    goes = then_goes goes begins.goes;
-  }
-  unwinds_from unwound.Runs begins = record {
+  unwinds_from (unwound.Begins next) begins = record {
     status = begins.status;
     fits = begins.fits;
     goes = then_goes goes begins.goes;

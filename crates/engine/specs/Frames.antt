@@ -14,6 +14,7 @@ use Rattle.runs.specs.Scripts.{script}
 use Rattle.state.specs.Dialogue.{Course, Dialogue, on_value}
 use Rattle.state.specs.Outcome.{Outcome, Gives}
 use Rattle.state.specs.Status.{Status}
+use Rattle.state.specs.declared.state.State.{State}
 use Rattle.tclparse.specs.Fault.{Fault}
 use Rattle.tclparse.specs.Grammar.{IsScript}
 use Rattle.tclparse.specs.Seen.{fault_of}
@@ -62,9 +63,25 @@ left_of course frames = and_then course (onward (onward_of frames))
 abbrev pub weight_of : {A : Type 0} → Frame A → ℕ
 weight_of (frame.Script s) = 1
 weight_of (frame.Words gathering levels) = 3 + 2 * scripts_left gathering.value
-weight_of (frame.Held held) = 1
+weight_of (frame.Held held) = 1 + 2 * control.scripts_held held
 
 -- how much all frames may
 abbrev pub weight : {A : Type 0} → List (Frame A) → ℕ
 weight [] = 0
 weight (f ∷ fs) = weight_of f + weight fs
+
+-- a frame in which the words of a command wait counts as one
+abbrev pub words_of_frame : {A : Type 0} → Frame A → ℕ
+words_of_frame (frame.Script s) = 0
+words_of_frame (frame.Words gathering levels) = 1
+words_of_frame (frame.Held held) = 0
+
+-- the frames in which words wait, of which each begins a command yet
+abbrev pub words_in : {A : Type 0} → List (Frame A) → ℕ
+words_in [] = 0
+words_in (f ∷ fs) = words_of_frame f + words_in fs
+
+-- how many commands more may begin, by their trees and by the values of their words: a tick begins
+-- one, and its words may wait
+abbrev pub load : {A : Type 0} → List (Frame A) → State A → ℕ
+load frames state = 2 * state.left + words_in frames

@@ -1,5 +1,5 @@
 -- Where a session stands.
-use Rattle.std.specs.Prelude.{◌≡◌, ℕ, ◌<◌, ◌≤◌, List, [], ◌∷◌, ◌++◌, Option, Some, None, Result, Ok, Err, IsOkAnd}
+use Rattle.std.specs.Prelude.{◌≡◌, ℕ, ◌+◌, ◌*◌, ◌<◌, ◌≤◌, List, [], ◌∷◌, ◌++◌, Option, Some, None, Result, Ok, Err, IsOkAnd}
 use Rattle.std.specs.declared.rc.Rc.{Rc}
 use Rattle.acts.specs.Deed.{Deed, Reply, deed_of, reply_of}
 use Rattle.acts.specs.History.{History}
@@ -7,13 +7,15 @@ use Rattle.acts.specs.declared.act.Act.{Act}
 use Rattle.acts.specs.declared.answer.Answer.{Answer}
 use Rattle.commands.specs.View as table
 use Rattle.commands.specs.declared.waits.Waits.{Waits}
-use Rattle.engine.specs.Frames.{onward_of, left_of, weight}
+use Rattle.engine.specs.Frames.{load, onward_of, left_of, weight, words_in}
 use Rattle.engine.specs.Goes.{Goes}
 use Rattle.engine.specs.View.{ending_of}
 use Rattle.engine.specs.declared.closing.Closing.{Closing}
 use Rattle.engine.specs.declared.closing.Closing.TheVariants as closing
 use Rattle.engine.specs.declared.end.End.{End}
 use Rattle.engine.specs.declared.frame.Frame.{Frame}
+use Rattle.engine.specs.declared.machine.Next.{Next}
+use Rattle.engine.specs.declared.machine.Next.TheVariants as next
 use Rattle.engine.specs.declared.machine.Unwound.{Unwound}
 use Rattle.engine.specs.declared.machine.Unwound.TheVariants as unwound
 use Rattle.engine.specs.declared.phase.Phase.{Phase}
@@ -49,27 +51,34 @@ pub record Begins {A : Type 0} (course : Status → Course) (frames : List (Fram
   pub fits : FitsState state status
   pub goes : Goes p (left_of (course status) frames)
 
+-- what begins, as a course
+abbrev pub course_of_next : {A : Type 0} → Next A → Status → Course
+course_of_next (next.Command ws levels) s = words levels (words_of ws) [] s (command levels)
+course_of_next (next.Call values levels) s = command levels s values.items
+course_of_next next.Again s = gives [] s
+
 -- what a frame came to
 abbrev pub Unwinds : {A : Type 0} → Unwound A → List (Frame A) → State A → Dialogue Over → Type 0
 Unwinds (unwound.Has outcome) frames state p = Leads (leaf.Has outcome) frames state p
-Unwinds (unwound.Asks act waits) frames state p = Leads (leaf.Asks act waits) frames state p
-Unwinds (unwound.Command ws levels) frames state p =
-    Begins (λ s. words levels (words_of ws) [] s (command levels)) frames state p
-Unwinds unwound.Runs frames state p = Begins (gives []) frames state p
+Unwinds (unwound.Begins next) frames state p = Begins (course_of_next next) frames state p
 
--- and lightens the frames, or takes a tick
-abbrev pub Lightens : {A : Type 0} → Unwound A → List (Frame A) → State A → ℕ → ℕ → Type 0
-Lightens (unwound.Has outcome) frames state most left = (weight frames < most) × (state.left ≤ left)
-Lightens (unwound.Asks act waits) frames state most left = Unit {0}
-Lightens (unwound.Command ws levels) frames state most left = state.left < left
-Lightens unwound.Runs frames state most left = state.left < left
+-- the words of a command that begins by its tree may wait in a frame
+abbrev pub more_of : {A : Type 0} → Next A → ℕ
+more_of (next.Command ws levels) = 1
+more_of (next.Call values levels) = 0
+more_of next.Again = 0
+
+-- it lightens the frames, or what begins leaves fewer commands that may begin
+abbrev pub Lightens : {A : Type 0} → Unwound A → List (Frame A) → State A → ℕ → ℕ → ℕ → Type 0
+Lightens (unwound.Has outcome) frames state most waiting left =
+    (weight frames < most) × (words_in frames ≤ waiting) × (state.left ≤ left)
+Lightens (unwound.Begins next) frames state most waiting left =
+    more_of next + load frames state < 2 * left + waiting
 
 -- all frames are gone where there is an outcome
 abbrev pub IsEmptied : {A : Type 0} → Unwound A → List (Frame A) → Type 0
 IsEmptied (unwound.Has outcome) frames = frames ≡ []
-IsEmptied (unwound.Asks act waits) frames = Unit {0}
-IsEmptied (unwound.Command ws levels) frames = Unit {0}
-IsEmptied unwound.Runs frames = Unit {0}
+IsEmptied (unwound.Begins next) frames = Unit {0}
 
 -- what is done with the answer to an act that closes a run, where it fits
 abbrev pub closing_on : {A : Type 0} → Closing A → Status → Reply → Dialogue Over

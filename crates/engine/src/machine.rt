@@ -4,9 +4,10 @@ ghost use Rattle.std.specs.Prelude.{◌≡◌, ℕ, ◌+◌, ◌*◌, ◌<◌, �
 ghost use Rattle.acts.specs.Flaw.{flaw_of};
 ghost use Rattle.commands.specs.View as table;
 ghost use Rattle.control.specs.View as control;
-ghost use Rattle.engine.specs.Frames.{begun, left_of, next_of, onward_of, stack, weight, weight_of};
+ghost use Rattle.control.specs.View.{scripts_held};
+ghost use Rattle.engine.specs.Frames.{begun, left_of, load, next_of, onward_of, stack, weight, weight_of, words_in, words_of_frame};
 ghost use Rattle.engine.specs.Goes.{Goes};
-ghost use Rattle.engine.specs.Phases.{IsEmptied, IsTold, Leads, Lightens, Stands, Unwinds};
+ghost use Rattle.engine.specs.Phases.{IsEmptied, IsTold, Leads, Lightens, Stands, Unwinds, course_of_next, more_of};
 ghost use Rattle.engine.specs.declared.frame.Frame.TheVariants as frames_are;
 ghost use Rattle.runs.specs.Commands.{command};
 ghost use Rattle.runs.specs.Scripts.{flaw_of_fault, behind as meant_behind};
@@ -17,10 +18,10 @@ ghost use Rattle.state.specs.Outcome.{Gives};
 ghost use Rattle.state.specs.Status.{Status};
 ghost use Rattle.state.specs.View.{FitsState, outcome_of};
 ghost use Rattle.tclparse.specs.Seen.{fault_of};
-ghost use Rattle.tclparse.specs.View.{commands_of, words_of};
+ghost use Rattle.tclparse.specs.View.{commands_of};
 ghost use Rattle.words.specs.Gathering.{course_of_gathered, gathering_on};
-ghost use Rattle.words.specs.Scripts.{HasFewer, scripts_left};
-ghost use Rattle.words.specs.Words.{nested, words as meant_words};
+ghost use Rattle.words.specs.Scripts.{scripts_left};
+ghost use Rattle.words.specs.Words.{nested};
 
 use crate::closing::close_run;
 use crate::frame::{Frame, Script};
@@ -29,6 +30,7 @@ use acts::{Act, Fault, NoMemory};
 use commands::Waits;
 use control::{Control, Held};
 use state::leaf::{empty, raises};
+use state::nesting::raised;
 use state::{Code, Leaf, Leave, Nesting, Outcome, State, Stop};
 use std::alloc::Allocator;
 use std::rc::Rc;
@@ -41,12 +43,19 @@ use words::{Gathered, Gathering};
 pub enum Unwound<A: Allocator> {
     /// It is over, and so.
     Has(Outcome<A>),
-    /// A command's act waits for its answer.
-    Asks(Act<A>, Waits<A>),
-    /// A command begins, by its words, and has taken its tick.
+    /// This begins above the frames.
+    Begins(Next<A>),
+}
+
+/// What begins once frames are taken off.
+#[derive(Drop)]
+pub enum Next<A: Allocator> {
+    /// A command by its tree, which has taken its tick, and the levels that may still stand in it.
     Command(Rc<Vec<Word<A>, A>, A>, u8),
-    /// A command runs its script again, and has taken a tick.
-    Runs,
+    /// A command by the values of its words, and the levels that may still stand in it.
+    Call(Vec<Value<A>, A>, u8),
+    /// The script on the stack, which a command runs again after a tick.
+    Again,
 }
 
 /// Silent steps up to the next act or the end, from how a part ended.
@@ -63,24 +72,20 @@ pub fn advance<A: Allocator + Copy>(
     ensures told { IfOk result IsTold }
 {
     'commands: loop {
-        let (words, levels) = match unwind(alloc, frames, state, outcome)? {
-            Unwound::Command(words, levels) => (words, levels),
-            Unwound::Asks(act, waits) => return Ok(Phase::Asks(act, waits)),
+        let unwound = unwind(alloc, frames, state, outcome)?;
+        let next = match unwound {
             Unwound::Has(last) => return close_run(alloc, state, answers, last),
-            Unwound::Runs => {
-                outcome = Ok(Value::empty());
-                continue 'commands;
-            }
+            Unwound::Begins(next) => next,
         };
-        let gathered = words::begin(alloc, &state.scopes, words)?;
-        match take(alloc, frames, state, gathered, levels)? {
+        let leaf = start(alloc, frames, state, next)?;
+        match leaf {
             Leaf::Has(next) => outcome = next,
             Leaf::Asks(act, waits) => return Ok(Phase::Asks(act, waits)),
         }
     }
 }
 
-/// Takes frames off, from the top down, up to the next command of a script or the next act.
+/// Takes frames off, from the top down, up to where something begins.
 fn unwind<A: Allocator + Copy>(
     alloc: A,
     frames: &mut Vec<Frame<A>, A>,
@@ -93,7 +98,7 @@ fn unwind<A: Allocator + Copy>(
     ensures emptied { IfOk result (λ unwound. IsEmptied unwound (stack frames.new)) }
     ensures lightens { IfOk result (λ unwound.
         Lightens unwound (stack frames.new) state.new (1 + weight (stack frames.old))
-        state.old.left) }
+        (words_in (stack frames.old)) state.old.left) }
 {
     'frames: loop {
         let Some(frame) = Frame::pop(frames) else {
@@ -101,9 +106,7 @@ fn unwind<A: Allocator + Copy>(
         };
         match resume(alloc, frames, state, frame, outcome)? {
             Unwound::Has(next) => outcome = next,
-            Unwound::Asks(act, waits) => return Ok(Unwound::Asks(act, waits)),
-            Unwound::Command(words, levels) => return Ok(Unwound::Command(words, levels)),
-            Unwound::Runs => return Ok(Unwound::Runs),
+            Unwound::Begins(next) => return Ok(Unwound::Begins(next)),
         }
     }
 }
@@ -121,7 +124,8 @@ fn resume<A: Allocator + Copy>(
         (left_of (next_of frame s (outcome_of outcome)) (stack frames.old))) }
     ensures lightens { IfOk result (λ unwound.
         Lightens unwound (stack frames.new) state.new
-        (weight_of frame + weight (stack frames.old)) state.old.left) }
+        (weight_of frame + weight (stack frames.old))
+        (words_of_frame frame + words_in (stack frames.old)) state.old.left) }
 {
     match frame {
         Frame::Script(script) => match outcome {
@@ -152,7 +156,7 @@ fn script_on<A: Allocator + Copy>(
         (left_of (next_of (frames_are.Script script) s (Gives value)) (stack frames.old))) }
     ensures lightens { IfOk result (λ unwound.
         Lightens unwound (stack frames.new) state.new
-        (1 + weight (stack frames.old)) state.old.left) }
+        (1 + weight (stack frames.old)) (words_in (stack frames.old)) state.old.left) }
 {
     if script.next >= script.commands.len() {
         return Ok(Unwound::Has(behind(alloc, script.fault, value)?));
@@ -175,7 +179,7 @@ fn script_on<A: Allocator + Copy>(
         fault,
     });
     rest.push(frames)?;
-    Ok(Unwound::Command(words, levels))
+    Ok(Unwound::Begins(Next::Command(words, levels)))
 }
 
 /// Behind the commands of a script: the value of the last one, or the fault.
@@ -226,12 +230,43 @@ fn words_on<A: Allocator + Copy>(
         (left_of (gathering_on levels gathering (command levels) s value) (stack frames.old))) }
     ensures lightens { IfOk result (λ unwound.
         Lightens unwound (stack frames.new) state.new
-        (3 + 2 * scripts_left gathering + weight (stack frames.old)) state.old.left) }
+        (3 + 2 * scripts_left gathering + weight (stack frames.old))
+        (1 + words_in (stack frames.old)) state.old.left) }
 {
     let gathered = words::resume(alloc, &state.scopes, gathering, value)?;
-    match take(alloc, frames, state, gathered, levels)? {
-        Leaf::Has(outcome) => Ok(Unwound::Has(outcome)),
-        Leaf::Asks(act, waits) => Ok(Unwound::Asks(act, waits)),
+    match gathered {
+        Gathered::Values(values) => Ok(Unwound::Begins(Next::Call(values, levels))),
+        Gathered::Script(commands, gathering) => {
+            let outcome = nest(alloc, frames, commands, gathering, levels)?;
+            Ok(Unwound::Has(outcome))
+        }
+        Gathered::Fault(fault) => {
+            let outcome = raised(alloc, &fault)?;
+            Ok(Unwound::Has(outcome))
+        }
+    }
+}
+
+/// Begins what comes next, up to its first act or a script in it.
+fn start<A: Allocator + Copy>(
+    alloc: A,
+    frames: &mut Vec<Frame<A>, A>,
+    state: &mut State<A>,
+    next: Next<A>,
+) -> Result<Leaf<A, Waits<A>>, NoMemory>
+    ensures leads { (s : Status) → FitsState state.old s →
+        IfOk result (λ leaf. Leads leaf (stack frames.new) state.new
+        (left_of (course_of_next next s) (stack frames.old))) }
+    ensures load { IfOk result (λ leaf.
+        load (stack frames.new) state.new ≤ more_of next + load (stack frames.old) state.old) }
+{
+    match next {
+        Next::Command(words, levels) => {
+            let gathered = words::begin(alloc, &state.scopes, words)?;
+            take(alloc, frames, state, gathered, levels)
+        }
+        Next::Call(values, levels) => call(alloc, frames, state, &values, levels),
+        Next::Again => Ok(empty()),
     }
 }
 
@@ -246,14 +281,15 @@ fn take<A: Allocator + Copy>(
     ensures leads { (s : Status) → FitsState state.old s →
         IfOk result (λ leaf. Leads leaf (stack frames.new) state.new
         (left_of (course_of_gathered levels gathered (command levels) s) (stack frames.old))) }
-    ensures weighs { (most : ℕ) → HasFewer gathered most →
-        IfOk result (λ leaf.
-        weight (stack frames.new) < 3 + 2 * most + weight (stack frames.old)) }
-    ensures left { state.new.left ≤ state.old.left }
+    ensures load { IfOk result (λ leaf.
+        load (stack frames.new) state.new ≤ 1 + load (stack frames.old) state.old) }
 {
     match gathered {
         Gathered::Values(values) => call(alloc, frames, state, &values, levels),
-        Gathered::Script(commands, gathering) => nest(alloc, frames, commands, gathering, levels),
+        Gathered::Script(commands, gathering) => {
+            let outcome = nest(alloc, frames, commands, gathering, levels)?;
+            Ok(Leaf::Has(outcome))
+        }
         Gathered::Fault(fault) => raises(alloc, &fault),
     }
 }
@@ -269,9 +305,8 @@ fn call<A: Allocator + Copy>(
     ensures leads { (s : Status) → FitsState state.old s →
         IfOk result (λ leaf. Leads leaf (stack frames.new) state.new
         (left_of (command levels s words.now) (stack frames.old))) }
-    ensures weighs { IfOk result (λ leaf.
-        weight (stack frames.new) ≤ 2 + weight (stack frames.old)) }
-    ensures left { state.new.left ≤ state.old.left }
+    ensures load { IfOk result (λ leaf.
+        load (stack frames.new) state.new ≤ load (stack frames.old) state.old) }
 {
     let [name, args @ ..] = words else {
         return Ok(empty());
@@ -293,8 +328,7 @@ fn hold<A: Allocator>(
     ensures leads { (s : Status) → IfOk result (λ leaf.
         Goes (left_of (course_of_nesting control.next_of nesting s) (stack frames.old))
         (left_of (course_of table.next_of leaf s) (stack frames.new))) }
-    ensures weighs { IfOk result (λ leaf.
-        weight (stack frames.new) ≤ 2 + weight (stack frames.old)) }
+    ensures words { IfOk result (λ leaf. words_in (stack frames.new) ≡ words_in (stack frames.old)) }
 {
     match nesting {
         Nesting::Has(outcome) => Ok(Leaf::Has(outcome)),
@@ -340,13 +374,20 @@ fn held_on<A: Allocator + Copy>(
         (left_of (control.next_of held s (outcome_of outcome)) (stack frames.old))) }
     ensures lightens { IfOk result (λ unwound.
         Lightens unwound (stack frames.new) state.new
-        (1 + weight (stack frames.old)) state.old.left) }
+        (1 + 2 * scripts_held held + weight (stack frames.old))
+        (words_in (stack frames.old)) state.old.left) }
 {
-    match control::resumed(alloc, state, held, outcome)? {
+    let left = state.left;
+    let nesting = control::resumed(alloc, state, held, outcome)?;
+    match nesting {
         Nesting::Has(outcome) => Ok(Unwound::Has(outcome)),
         Nesting::Runs(script, levels, held) => {
             hold_script(frames, script, levels, held)?;
-            Ok(Unwound::Runs)
+            if state.left < left {
+                Ok(Unwound::Begins(Next::Again))
+            } else {
+                Ok(Unwound::Has(Ok(Value::empty())))
+            }
         }
     }
 }
@@ -358,17 +399,19 @@ fn nest<A: Allocator + Copy>(
     commands: Rc<Vec<Command<A>, A>, A>,
     gathering: Gathering<A>,
     levels: u8,
-) -> Result<Leaf<A, Waits<A>>, NoMemory>
-    ensures leads { (s : Status) → IfOk result (λ leaf.
+) -> Result<Outcome<A>, NoMemory>
+    ensures goes { (s : Status) → IfOk result (λ outcome.
         Goes (left_of (nested levels (commands_of commands) s
         (gathering_on levels gathering (command levels))) (stack frames.old))
-        (left_of (course_of table.next_of leaf s) (stack frames.new))) }
-    ensures weighs { IfOk result (λ leaf.
+        (onward_of (stack frames.new) s (outcome_of outcome))) }
+    ensures weighs { IfOk result (λ outcome.
         weight (stack frames.new)
         ≤ 4 + 2 * scripts_left gathering + weight (stack frames.old)) }
+    ensures words { IfOk result (λ outcome.
+        words_in (stack frames.new) ≤ 1 + words_in (stack frames.old)) }
 {
     let Some(inner) = levels.checked_sub(1) else {
-        return raises(alloc, &Fault::TooManyNested);
+        return raised(alloc, &Fault::TooManyNested);
     };
     Frame::Words(Box::new(alloc, gathering)?, levels).push(frames)?;
     let script = Frame::Script(Script {
@@ -378,5 +421,5 @@ fn nest<A: Allocator + Copy>(
         fault: None,
     });
     script.push(frames)?;
-    Ok(empty())
+    Ok(Ok(Value::empty()))
 }

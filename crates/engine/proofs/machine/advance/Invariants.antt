@@ -1,5 +1,5 @@
 use Rattle.std.proofs.Common.{◌≤◌}
-use Rattle.engine.specs.Frames.{onward_of, stack}
+use Rattle.engine.specs.Frames.{load, onward_of, stack}
 use Rattle.state.specs.Status.{Status}
 use Rattle.state.specs.View.{FitsState, outcome_of}
 use Rattle.engine.proofs.Machines.{Comes}
@@ -11,6 +11,6 @@ invariant-commands g l =
     Comes (stack l.frames) l.state (outcome_of l.outcome)
     (onward_of (stack l.fn.frames) s (outcome_of l.fn.outcome))
 
--- each command takes a tick
+-- each tick begins a command once by its tree, and once by the values of its words
 abbrev pub decreases-commands : goal.decreases-commands
-decreases-commands g l = l.state.left
+decreases-commands g l = load (stack l.frames) l.state

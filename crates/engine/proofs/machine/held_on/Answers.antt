@@ -1,8 +1,7 @@
 use Rattle.std.proofs.Common.{subst}
 use Rattle.control.specs.View as control
-use Rattle.control.specs.View.{TicksFirst}
 use Rattle.engine.specs.Frames.{stack}
-use Rattle.engine.proofs.Held.{over_held, runs_held}
+use Rattle.engine.proofs.Held.{over_held, runs_held, runs_on}
 use Rattle.state.specs.Nesting.{Nests}
 use Rattle.state.specs.View.{outcome_of}
 use Rattle.engine.proofs.machine.held_on.Goals as goal
@@ -12,20 +11,22 @@ returns-in-Has-clause-unwinds g c = λ s fits.
     let course = control.next_of c.args.held s (outcome_of c.args.outcome) in
     over_held (stack c.args.frames.now) c.in-Has.outcome c.resumed.new.state course
     (subst (λ n. Nests control.next_of n c.resumed.new.state course) c.in-Has.is
-    (c.in_ok-outcome.ensures.nests s fits))
+    (c.in_ok-nesting.ensures.nests s fits))
 
-pub returns-in_ok-hold_script-in-Runs-clause-unwinds :
-    goal.returns-in_ok-hold_script-in-Runs-clause-unwinds
-returns-in_ok-hold_script-in-Runs-clause-unwinds g c = λ s fits.
+pub returns-then-state-left-clause-unwinds : goal.returns-then-state-left-clause-unwinds
+returns-then-state-left-clause-unwinds g c = λ s fits.
     let course = control.next_of c.args.held s (outcome_of c.args.outcome) in
     runs_held (stack c.args.frames.now) c.in-Runs.script c.in-Runs.levels c.in-Runs.held
     (stack c.hold_script.new.frames) c.resumed.new.state course
     c.in_ok-hold_script-in-Runs.ensures
     (subst (λ n. Nests control.next_of n c.resumed.new.state course) c.in-Runs.is
-    (c.in_ok-outcome.ensures.nests s fits))
+    (c.in_ok-nesting.ensures.nests s fits))
 
-pub returns-in_ok-hold_script-in-Runs-clause-lightens :
-    goal.returns-in_ok-hold_script-in-Runs-clause-lightens
-returns-in_ok-hold_script-in-Runs-clause-lightens g c =
-    subst (λ n. TicksFirst n c.resumed.new.state.left c.args.state.now.left) c.in-Runs.is
-    c.in_ok-outcome.ensures.ticks
+pub returns-else-state-left-clause-unwinds : goal.returns-else-state-left-clause-unwinds
+returns-else-state-left-clause-unwinds g c = λ s fits.
+    let course = control.next_of c.args.held s (outcome_of c.args.outcome) in
+    runs_on (stack c.args.frames.now) c.in-Runs.script c.in-Runs.levels c.in-Runs.held
+    (stack c.hold_script.new.frames) c.resumed.new.state course c.empty.result c.empty.ensures
+    c.in_ok-hold_script-in-Runs.ensures
+    (subst (λ n. Nests control.next_of n c.resumed.new.state course) c.in-Runs.is
+    (c.in_ok-nesting.ensures.nests s fits))

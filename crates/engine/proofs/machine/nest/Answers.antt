@@ -1,32 +1,30 @@
 use Rattle.std.proofs.Common.{◌≡◌, ◌∙◌, ◌∷◌, [], suc, None, sym, ap, rules, arith}
-use Rattle.acts.specs.Flaw as flaw
-use Rattle.acts.specs.Flaw.{text_of}
 use Rattle.runs.specs.Commands.{command}
-use Rattle.engine.specs.Frames.{left_of, stack}
+use Rattle.engine.specs.Frames.{left_of, onward_of, stack}
 use Rattle.engine.specs.declared.frame.Frame.TheVariants as frame
 use Rattle.plan.specs.Plan.{Ends}
 use Rattle.state.specs.Dialogue.{Course}
-use Rattle.state.specs.Outcome.{Gives, Leaves, Error}
+use Rattle.state.specs.Outcome.{Gives}
 use Rattle.tclparse.specs.View.{commands_of}
 use Rattle.words.specs.Gathering.{gathering_on}
 use Rattle.words.specs.Words.{nested}
-use Rattle.engine.proofs.Machines.{on_ok, nest_goes, nested_over, over_goes}
+use Rattle.engine.proofs.Machines.{on_ok, nest_goes, nested_over}
 use Rattle.engine.proofs.Silent.{same_goes, same_left, then_goes}
 use Rattle.engine.proofs.machine.nest.Goals as goal
 
-pub returns-in_default-clause-leads : goal.returns-in_default-clause-leads
-returns-in_default-clause-leads g c = λ s.
+pub returns-in_default-clause-goes : goal.returns-in_default-clause-goes
+returns-in_default-clause-goes g c = λ s.
     let frames = stack c.args.frames.now in
     let zero : c.args.levels ≡ 0 = search (rules, arith) in
-    on_ok c.raises.result (λ leaf is.
+    on_ok c.raised.result (λ outcome is.
     then_goes
     (same_left frames (nested_over c.args.levels (commands_of c.args.commands) s
     (gathering_on c.args.levels c.args.gathering (command c.args.levels)) zero))
-    (over_goes frames leaf (Leaves Error (text_of flaw.TooManyNested)) s is))
-    c.raises.ensures
+    (same_goes (ap (λ o. onward_of frames s o) (sym is))))
+    c.raised.ensures
 
-pub returns-clause-leads : goal.returns-clause-leads
-returns-clause-leads g c = λ s.
+pub returns-clause-goes : goal.returns-clause-goes
+returns-clause-goes g c = λ s.
     let frames = stack c.args.frames.now in
     let is : c.args.levels ≡ suc c.in-Some.inner = search (rules, arith) in
     let own : c.args.gathering ≡ c.in_ok-new.field-0.value = search rules in
@@ -44,4 +42,4 @@ returns-clause-leads g c = λ s.
     (nest_goes frames c.args.levels c.in-Some.inner c.args.commands c.in_ok-new.field-0 s is)
     (then_goes
     (same_goes (ap (λ fs. left_of over fs) (sym on)))
-    (over_goes (stack c.push-2.new.frames) c.empty.result (Gives []) s c.empty.ensures)))
+    (same_goes (ap (λ v. onward_of (stack c.push-2.new.frames) s (Gives v)) (sym c.empty.ensures)))))

@@ -18,19 +18,16 @@ returns-in-Values-clause-leads g c = λ s fits.
     leads)
     (c.call.ensures.leads s fits)
 
-pub returns-in-Script-clause-leads : goal.returns-in-Script-clause-leads
-returns-in-Script-clause-leads g c = λ s fits.
-    let frames = stack c.args.frames.now in
-    on_ok c.nest.result (λ leaf goes. record {
-      status = s;
-      fits = fits;
-      goes = then_goes
-          (same_left frames
-          (ap (λ gathered. course_of_gathered c.args.levels gathered (command c.args.levels) s)
-          c.in-Script.is))
-          goes;
-    })
-    (c.nest.ensures.leads s)
+pub returns-in_ok-outcome-in-Script-clause-leads : goal.returns-in_ok-outcome-in-Script-clause-leads
+returns-in_ok-outcome-in-Script-clause-leads g c = λ s fits. record {
+  status = s;
+  fits = fits;
+  goes = then_goes
+      (same_left (stack c.args.frames.now)
+      (ap (λ gathered. course_of_gathered c.args.levels gathered (command c.args.levels) s)
+      c.in-Script.is))
+      (c.in_ok-outcome-in-Script.ensures.goes s);
+}
 
 pub returns-in-Fault-clause-leads : goal.returns-in-Fault-clause-leads
 returns-in-Fault-clause-leads g c = λ s fits.

@@ -1,5 +1,5 @@
 use Rattle.std.proofs.Common.{◌≤◌, ◌+◌}
-use Rattle.engine.specs.Frames.{onward_of, stack, weight}
+use Rattle.engine.specs.Frames.{onward_of, stack, weight, words_in}
 use Rattle.engine.specs.Goes.{Goes}
 use Rattle.state.specs.Status.{Status}
 use Rattle.state.specs.View.{FitsState, outcome_of}
@@ -12,6 +12,7 @@ invariant-frames g l = record {
       Comes (stack l.frames) l.state (outcome_of l.outcome)
       (onward_of (stack l.fn.frames) s (outcome_of l.fn.outcome));
   lighter : weight (stack l.frames) ≤ weight (stack l.fn.frames);
+  waiting : words_in (stack l.frames) ≤ words_in (stack l.fn.frames);
   left : l.state.left ≤ l.fn.state.left;
 }
 
