@@ -22,7 +22,7 @@ mod words;
 
 pub use error::ReadError;
 pub use fault::Fault;
-pub use name::{Name, variable_name};
+pub use name::{Name, holds_colons, variable_name};
 pub use operator::{Binary, Function, Infix, Unary};
 pub use read::MAX_OPEN;
 pub use script::Script;

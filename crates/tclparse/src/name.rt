@@ -27,8 +27,8 @@ pub(crate) fn begins_with_colons(text: &[u8]) -> bool
     }
 }
 
-// Whether the name is one of a namespace.
-fn holds_colons(name: &[u8]) -> bool
+/// Whether the name is one of a namespace, as it holds `::`.
+pub fn holds_colons(name: &[u8]) -> bool
     ensures { result ≡ holds_colons name.now }
 {
     let mut bytes = name;

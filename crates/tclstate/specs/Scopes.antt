@@ -156,11 +156,15 @@ linked s name =
     if means_global s.locals name then s
     else with_frame s name (without (innermost s.locals) name ++ (name, Link) ∷ [])
 
--- The scopes in a procedure that begins (proc(n)).
-abbrev pub pushed : Scopes → Scopes
-pushed s = record { locals = [] ∷ s.locals; globals = s.globals }
+-- The scopes in a procedure that begins with this frame (proc(n)).
+abbrev pub entered : Frame → Scopes → Scopes
+entered frame s = record { locals = frame ∷ s.locals; globals = s.globals }
 
--- The scopes after the innermost procedure returns (proc(n)).
+-- The scopes in a procedure that begins without names (proc(n)).
+abbrev pub pushed : Scopes → Scopes
+pushed s = entered [] s
+
+-- The scopes after the innermost procedure returns (proc(n)); at the top level there is none.
 abbrev pub popped : Scopes → Scopes
 popped s = record { locals = outer s.locals; globals = s.globals }
 

@@ -86,6 +86,13 @@ impl<A: Allocator> Model for Formals<A> {
 }
 
 impl<A: Allocator> Formals<A> {
+    /// All of them, in order.
+    pub fn as_slice(&self) -> &[Formal<A>]
+        ensures { result.now ≡ self.now }
+    {
+        self.list.as_slice()
+    }
+
     /// The formals that take one word each, and whether a last `args` takes the words that are
     /// left (proc(n)). A default of such an `args` is not looked at.
     pub fn split(&self) -> (&[Formal<A>], bool)

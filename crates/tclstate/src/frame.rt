@@ -15,7 +15,7 @@ use std::alloc::Allocator;
 use std::marker::Model;
 use tcltext::Value;
 
-/// The names of one procedure that runs, in the order in which they were first set.
+/// The variables of one procedure that runs, in the order in which they were first set (proc(n)).
 #[derive(Drop)]
 pub struct LocalFrame<A: Allocator> {
     variables: Table<Local<A>, A>,
@@ -35,7 +35,7 @@ impl<A: Allocator> LocalFrame<A> {
     ghost use Rattle.tclstate.specs.Stored.{local_of};
 
     /// What a name stands for.
-    pub fn get(&self, name: &[u8]) -> Option<&Local<A>>
+    pub(crate) fn get(&self, name: &[u8]) -> Option<&Local<A>>
         ensures { option_map local_of (option_copied result) ≡ found self.now name.now }
     {
         self.variables.get(name)
@@ -53,7 +53,7 @@ impl<A: Allocator> LocalFrame<A> {
     }
 
     /// Removes a name; of a link, the global, and the link stays.
-    pub fn remove(&mut self, globals: &mut Globals<A>, name: &[u8]) -> Result<(), ScopeError>
+    pub(crate) fn remove(&mut self, globals: &mut Globals<A>, name: &[u8]) -> Result<(), ScopeError>
         ensures ok { OnOk result ((outer : List spec.Frame) →
             spec.removed (spec.scopes (self.old ∷ outer) globals.old) name.now None
             ≡ Ok (spec.scopes (self.new ∷ outer) globals.new)) }
@@ -73,7 +73,7 @@ impl<A: Allocator> LocalFrame<A> {
     }
 
     /// Removes the element of a name at an index; of a link, the global's.
-    pub fn remove_element(
+    pub(crate) fn remove_element(
         &mut self,
         globals: &mut Globals<A>,
         name: &[u8],
@@ -106,8 +106,17 @@ impl<A: Allocator + Copy> LocalFrame<A> {
         }
     }
 
+    /// Gives a name a text, in place of what it stood for; a name that is not there goes last
+    /// (proc(n)).
+    pub fn bind(&mut self, alloc: A, name: &[u8], value: Value<A>) -> Result<(), NoMemory>
+        ensures ok { OnOk result (self.new ≡ put self.old name.now (spec.Text value)) }
+        ensures unchanged { OnErr result (self.new ≡ self.old) }
+    {
+        self.put(alloc, name, Local::Own(Content::Text(value)))
+    }
+
     /// Writes a name, or the element at an index; of a link, the global.
-    pub fn set(
+    pub(crate) fn set(
         &mut self,
         globals: &mut Globals<A>,
         alloc: A,
@@ -136,7 +145,7 @@ impl<A: Allocator + Copy> LocalFrame<A> {
     }
 
     /// Makes a name an array, which an array is already; of a link, the global.
-    pub fn make_array(
+    pub(crate) fn make_array(
         &mut self,
         globals: &mut Globals<A>,
         alloc: A,
@@ -163,7 +172,7 @@ impl<A: Allocator + Copy> LocalFrame<A> {
 
     /// Links a name to the global of that name. A local of that name is dropped, and the link goes
     /// last; a link that is there stays.
-    pub fn link(&mut self, alloc: A, name: &[u8]) -> Result<(), NoMemory>
+    pub(crate) fn link(&mut self, alloc: A, name: &[u8]) -> Result<(), NoMemory>
         ensures ok { OnOk result ((outer : List spec.Frame) (globals : spec.Frame) →
             spec.linked (spec.scopes (self.old ∷ outer) globals) name.now
             ≡ spec.scopes (self.new ∷ outer) globals) }

@@ -13,5 +13,6 @@ mod table;
 
 pub use error::ScopeError;
 pub use formals::{Formal, Formals, FormalsError};
+pub use frame::LocalFrame;
 pub use procs::{Procedure, Procs};
 pub use scopes::Scopes;

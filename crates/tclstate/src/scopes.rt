@@ -1,5 +1,5 @@
 //! Scopes: the variables of a script and of the procedures that run.
-ghost use Rattle.std.specs.Prelude.{◌≡◌, ◌<◌, None, Some, Ok, IfOk, OnOk, IfErr, OnErr, option_copied, length};
+ghost use Rattle.std.specs.Prelude.{◌≡◌, None, Some, Ok, IfOk, OnOk, IfErr, OnErr, option_copied};
 ghost use Rattle.std.specs.Option.{option_map};
 ghost use Rattle.tclstate.specs.Scopes as spec;
 ghost use Rattle.tclstate.specs.ScopeError.{HasTrouble, HasTroubleOrRefusal};
@@ -141,9 +141,17 @@ impl<A: Allocator> Scopes<A> {
         }
     }
 
-    /// Ends the innermost procedure's frame (proc(n)).
+    /// Begins a procedure with its frame (proc(n)).
+    pub fn enter(&mut self, frame: LocalFrame<A>) -> Result<(), NoMemory>
+        ensures ok { OnOk result (self.new ≡ spec.entered frame self.old) }
+        ensures unchanged { OnErr result (self.new ≡ self.old) }
+    {
+        self.locals.push(frame)?;
+        Ok(())
+    }
+
+    /// Ends the innermost procedure's frame (proc(n)); at the top level there is none.
     pub fn pop_frame(&mut self)
-        requires { 0 < length self.old.locals }
         ensures { self.new ≡ spec.popped self.old }
     {
         self.locals.pop();
