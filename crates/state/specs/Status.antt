@@ -3,6 +3,7 @@ use Rattle.std.specs.Prelude.{ℕ, ◌==◌, ◌&&◌, Bool, true, false, List, 
 use Rattle.acts.specs.declared.id.Id.{Id}
 use Rattle.matchbuf.specs.Journal.{Record, Sized}
 use Rattle.state.specs.Standing.{Standing, unpaired}
+use Rattle.tclstate.specs.Procs.{Procs}
 use Rattle.tclstate.specs.Scopes.{Scopes}
 
 -- what an id was opened for: a process of this number, or a connection (expect(1), spawn)
@@ -19,12 +20,6 @@ pub record Peer : Type 0 where
   pub is_reaped : Bool
   pub journal : List Record
 
--- a procedure: its name, its formals, its body (proc(n))
-pub record Procedure : Type 0 where
-  pub name : List ℕ
-  pub formals : List ℕ
-  pub body : List ℕ
-
 -- log_user is 1; a log file is open, and gets all (expect(1), log_user and log_file)
 pub record Logging : Type 0 where
   pub shows : Bool
@@ -35,7 +30,7 @@ pub record Logging : Type 0 where
 -- settings, the size of later buffers, the number of the next id, the ticks left
 pub record Status : Type 0 where
   pub scopes : Scopes
-  pub procedures : List Procedure
+  pub procedures : Procs
   pub peers : List Peer
   pub standing : Standing
   pub logging : Logging

@@ -50,6 +50,7 @@ plain_logging = record { shows = true; is_open = false; takes_all = false }
 -- settings and the size of later buffers are those of the start
 pub record FitsState {A : Type 0} (state : State A) (s : Status) : Type 0 where
   pub scopes : s.scopes ≡ state.scopes
+  pub procedures : s.procedures ≡ state.procs
   pub peers : FitsAll state.table.entries.items (opened s.peers)
   pub standing : s.standing ≡ no_standing
   pub logging : s.logging ≡ plain_logging

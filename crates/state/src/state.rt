@@ -2,13 +2,15 @@
 
 use crate::table::Table;
 use std::alloc::Allocator;
-use tclstate::Scopes;
+use tclstate::{Procs, Scopes};
 
 /// What a run keeps between acts.
 #[derive(Drop)]
 pub struct State<A: Allocator> {
     /// The variables.
     pub scopes: Scopes<A>,
+    /// The procedures.
+    pub procs: Procs<A>,
     /// The open ids with their match buffers.
     pub table: Table<A>,
     /// The number of the next id, where one is left.
