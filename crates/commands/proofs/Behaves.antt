@@ -9,6 +9,7 @@ use Rattle.leaving.proofs.Behaves.{breaks_behaves, continues_behaves, returns_be
 use Rattle.lists.proofs.Behaves.{list_behaves}
 use Rattle.logs.proofs.Behaves.{send_error_behaves}
 use Rattle.peers.proofs.Behaves.{close_behaves}
+use Rattle.procedures.proofs.Behaves.{proc_behaves}
 use Rattle.processes.proofs.SleepBehaves.{sleep_behaves}
 use Rattle.processes.proofs.SendBehaves.{send_behaves}
 use Rattle.processes.proofs.SpawnBehaves.{spawn_behaves}
@@ -36,6 +37,7 @@ does_behaves builtin.Lappend args s = lappend_behaves args s
 does_behaves builtin.Unset args s = unset_behaves args s
 does_behaves builtin.Global args s = global_behaves args s
 does_behaves builtin.Info args s = info_behaves args s
+does_behaves builtin.Proc args s = proc_behaves args s
 does_behaves builtin.Spawn args s = spawn_behaves args s
 does_behaves builtin.Send args s = send_behaves args s
 does_behaves builtin.Sleep args s = sleep_behaves args s

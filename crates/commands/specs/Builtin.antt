@@ -19,6 +19,7 @@ pub data Builtin : Type 0 where
   Unset : Builtin
   Global : Builtin
   Info : Builtin
+  Proc : Builtin
   Spawn : Builtin
   Send : Builtin
   Sleep : Builtin

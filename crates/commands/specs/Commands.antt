@@ -17,6 +17,7 @@ use Rattle.leaving.specs.Returns.{returns}
 use Rattle.lists.specs.List.{list}
 use Rattle.logs.specs.SendError.{send_error}
 use Rattle.peers.specs.Close.{close}
+use Rattle.procedures.specs.Proc.{proc}
 use Rattle.processes.specs.Send.{send}
 use Rattle.processes.specs.Sleep.{sleep}
 use Rattle.processes.specs.Spawn.{spawn}
@@ -49,6 +50,7 @@ named name =
     else if bytes_eq name (codes "unset") then Some builtin.Unset
     else if bytes_eq name (codes "global") then Some builtin.Global
     else if bytes_eq name (codes "info") then Some builtin.Info
+    else if bytes_eq name (codes "proc") then Some builtin.Proc
     else if bytes_eq name (codes "spawn") then Some builtin.Spawn
     else if bytes_eq name (codes "send") then Some builtin.Send
     else if bytes_eq name (codes "sleep") then Some builtin.Sleep
@@ -74,6 +76,7 @@ does builtin.Lappend args s = lappend args s
 does builtin.Unset args s = unset args s
 does builtin.Global args s = global args s
 does builtin.Info args s = info args s
+does builtin.Proc args s = proc args s
 does builtin.Spawn args s = spawn args s
 does builtin.Send args s = send args s
 does builtin.Sleep args s = sleep args s

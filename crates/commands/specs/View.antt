@@ -36,6 +36,7 @@ builtin_of builtin.Lappend = meant.Lappend
 builtin_of builtin.Unset = meant.Unset
 builtin_of builtin.Global = meant.Global
 builtin_of builtin.Info = meant.Info
+builtin_of builtin.Proc = meant.Proc
 builtin_of builtin.Spawn = meant.Spawn
 builtin_of builtin.Send = meant.Send
 builtin_of builtin.Sleep = meant.Sleep

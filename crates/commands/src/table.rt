@@ -11,8 +11,8 @@ ghost use Rattle.state.specs.View.{FitsState};
 
 use crate::left_out::is_left_out;
 use crate::waits::{
-    Waits, from_close, from_expect, from_leaving, from_list, from_puts, from_send, from_send_error,
-    from_sleep, from_spawn, from_text, from_variables,
+    Waits, from_close, from_expect, from_leaving, from_list, from_procedures, from_puts, from_send,
+    from_send_error, from_sleep, from_spawn, from_text, from_variables,
 };
 use acts::{Act, Answer, Fault, NoMemory};
 use expects::expect;
@@ -20,6 +20,7 @@ use leaving::{breaks, continues, error, exit, exp_continue, returns};
 use lists::list;
 use logs::send_error;
 use peers::close;
+use procedures::proc;
 use processes::{send, sleep, spawn};
 use pure::Pure;
 use state::leaf::{empty, raises};
@@ -48,6 +49,7 @@ enum Builtin {
     Unset,
     Global,
     Info,
+    Proc,
     Spawn,
     Send,
     Sleep,
@@ -92,6 +94,8 @@ impl Builtin {
             Some(Builtin::Global)
         } else if name == b"info".as_slice() {
             Some(Builtin::Info)
+        } else if name == b"proc".as_slice() {
+            Some(Builtin::Proc)
         } else if name == b"spawn".as_slice() {
             Some(Builtin::Spawn)
         } else if name == b"send".as_slice() {
@@ -179,6 +183,7 @@ fn call<A: Allocator + Copy>(
         Builtin::Unset => Ok(from_variables(unset::begin(alloc, state, args)?)),
         Builtin::Global => Ok(from_variables(global::begin(alloc, state, args)?)),
         Builtin::Info => Ok(from_variables(info::begin(alloc, state, args)?)),
+        Builtin::Proc => Ok(from_procedures(proc::begin(alloc, state, args)?)),
         Builtin::Spawn => Ok(from_spawn(spawn::begin(alloc, state, args)?)),
         Builtin::Send => Ok(from_send(send::begin(alloc, state, args)?)),
         Builtin::Sleep => Ok(from_sleep(sleep::begin(alloc, state, args)?)),

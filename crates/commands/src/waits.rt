@@ -6,6 +6,7 @@ ghost use Rattle.leaving.specs.Waits as leavings;
 ghost use Rattle.lists.specs.List as lists;
 ghost use Rattle.logs.specs.SendError as send_errors;
 ghost use Rattle.peers.specs.Close as closes;
+ghost use Rattle.procedures.specs.Waits as procedures;
 ghost use Rattle.processes.specs.Send as sends;
 ghost use Rattle.processes.specs.Sleep as sleeps;
 ghost use Rattle.processes.specs.Spawn as spawns;
@@ -78,6 +79,16 @@ pub(crate) fn from_leaving<A: Allocator>(leaf: Leaf<A, leaving::Waits>) -> Leaf<
 /// How far a command on variables has come, as a command.
 pub(crate) fn from_variables<A: Allocator>(leaf: Leaf<A, variables::Waits>) -> Leaf<A, Waits<A>>
     ensures { IsLifted variables.next_of leaf result }
+{
+    match leaf {
+        Leaf::Has(outcome) => Leaf::Has(outcome),
+        Leaf::Asks(_, waits) => match waits {},
+    }
+}
+
+/// How far `proc` has come, as a command.
+pub(crate) fn from_procedures<A: Allocator>(leaf: Leaf<A, procedures::Waits>) -> Leaf<A, Waits<A>>
+    ensures { IsLifted procedures.next_of leaf result }
 {
     match leaf {
         Leaf::Has(outcome) => Leaf::Has(outcome),

@@ -1,0 +1,16 @@
+-- What proc comes to with three words.
+use Rattle.std.proofs.Common.{◌≡◌, ℕ, List, [], ◌∷◌, length, get_or, sym, arith}
+use Rattle.procedures.specs.Proc.{defines_named, proc}
+use Rattle.state.specs.Status.{Status}
+
+pub proc_three : (words : List (List ℕ)) (name formals body : List ℕ) (s : Status) →
+    length words ≡ 3 → name ≡ get_or words 0 name → formals ≡ get_or words 1 formals →
+    body ≡ get_or words 2 body → proc words s ≡ defines_named name formals body s
+proc_three [] name formals body s three first second third = absurd (omega (arith, three))
+proc_three (n ∷ []) name formals body s three first second third = absurd (omega (arith, three))
+proc_three (n ∷ f ∷ []) name formals body s three first second third =
+    absurd (omega (arith, three))
+proc_three (n ∷ f ∷ b ∷ []) name formals body s three first second third =
+    λ i. defines_named (sym first i) (sym second i) (sym third i) s
+proc_three (n ∷ f ∷ b ∷ w ∷ ws) name formals body s three first second third =
+    absurd (omega (arith, three))

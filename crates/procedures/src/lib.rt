@@ -1,0 +1,9 @@
+//! The command that defines procedures.
+#![tactic(auto)]
+
+mod formals;
+pub mod laws;
+pub mod proc;
+mod waits;
+
+pub use waits::Waits;
