@@ -1,7 +1,9 @@
--- What holds of each command that runs scripts, where it holds of all that is put together so.
+-- What holds of each call and of each command that runs scripts, where it holds of all that is put
+-- together so.
 use Rattle.std.proofs.Common.{ℕ, List, [], ◌∷◌, Option, Some, None}
 use Rattle.acts.specs.Flaw as flaw
 use Rattle.acts.specs.Flaw.{text_of}
+use Rattle.control.specs.Calls.{call, ended, frame_of, returned, runs_with}
 use Rattle.control.specs.Catch.{catch, caught, runs_into, stores_in, number_of}
 use Rattle.control.specs.Commands.{does}
 use Rattle.control.specs.Eval.{eval, passed}
@@ -14,8 +16,29 @@ use Rattle.state.specs.Outcome.{Outcome, Gives, Leaves, Stops, Error}
 use Rattle.state.specs.Status.{Status}
 use Rattle.state.specs.Variables.{writes}
 use Rattle.std.specs.Prelude.{codes, decimal}
+use Rattle.tclstate.specs.Procs.{Procedure}
+use Rattle.tclstate.specs.Scopes.{Frame, entered, popped}
 
 module _ (P : Status → Course → Type 0) (closed : Closed P) where
+  returned_closed : (s : Status) (o : Outcome) → P s (returned s o)
+  returned_closed s o =
+      closed.writing (popped s.scopes) s (returned s o)
+      (closed.over (record s { scopes = popped s.scopes }) (ended o))
+
+  runs_closed : (frame : Option Frame) (levels : ℕ) (name body : List ℕ) (s : Status) →
+      P s (runs_with frame levels name body s)
+  runs_closed None levels name body s = closed.over s _
+  runs_closed (Some frame) levels name body s =
+      closed.writing (entered frame s.scopes) s _
+      (within_closed P closed levels body (record s { scopes = entered frame s.scopes }) returned
+      returned_closed)
+
+  -- each call of a procedure
+  pub call_closed : (levels : ℕ) (name : List ℕ) (procedure : Procedure) (words : List (List ℕ))
+      (s : Status) → P s (call levels name procedure words s)
+  call_closed levels name procedure words s =
+      runs_closed (frame_of procedure.formals words) levels name procedure.body s
+
   stores_closed : (word : Option (List ℕ)) (number : ℕ) (value : List ℕ) (s : Status) →
       P s (stores_in word number value s)
   stores_closed None number value s = closed.over s (Gives (decimal number))

@@ -1,3 +1,4 @@
 pub mod Behaves
+pub mod Calling
 pub mod Catching
 pub mod Evaluating

@@ -1,3 +1,4 @@
+pub mod Calls
 pub mod Catch
 pub mod Eval
 pub mod Control

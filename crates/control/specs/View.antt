@@ -1,5 +1,7 @@
 -- How the commands of the code, and what they hold, stand to those of the definition.
-use Rattle.std.specs.Prelude.{◌≡◌, ℕ, ◌<◌, ◌⊎◌}
+use Rattle.std.specs.Prelude.{◌≡◌, ℕ, ◌<◌, ◌⊎◌, List, Option, Some, None}
+use Rattle.control.specs.Calls as calls
+use Rattle.control.specs.Calls.{call}
 use Rattle.control.specs.Catch as catch
 use Rattle.control.specs.Eval as eval
 use Rattle.control.specs.Control as meant
@@ -9,11 +11,15 @@ use Rattle.control.specs.declared.held.Held.TheVariants as held
 use Rattle.control.specs.declared.table.Control as coded
 use Rattle.control.specs.declared.table.Control.TheVariants as control
 use Rattle.state.specs.Dialogue.{Course}
-use Rattle.state.specs.Nesting.{course_of}
+use Rattle.state.specs.Nesting.{Nests, course_of}
 use Rattle.state.specs.Outcome.{Outcome}
 use Rattle.state.specs.Status.{Status}
 use Rattle.state.specs.declared.nesting.Nesting.{Nesting}
 use Rattle.state.specs.declared.nesting.Nesting.TheVariants as nesting
+use Rattle.state.specs.declared.state.State.{State}
+use Rattle.state.specs.View.{FitsState}
+use Rattle.tclstate.specs.Pairs.{found}
+use Rattle.tclstate.specs.Procs.{Procedure}
 
 -- the command that one of the code's stands for
 abbrev pub control_of : coded.Control → Control
@@ -22,6 +28,7 @@ control_of control.Eval = meant.Eval
 
 -- what follows the script that runs within a command
 abbrev pub next_of : {A : Type 0} → Held A → Status → Outcome → Course
+next_of (held.Call own) = calls.next_of own
 next_of (held.Catch own) = catch.next_of own
 next_of (held.Eval own) = eval.next_of own
 
@@ -32,7 +39,9 @@ TicksFirst (nesting.Runs script levels held) new old = new < old
 
 -- the scripts that a command may still run without a tick before them
 abbrev pub scripts_held : {A : Type 0} → Held A → ℕ
+scripts_held (held.Call own) = 0
 scripts_held (held.Catch own) = 0
+scripts_held (held.Eval own) = 0
 
 -- a script runs again only after a tick, or where fewer may follow it without one (this project's
 -- own rule)
@@ -45,3 +54,17 @@ Advances (nesting.Runs script levels held) new old most =
 abbrev pub IsLifted : {A H : Type 0} → (H → Status → Outcome → Course) → Nesting A H →
     Nesting A (Held A) → Type 0
 IsLifted own nesting lifted = (s : Status) → course_of own nesting s ≡ course_of next_of lifted s
+
+-- a call of the procedure of this name has come so far
+pub record Calls {A H : Type 0} (next : H → Status → Outcome → Course) (n : Nesting A H)
+    (state : State A) (levels : ℕ) (name : List ℕ) (words : List (List ℕ)) (s : Status) : Type 0 where
+  pub procedure : Procedure
+  pub found : found s.procedures name ≡ Some procedure
+  pub nests : Nests next n state (call levels name procedure words s)
+
+-- the same, or no procedure has the name and nothing is done
+abbrev pub IsCalled : {A H : Type 0} → (H → Status → Outcome → Course) → Option (Nesting A H) →
+    State A → ℕ → List ℕ → List (List ℕ) → Status → Type 0
+IsCalled next None state levels name words s =
+    (found s.procedures name ≡ None) × FitsState state s
+IsCalled next (Some n) state levels name words s = Calls next n state levels name words s

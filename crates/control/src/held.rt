@@ -2,19 +2,35 @@
 
 ghost use Rattle.std.specs.Prelude.{ℕ};
 ghost use Rattle.control.specs.View.{Advances, IsLifted, TicksFirst};
+ghost use Rattle.control.specs.Calls as calling;
 ghost use Rattle.control.specs.Catch as catches;
 ghost use Rattle.control.specs.Eval as evals;
 
+use crate::calls;
 use crate::catch;
 use crate::eval;
 use state::Nesting;
 use std::alloc::Allocator;
 
-/// What a command holds while a script runs within it, by the commands that run scripts.
+/// What a command holds while a script runs within it: a call of a procedure, or one of the
+/// commands that run scripts.
 #[derive(Drop)]
 pub enum Held<A: Allocator> {
+    Call(calls::Held),
     Catch(catch::Held<A>),
     Eval(eval::Held),
+}
+
+/// How far a call has come, as a command.
+pub(crate) fn from_call<A: Allocator>(nesting: Nesting<A, calls::Held>) -> Nesting<A, Held<A>>
+    ensures lifted { IsLifted calling.next_of nesting result }
+    ensures advances { (new old most : ℕ) →
+        TicksFirst nesting new old → Advances result new old most }
+{
+    match nesting {
+        Nesting::Has(outcome) => Nesting::Has(outcome),
+        Nesting::Runs(script, levels, held) => Nesting::Runs(script, levels, Held::Call(held)),
+    }
 }
 
 /// How far `catch` has come, as a command.
@@ -32,7 +48,8 @@ pub(crate) fn from_catch<A: Allocator>(nesting: Nesting<A, catch::Held<A>>) -> N
 /// How far `eval` has come, as a command.
 pub(crate) fn from_eval<A: Allocator>(nesting: Nesting<A, eval::Held>) -> Nesting<A, Held<A>>
     ensures lifted { IsLifted evals.next_of nesting result }
-    ensures ticks { (new old : ℕ) → TicksFirst nesting new old → TicksFirst result new old }
+    ensures advances { (new old most : ℕ) →
+        TicksFirst nesting new old → Advances result new old most }
 {
     match nesting {
         Nesting::Has(outcome) => Nesting::Has(outcome),

@@ -2,10 +2,11 @@
 #![tactic(auto)]
 
 mod arguments;
+pub mod calls;
 pub mod catch;
 pub mod eval;
 mod held;
 mod table;
 
 pub use held::Held;
-pub use table::{Control, begin, resumed};
+pub use table::{Control, begin, call, resumed};

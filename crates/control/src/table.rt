@@ -2,14 +2,15 @@
 
 ghost use Rattle.std.specs.Prelude.{◌≡◌, ◌≤◌, IfOk, option_map};
 ghost use Rattle.control.specs.Commands as definition;
-ghost use Rattle.control.specs.View.{Advances, control_of, next_of, scripts_held};
+ghost use Rattle.control.specs.View.{Advances, IsCalled, control_of, next_of, scripts_held};
 ghost use Rattle.state.specs.Nesting.{Nests};
 ghost use Rattle.state.specs.Status.{Status};
 ghost use Rattle.state.specs.View.{FitsState, outcome_of};
 
+use crate::calls;
 use crate::catch;
 use crate::eval;
-use crate::held::{Held, from_catch, from_eval};
+use crate::held::{Held, from_call, from_catch, from_eval};
 use acts::NoMemory;
 use state::{Nesting, Outcome, State};
 use std::alloc::Allocator;
@@ -34,6 +35,28 @@ impl Control {
         } else {
             None
         }
+    }
+}
+
+/// Calls the procedure of a name with the words behind it, in which so many levels may still stand;
+/// gives `None` where no procedure has the name.
+///
+/// # Errors
+/// `NoMemory` where memory is refused.
+pub fn call<A: Allocator + Copy>(
+    alloc: A,
+    state: &mut State<A>,
+    name: &[u8],
+    words: &[Value<A>],
+    levels: u8,
+) -> Result<Option<Nesting<A, Held<A>>>, NoMemory>
+    ensures called { (s : Status) → FitsState state.old s → IfOk result (λ called.
+        IsCalled next_of called state.new levels name.now words.now s) }
+    ensures left { state.new.left ≤ state.old.left }
+{
+    match calls::begin(alloc, state, name, words, levels)? {
+        Some(nesting) => Ok(Some(from_call(nesting))),
+        None => Ok(None),
     }
 }
 
@@ -76,6 +99,7 @@ pub fn resumed<A: Allocator + Copy>(
         Advances nesting state.new.left state.old.left (scripts_held held)) }
 {
     match held {
+        Held::Call(_) => Ok(from_call(calls::resumed(alloc, state, outcome)?)),
         Held::Catch(own) => Ok(from_catch(catch::resumed(alloc, state, own, outcome)?)),
         Held::Eval(own) => Ok(from_eval(eval::resumed(state, own, outcome))),
     }
