@@ -4,7 +4,8 @@ use Rattle.meanings.specs.Meaning.{Answer, Meaning, Gives, Raises, Splits, Match
 use Rattle.tcltext.specs.Flaw.{Flaw}
 use Rattle.tcltext.proofs.Unique.{one_list, one_flaw, no_list_with_flaw}
 
-same_truth : (p q : Bool) (P : Type 0) → IsTrue p ↔ P → IsTrue q ↔ P → p ≡ q
+-- two tests of one thing come out the same
+pub same_truth : (p q : Bool) (P : Type 0) → IsTrue p ↔ P → IsTrue q ↔ P → p ≡ q
 same_truth true true P one other = refl
 same_truth true false P one other = sym (other.1 (one.0 refl))
 same_truth false true P one other = one.1 (other.0 refl)

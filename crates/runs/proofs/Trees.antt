@@ -1,7 +1,11 @@
 -- Each text has one tree.
 use Rattle.std.proofs.Common.{ℕ, List, Option, Ok, Err, ◌⊎◌, inl, inr, ap, ap₂}
+use Rattle.formulas.proofs.Exists.{each_formula}
+use Rattle.formulas.proofs.Unique.{one_formula}
+use Rattle.meanings.proofs.Once.{same_truth}
 use Rattle.plan.specs.Answers.{OneTree}
-use Rattle.state.specs.Piece.{Text, ScriptText, ListText, ScriptTree, Tree, IsTree}
+use Rattle.runs.proofs.Tests.{tested}
+use Rattle.state.specs.Piece.{Text, ScriptText, ListText, FormulaText, TestText, ScriptTree, Tree, IsTree}
 use Rattle.tclparse.specs.Fault.{Fault}
 use Rattle.tclparse.specs.Tree.{Commands}
 use Rattle.tclparse.proofs.Exists.{each_script}
@@ -10,6 +14,7 @@ use Rattle.tcltext.proofs.Total.{list_or_flaw}
 use Rattle.tcltext.proofs.Unique.{one_list, one_flaw, no_list_with_flaw}
 use Rattle.tcltext.specs.Elements.{IsList, HasFlaw}
 use Rattle.tcltext.specs.Flaw as list
+use Rattle.tcltext.specs.Pattern.Match.{Whole}
 
 -- a script's tree by its parts
 abbrev script_tree : Commands → Option Fault → ScriptTree
@@ -23,6 +28,9 @@ one_tree (ListText text) (Ok v) (Ok u) is was = ap Ok (one_list text v u is was)
 one_tree (ListText text) (Ok v) (Err f) is was = absurd (no_list_with_flaw text v f is was)
 one_tree (ListText text) (Err f) (Ok v) is was = absurd (no_list_with_flaw text v f was is)
 one_tree (ListText text) (Err f) (Err g) is was = ap Err (one_flaw text f g is was)
+one_tree (FormulaText text) tree other is was = one_formula text tree other is was
+one_tree (TestText pattern text) takes other is was =
+    same_truth takes other (Whole pattern text) is was
 
 list_tree : (text : List ℕ) →
     ((v : List (List ℕ)) × IsList v text) ⊎ ((f : list.Flaw) × HasFlaw f text) →
@@ -34,3 +42,5 @@ pub has_tree : (text : Text) → (tree : Tree text) × IsTree text tree
 has_tree (ScriptText text) =
     let is = each_script text in (script_tree is.0 is.1, is.2)
 has_tree (ListText text) = list_tree text (list_or_flaw text)
+has_tree (FormulaText text) = each_formula text
+has_tree (TestText pattern text) = tested pattern text
