@@ -18,7 +18,7 @@ use Rattle.engine.specs.declared.machine.Unwound.TheVariants as unwound
 use Rattle.engine.specs.declared.phase.Phase.{Phase}
 use Rattle.engine.specs.declared.phase.Phase.TheVariants as phase
 use Rattle.acts.specs.declared.act.Act.{Act}
-use Rattle.engine.proofs.Silent.{same_goes, then_goes, same_left}
+use Rattle.engine.proofs.Silent.{reaches_goes, same_goes, then_goes, same_left}
 use Rattle.plan.specs.Plan.{Ends}
 use Rattle.runs.specs.Ending.{Over}
 use Rattle.runs.specs.Run.{initial, whole}
@@ -86,7 +86,7 @@ module _ {A : Type 0} (fs : List (Frame A)) where
   shown_leads shown = record {
     status = shown.status;
     fits = shown.fits;
-    goes = same_left fs shown.same;
+    goes = reaches_goes fs shown.reaches;
   }
 
   -- a command that is over does
