@@ -1,18 +1,26 @@
--- What a command does, whether it runs scripts or not.
+-- What a command does: a procedure, one that runs scripts, or another.
 use Rattle.std.specs.Prelude.{ℕ, List, [], ◌∷◌, Option, Some, None}
 use Rattle.commands.specs.Commands as leaf
+use Rattle.control.specs.Calls.{call}
 use Rattle.control.specs.Commands.{does, named}
 use Rattle.control.specs.Control.{Control}
 use Rattle.state.specs.Dialogue.{Course, gives}
 use Rattle.state.specs.Status.{Status}
+use Rattle.tclstate.specs.Pairs.{found}
+use Rattle.tclstate.specs.Procs.{Procedure}
 
 -- a command that runs scripts, or another (Tcl(n), rule 2)
 abbrev pub chosen : Option Control → ℕ → List ℕ → List (List ℕ) → Status → Course
 chosen (Some control) levels name args s = does control levels args s
 chosen None levels name args s = leaf.command s (name ∷ args)
 
+-- a procedure hides a command of its name (proc(n))
+abbrev pub called : Option Procedure → ℕ → List ℕ → List (List ℕ) → Status → Course
+called (Some procedure) levels name args s = call levels name procedure args s
+called None levels name args s = chosen (named name) levels name args s
+
 -- a command by its words, in which so many levels may still stand; where there are no words,
 -- nothing is done (Tcl(n), rules 1, 2 and 7)
 abbrev pub command : ℕ → Status → List (List ℕ) → Course
 command levels s [] = gives [] s
-command levels s (name ∷ args) = chosen (named name) levels name args s
+command levels s (name ∷ args) = called (found s.procedures name) levels name args s
