@@ -1,23 +1,21 @@
 -- What holds of each call and of each command that runs scripts, where it holds of all that is put
 -- together so.
 use Rattle.std.proofs.Common.{ℕ, List, [], ◌∷◌, Option, Some, None}
-use Rattle.acts.specs.Flaw as flaw
-use Rattle.acts.specs.Flaw.{text_of}
 use Rattle.control.specs.Calls.{call, ended, frame_of, returned, runs_with}
-use Rattle.control.specs.Catch.{catch, caught, runs_into, stores_in, number_of}
+use Rattle.control.specs.Catch.{catch, caught, stores_in, number_of}
+use Rattle.control.proofs.Loops.{foreach_closed}
 use Rattle.control.specs.Commands.{does}
 use Rattle.control.specs.Eval.{eval, passed}
 use Rattle.control.specs.Control as control
 use Rattle.control.specs.Control.{Control}
 use Rattle.pure.specs.Concat.{concatenated}
 use Rattle.state.proofs.Closed.{Closed, within_closed, writes_closed, named_closed}
-use Rattle.state.specs.Dialogue.{Course, gives, within}
-use Rattle.state.specs.Outcome.{Outcome, Gives, Leaves, Stops, Error}
+use Rattle.state.specs.Dialogue.{Course}
+use Rattle.state.specs.Outcome.{Outcome, Gives, Leaves, Stops}
 use Rattle.state.specs.Status.{Status}
-use Rattle.state.specs.Variables.{writes}
-use Rattle.std.specs.Prelude.{codes, decimal}
 use Rattle.tclstate.specs.Procs.{Procedure}
 use Rattle.tclstate.specs.Scopes.{Frame, entered, popped}
+use Rattle.std.specs.Prelude.{decimal}
 
 module _ (P : Status → Course → Type 0) (closed : Closed P) where
   returned_closed : (s : Status) (o : Outcome) → P s (returned s o)
@@ -70,3 +68,4 @@ module _ (P : Status → Course → Type 0) (closed : Closed P) where
       P s (does c levels args s)
   does_closed control.Catch levels args s = catch_closed levels args s
   does_closed control.Eval levels args s = eval_closed levels args s
+  does_closed control.Foreach levels args s = foreach_closed P closed levels args s

@@ -1,4 +1,10 @@
+pub mod Assigning
 pub mod Behaves
 pub mod Calling
 pub mod Catching
 pub mod Evaluating
+pub mod Loops
+pub mod Names
+pub mod Pairing
+pub mod Replaced
+pub mod Turning

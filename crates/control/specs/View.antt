@@ -6,6 +6,7 @@ use Rattle.control.specs.Catch as catch
 use Rattle.control.specs.Eval as eval
 use Rattle.control.specs.Control as meant
 use Rattle.control.specs.Control.{Control}
+use Rattle.control.specs.Looping as foreach
 use Rattle.control.specs.declared.held.Held.{Held}
 use Rattle.control.specs.declared.held.Held.TheVariants as held
 use Rattle.control.specs.declared.table.Control as coded
@@ -25,12 +26,14 @@ use Rattle.tclstate.specs.Procs.{Procedure}
 abbrev pub control_of : coded.Control → Control
 control_of control.Catch = meant.Catch
 control_of control.Eval = meant.Eval
+control_of control.Foreach = meant.Foreach
 
 -- what follows the script that runs within a command
 abbrev pub next_of : {A : Type 0} → Held A → Status → Outcome → Course
 next_of (held.Call own) = calls.next_of own
 next_of (held.Catch own) = catch.next_of own
 next_of (held.Eval own) = eval.next_of own
+next_of (held.Foreach own) = foreach.next_of own
 
 -- a script runs again only after a tick (this project's own rule)
 abbrev pub TicksFirst : {A H : Type 0} → Nesting A H → ℕ → ℕ → Type 0
@@ -42,6 +45,7 @@ abbrev pub scripts_held : {A : Type 0} → Held A → ℕ
 scripts_held (held.Call own) = 0
 scripts_held (held.Catch own) = 0
 scripts_held (held.Eval own) = 0
+scripts_held (held.Foreach own) = 0
 
 -- a script runs again only after a tick, or where fewer may follow it without one (this project's
 -- own rule)

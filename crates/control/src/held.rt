@@ -5,10 +5,9 @@ ghost use Rattle.control.specs.View.{Advances, IsLifted, TicksFirst};
 ghost use Rattle.control.specs.Calls as calling;
 ghost use Rattle.control.specs.Catch as catches;
 ghost use Rattle.control.specs.Eval as evals;
+ghost use Rattle.control.specs.Looping as loops;
 
-use crate::calls;
-use crate::catch;
-use crate::eval;
+use crate::{calls, catch, eval, foreach};
 use state::Nesting;
 use std::alloc::Allocator;
 
@@ -19,6 +18,7 @@ pub enum Held<A: Allocator> {
     Call(calls::Held),
     Catch(catch::Held<A>),
     Eval(eval::Held),
+    Foreach(foreach::Held<A>),
 }
 
 /// How far a call has come, as a command.
@@ -54,5 +54,19 @@ pub(crate) fn from_eval<A: Allocator>(nesting: Nesting<A, eval::Held>) -> Nestin
     match nesting {
         Nesting::Has(outcome) => Nesting::Has(outcome),
         Nesting::Runs(script, levels, held) => Nesting::Runs(script, levels, Held::Eval(held)),
+    }
+}
+
+/// How far `foreach` has come, as a command.
+pub(crate) fn from_foreach<A: Allocator>(
+    nesting: Nesting<A, foreach::Held<A>>,
+) -> Nesting<A, Held<A>>
+    ensures lifted { IsLifted loops.next_of nesting result }
+    ensures advances { (new old most : ℕ) →
+        TicksFirst nesting new old → Advances result new old most }
+{
+    match nesting {
+        Nesting::Has(outcome) => Nesting::Has(outcome),
+        Nesting::Runs(script, levels, held) => Nesting::Runs(script, levels, Held::Foreach(held)),
     }
 }

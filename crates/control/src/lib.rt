@@ -5,8 +5,12 @@ mod arguments;
 pub mod calls;
 pub mod catch;
 pub mod eval;
+pub mod foreach;
 mod held;
+mod listed;
+pub mod pair;
 mod table;
+mod turn;
 
 pub use held::Held;
 pub use table::{Control, begin, call, resumed};

@@ -7,10 +7,8 @@ ghost use Rattle.state.specs.Nesting.{Nests};
 ghost use Rattle.state.specs.Status.{Status};
 ghost use Rattle.state.specs.View.{FitsState, outcome_of};
 
-use crate::calls;
-use crate::catch;
-use crate::eval;
-use crate::held::{Held, from_call, from_catch, from_eval};
+use crate::held::{Held, from_call, from_catch, from_eval, from_foreach};
+use crate::{calls, catch, eval, foreach};
 use acts::NoMemory;
 use state::{Nesting, Outcome, State};
 use std::alloc::Allocator;
@@ -21,6 +19,7 @@ use tcltext::Value;
 pub enum Control {
     Catch,
     Eval,
+    Foreach,
 }
 
 impl Control {
@@ -32,6 +31,8 @@ impl Control {
             Some(Control::Catch)
         } else if name == b"eval".as_slice() {
             Some(Control::Eval)
+        } else if name == b"foreach".as_slice() {
+            Some(Control::Foreach)
         } else {
             None
         }
@@ -79,6 +80,7 @@ pub fn begin<A: Allocator + Copy>(
     match control {
         Control::Catch => Ok(from_catch(catch::begin(alloc, state, args, levels)?)),
         Control::Eval => Ok(from_eval(eval::begin(alloc, state, args, levels)?)),
+        Control::Foreach => Ok(from_foreach(foreach::begin(alloc, state, args, levels)?)),
     }
 }
 
@@ -102,5 +104,6 @@ pub fn resumed<A: Allocator + Copy>(
         Held::Call(_) => Ok(from_call(calls::resumed(alloc, state, outcome)?)),
         Held::Catch(own) => Ok(from_catch(catch::resumed(alloc, state, own, outcome)?)),
         Held::Eval(own) => Ok(from_eval(eval::resumed(state, own, outcome))),
+        Held::Foreach(own) => Ok(from_foreach(foreach::resumed(alloc, state, own, outcome)?)),
     }
 }

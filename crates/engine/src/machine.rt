@@ -1,7 +1,6 @@
 //! The steps of a session between two acts.
 
 ghost use Rattle.std.specs.Prelude.{◌≡◌, ℕ, ◌+◌, ◌*◌, ◌<◌, ◌≤◌, [], ◌∷◌, option_map, IfOk};
-ghost use Rattle.acts.specs.Flaw.{flaw_of};
 ghost use Rattle.commands.specs.View as table;
 ghost use Rattle.control.specs.View as control;
 ghost use Rattle.control.specs.View.{scripts_held};
@@ -10,7 +9,7 @@ ghost use Rattle.engine.specs.Goes.{Goes};
 ghost use Rattle.engine.specs.Phases.{IsEmptied, IsTold, Leads, Lightens, Stands, Unwinds, course_of_next, more_of};
 ghost use Rattle.engine.specs.declared.frame.Frame.TheVariants as frames_are;
 ghost use Rattle.runs.specs.Commands.{command};
-ghost use Rattle.runs.specs.Scripts.{flaw_of_fault, behind as meant_behind};
+ghost use Rattle.runs.specs.Scripts.{behind as meant_behind};
 ghost use Rattle.plan.specs.Plan.{Ends};
 ghost use Rattle.state.specs.Leaf.{course_of};
 ghost use Rattle.state.specs.Nesting.{course_of as course_of_nesting};
@@ -29,6 +28,7 @@ use crate::phase::Phase;
 use acts::{Act, Fault, NoMemory};
 use commands::Waits;
 use control::{Control, Held};
+use state::faults::no_script;
 use state::leaf::{empty, raises};
 use state::nesting::raised;
 use state::{Code, Leaf, Leave, Nesting, Outcome, State, Stop};
@@ -197,22 +197,6 @@ fn behind<A: Allocator + Copy>(
             let text = Value::new(alloc, no_script(fault).text(alloc)?)?;
             Ok(Err(Leave::Coded(Code::Error, text)))
         }
-    }
-}
-
-/// Why a text is no script, as the script's error (Tcl(n)).
-fn no_script<A: Allocator>(fault: tclparse::Fault) -> Fault<A>
-    ensures { flaw_of result ≡ flaw_of_fault (fault_of fault) }
-{
-    match fault {
-        tclparse::Fault::OpenBrace => Fault::OpenBrace,
-        tclparse::Fault::OpenBracket => Fault::OpenBracket,
-        tclparse::Fault::OpenQuote => Fault::OpenQuote,
-        tclparse::Fault::AfterBrace => Fault::AfterBrace,
-        tclparse::Fault::AfterQuote => Fault::AfterQuote,
-        tclparse::Fault::TooDeep => Fault::TooDeep,
-        tclparse::Fault::EscapeNotHere => Fault::EscapeNotHere,
-        tclparse::Fault::BadVariable => Fault::BadVariable,
     }
 }
 

@@ -1,27 +1,15 @@
 -- What scripts and commands do.
 use Rattle.std.specs.Prelude.{ℕ, List, [], Option, Some, None}
-use Rattle.acts.specs.Flaw as flaw
-use Rattle.acts.specs.Flaw.{Flaw}
 use Rattle.plan.specs.Plan.{Calls}
 use Rattle.runs.specs.Commands.{command}
 use Rattle.state.specs.Dialogue.{Course, gives, raises, tick, on_value}
+use Rattle.state.specs.Faults.{flaw_of_fault}
 use Rattle.state.specs.Piece.{Piece, Script, One}
 use Rattle.state.specs.Status.{Status}
-use Rattle.tclparse.specs.Fault.{Fault, open_brace, open_bracket, open_quote, after_brace, after_quote, too_deep, escape_not_here, bad_variable}
+use Rattle.tclparse.specs.Fault.{Fault}
 use Rattle.tclparse.specs.Tree.{Words, Commands, no_commands}
 use Rattle.tclparse.specs.Tree as tree
 use Rattle.words.specs.Words.{words}
-
--- why a text is no script, as the script's error (Tcl(n))
-abbrev pub flaw_of_fault : Fault → Flaw
-flaw_of_fault open_brace = flaw.OpenBrace
-flaw_of_fault open_bracket = flaw.OpenBracket
-flaw_of_fault open_quote = flaw.OpenQuote
-flaw_of_fault after_brace = flaw.AfterBrace
-flaw_of_fault after_quote = flaw.AfterQuote
-flaw_of_fault too_deep = flaw.TooDeep
-flaw_of_fault escape_not_here = flaw.EscapeNotHere
-flaw_of_fault bad_variable = flaw.BadVariable
 
 -- behind the commands of a text: the value of the last one, or the fault that ends the text early,
 -- which costs no tick (Tcl(n))

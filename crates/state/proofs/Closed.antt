@@ -1,16 +1,20 @@
 -- What holds of each course that is put together so.
-use Rattle.std.proofs.Common.{◌≡◌, ℕ, zero, suc, List, Option, Some, None, Result, Ok, Err, refl}
+use Rattle.std.proofs.Common.{◌≡◌, ℕ, zero, suc, List, [], Option, Some, None, Result, Ok, Err, refl}
 use Rattle.acts.specs.Flaw as flaw
 use Rattle.acts.specs.Flaw.{text_of}
 use Rattle.plan.specs.Plan.{Ends, Reads, Calls}
-use Rattle.state.specs.Dialogue.{Course, inside, tick, tick_of, within}
-use Rattle.state.specs.Outcome.{Outcome, Leaves, Stops, Error}
+use Rattle.meanings.specs.Meaning.{flaw_of_list}
+use Rattle.state.specs.Dialogue.{Course, inside, raises, tick, tick_of, within}
+use Rattle.state.specs.Listed.{on_list, with_list}
+use Rattle.state.specs.Outcome.{Outcome, Gives, Leaves, Stops, Error, Return, Break, Continue, Again, AgainRunning}
 use Rattle.state.specs.Outcome as stop
-use Rattle.state.specs.Piece.{Script, ScriptTree, ScriptText, Text, Tree}
+use Rattle.state.specs.Piece.{Script, ListText, ScriptTree, ScriptText, Text, Tree}
 use Rattle.state.specs.Status.{Status}
+use Rattle.state.specs.Turn.{on_turn}
 use Rattle.state.specs.Variables.{reads, writes, found, stored, spelled, flaw_of_trouble, on_name, with_name}
 use Rattle.tclparse.specs.Variable.{named}
 use Rattle.tclstate.specs.Scopes.{Scopes, Trouble, read, written}
+use Rattle.tcltext.specs.Flaw as list
 
 -- P says from which states which courses are so: ends are, and so is what begins with a script, a
 -- text that is read, a variable that is written or a tick, where all that may follow is
@@ -91,3 +95,31 @@ module _ (P : Status → Course → Type 0) (closed : Closed P) where
       ((name : List ℕ) (index : Option (List ℕ)) → P s (next name index)) →
       P s (with_name word s next)
   named_closed word s next each = name_closed (named word) s next each
+
+  -- an error
+  pub raises_closed : (f : flaw.Flaw) (s : Status) → P s (raises f s)
+  raises_closed f s = closed.over s (Leaves Error (text_of f))
+
+  list_closed : (s : Status) (next : List (List ℕ) → Course) →
+      ((es : List (List ℕ)) → P s (next es)) → (r : Result (List (List ℕ)) list.Flaw) →
+      P s (on_list s next r)
+  list_closed s next each (Ok elements) = each elements
+  list_closed s next each (Err why) = raises_closed (flaw_of_list why) s
+
+  -- a text that is read as a list
+  pub listed_closed : (text : List ℕ) (s : Status) (next : List (List ℕ) → Course) →
+      ((es : List (List ℕ)) → P s (next es)) → P s (with_list text s next)
+  listed_closed text s next each =
+      closed.reading (ListText text) s (on_list s next) (list_closed s next each)
+
+  -- what follows the body of a loop
+  pub turn_closed : (next : Status → Course) → ((u : Status) → P u (next u)) → (s : Status)
+      (o : Outcome) → P s (on_turn next s o)
+  turn_closed next each s (Gives value) = each s
+  turn_closed next each s (Leaves Continue value) = each s
+  turn_closed next each s (Leaves Break value) = closed.over s (Gives [])
+  turn_closed next each s (Leaves Error value) = closed.over s (Leaves Error value)
+  turn_closed next each s (Leaves Return value) = closed.over s (Leaves Return value)
+  turn_closed next each s (Leaves Again value) = closed.over s (Leaves Again value)
+  turn_closed next each s (Leaves AgainRunning value) = closed.over s (Leaves AgainRunning value)
+  turn_closed next each s (Stops stop) = closed.over s (Stops stop)

@@ -15,3 +15,5 @@ pub mod Nesting
 pub mod Behaves
 pub mod Arguments
 pub mod Stores
+pub mod Faults
+pub mod Turn

@@ -2,6 +2,7 @@
 #![tactic(auto)]
 
 pub mod arguments;
+pub mod faults;
 pub mod leaf;
 pub mod nesting;
 pub mod outcome;

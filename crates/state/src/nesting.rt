@@ -2,6 +2,7 @@
 
 ghost use Rattle.std.specs.Prelude.{◌≡◌, IfOk};
 ghost use Rattle.state.specs.Leaf as leaf;
+ghost use Rattle.state.specs.Nesting.{tree_of};
 ghost use Rattle.state.specs.View.{outcome_of};
 
 use crate::outcome::{Code, Leave, Outcome};
@@ -25,4 +26,13 @@ pub fn raised<A: Allocator + Copy>(alloc: A, fault: &Fault<A>) -> Result<Outcome
 {
     let text = Value::new(alloc, fault.text(alloc)?)?;
     Ok(Err(Leave::Coded(Code::Error, text)))
+}
+
+/// The same script again: its tree is shared.
+pub fn shared<A: Allocator>(script: &Script<A>) -> Result<Script<A>, NoMemory>
+    ensures { IfOk result (λ again. tree_of again ≡ tree_of script.now) }
+{
+    let commands = script.commands.clone()?;
+    let fault = script.fault;
+    Ok(Script { commands, fault })
 }

@@ -1,0 +1,15 @@
+use Rattle.std.proofs.Common.{◌≡◌, drop}
+use Rattle.control.specs.Foreach.{dealt}
+use Rattle.control.proofs.Assigning.{Leaves}
+use Rattle.state.specs.Status.{Status}
+use Rattle.state.specs.View.{FitsState}
+use Rattle.control.proofs.pair.assign_all.Given as goal
+
+abbrev pub invariant-loop-name : goal.invariant-loop-name
+invariant-loop-name g l = record {
+  leaves : (s : Status) → FitsState l.fn.state s →
+      Leaves l.state s (dealt l.names l.fn.elements.items)
+      (dealt (drop l.name-index l.names) l.elements.items);
+  elements : l.elements.items ≡ drop l.name-index l.fn.elements.items;
+  left : l.state.left ≡ l.fn.state.left;
+}

@@ -1,0 +1,49 @@
+-- What the parts of foreach come to in the code.
+use Rattle.std.specs.Prelude.{◌≡◌, map, Option, Some, None, Result, Ok, Err}
+use Rattle.acts.specs.declared.fault.Fault.{Fault}
+use Rattle.acts.specs.Flaw.{flaw_of}
+use Rattle.control.specs.Foreach.{Pair, rows, turns}
+use Rattle.state.specs.Turn.{on_turn}
+use Rattle.control.specs.declared.foreach.Held.{Held}
+use Rattle.control.specs.declared.pair.Pair as coded
+use Rattle.state.specs.Dialogue.{Course, raises}
+use Rattle.state.specs.Nesting.{tree_of}
+use Rattle.state.specs.Outcome.{Outcome}
+use Rattle.state.specs.Reaches.{Reaches}
+use Rattle.state.specs.Status.{Status}
+use Rattle.state.specs.View.{FitsState}
+use Rattle.state.specs.declared.state.State.{State}
+
+-- the pair that one of the code's stands for
+abbrev pub pair_of : {A : Type 0} → coded.Pair A → Pair
+pair_of p = record { names = p.names.items; elements = p.elements.items }
+
+-- what is left of the turns
+abbrev pub turns_left : {A : Type 0} → Held A → Status → Course
+turns_left held = turns held.levels (tree_of held.body)
+    (rows held.turns (map (λ p. pair_of p) held.pairs.items))
+
+-- what follows the body of a turn (foreach(n))
+abbrev pub next_of : {A : Type 0} → Held A → Status → Outcome → Course
+next_of held = on_turn (turns_left held)
+
+-- texts are read and what follows goes on with what they are seen as, or the script has this error
+abbrev pub Comes : {A X Y : Type 0} → Result X (Fault A) → (X → Y) →
+    (Status → (Y → Course) → Course) → Type 0
+Comes {Y = Y} (Ok x) seen part =
+    (s : Status) (next : Y → Course) → Reaches (part s next) (next (seen x))
+Comes {Y = Y} (Err fault) seen part =
+    (s : Status) (next : Y → Course) → Reaches (part s next) (raises (flaw_of fault) s)
+
+-- on, or with the script's error
+abbrev pub onward : {A : Type 0} → Option (Fault A) → (Status → Course) → Status → Course
+onward None next s = next s
+onward (Some fault) next s = raises (flaw_of fault) s
+
+-- for some state that the code's fits, what follows goes on from there, or the script has this
+-- error
+pub record Assigned {A : Type 0} (told : Option (Fault A)) (state : State A)
+    (part : (Status → Course) → Course) : Type 0 where
+  pub status : Status
+  pub fits : FitsState state status
+  pub same : (next : Status → Course) → part next ≡ onward told next status
