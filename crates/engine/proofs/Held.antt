@@ -4,6 +4,7 @@ use Rattle.std.proofs.lemmas.List.{length-drop, take_all}
 use Rattle.commands.specs.Commands as leaf
 use Rattle.commands.specs.View as table
 use Rattle.commands.specs.declared.waits.Waits.{Waits}
+use Rattle.control.specs.Calls.{call}
 use Rattle.control.specs.Commands.{does, named}
 use Rattle.control.specs.Control.{Control}
 use Rattle.control.specs.View as control
@@ -31,6 +32,8 @@ use Rattle.state.specs.declared.nesting.Nesting.TheVariants as nesting
 use Rattle.state.specs.declared.outcome.Leave.{Leave}
 use Rattle.state.specs.declared.state.State.{State}
 use Rattle.tclparse.specs.declared.script.Script.{Script}
+use Rattle.tclstate.specs.Pairs.{found}
+use Rattle.tclstate.specs.Procs.{Procedure}
 
 module _ {A : Type 0} (fs : List (Frame A)) where
   -- a command that is over goes on under the frames
@@ -95,12 +98,17 @@ module _ (levels : ℕ) (words : List (List ℕ)) (s : Status) where
   command_none is = rw is refl
 
   module _ (name : List ℕ) (args : List (List ℕ)) (is : words ≡ name ∷ args) where
-    pub command_runs : (c : Control) → named name ≡ Some c →
-        command levels s words ≡ does c levels args s
-    command_runs c found = rw (is, found) refl
+    pub command_calls : (p : Procedure) → found s.procedures name ≡ Some p →
+        command levels s words ≡ call levels name p args s
+    command_calls p defined = rw (is, defined) refl
 
-    pub command_plain : named name ≡ None → command levels s words ≡ leaf.command s words
-    command_plain found = rw (is, found) refl
+    module _ (undefined : found s.procedures name ≡ None) where
+      pub command_runs : (c : Control) → named name ≡ Some c →
+          command levels s words ≡ does c levels args s
+      command_runs c known = rw (is, undefined, known) refl
+
+      pub command_plain : named name ≡ None → command levels s words ≡ leaf.command s words
+      command_plain unknown = rw (is, undefined, unknown) refl
 
 -- words of which the first is known
 pub first_word : (words : List (List ℕ)) (first : List ℕ) → 1 ≤ length words →

@@ -12,7 +12,7 @@ use acts::{Limits, NoMemory};
 use itoa::Buffer;
 use state::{State, Table};
 use std::alloc::Allocator;
-use tclstate::{ScopeError, Scopes};
+use tclstate::{Procs, ScopeError, Scopes};
 use tcltext::{Value, join_list};
 
 /// The number of the first id (this project's own rule).
@@ -29,6 +29,7 @@ pub fn beginning<A: Allocator + Copy>(
 {
     Ok(State {
         scopes: first_scopes(alloc, args)?,
+        procs: Procs::new(alloc),
         table: Table::new(alloc),
         next: Some(FIRST_NUMBER),
         left: limits.ticks,

@@ -295,6 +295,9 @@ fn call<A: Allocator + Copy>(
     let [name, args @ ..] = words else {
         return Ok(empty());
     };
+    if let Some(nesting) = control::call(alloc, state, name.as_slice(), args, levels)? {
+        return hold(frames, nesting);
+    }
     match Control::read(name.as_slice()) {
         Some(control) => {
             let nesting = control::begin(alloc, state, control, args, levels)?;

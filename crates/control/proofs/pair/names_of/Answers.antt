@@ -9,6 +9,11 @@ use Rattle.state.specs.Dialogue.{raises}
 use Rattle.tclparse.specs.Variable.{named}
 use Rattle.control.proofs.pair.names_of.Goals as goal
 
+pub returns-in-Err-clause-names : goal.returns-in-Err-clause-names
+returns-in-Err-clause-names g c = λ s next.
+    let missed = rw c.in-Err.is at c.in_ok-names.ensures in
+    missed s (λ ns. on_names c.args.word.now ns s next)
+
 pub returns-then-is_empty-clause-names : goal.returns-then-is_empty-clause-names
 returns-then-is_empty-clause-names g c = λ s next.
     let word = c.args.word.now in

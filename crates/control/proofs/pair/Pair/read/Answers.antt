@@ -9,6 +9,11 @@ use Rattle.control.proofs.pair.Pair.read.Goals as goal
 abbrev seen : (Pair → Course) → List (List ℕ) → List (List ℕ) → Course
 seen next names elements = next (record { names = names; elements = elements })
 
+pub returns-in-Err-clause-reads : goal.returns-in-Err-clause-reads
+returns-in-Err-clause-reads g c = λ s next.
+    let missed = rw c.in-Err.is at c.in_ok-names.ensures.names in
+    missed s (λ names. with_list c.args.list.now s (seen next names))
+
 pub returns-in-Err-2-clause-reads : goal.returns-in-Err-2-clause-reads
 returns-in-Err-2-clause-reads g c = λ s next.
     let came = rw c.in-Ok.is at c.in_ok-names.ensures.names in
