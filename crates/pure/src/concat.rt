@@ -25,10 +25,7 @@ pub fn concat<A: Allocator + Copy>(
 ///
 /// # Errors
 /// Where memory is refused.
-pub fn concatenated<A: Allocator>(
-    alloc: A,
-    words: &[Value<A>],
-) -> Result<Vec<u8, A>, NoMemory>
+pub fn concatenated<A: Allocator>(alloc: A, words: &[Value<A>]) -> Result<Vec<u8, A>, NoMemory>
     ensures { IfOk result (λ text. text.items ≡ meant.concatenated words.now) }
 {
     let mut text = Vec::new(alloc);

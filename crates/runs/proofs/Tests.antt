@@ -49,8 +49,7 @@ module _ (item : Item) (items : List Item)
       let one = (only (b ∷ piece) taken).1 in
       let none : piece ≡ [] = cc in
       let same : b ∷ piece ≡ x ∷ [] = cc in
-      let behind : xs ≡ piece ++ rest = cc in
-      (
+      let behind : xs ≡ piece ++ rest = cc in (
         subst (IsPiece item) same taken,
         sym (behind ∙ ap (λ p. p ++ rest) none),
       )

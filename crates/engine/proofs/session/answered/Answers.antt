@@ -5,9 +5,26 @@ use Rattle.engine.specs.Frames.{stack}
 use Rattle.state.specs.Dialogue.{stopping}
 use Rattle.state.specs.Leaf.{Shows}
 use Rattle.engine.proofs.Closings.{judged_fit}
-use Rattle.engine.proofs.Machines.{asks_stands, shown_leads}
-use Rattle.engine.proofs.Silent.{same_left}
+use Rattle.engine.proofs.Machines.{asks_stands, on_ok, shown_leads, stands_from}
+use Rattle.engine.proofs.Silent.{reaches_goes, same_left, then_goes}
 use Rattle.engine.proofs.session.answered.Goals as goal
+
+pub returns-in-Has-clause-stands : goal.returns-in-Has-clause-stands
+returns-in-Has-clause-stands g c = λ s fits.
+    let frames = stack c.args.frames.now in
+    let deed = deed_of c.args.act in
+    let reply = reply_of c.args.answer in
+    let next = table.next_of c.args.waits deed s reply in
+    let shown = subst (λ leaf. Shows table.next_of leaf c.answered.new.state next) c.in-Has.is
+    (c.in_ok-outcome.ensures.shows s fits) in
+    on_ok c.advance.result (λ phase stands.
+    stands_from (stack c.advance.new.frames) c.advance.new.state
+    (then_goes
+    (same_left frames (judged_fit (stopping s) deed reply next (sym c.if-is_no_more.ensures)
+    (sym c.if-not-fits.ensures)))
+    (reaches_goes frames shown.reaches))
+    stands)
+    (c.advance.ensures.stands shown.status shown.fits)
 
 pub returns-in-Asks-clause-stands : goal.returns-in-Asks-clause-stands
 returns-in-Asks-clause-stands g c = λ s fits.
