@@ -31,6 +31,7 @@ returns-in-Err-clause-nests g c = λ s fits.
     let before = map (λ p. pair_of p) c.pairs.pairs.items in
     let next = begins c.args.levels s in
     let two : 2 ≤ length rest = search (rules, arith) in
+    let more = take (length rest - 2) (drop 2 rest) in
     let came = rw c.in-Err.is at c.in_ok-pair.ensures.reads in
     nests_after next_of c.args.state.now _ _ _
     (then_reaches (c.pairs.invariant.reaches s next)
@@ -38,7 +39,7 @@ returns-in-Err-clause-nests g c = λ s fits.
     (same_reaches (pairs_begin rest before s next c.variables-item.result c.list-item.result
     c.as_slice.result.now c.as_slice-in-len2-up.result.now two c.variables-item.is c.list-item.is
     c.as_slice.ensures c.as_slice-in-len2-up.ensures))
-    (came s (λ pair. with_pairs (take (length rest - 2) (drop 2 rest)) (before ++ pair ∷ []) s next))))
+    (came s (λ pair. with_pairs more (before ++ pair ∷ []) s next))))
     (over next_of c.args.state.now c.in_ok-raised-in-Err.field-0 (raised c.in-Err.fault) s _ fits
     c.in_ok-raised-in-Err.ensures refl)
 
@@ -51,7 +52,8 @@ pairs-preserved g c =
     let came = rw c.in-Ok.is at c.in_ok-pair.ensures.reads in
     let all = c.push.new.self.items in
     let asks = rw c.in-Ok.is at c.in_ok-pair.ensures.turns in
-    let pushed : map (λ p. pair_of p) all ≡ before ++ pair_of c.in-Ok.pair ∷ [] = ap (λ ps. map (λ p. pair_of p) ps) c.in_ok-push-in-Ok.ensures.items
+    let pushed : map (λ p. pair_of p) all ≡ before ++ pair_of c.in-Ok.pair ∷ [] =
+    ap (λ ps. map (λ p. pair_of p) ps) c.in_ok-push-in-Ok.ensures.items
     ∙ map-append (λ p. pair_of p) c.pairs.pairs.items (c.in-Ok.pair ∷ []) in
     record {
       reaches = λ s next.
@@ -93,7 +95,8 @@ returns-clause-nests g c = λ s fits.
     (same_reaches (pairs_body rest pairs s (begins levels s) c.body-item.result
     c.as_slice-2.result.now one c.body-item.is c.as_slice-2.ensures))
     (then_reaches
-    (reads {text = ScriptText c.as_slice-2.result.now} (tree_of body) c.in_ok-body.ensures.tree here)
+    (reads {text = ScriptText c.as_slice-2.result.now} (tree_of body)
+    c.in_ok-body.ensures.tree here)
     (same_reaches (ap (λ n. turns levels (tree_of body) (rows n pairs) s)
     (sym c.pairs.invariant.turns))))))
     nests)

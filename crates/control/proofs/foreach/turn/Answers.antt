@@ -66,7 +66,8 @@ returns-clause-nests g c = λ s fits.
           (turns_next levels body held.turns (map (λ p. pair_of p) held.pairs.items) s
           c.in-Some.turns more
           ∙ set.same _ ∙ tick_taken set.status left _ some
-          ∙ ap (λ ps. inside levels body after (on_turn (turns levels body (rows c.in-Some.turns ps))))
+          ∙ ap (λ ps. inside levels body after
+          (on_turn (turns levels body (rows c.in-Some.turns ps))))
           (sym moved)
           ∙ same);
     })

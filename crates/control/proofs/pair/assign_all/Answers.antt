@@ -41,7 +41,8 @@ loop-name-preserved g c =
           (c.loop-name.invariant.leaves s fits) in
           leaves_more c.loop-name.state c.set.new.state s _ ((word, value) ∷ []) behind
           c.in_ok-fault.field-0 l c.in_default.is (c.in_ok-fault.ensures.assigns l.status l.fits);
-      elements = c.take_first-element.ensures.rest ∙ ap (λ es. drop 1 es) c.loop-name.invariant.elements
+      elements = c.take_first-element.ensures.rest
+          ∙ ap (λ es. drop 1 es) c.loop-name.invariant.elements
           ∙ drop-drop 1 i c.args.elements.now.items;
       left = search rules;
     }
