@@ -2,12 +2,12 @@
 use Rattle.std.proofs.Common.{not, ◌≡◌, ℕ, zero, suc, ◌+◌, ◌-◌, ◌*◌, ◌/◌, ◌%◌, ◌^◌, ◌<◌, ◌≤◌, ◌==◌, ◌&&◌, ◌||◌, Bool, false, cond, ltb, inl, inr, min, max, ℤ, pos, negsuc, ◌-ℤ◌, FitsSigned, w64, of_z, to_z, refl, sym, ap, subst, ◌∙◌, arith}
 use Rattle.std.specs.Int.{bit_at}
 use Rattle.std.specs.Int.RustNames.{bit_and, bit_or, bit_xor}
+use Rattle.std.proofs.lemmas.Bool.{cases_lt}
 use Rattle.std.proofs.lemmas.Bool.Decides.{nat_tests}
 use Rattle.std.proofs.Math.Facts.{sfits_to_z, of_z-to_z}
 use Rattle.std.proofs.lemmas.Int.{ints, to_z_pos}
 use Rattle.std.proofs.lemmas.Nat.{mod-pow-add, and_le_l, or_lt, xor_lt}
 use Rattle.std.proofs.lemmas.Nat.Bits.{bit_at_and, bit_at_or, bit_at_xor, bit_at_not, bit_at-lt}
-use Rattle.operators.proofs.Fits.{le_or_above}
 use Rattle.operators.specs.Unary.{complement}
 use Rattle.operators.specs.Bits.{bit, worth, lowest, of_bits, differ, bits_and, bits_or, bits_xor}
 
@@ -27,15 +27,18 @@ bit_is (negsuc n) i fits below =
     ∙ ap (λ v. v == 1) (sym (bit_at_not w64 n i (omega arith) below))
     ∙ ap (λ p. is_set p i) (omega arith)
 
+-- a pattern has 64 bits
 of_z_small : (a : ℤ) → FitsSigned w64 a → of_z w64 a < 2 ^ 64
 of_z_small (pos n) fits = let small = fits.sfits in omega arith
 of_z_small (negsuc n) fits = omega arith
 
+-- what a bit counts
 counts : (v k : ℕ) → v < 2 → cond (v == 1) (2 ^ k) 0 ≡ v * 2 ^ k
 counts zero k small = omega arith
 counts (suc zero) k small = omega arith
 counts (suc (suc v)) k small = absurd (omega arith)
 
+-- the lowest bits of a pattern are its remainder
 lowest_is : (k p : ℕ) → lowest k (is_set p) ≡ p % 2 ^ k
 unfolding lowest
 lowest_is zero p = omega arith
@@ -77,10 +80,10 @@ pattern_is : (p : ℕ) → p < 2 ^ 64 → of_bits (is_set p) ≡ to_z w64 p
 pattern_is p small =
     let low = lowest_is 63 p in
     let high = counts (bit_at p 63) 63 (bit_at-lt p 63) in
-    elim (le_or_above (2 ^ 63) p) [
-      | inl large ↦ below_zero p (lowest 63 (is_set p)) (worth (is_set p) 63) large small
+    elim (cases_lt p (2 ^ 63)) [
+      | inr large ↦ below_zero p (lowest 63 (is_set p)) (worth (is_set p) 63) large small
           (omega arith) (omega arith)
-      | inr below ↦ plain p (lowest 63 (is_set p)) (worth (is_set p) 63) below
+      | inl below ↦ plain p (lowest 63 (is_set p)) (worth (is_set p) 63) below
           (omega arith) (omega arith)
     ]
 
@@ -145,6 +148,7 @@ module _ (a b : ℤ) (left : FitsSigned w64 a) (right : FitsSigned w64 b) where
       (bit_at-lt (of_z w64 b) i)
       ∙ ap (λ v. v == 1) (sym (bit_at_and (of_z w64 a) (of_z w64 b) i))
 
+  -- what the code's operation gives, that 64 bits hold it, and its bits
   pub and_is : to_z w64 (bit_and (of_z w64 a) (of_z w64 b)) ≡ bits_and a b
   and_is = joined (λ (x y : Bool). x && y) (bit_and (of_z w64 a) (of_z w64 b)) and_small and_each
 
@@ -169,6 +173,7 @@ module _ (a b : ℤ) (left : FitsSigned w64 a) (right : FitsSigned w64 b) where
       (bit_at-lt (of_z w64 b) i)
       ∙ ap (λ v. v == 1) (sym (bit_at_or (of_z w64 a) (of_z w64 b) i))
 
+  -- the same of one or both
   pub or_is : to_z w64 (bit_or (of_z w64 a) (of_z w64 b)) ≡ bits_or a b
   or_is = joined (λ (x y : Bool). x || y) (bit_or (of_z w64 a) (of_z w64 b)) or_small or_each
 
@@ -193,6 +198,7 @@ module _ (a b : ℤ) (left : FitsSigned w64 a) (right : FitsSigned w64 b) where
       (bit_at-lt (of_z w64 b) i)
       ∙ ap (λ v. v == 1) (sym (bit_at_xor (of_z w64 a) (of_z w64 b) i))
 
+  -- the same of one alone
   pub xor_is : to_z w64 (bit_xor (of_z w64 a) (of_z w64 b)) ≡ bits_xor a b
   xor_is = joined differ (bit_xor (of_z w64 a) (of_z w64 b)) xor_small xor_each
 

@@ -44,7 +44,8 @@ one n small = record {
   front = λ positive. grind (arith, nat_tests);
 }
 
-begins_behind : (ds : List ℕ) (c : ℕ) → 0 < length ds → begins_zero (ds ++ (c ∷ [])) ≡ begins_zero ds
+begins_behind : (ds : List ℕ) (c : ℕ) → 0 < length ds →
+    begins_zero (ds ++ (c ∷ [])) ≡ begins_zero ds
 begins_behind [] c some = absurd (omega arith)
 begins_behind (d ∷ ds) c some = refl
 

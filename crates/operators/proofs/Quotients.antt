@@ -9,9 +9,11 @@ use Rattle.operators.specs.Division.{rounded_down, quotient, remainder}
 splits : (n b : ℕ) → 0 < b → (b * (n / b) + n % b ≡ n) × (n % b < b)
 splits n b some = (omega arith, omega arith)
 
+-- one more than a quotient, times the divisor
 one_more : (b q : ℕ) → (b * suc q ≡ b * q + b) × (suc q * b ≡ b * q + b)
 one_more b q = (mul-suc b q, suc-mul q b ∙ ap (λ p. p + b) (mul_comm q b))
 
+-- the quotient is not above the dividend
 pub below : (a : ℤ) (b : ℕ) → 0 < b → (quotient a (pos b) *ℤ pos b) ≤ℤ a
 below (pos n) b some =
     let s = splits n b some in omega (arith, ints, mul_comm (n / b) b)
@@ -20,6 +22,7 @@ below (negsuc n) b some =
     let m = one_more b (n / b) in
     omega (arith, ints)
 
+-- no number above the quotient is so
 pub greatest : (a q : ℤ) (b : ℕ) → 0 < b → (q *ℤ pos b) ≤ℤ a → q ≤ℤ quotient a (pos b)
 greatest (pos n) (pos m) b some le =
     let most = le-div m n b some (omega (arith, ints)) in omega (arith, ints)
@@ -33,14 +36,17 @@ neg_twice (pos zero) = refl
 neg_twice (pos (suc n)) = refl
 neg_twice (negsuc n) = refl
 
+-- both signs may be turned
 pub turned : (a b : ℤ) → b ≢ pos 0 → quotient (neg_ℤ a) (neg_ℤ b) ≡ quotient a b
 turned a (pos zero) some = absurd (some refl)
 turned a (pos (suc b)) some = ap (λ c. rounded_down c (suc b)) (neg_twice a)
 turned a (negsuc b) some = refl
 
+-- the remainder is what the quotient leaves
 pub whole : (a b : ℤ) → b *ℤ quotient a b +ℤ remainder a b ≡ a
 whole a b = omega (arith, ints)
 
+-- what a divisor above 0 leaves
 pub above : (a : ℤ) (b : ℕ) → 0 < b →
     (pos 0 ≤ℤ remainder a (pos b)) × (remainder a (pos b) <ℤ pos b)
 above (pos n) b some =
@@ -50,6 +56,7 @@ above (negsuc n) b some =
     let m = one_more b (n / b) in
     (omega (arith, ints), omega (arith, ints))
 
+-- what a divisor below 0 leaves
 pub below_zero : (a : ℤ) (b : ℕ) →
     (remainder a (negsuc b) ≤ℤ pos 0) × (negsuc b <ℤ remainder a (negsuc b))
 below_zero (pos zero) b =

@@ -9,11 +9,11 @@ use Rattle.tcltext.proofs.Numerals.{numeral_read, numeral_spelled}
 use Rattle.operators.specs.Number.{held, number_of}
 use Rattle.operators.proofs.Decimals.{is_numeral}
 
-pub in_range : (n : ℤ) → FitsSigned w64 n → is_in_range n ≡ true
+in_range : (n : ℤ) → FitsSigned w64 n → is_in_range n ≡ true
 in_range (pos n) fits = grind (arith, nat_tests, fits.sfits)
 in_range (negsuc n) fits = grind (arith, nat_tests, fits.sfits)
 
-pub fits : (n : ℤ) → is_in_range n ≡ true → FitsSigned w64 n
+fits : (n : ℤ) → is_in_range n ≡ true → FitsSigned w64 n
 fits (pos n) is = let le : n ≤ 9223372036854775807 = grind (arith, nat_tests) in
     record { sfits = omega arith }
 fits (negsuc n) is = let le : n ≤ 9223372036854775807 = grind (arith, nat_tests) in
@@ -31,7 +31,7 @@ held_is : (n : ℤ) → FitsSigned w64 n → held n ≡ Some n
 held_is n is = rw (in_range n is) refl
 
 -- a numeral within 64 bits is its number
-pub numeral_is : (n : ℤ) (text : List ℕ) → IsNumeral n text → FitsSigned w64 n →
+numeral_is : (n : ℤ) (text : List ℕ) → IsNumeral n text → FitsSigned w64 n →
     number_of text ≡ Some n
 unfolding number_of
 numeral_is n text is small =

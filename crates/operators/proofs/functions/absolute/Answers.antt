@@ -17,7 +17,11 @@ returns g c =
     let n = c.in_ok-n.n in
     let small : FitsSigned w64 n = search rules in
     let read : to_z w64 (of_z w64 n) ≡ n = to_z-of_z w64 n small in
-    let given = subst (λ (m : ℤ). SomeIff c.checked_abs.result (FitsSigned w64 (neg_ℤ m)) (pos (unsigned_abs m)))
+    let given =
+    subst
+    (λ (m : ℤ).
+    SomeIff c.checked_abs.result (FitsSigned w64 (neg_ℤ m)) (pos (unsigned_abs m)))
     read c.checked_abs.ensures in
-    one c.args.operand.now n (λ (m : ℤ). told (pos (unsigned_abs m))) c.told.result c.in_ok-n.ensures.ok
+    one c.args.operand.now n (λ (m : ℤ). told (pos (unsigned_abs m))) c.told.result
+    c.in_ok-n.ensures.ok
     (c.told.ensures (pos (unsigned_abs n)) (absolute_fits n c.checked_abs.result small given))
