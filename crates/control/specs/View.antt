@@ -61,7 +61,8 @@ IsLifted own nesting lifted = (s : Status) → course_of own nesting s ≡ cours
 
 -- a call of the procedure of this name has come so far
 pub record Calls {A H : Type 0} (next : H → Status → Outcome → Course) (n : Nesting A H)
-    (state : State A) (levels : ℕ) (name : List ℕ) (words : List (List ℕ)) (s : Status) : Type 0 where
+    (state : State A) (levels : ℕ) (name : List ℕ) (words : List (List ℕ)) (s : Status) :
+    Type 0 where
   pub procedure : Procedure
   pub found : found s.procedures name ≡ Some procedure
   pub nests : Nests next n state (call levels name procedure words s)

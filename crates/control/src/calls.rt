@@ -126,10 +126,7 @@ fn frame_of<A: Allocator + Copy>(
 }
 
 /// What a formal takes: the next word, or its default where no word is left.
-fn taken<A: Allocator>(
-    formal: &Formal<A>,
-    words: &[Value<A>],
-) -> Result<Option<Value<A>>, NoMemory>
+fn taken<A: Allocator>(formal: &Formal<A>, words: &[Value<A>]) -> Result<Option<Value<A>>, NoMemory>
     ensures { IfOk result (λ value. value ≡ definition.taken formal.now words.now) }
 {
     match words {
