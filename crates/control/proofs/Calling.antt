@@ -2,7 +2,7 @@
 use Rattle.std.proofs.Common.{◌≡◌, ℕ, ◌≤◌, List, [], ◌∷◌, length, drop, Bool, false, Option, Some, None, option_map, refl, ap, arith}
 use Rattle.std.proofs.Math.ListN.{drop_of_length-le}
 use Rattle.acts.specs.Flaw as flaw
-use Rattle.control.specs.Calls.{Values, call, frame_of, given, returned, runs_with, taken, behind, rest_of, values_of, with_value}
+use Rattle.control.specs.Calls.{Values, call, frame_of, given, returned, taken, behind, rest_of, values_of, with_value}
 use Rattle.state.specs.Dialogue.{raises, within}
 use Rattle.state.specs.Status.{Status}
 use Rattle.tclstate.specs.Formals.{Formal}

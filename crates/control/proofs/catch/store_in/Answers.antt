@@ -1,4 +1,4 @@
-use Rattle.std.proofs.Common.{◌≡◌, ◌∙◌, Ok, None, Some, ap}
+use Rattle.std.proofs.Common.{◌≡◌, ◌∙◌, Ok, None, ap}
 use Rattle.std.specs.Prelude.{decimal}
 use Rattle.acts.specs.Flaw as flaw
 use Rattle.acts.specs.Flaw.{text_of}
@@ -7,7 +7,7 @@ use Rattle.control.proofs.Catching.{stores_named, stores_none, stores_unnamed}
 use Rattle.state.proofs.Nestings.{over}
 use Rattle.state.specs.Dialogue.{gives}
 use Rattle.state.specs.Leaf.{raised}
-use Rattle.state.specs.Outcome.{Outcome, Gives, Leaves, Error}
+use Rattle.state.specs.Outcome.{Gives, Leaves, Error}
 use Rattle.tclparse.specs.Variable.{named}
 use Rattle.control.proofs.catch.store_in.Goals as goal
 
