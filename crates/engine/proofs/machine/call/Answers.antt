@@ -1,4 +1,4 @@
-use Rattle.std.proofs.Common.{◌≡◌, ◌∙◌, ◌-◌, ◌∷◌, [], drop, length, take, None, Some, option_map, subst, sym, ap, rules, arith}
+use Rattle.std.proofs.Common.{◌≡◌, ◌∙◌, ◌-◌, ◌∷◌, [], drop, length, take, None, Some, subst, sym, ap, rules, arith}
 use Rattle.control.specs.Commands.{named}
 use Rattle.control.specs.Calls as calls
 use Rattle.control.specs.View.{IsCalled, control_of, next_of}
