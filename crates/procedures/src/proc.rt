@@ -1,4 +1,5 @@
 //! `proc n formals b` (proc(n)).
+#![tactic(auto, using(state::proofs::Reaches::same_reaches))]
 
 ghost use Rattle.std.specs.Prelude.{◌≤◌, IfOk};
 ghost use Rattle.procedures.specs.Proc as definition;
