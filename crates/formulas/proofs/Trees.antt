@@ -6,8 +6,10 @@ use Rattle.tclparse.specs.declared.operator.Infix.{Infix}
 use Rattle.tclparse.specs.declared.operator.Unary.{Unary}
 use Rattle.tclparse.specs.Formula as tree
 use Rattle.tclparse.specs.Formula.{Links, no_links, link, Formulas, no_formulas, formula}
+use Rattle.tclparse.specs.View.{parts_of}
+use Rattle.tclparse.specs.declared.tree.Part.{Part}
 use Rattle.formulas.specs.View.{join_links, join_formulas, formula_of, link_view, row_view, choice_view, links_then, formulas_then}
-use Rattle.formulas.specs.declared.tree.Formula.{Formula, Call, Row, Choice, Prefix, the_lemmas}
+use Rattle.formulas.specs.declared.tree.Formula.{Formula, Text, Call, Row, Choice, Prefix, the_lemmas}
 use Rattle.formulas.specs.declared.tree.Formula.TheViews.{roll-Choice, roll-Link, roll-Row}
 use Rattle.formulas.specs.declared.tree.Choice as the_choice
 use Rattle.formulas.specs.declared.tree.Link.{Link, out-Link}
@@ -42,7 +44,7 @@ pub formulas_push : {A : Type 0} → (fs : List (Formula A)) (f : Formula A) (t 
 formulas_push [] f t = refl
 formulas_push (g ∷ fs) f t = ap (formula (formula_of g)) (formulas_push fs f t)
 
-view_Prefix : {A : Type 0} → (u : Unary) (f : Rc (Formula A) A) → formula_of (Prefix u f)
+pub view_Prefix : {A : Type 0} → (u : Unary) (f : Rc (Formula A) A) → formula_of (Prefix u f)
     ≡ tree.prefix u (formula_of f.value)
 view_Prefix u f = search (rules, the_lemmas)
 
@@ -51,10 +53,10 @@ pub prefix_made : {A : Type 0} → (u : Unary) (r : Rc (Formula A) A) (f : Formu
     formula_of (Prefix u r) ≡ tree.prefix u (formula_of f)
 prefix_made u r f is = view_Prefix u r ∙ ap (λ h. tree.prefix u (formula_of h)) is
 
-view_Row : {A : Type 0} → (r : Rc (the_row.Row A) A) → formula_of (Row r) ≡ row_view r.value
+pub view_Row : {A : Type 0} → (r : Rc (the_row.Row A) A) → formula_of (Row r) ≡ row_view r.value
 view_Row r = search (rules, the_lemmas)
 
-view_Choice : {A : Type 0} → (c : Rc (the_choice.Choice A) A) → formula_of (Choice c)
+pub view_Choice : {A : Type 0} → (c : Rc (the_choice.Choice A) A) → formula_of (Choice c)
     ≡ choice_view c.value
 view_Choice c = search (rules, the_lemmas)
 
@@ -68,9 +70,24 @@ choice_of_fields : {A : Type 0} → (t y n : Formula A) →
     ≡ tree.choice (formula_of t) (formula_of y) (formula_of n)
 choice_of_fields t y n = search (rules, the_lemmas)
 
-view_Link : {A : Type 0} → (l : Link A) (t : Links) → link_view l t
+pub view_Link : {A : Type 0} → (l : Link A) (t : Links) → link_view l t
     ≡ link (out-Link A l).operator (formula_of (out-Link A l).operand) t
 view_Link {A} l t = search (rules, the_lemmas)
+
+-- a formula of each kind, from its parts
+pub view_Text : {A : Type 0} → (ps : Rc (Vec (Part A) A) A) → formula_of (Text ps)
+    ≡ tree.text (parts_of ps)
+view_Text ps = search (rules, the_lemmas)
+
+pub row_parts : {A : Type 0} → (r : the_row.Row A) → row_view r
+    ≡ tree.row (formula_of (the_row.out-Row A r).first)
+    (links_then (the_row.out-Row A r).links.items no_links)
+row_parts {A} r = search (rules, the_lemmas, join_links_view)
+
+pub choice_parts : {A : Type 0} → (c : the_choice.Choice A) → choice_view c
+    ≡ tree.choice (formula_of (the_choice.out-Choice A c).test)
+    (formula_of (the_choice.out-Choice A c).yes) (formula_of (the_choice.out-Choice A c).no)
+choice_parts {A} c = search (rules, the_lemmas)
 
 some_links : {A : Type 0} → (f : tree.Formula) (ls : List (Link A)) → 0 < length ls →
     row_of f (links_then ls no_links) ≡ tree.row f (links_then ls no_links)

@@ -4,6 +4,6 @@
 
 mod gathering;
 mod joined;
-mod word;
+pub mod word;
 
 pub use gathering::{Gathered, Gathering, begin, resume};

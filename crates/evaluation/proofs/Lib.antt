@@ -1,0 +1,4 @@
+mod Meant
+pub mod Outer
+pub mod Steps
+pub mod Closed

@@ -1,0 +1,65 @@
+-- What functions of texts come to, once their texts are read.
+use Rattle.std.proofs.Common.{◌≡◌, ℕ, List, Ok, Err, Result, MatchResult, sym, ap, subst}
+use Rattle.acts.specs.Flaw.{Flaw, flaw_of}
+use Rattle.acts.specs.declared.fault.Fault.{Fault}
+use Rattle.meanings.specs.Meaning.{Answer, Meaning, Gives, Raises, Splits, Matches, Comes, IsSplit, flaw_of_list}
+use Rattle.meanings.specs.View.{Answers}
+use Rattle.meanings.specs.declared.fault.MeaningFault.{MeaningFault}
+use Rattle.meanings.specs.declared.fault.MeaningFault.TheVariants as fault
+use Rattle.state.specs.Dialogue.{Course, raises}
+use Rattle.state.specs.Listed.{on_list}
+use Rattle.state.specs.Piece.{ListText, TestText}
+use Rattle.state.specs.Reaches.{Reaches, reads}
+use Rattle.state.specs.Status.{Status}
+use Rattle.state.proofs.Reaches.{same_reaches}
+use Rattle.tcltext.specs.Flaw as list
+use Rattle.evaluation.specs.Evaluated.{on_meaning}
+
+-- on with a value; an error is raised
+abbrev pub on_answer : Answer → Status → (List ℕ → Course) → Course
+on_answer (Ok value) s next = next value
+on_answer (Err flaw) s next = raises flaw s
+
+-- what follows the one reading of a text as a list
+split_reaches : (more : List (List ℕ) → Meaning) (answer : Answer) (s : Status)
+    (next : List ℕ → Course) →
+    ((elements : List (List ℕ)) → Comes (more elements) answer →
+    Reaches (on_meaning (more elements) s next) (on_answer answer s next)) →
+    (split : Result (List (List ℕ)) list.Flaw) →
+    MatchResult split (λ elements. Comes (more elements) answer)
+    (λ why. answer ≡ Err (flaw_of_list why)) →
+    Reaches (on_list s (λ elements. on_meaning (more elements) s next) split)
+    (on_answer answer s next)
+split_reaches more answer s next each (Ok elements) comes = each elements comes
+split_reaches more answer s next each (Err why) is =
+    same_reaches (ap (λ a. on_answer a s next) (sym is))
+
+-- a meaning goes on with its answer
+pub meaning_reaches : (meaning : Meaning) (answer : Answer) (s : Status) (next : List ℕ → Course) →
+    Comes meaning answer → Reaches (on_meaning meaning s next) (on_answer answer s next)
+meaning_reaches (Gives value) answer s next is =
+    same_reaches (ap (λ a. on_answer a s next) (sym is))
+meaning_reaches (Raises flaw) answer s next is =
+    same_reaches (ap (λ a. on_answer a s next) (sym is))
+meaning_reaches (Splits text more) answer s next comes =
+    reads {text = ListText text} comes.0 comes.1
+    (split_reaches more answer s next
+    (λ elements. meaning_reaches (more elements) answer s next) comes.0 comes.2)
+meaning_reaches (Matches pattern text more) answer s next comes =
+    reads {text = TestText pattern text} comes.0 comes.1
+    (meaning_reaches (more comes.0) answer s next comes.2)
+
+-- the same, of an answer of the code
+pub value_reaches : {A : Type 0} (meaning : Meaning) (it : Result (List ℕ) (MeaningFault A))
+    (value : List ℕ) (s : Status) (next : List ℕ → Course) → it ≡ Ok value → Answers meaning it →
+    Reaches (on_meaning meaning s next) (next value)
+value_reaches meaning it value s next is answers =
+    meaning_reaches meaning (Ok value) s next (subst (λ a. Answers meaning a) is answers)
+
+pub fault_reaches : {A : Type 0} (meaning : Meaning) (it : Result (List ℕ) (MeaningFault A))
+    (why : MeaningFault A) (told : Fault A) (s : Status) (next : List ℕ → Course) → it ≡ Err why →
+    why ≡ fault.Fault told → Answers meaning it →
+    Reaches (on_meaning meaning s next) (raises (flaw_of told) s)
+fault_reaches meaning it why told s next is also answers =
+    meaning_reaches meaning (Err (flaw_of told)) s next
+    (subst (λ a. Answers meaning (Err a)) also (subst (λ a. Answers meaning a) is answers))

@@ -1,0 +1,4 @@
+pub mod Evaluated
+pub mod Pending
+pub mod View
+pub mod Scripts

@@ -1,0 +1,161 @@
+//! What is left of a formula around a script in it.
+
+ghost use Rattle.std.specs.Prelude.{◌≡◌, ◌+◌, ℕ, List, [], ◌∷◌, IfOk};
+ghost use Rattle.meanings.specs.Meaning.{Meaning};
+ghost use Rattle.meanings.specs.View.{Answers};
+ghost use Rattle.operators.specs.Unary.{unary as meant};
+ghost use Rattle.state.specs.Dialogue.{Course};
+ghost use Rattle.state.specs.Reaches.{Reaches};
+ghost use Rattle.state.specs.Status.{Status};
+ghost use Rattle.words.specs.Scripts as words;
+ghost use Rattle.words.specs.View.{course_of_met};
+ghost use Rattle.evaluation.specs.Evaluated.{on_meaning};
+ghost use Rattle.evaluation.specs.Scripts.{MeetsFewer, scripts_around, scripts_in_around};
+ghost use Rattle.evaluation.specs.View.{IsDirect, IsStopped, after, behind, course_of};
+
+use crate::pending::Pending;
+use acts::{Fault, NoMemory};
+use formulas::{Choice, Formula, Row};
+use meanings::MeaningFault;
+use operators::{Operand, unary};
+use std::alloc::Allocator;
+use std::collections::VecDeque;
+use std::rc::Rc;
+use tclparse::{Command, Function, Unary};
+use words::word::{Met, OpenWord};
+
+/// A row whose right operand is being evaluated: the operator before it, and the place of those
+/// that follow.
+#[derive(Drop)]
+pub struct OpenRow<A: Allocator> {
+    pub row: Rc<Row<A>, A>,
+    pub next: usize,
+    pub pending: Pending<A>,
+}
+
+/// A call of which an argument is being evaluated: the values of those before it, and the place of
+/// those that follow.
+#[derive(Drop)]
+pub struct OpenCall<A: Allocator> {
+    pub function: Function,
+    pub arguments: Rc<Vec<Formula<A>, A>, A>,
+    pub next: usize,
+    pub values: Vec<Operand<A>, A>,
+}
+
+/// What is left around an operand that is being evaluated.
+#[derive(Drop)]
+pub enum Around<A: Allocator> {
+    /// An operator before it.
+    Prefix(Unary),
+    /// It is the test of a choice.
+    Choice(Rc<Choice<A>, A>),
+    /// It is the first operand of a row.
+    First(Rc<Row<A>, A>),
+    /// It is the right operand of an operator in a row.
+    Link(OpenRow<A>),
+    /// It is an argument of a call.
+    Call(OpenCall<A>),
+}
+
+/// A formula that is evaluated up to a script in it: the text in which the script stands, and what
+/// is left around that, the innermost first.
+#[derive(Drop)]
+pub struct OpenFormula<A: Allocator> {
+    pub text: OpenWord<A>,
+    pub outer: VecDeque<Around<A>, A>,
+}
+
+/// What the evaluation of a formula comes to.
+#[derive(Drop)]
+pub enum Evaluated<A: Allocator> {
+    /// The formula's value.
+    Value(Operand<A>),
+    /// A script, whose value goes into the formula.
+    Script(Rc<Vec<Command<A>, A>, A>, OpenFormula<A>),
+    /// The script's error.
+    Fault(Fault<A>),
+}
+
+/// What an operator or a function of values comes to, as what the formula comes to.
+pub fn answered<A: Allocator>(
+    answer: Result<Operand<A>, MeaningFault<A>>,
+) -> Result<Evaluated<A>, NoMemory>
+    ensures reaches { (meaning : Meaning) (levels : ℕ) (s : Status)
+        (next : Status → List ℕ → Course) → Answers meaning answer → IfOk result (λ it.
+        Reaches (on_meaning meaning s (λ v. next s v)) (course_of levels it next s)) }
+    ensures direct { IfOk result IsDirect }
+{
+    match answer {
+        Ok(value) => Ok(Evaluated::Value(value)),
+        Err(MeaningFault::Fault(fault)) => Ok(Evaluated::Fault(fault)),
+        Err(MeaningFault::NoMemory(refusal)) => Err(refusal),
+    }
+}
+
+/// What an operator before an operand comes to (expr(n), operators).
+pub fn prefixed<A: Allocator + Copy>(
+    alloc: A,
+    operator: Unary,
+    operand: Operand<A>,
+) -> Result<Evaluated<A>, NoMemory>
+    ensures reaches { (levels : ℕ) (s : Status) (next : Status → List ℕ → Course) →
+        IfOk result (λ it. Reaches (on_meaning (meant operator operand) s (λ v. next s v))
+        (course_of levels it next s)) }
+    ensures direct { IfOk result IsDirect }
+{
+    answered(unary(alloc, operator, &operand))
+}
+
+/// What a text comes to, as what the formula comes to.
+pub fn of_text<A: Allocator + Copy>(alloc: A, met: Met<A>) -> Evaluated<A>
+    ensures goes_on { (levels : ℕ) (s : Status) (next : Status → List ℕ → Course) →
+        course_of_met levels met next s ≡ course_of levels result next s }
+    ensures fewer { (n : ℕ) → words.MeetsFewer met n → MeetsFewer result n }
+{
+    match met {
+        Met::Value(value) => Evaluated::Value(Operand::text(value)),
+        Met::Script(commands, text) => {
+            let outer = VecDeque::new(alloc);
+            Evaluated::Script(commands, OpenFormula { text, outer })
+        }
+        Met::Fault(fault) => Evaluated::Fault(fault),
+    }
+}
+
+/// What was met in an operand in place of its value, with what is left around the operand.
+pub fn enclosed<A: Allocator + Copy>(
+    stopped: Evaluated<A>,
+    around: Around<A>,
+) -> Result<Evaluated<A>, NoMemory>
+    ensures goes_on { IsStopped stopped → (levels : ℕ) (s : Status)
+        (next : Status → List ℕ → Course) → IfOk result (λ it.
+        course_of levels stopped (behind levels around next) s ≡ course_of levels it next s) }
+    ensures stopped { IsStopped stopped → IfOk result IsStopped }
+    ensures fewer { (n : ℕ) → MeetsFewer stopped n → IfOk result (λ it.
+        MeetsFewer it (n + scripts_in_around around)) }
+{
+    let Evaluated::Script(commands, mut open) = stopped else {
+        return Ok(stopped);
+    };
+    open.outer.push_back(around)?;
+    Ok(Evaluated::Script(commands, open))
+}
+
+/// The same, with several things around the operand, the innermost first.
+pub fn enclosed_by_all<A: Allocator + Copy>(
+    stopped: Evaluated<A>,
+    mut outer: VecDeque<Around<A>, A>,
+) -> Result<Evaluated<A>, NoMemory>
+    ensures goes_on { IsStopped stopped → (levels : ℕ) (s : Status)
+        (next : Status → List ℕ → Course) → IfOk result (λ it.
+        course_of levels stopped (after levels outer.items next) s ≡ course_of levels it next s) }
+    ensures fewer { (n : ℕ) → MeetsFewer stopped n → IfOk result (λ it.
+        MeetsFewer it (n + scripts_around outer.items)) }
+{
+    let Evaluated::Script(commands, mut open) = stopped else {
+        return Ok(stopped);
+    };
+    open.outer.append(&mut outer)?;
+    Ok(Evaluated::Script(commands, open))
+}
