@@ -1,5 +1,6 @@
 -- What is left around an operand, one thing after the other.
-use Rattle.std.proofs.Common.{◌≡◌, ◌∙◌, ℕ, List, [], ◌∷◌, ◌++◌, drop, length, refl, sym, ap, arith}
+use Rattle.std.proofs.Common.{◌≡◌, ◌∙◌, ◌+◌, ◌≤◌, ℕ, List, [], ◌∷◌, ◌++◌, refl, sym, ap}
+use Rattle.std.proofs.lemmas.List.Sums.{sum_by-append}
 use Rattle.std.specs.declared.rc.Rc.{Rc}
 use Rattle.std.specs.Prelude.{Vec}
 use Rattle.state.specs.Dialogue.{Course}
@@ -12,6 +13,7 @@ use Rattle.evaluation.specs.declared.open.Around.{Around}
 use Rattle.evaluation.specs.declared.open.Evaluated.{Evaluated}
 use Rattle.evaluation.specs.declared.open.Evaluated.TheVariants as it
 use Rattle.evaluation.specs.declared.open.OpenFormula.{OpenFormula}
+use Rattle.evaluation.specs.Scripts.{MeetsFewer, scripts_around, scripts_in_around}
 use Rattle.evaluation.specs.View.{after, behind, course_of}
 
 -- what is done with a value
@@ -39,3 +41,15 @@ script_around {A = A} levels met commands place more all s k is items =
     ap by_met is
     ∙ ap by_next (sym (after_more levels place.outer.items more k))
     ∙ ap by_next (ap (λ outer. after levels outer k) (sym items))
+
+-- scripts that are left in what is around, and in what is further out
+pub around_more : {A : Type 0} (outer more all : List (Around A)) → all ≡ outer ++ more →
+    scripts_around all ≡ scripts_around outer + scripts_around more
+around_more outer more all is =
+    ap scripts_around is ∙ sum_by-append scripts_in_around outer more
+
+-- what was met within these things leaves fewer than so many scripts, all in all
+pub record Remains {A : Type 0} (met : Evaluated A) (outer : List (Around A)) (n : ℕ) : Type 0 where
+  pub most : ℕ
+  pub fewer : MeetsFewer met most
+  pub within : most + scripts_around outer ≤ n
