@@ -1,8 +1,8 @@
 -- What functions of texts come to, once their texts are read.
 use Rattle.std.proofs.Common.{◌≡◌, ℕ, List, Ok, Err, Result, MatchResult, sym, ap, subst}
-use Rattle.acts.specs.Flaw.{Flaw, flaw_of}
+use Rattle.acts.specs.Flaw.{flaw_of}
 use Rattle.acts.specs.declared.fault.Fault.{Fault}
-use Rattle.meanings.specs.Meaning.{Answer, Meaning, Gives, Raises, Splits, Matches, Comes, IsSplit, flaw_of_list}
+use Rattle.meanings.specs.Meaning.{Answer, Meaning, Gives, Raises, Splits, Matches, Comes, flaw_of_list}
 use Rattle.meanings.specs.View.{Answers}
 use Rattle.meanings.specs.declared.fault.MeaningFault.{MeaningFault}
 use Rattle.meanings.specs.declared.fault.MeaningFault.TheVariants as fault

@@ -1,14 +1,14 @@
 -- The operands of a formula, one after the other.
-use Rattle.std.proofs.Common.{◌≡◌, ◌∙◌, ℕ, suc, ◌+◌, ◌<◌, ◌≤◌, List, [], ◌∷◌, ◌++◌, length, drop, get_or, Bool, Result, Ok, Err, IfOk, Vec, if◌then◌else◌, refl, sym, ap, subst, arith, add-one, drop-cons}
+use Rattle.std.proofs.Common.{◌≡◌, ◌∙◌, ℕ, suc, ◌+◌, ◌<◌, ◌≤◌, List, length, drop, get_or, Bool, Result, Ok, Err, IfOk, if◌then◌else◌, refl, sym, ap, subst, arith, add-one, drop-cons}
 use Rattle.std.specs.declared.rc.Rc.{Rc}
 use Rattle.acts.specs.Flaw.{flaw_of}
 use Rattle.acts.specs.declared.fault.Fault.{Fault}
 use Rattle.formulas.specs.View.{formula_of, link_view, row_view, links_then, formulas_then}
 use Rattle.formulas.specs.declared.tree.Choice as the_choice
-use Rattle.formulas.specs.declared.tree.Formula.{Formula, Choice, Prefix, Row, Text, Call}
+use Rattle.formulas.specs.declared.tree.Formula.{Formula, Choice}
 use Rattle.formulas.specs.declared.tree.Link.{Link, out-Link}
 use Rattle.formulas.specs.declared.tree.Row as the_row
-use Rattle.formulas.proofs.Trees.{view_Link, view_Row, view_Choice, row_parts, choice_parts}
+use Rattle.formulas.proofs.Trees.{view_Link, view_Choice, row_parts, choice_parts}
 use Rattle.operators.specs.declared.operand.Operand.{Operand}
 use Rattle.operators.specs.Truth.{truth_of}
 use Rattle.state.specs.Dialogue.{Course, raises}
@@ -16,12 +16,11 @@ use Rattle.state.specs.Reaches.{Reaches}
 use Rattle.state.specs.Status.{Status}
 use Rattle.state.proofs.Reaches.{same_reaches, then_reaches}
 use Rattle.tclparse.specs.Formula as tree
-use Rattle.evaluation.specs.declared.open.Around.{Around}
 use Rattle.evaluation.specs.declared.open.Evaluated.{Evaluated}
 use Rattle.evaluation.specs.declared.open.Evaluated.TheVariants as it
-use Rattle.evaluation.specs.Evaluated.{on_truth, evaluated, linked, arguments, joined}
+use Rattle.evaluation.specs.Evaluated.{on_truth, evaluated, linked, joined}
 use Rattle.evaluation.specs.Pending.{TruthIs}
-use Rattle.evaluation.specs.Scripts.{MeetsFewer, scripts_in, scripts_in_choice, scripts_in_links}
+use Rattle.evaluation.specs.Scripts.{MeetsFewer}
 use Rattle.evaluation.specs.View.{IsDirect, IsStopped, chosen, course_of, course_of_link, links_from}
 use Rattle.evaluation.proofs.Outer.{Next}
 

@@ -15,7 +15,6 @@ use Rattle.state.specs.Status.{Status}
 use Rattle.tclparse.specs.Formula.{Formula, numeral, text, call, prefix, row, choice, Links, no_links, link, Formulas, no_formulas, formula}
 use Rattle.tclparse.specs.declared.operator.Infix.{Infix}
 use Rattle.tclparse.specs.declared.operator.Infix.TheVariants.{Both, AndAlso, OrElse}
-use Rattle.tclparse.specs.Tree.{Parts}
 use Rattle.words.specs.Words.{parts}
 
 -- on with the value of a function of texts, once its texts are read; or its error (expr(n))

@@ -1,12 +1,11 @@
 -- What is done with a formula that is evaluated up to a script in it.
-use Rattle.std.specs.Prelude.{ℕ, List, [], ◌∷◌, ◌++◌, drop, Vec, true, false, if◌then◌else◌}
+use Rattle.std.specs.Prelude.{ℕ, List, [], ◌∷◌, ◌++◌, drop, Vec, if◌then◌else◌}
 use Rattle.std.specs.declared.rc.Rc.{Rc}
 use Rattle.acts.specs.Flaw.{flaw_of}
 use Rattle.formulas.specs.View.{formula_of, links_then, formulas_then}
 use Rattle.formulas.specs.declared.tree.Formula.{Formula}
 use Rattle.formulas.specs.declared.tree.Choice.{Choice, out-Choice}
 use Rattle.formulas.specs.declared.tree.Row.{Row, out-Row}
-use Rattle.meanings.specs.Meaning.{Meaning}
 use Rattle.operators.specs.Function as function
 use Rattle.operators.specs.Truth.{truth_of}
 use Rattle.operators.specs.Unary.{unary}

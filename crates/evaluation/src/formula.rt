@@ -180,7 +180,12 @@ pub fn call_on<A: Allocator + Copy>(
             Evaluated::Value(value) => values.push(value)?,
             stopped => {
                 let arguments = arguments.clone()?;
-                let open = OpenCall { function, arguments, next, values };
+                let open = OpenCall {
+                    function,
+                    arguments,
+                    next,
+                    values,
+                };
                 return enclosed(stopped, Around::Call(open));
             }
         }

@@ -9,7 +9,9 @@ ghost use Rattle.evaluation.specs.declared.open.Around.TheVariants.{Link};
 ghost use Rattle.evaluation.specs.View.{behind, course_of, resumed};
 
 use crate::formula::{call_on, choose, row_on};
-use crate::open::{Around, Evaluated, OpenCall, OpenFormula, OpenRow, enclosed_by_all, of_text, prefixed};
+use crate::open::{
+    Around, Evaluated, OpenCall, OpenFormula, OpenRow, enclosed_by_all, of_text, prefixed,
+};
 use crate::pending::{settle, tested};
 use acts::NoMemory;
 use operators::Operand;

@@ -8,7 +8,6 @@ use Rattle.formulas.specs.declared.tree.Row.{Row, out-Row}
 use Rattle.formulas.specs.declared.tree.Choice.{Choice, out-Choice}
 use Rattle.meanings.specs.View.{Answers}
 use Rattle.operators.specs.Function.{call as called}
-use Rattle.operators.specs.Truth.{truth_of}
 use Rattle.state.specs.Dialogue.{Course}
 use Rattle.state.specs.Status.{Status}
 use Rattle.state.proofs.Reaches.{same_reaches, then_reaches}
@@ -17,11 +16,11 @@ use Rattle.tclparse.specs.View.{parts_of}
 use Rattle.evaluation.specs.Evaluated as meant
 use Rattle.evaluation.specs.Evaluated.{on_meaning, on_truth}
 use Rattle.evaluation.specs.Pending.{course_of_opened, settled}
-use Rattle.evaluation.specs.Scripts.{MeetsFewer, scripts_in, scripts_in_all, scripts_in_choice, scripts_in_links}
+use Rattle.evaluation.specs.Scripts.{scripts_in, scripts_in_all, scripts_in_choice, scripts_in_links}
 use Rattle.evaluation.specs.View.{behind, chosen, course_of, course_of_link, formulas_from, links_from}
 use Rattle.evaluation.specs.declared.open.Around.TheVariants as around
 use Rattle.evaluation.proofs.Outer.{Next}
-use Rattle.evaluation.proofs.Steps.{is_stopped, no_value, value_linked, meets_more, and_reaches, and_same, and_more, and_direct, and_linked, and_stopped, no_choice, same_formula, row_at, choice_at, left, next_link, more, next_argument, link_joined}
+use Rattle.evaluation.proofs.Steps.{is_stopped, no_value, meets_more, and_reaches, and_same, and_more, and_linked, and_stopped, no_choice, same_formula, row_at, choice_at, left, next_link, more, next_argument, link_joined}
 use Rattle.evaluation.proofs.formula.+evaluate.Goals as goal
 
 pub begin-returns-in_ok-begin-in-Text-clause-reaches :
