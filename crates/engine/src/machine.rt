@@ -315,7 +315,8 @@ fn hold<A: Allocator>(
     ensures leads { (s : Status) → IfOk result (λ leaf.
         Goes (left_of (course_of_nesting control.next_of nesting s) (stack frames.old))
         (left_of (course_of table.next_of leaf s) (stack frames.new))) }
-    ensures words { IfOk result (λ leaf. words_in (stack frames.new) ≡ words_in (stack frames.old)) }
+    ensures words { IfOk result (λ leaf.
+        words_in (stack frames.new) ≡ words_in (stack frames.old)) }
 {
     match nesting {
         Nesting::Has(outcome) => Ok(Leaf::Has(outcome)),

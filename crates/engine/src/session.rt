@@ -76,9 +76,9 @@ impl<A: Allocator + Copy> Session<A> {
         })
     }
 
-    /// Goes on to the next act or to the end, and lends it. The first call is without an answer (one
-    /// that is given is dropped), each later one has the answer to the last act. After an end each
-    /// call gives the same end.
+    /// Goes on to the next act or to the end, and lends it. The first call is without an answer
+    /// (one that is given is dropped), each later one has the answer to the last act. After an end
+    /// each call gives the same end.
     ///
     /// What is left of the runs of the script is exactly what begins with the acts so far and their
     /// answers: each such run goes on with the act that is given, and there is one; or it is over,
