@@ -1,5 +1,5 @@
 -- How far a command that runs scripts has come, as a course.
-use Rattle.std.specs.Prelude.{option_map}
+use Rattle.std.specs.Prelude.{ℕ, ◌<◌, ◌⊎◌, option_map}
 use Rattle.plan.specs.Plan.{Ends, Calls}
 use Rattle.state.specs.declared.nesting.Nesting.{Nesting}
 use Rattle.state.specs.declared.nesting.Nesting.TheVariants as nesting
@@ -32,3 +32,10 @@ pub record Nests {A H : Type 0} (next : H → Status → Outcome → Course) (n 
   pub status : Status
   pub fits : FitsState state status
   pub reaches : Reaches course (course_of next n status)
+
+-- a script runs again only after a tick, or where fewer may follow it without one (this project's
+-- own rule)
+abbrev pub Advances : {A H : Type 0} → (H → ℕ) → Nesting A H → ℕ → ℕ → ℕ → Type 0
+Advances scripts (nesting.Has outcome) new old most = Unit {0}
+Advances scripts (nesting.Runs script levels held) new old most =
+    (new < old) ⊎ (scripts held < most)

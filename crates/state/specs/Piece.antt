@@ -16,11 +16,19 @@ pub record ScriptTree : Type 0 where
   pub commands : Commands
   pub fault : Option Fault
 
--- a script, or one command by its words; each with the levels that may still stand in it (Tcl(n),
--- rules 1, 2 and 7)
+-- a loop: its test, its body, and the script that stands behind each turn, if there is one
+-- (while(n); for(n))
+pub record LoopTree : Type 0 where
+  pub test : Formula
+  pub body : ScriptTree
+  pub step : Option ScriptTree
+
+-- a script, one command by its words, or a loop from a turn on; each with the levels that may still
+-- stand in it (Tcl(n), rules 1, 2 and 7; while(n); for(n))
 pub data Piece : Type 0 where
   Script : (tree : ScriptTree) (levels : ℕ) → Piece
   One : (words : Words) (levels : ℕ) → Piece
+  Loop : (loop : LoopTree) (levels : ℕ) → Piece
 
 -- a text that is read: as a script (Tcl(n)), as a list (Tcl_SplitList(3)), as a formula (expr(n));
 -- a text that a pattern is held against (string(n), match)

@@ -1,0 +1,48 @@
+use Rattle.std.proofs.Common.{◌∙◌, refl, sym}
+use Rattle.std.specs.Prelude.{codes}
+use Rattle.acts.specs.Flaw as flaw
+use Rattle.acts.specs.Flaw.{text_of}
+use Rattle.conditions.proofs.Evaluating.{expr_none, expr_some}
+use Rattle.conditions.specs.Expr.{next_of, told}
+use Rattle.evaluation.proofs.Steps.{on_ok}
+use Rattle.evaluation.specs.Evaluated.{evaluated}
+use Rattle.state.proofs.Nestings.{nests_after, over}
+use Rattle.state.proofs.Reaches.{same_reaches, then_reaches}
+use Rattle.state.specs.Leaf.{raised}
+use Rattle.state.specs.Outcome.{Leaves, Error}
+use Rattle.conditions.proofs.expr.begin.Goals as goal
+
+pub returns-then-is_empty-clause-nests : goal.returns-then-is_empty-clause-nests
+returns-then-is_empty-clause-nests g c = λ s fits.
+    over next_of c.args.state.now c.in_ok-wrong_args.field-0
+    (Leaves Error (text_of (flaw.WrongArgs (codes "expr")))) s _ fits c.in_ok-wrong_args.ensures
+    (expr_none c.args.levels s c.args.args.now (sym c.if-is_empty.ensures))
+
+pub returns-in-Ok-clause-nests : goal.returns-in-Ok-clause-nests
+returns-in-Ok-clause-nests g c = λ s fits.
+    let levels = c.args.levels in
+    let read = rw c.in-Ok.is at c.in_ok-formula.ensures.reaches in
+    on_ok c.give.result _ _
+    (λ nesting same. record {
+      status = s;
+      fits = fits;
+      reaches = then_reaches
+          (same_reaches (expr_some levels s c.args.args.now c.deref.result.now
+          (sym c.if-is_empty.ensures) (c.deref.ensures.value ∙ c.in_ok-text.ensures)))
+          (then_reaches (read s (λ formula. evaluated levels formula s told))
+          (then_reaches (c.in_ok-evaluated-in-Ok.ensures.reaches levels s told fits.scopes)
+          (same_reaches same)));
+    })
+    (c.give.ensures.same s)
+
+pub returns-clause-nests : goal.returns-clause-nests
+returns-clause-nests g c = λ s fits.
+    let levels = c.args.levels in
+    let read = rw c.in-Err.is at c.in_ok-formula.ensures.reaches in
+    nests_after next_of c.args.state.now _ _ _
+    (then_reaches
+    (same_reaches (expr_some levels s c.args.args.now c.deref.result.now
+    (sym c.if-is_empty.ensures) (c.deref.ensures.value ∙ c.in_ok-text.ensures)))
+    (read s (λ formula. evaluated levels formula s told)))
+    (over next_of c.args.state.now c.in_ok-raised-in-Err.field-0 (raised c.in-Err.fault) s _ fits
+    c.in_ok-raised-in-Err.ensures refl)

@@ -1,0 +1,19 @@
+use Rattle.std.proofs.Common.{◌∙◌, refl, sym, ap}
+use Rattle.conditions.specs.Expr.{next_of, told}
+use Rattle.evaluation.proofs.Steps.{on_ok}
+use Rattle.evaluation.specs.View.{course_of, resumed}
+use Rattle.tclparse.specs.View.{commands_of}
+use Rattle.words.specs.Words.{nested}
+use Rattle.conditions.proofs.expr.give.Goals as goal
+
+pub returns-in_ok-formula-in-Script-clause-same : goal.returns-in_ok-formula-in-Script-clause-same
+returns-in_ok-formula-in-Script-clause-same g c = λ s.
+    let levels = c.args.levels in
+    let commands = commands_of c.in-Script.commands in
+    on_ok c.nested.result _ _
+    (λ nesting runs.
+    ap (λ it. course_of levels it told s) c.in-Script.is
+    ∙ ap (λ place. nested levels commands s (resumed levels place told))
+    (sym c.in_ok-formula-in-Script.ensures.ok)
+    ∙ runs)
+    (c.nested.ensures.runs next_of s (λ t text. refl))

@@ -1,0 +1,40 @@
+-- What if does.
+use Rattle.std.specs.Prelude.{ℕ, List, [], ◌∷◌, codes, Bool, Option, Some, None, if◌then◌else◌}
+use Rattle.acts.specs.Flaw as flaw
+use Rattle.conditions.specs.Branches.{Branch, Branches, branches}
+use Rattle.conditions.specs.Formulas.{with_formula}
+use Rattle.evaluation.specs.Evaluated.{tested}
+use Rattle.plan.specs.Plan.{Ends}
+use Rattle.state.specs.Dialogue.{Course, gives, raises, within}
+use Rattle.state.specs.Outcome.{Outcome}
+use Rattle.state.specs.Status.{Status}
+
+-- what a body leaves is what if leaves (if(n))
+abbrev pub passes : Status → Outcome → Course
+passes s o = Ends (s, o)
+
+-- the last body, if there is one, where no test held (if(n))
+abbrev pub last : ℕ → Option (List ℕ) → Status → Course
+last levels None s = gives [] s
+last levels (Some body) s = within levels body s passes
+
+-- the body behind the first test that holds; the tests behind it are not read (if(n))
+abbrev pub chooses : ℕ → List Branch → Option (List ℕ) → Status → Course
+chooses levels [] otherwise s = last levels otherwise s
+chooses levels (branch ∷ more) otherwise s =
+    with_formula branch.test s (λ formula. tested levels formula s (λ t holds.
+    if holds then within levels branch.body t passes else chooses levels more otherwise t))
+
+-- the body where its test holds, or else what follows it (if(n))
+abbrev pub chosen : ℕ → List ℕ → List Branch → Option (List ℕ) → Status → Bool → Course
+chosen levels body more otherwise s holds =
+    if holds then within levels body s passes else chooses levels more otherwise s
+
+-- on with the branches, where the words are some (if(n))
+abbrev pub on_branches : ℕ → Option Branches → Status → Course
+on_branches levels None s = raises (flaw.WrongArgs (codes "if")) s
+on_branches levels (Some found) s = chooses levels found.tests found.otherwise s
+
+-- if test ?then? body ?elseif test ?then? body ..? ?else? ?body? (if(n))
+abbrev pub conditional : ℕ → List (List ℕ) → Status → Course
+conditional levels args s = on_branches levels (branches args) s

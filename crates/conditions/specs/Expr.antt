@@ -1,0 +1,32 @@
+-- What expr does.
+use Rattle.std.specs.Prelude.{ℕ, List, [], ◌∷◌, codes}
+use Rattle.acts.specs.Flaw as flaw
+use Rattle.conditions.specs.Formulas.{with_formula}
+use Rattle.conditions.specs.declared.expr.Held.{Held}
+use Rattle.evaluation.specs.Evaluated.{valued}
+use Rattle.evaluation.specs.Scripts.{scripts_behind}
+use Rattle.evaluation.specs.View.{resumed}
+use Rattle.operators.specs.Value.{result}
+use Rattle.pure.specs.Concat.{concatenated}
+use Rattle.state.specs.Dialogue.{Course, gives, on_value, raises}
+use Rattle.state.specs.Outcome.{Outcome}
+use Rattle.state.specs.Status.{Status}
+
+-- expr w ..: the value of the formula that the words make, joined as by concat (expr(n))
+abbrev pub expr : ℕ → List (List ℕ) → Status → Course
+expr levels [] s = raises (flaw.WrongArgs (codes "expr")) s
+expr levels (first ∷ more) s =
+    with_formula (concatenated (first ∷ more)) s (λ formula.
+    valued levels formula s (λ t value. gives value t))
+
+-- the value of a formula is what expr gives (expr(n))
+abbrev pub told : Status → List ℕ → Course
+told s value = gives (result value) s
+
+-- what follows a script in the formula (expr(n))
+abbrev pub next_of : {A : Type 0} → Held A → Status → Outcome → Course
+next_of held = on_value (resumed held.levels held.formula.value told)
+
+-- the scripts that are left in the formula
+abbrev pub scripts_held : {A : Type 0} → Held A → ℕ
+scripts_held held = scripts_behind held.formula.value

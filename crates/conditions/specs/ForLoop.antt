@@ -1,0 +1,23 @@
+-- What for does.
+use Rattle.std.specs.Prelude.{ℕ, List, [], ◌∷◌, codes, Some}
+use Rattle.acts.specs.Flaw as flaw
+use Rattle.conditions.specs.Formulas.{with_formula}
+use Rattle.conditions.specs.Loop.{again}
+use Rattle.plan.specs.Plan.{Reads}
+use Rattle.state.specs.Dialogue.{Course, on_value, raises, within}
+use Rattle.state.specs.Piece.{ScriptText}
+use Rattle.state.specs.Status.{Status}
+
+-- the loop behind its start: its test and its scripts are read once (for(n))
+abbrev pub started : ℕ → List ℕ → List ℕ → List ℕ → Status → List ℕ → Course
+started levels test step body s value =
+    with_formula test s (λ formula.
+    Reads (ScriptText step) (λ behind.
+    Reads (ScriptText body) (λ tree.
+    again (record { test = formula; body = tree; step = Some behind }) levels s)))
+
+-- for start test step body; what start leaves with passes, break and continue too (for(n))
+abbrev pub for_loop : ℕ → List (List ℕ) → Status → Course
+for_loop levels (start ∷ test ∷ step ∷ body ∷ []) s =
+    within levels start s (on_value (started levels test step body))
+for_loop levels _ s = raises (flaw.WrongArgs (codes "for")) s

@@ -1,0 +1,28 @@
+-- Courses up to texts that are read, and up to a loop's next turn.
+use Rattle.std.specs.Prelude.{ℕ}
+use Rattle.conditions.specs.Loop.{again, turns}
+use Rattle.plan.specs.Plan.{Reads}
+use Rattle.state.specs.Dialogue.{Course}
+use Rattle.state.specs.Nesting.{course_of}
+use Rattle.state.specs.Outcome.{Outcome}
+use Rattle.state.specs.Piece.{LoopTree, Text, Tree, IsTree}
+use Rattle.state.specs.Status.{Status}
+use Rattle.state.specs.View.{FitsState}
+use Rattle.state.specs.declared.nesting.Nesting.{Nesting}
+use Rattle.state.specs.declared.state.State.{State}
+
+-- the one goes on as the other, once some texts are read as trees that they have, and turns of
+-- loops begin (this project's own rule)
+pub data GoesOn : Course → Course → Type 0 where
+  here : {p : Course} → GoesOn p p
+  reads : {text : Text} (tree : Tree text) {next : Tree text → Course} {q : Course} →
+      IsTree text tree → GoesOn (next tree) q → GoesOn (Reads text next) q
+  turning : {loop : LoopTree} {levels : ℕ} {s : Status} {q : Course} →
+      GoesOn (turns loop levels s) q → GoesOn (again loop levels s) q
+
+-- for some state that the code's fits, the course goes on as what is at hand
+pub record Comes {A H : Type 0} (next : H → Status → Outcome → Course) (n : Nesting A H)
+    (state : State A) (course : Course) : Type 0 where
+  pub status : Status
+  pub fits : FitsState state status
+  pub goes : GoesOn course (course_of next n status)

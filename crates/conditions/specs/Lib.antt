@@ -1,0 +1,12 @@
+pub mod Formulas
+pub mod Deeper
+pub mod Weight
+pub mod View
+pub mod Test
+pub mod Expr
+pub mod Branches
+pub mod Conditional
+pub mod Loop
+pub mod GoesOn
+pub mod WhileLoop
+pub mod ForLoop

@@ -1,0 +1,23 @@
+//! What is asked of the words of a command.
+
+ghost use Rattle.std.specs.Prelude.{◌≡◌, IfOk};
+ghost use Rattle.acts.specs.Flaw as flaw;
+ghost use Rattle.acts.specs.Flaw.{text_of};
+ghost use Rattle.state.specs.Outcome.{Leaves, Error};
+ghost use Rattle.state.specs.View.{outcome_of};
+
+use acts::{Fault, NoMemory};
+use state::Outcome;
+use state::nesting::raised;
+use std::alloc::Allocator;
+
+/// A command that was given another number of words than it takes.
+pub(crate) fn wrong_args<A: Allocator + Copy>(
+    alloc: A,
+    command: &[u8],
+) -> Result<Outcome<A>, NoMemory>
+    ensures { IfOk result (λ outcome.
+        outcome_of outcome ≡ Leaves Error (text_of (flaw.WrongArgs command.now))) }
+{
+    raised(alloc, &Fault::WrongArgs(Vec::from_slice(alloc, command)?))
+}

@@ -1,0 +1,98 @@
+//! `expr w ..` (expr(n)).
+
+ghost use Rattle.std.specs.Prelude.{◌≡◌, ℕ, IfOk};
+ghost use Rattle.conditions.specs.Expr as definition;
+ghost use Rattle.conditions.specs.Expr.{next_of, scripts_held, told};
+ghost use Rattle.evaluation.specs.Scripts.{MeetsFewer};
+ghost use Rattle.evaluation.specs.View.{course_of};
+ghost use Rattle.state.specs.Nesting.{Advances, Nests, course_of as at_hand};
+ghost use Rattle.state.specs.Status.{Status};
+ghost use Rattle.state.specs.View.{FitsState, outcome_of};
+
+use crate::arguments::wrong_args;
+use crate::deeper::nested;
+use crate::formula::read;
+use acts::NoMemory;
+use evaluation::{Evaluated, OpenFormula, begin as evaluate};
+use operators::result;
+use pure::concatenated;
+use state::nesting::raised;
+use state::{Nesting, Outcome, State};
+use std::alloc::Allocator;
+use tcltext::Value;
+
+/// A formula behind a script in it, and the levels that may still stand in that.
+#[derive(Drop)]
+pub struct Held<A: Allocator> {
+    pub formula: Box<OpenFormula<A>, A>,
+    pub levels: u8,
+}
+
+/// Evaluates the formula that the words make.
+pub fn begin<A: Allocator + Copy>(
+    alloc: A,
+    state: &mut State<A>,
+    args: &[Value<A>],
+    levels: u8,
+) -> Result<Nesting<A, Held<A>>, NoMemory>
+    ensures nests { (s : Status) → FitsState state.old s → IfOk result (λ nesting.
+        Nests next_of nesting state.new (definition.expr levels args.now s)) }
+    ensures left { state.new.left ≡ state.old.left }
+{
+    if args.is_empty() {
+        return Ok(Nesting::Has(wrong_args(alloc, b"expr")?));
+    }
+    let text = concatenated(alloc, args)?;
+    match read(alloc, &text)? {
+        Ok(formula) => {
+            let evaluated = evaluate(&formula, alloc, &state.scopes)?;
+            give(alloc, evaluated, levels)
+        }
+        Err(fault) => Ok(Nesting::Has(raised(alloc, &fault)?)),
+    }
+}
+
+/// Goes on with the value of the script in the formula.
+pub fn resumed<A: Allocator + Copy>(
+    alloc: A,
+    state: &mut State<A>,
+    held: Held<A>,
+    outcome: Outcome<A>,
+) -> Result<Nesting<A, Held<A>>, NoMemory>
+    ensures nests { (s : Status) → FitsState state.old s → IfOk result (λ nesting.
+        Nests next_of nesting state.new (next_of held s (outcome_of outcome))) }
+    ensures left { state.new.left ≡ state.old.left }
+    ensures advances { IfOk result (λ nesting.
+        Advances scripts_held nesting state.new.left state.old.left (scripts_held held)) }
+{
+    let Held { formula, levels } = held;
+    match outcome {
+        Ok(value) => {
+            let formula = Box::into_inner(formula);
+            let evaluated = formula.resume(alloc, &state.scopes, &value)?;
+            give(alloc, evaluated, levels)
+        }
+        Err(leave) => Ok(Nesting::Has(Err(leave))),
+    }
+}
+
+/// Gives the formula's value, or runs the script in it.
+fn give<A: Allocator + Copy>(
+    alloc: A,
+    evaluated: Evaluated<A>,
+    levels: u8,
+) -> Result<Nesting<A, Held<A>>, NoMemory>
+    ensures same { (s : Status) → IfOk result (λ nesting.
+        course_of levels evaluated told s ≡ at_hand next_of nesting s) }
+    ensures advances { (new old most : ℕ) → MeetsFewer evaluated most →
+        IfOk result (λ nesting. Advances scripts_held nesting new old most) }
+{
+    match evaluated {
+        Evaluated::Value(value) => Ok(Nesting::Has(Ok(result(alloc, value)?))),
+        Evaluated::Script(commands, formula) => {
+            let formula = Box::new(alloc, formula)?;
+            nested(alloc, commands, levels, Held { formula, levels })
+        }
+        Evaluated::Fault(fault) => Ok(Nesting::Has(raised(alloc, &fault)?)),
+    }
+}

@@ -1,0 +1,42 @@
+//! Words of commands that are formulas.
+
+ghost use Rattle.std.specs.Prelude.{◌≡◌, ℕ, IfOk};
+ghost use Rattle.acts.specs.Flaw.{flaw_of};
+ghost use Rattle.conditions.specs.Formulas.{flaw_of_formula, with_formula};
+ghost use Rattle.conditions.specs.View.{IsWeighed, course_of_read};
+ghost use Rattle.formulas.specs.Seen.{fault_of};
+ghost use Rattle.state.specs.Dialogue.{Course};
+ghost use Rattle.state.specs.Reaches.{Reaches};
+ghost use Rattle.state.specs.Status.{Status};
+ghost use Rattle.tclparse.specs.Formula as tree;
+
+use acts::{Fault, NoMemory};
+use formulas::{Formula, ReadError};
+use state::faults::no_script;
+use std::alloc::Allocator;
+
+/// Reads a word as a formula, or answers the script's error (expr(n)).
+pub(crate) fn read<A: Allocator + Copy>(
+    alloc: A,
+    text: &[u8],
+) -> Result<Result<Formula<A>, Fault<A>>, NoMemory>
+    ensures reaches { (s : Status) (next : tree.Formula → Course) → IfOk result (λ read.
+        Reaches (with_formula text.now s next) (course_of_read read s next)) }
+    ensures weighs { IfOk result (λ read. IsWeighed read text.now) }
+{
+    match Formula::read(alloc, text) {
+        Ok(formula) => Ok(Ok(formula)),
+        Err(ReadError::Fault(fault)) => Ok(Err(no_formula(fault))),
+        Err(ReadError::Memory(refusal)) => Err(refusal),
+    }
+}
+
+/// Why a text is no formula, as the script's error (expr(n)).
+fn no_formula<A: Allocator>(fault: formulas::Fault) -> Fault<A>
+    ensures { flaw_of result ≡ flaw_of_formula (fault_of fault) }
+{
+    match fault {
+        formulas::Fault::Words(fault) => no_script(fault),
+        formulas::Fault::Syntax => Fault::BadExpression,
+    }
+}

@@ -1,0 +1,73 @@
+//! The tests of `if`, `while` and `for`: formulas that are asked for a truth value.
+
+ghost use Rattle.std.specs.Prelude.{◌≡◌, ◌≤◌, ℕ, Bool, IfOk};
+ghost use Rattle.conditions.specs.Test.{HasFewer, course_of_test, on_tested};
+ghost use Rattle.conditions.specs.View.{begun_test};
+ghost use Rattle.conditions.specs.Weight.{scripts_in_text};
+ghost use Rattle.evaluation.specs.Scripts.{MeetsFewer};
+ghost use Rattle.evaluation.specs.View.{course_of};
+ghost use Rattle.state.specs.Dialogue.{Course};
+ghost use Rattle.state.specs.Reaches.{Reaches};
+ghost use Rattle.state.specs.Status.{Status};
+
+use crate::formula::read;
+use acts::{Fault, NoMemory};
+use evaluation::{Evaluated, OpenFormula, begin};
+use meanings::MeaningFault;
+use operators::truth;
+use std::alloc::Allocator;
+use std::rc::Rc;
+use tclparse::Command;
+use tclstate::Scopes;
+
+/// What a test comes to.
+#[derive(Drop)]
+pub enum Test<A: Allocator> {
+    /// Its truth value.
+    Holds(bool),
+    /// A script, whose value goes into the formula.
+    Script(Rc<Vec<Command<A>, A>, A>, OpenFormula<A>),
+    /// The script's error.
+    Fault(Fault<A>),
+}
+
+/// Reads a test, and evaluates it up to a script in it.
+pub(crate) fn of_text<A: Allocator + Copy>(
+    alloc: A,
+    scopes: &Scopes<A>,
+    text: &[u8],
+) -> Result<Test<A>, NoMemory>
+    ensures reaches { (levels : ℕ) (s : Status) (next : Status → Bool → Course) →
+        s.scopes ≡ scopes.now → IfOk result (λ test. Reaches
+        (begun_test levels text.now s next) (course_of_test levels test next s)) }
+    ensures fewer { IfOk result (λ test. HasFewer test (scripts_in_text text.now)) }
+{
+    match read(alloc, text)? {
+        Ok(formula) => {
+            let evaluated = begin(&formula, alloc, scopes)?;
+            of_evaluated(alloc, evaluated)
+        }
+        Err(fault) => Ok(Test::Fault(fault)),
+    }
+}
+
+/// Asks what a formula comes to for its truth value.
+pub(crate) fn of_evaluated<A: Allocator + Copy>(
+    alloc: A,
+    evaluated: Evaluated<A>,
+) -> Result<Test<A>, NoMemory>
+    ensures comes { (levels : ℕ) (s : Status) (next : Status → Bool → Course) →
+        IfOk result (λ test. course_of levels evaluated (on_tested next) s
+        ≡ course_of_test levels test next s) }
+    ensures fewer { (n : ℕ) → MeetsFewer evaluated n → IfOk result (λ test. HasFewer test n) }
+{
+    match evaluated {
+        Evaluated::Value(value) => match truth(alloc, &value) {
+            Ok(holds) => Ok(Test::Holds(holds)),
+            Err(MeaningFault::Fault(fault)) => Ok(Test::Fault(fault)),
+            Err(MeaningFault::NoMemory(refusal)) => Err(refusal),
+        },
+        Evaluated::Script(commands, formula) => Ok(Test::Script(commands, formula)),
+        Evaluated::Fault(fault) => Ok(Test::Fault(fault)),
+    }
+}
