@@ -7,14 +7,17 @@ use Rattle.plan.specs.Plan.{Reads}
 use Rattle.state.specs.Dialogue.{Course, on_value, raises, within}
 use Rattle.state.specs.Piece.{ScriptText}
 use Rattle.state.specs.Status.{Status}
+use Rattle.tclparse.specs.Formula.{Formula}
 
--- the loop behind its start: its test and its scripts are read once (for(n))
+-- the loop of a test; its scripts are read once too (for(n))
+abbrev pub looped : ℕ → List ℕ → List ℕ → Status → Formula → Course
+looped levels step body s test =
+    Reads (ScriptText step) (λ behind. Reads (ScriptText body) (λ tree.
+    again (record { test = test; body = tree; step = Some behind }) levels s))
+
+-- the loop behind its start, whose value is left out: the test is read once (for(n))
 abbrev pub started : ℕ → List ℕ → List ℕ → List ℕ → Status → List ℕ → Course
-started levels test step body s value =
-    with_formula test s (λ formula.
-    Reads (ScriptText step) (λ behind.
-    Reads (ScriptText body) (λ tree.
-    again (record { test = formula; body = tree; step = Some behind }) levels s)))
+started levels test step body s value = with_formula test s (looped levels step body s)
 
 -- for start test step body; what start leaves with passes, break and continue too (for(n))
 abbrev pub for_loop : ℕ → List (List ℕ) → Status → Course

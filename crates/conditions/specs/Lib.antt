@@ -8,5 +8,7 @@ pub mod Branches
 pub mod Conditional
 pub mod Loop
 pub mod GoesOn
+pub mod Turning
 pub mod WhileLoop
 pub mod ForLoop
+pub mod Starting

@@ -7,11 +7,15 @@ use Rattle.plan.specs.Plan.{Reads}
 use Rattle.state.specs.Dialogue.{Course, raises}
 use Rattle.state.specs.Piece.{ScriptText}
 use Rattle.state.specs.Status.{Status}
+use Rattle.tclparse.specs.Formula.{Formula}
 
--- while test body: both are read once (while(n))
-abbrev pub while_loop : ℕ → List (List ℕ) → Status → Course
-while_loop levels (test ∷ body ∷ []) s =
-    with_formula test s (λ formula.
+-- the loop of a test; its body is read once too (while(n))
+abbrev pub looped : ℕ → List ℕ → Status → Formula → Course
+looped levels body s test =
     Reads (ScriptText body) (λ tree.
-    again (record { test = formula; body = tree; step = None }) levels s))
+    again (record { test = test; body = tree; step = None }) levels s)
+
+-- while test body: the test is read once (while(n))
+abbrev pub while_loop : ℕ → List (List ℕ) → Status → Course
+while_loop levels (test ∷ body ∷ []) s = with_formula test s (looped levels body s)
 while_loop levels _ s = raises (flaw.WrongArgs (codes "while")) s

@@ -1,0 +1,29 @@
+-- What for holds while a script of it runs.
+use Rattle.std.specs.Prelude.{◌≡◌, ℕ}
+use Rattle.conditions.specs.ForLoop.{started}
+use Rattle.conditions.specs.Turning as turning
+use Rattle.conditions.specs.Weight.{scripts_in_text}
+use Rattle.conditions.specs.declared.for_loop.Held.{Held}
+use Rattle.conditions.specs.declared.for_loop.Held.TheVariants as held
+use Rattle.conditions.specs.declared.turning.Held as turns
+use Rattle.state.specs.Dialogue.{Course, on_value}
+use Rattle.state.specs.Nesting.{course_of}
+use Rattle.state.specs.Outcome.{Outcome}
+use Rattle.state.specs.Status.{Status}
+use Rattle.state.specs.declared.nesting.Nesting.{Nesting}
+
+-- what follows a script of for (for(n))
+abbrev pub next_of : {A : Type 0} → Held A → Status → Outcome → Course
+next_of (held.Start start) =
+    on_value (started start.value.levels start.value.test start.value.step start.value.body)
+next_of (held.Turns own) = turning.next_of own
+
+-- the scripts that it may still run without a tick before them
+abbrev pub scripts_held : {A : Type 0} → Held A → ℕ
+scripts_held (held.Start start) = scripts_in_text start.value.test
+scripts_held (held.Turns own) = turning.scripts_held own
+
+-- what is at hand of a loop's turns is the same course as one of for
+abbrev pub IsLifted : {A : Type 0} → Nesting A (turns.Held A) → Nesting A (Held A) → Type 0
+IsLifted nesting lifted =
+    (s : Status) → course_of turning.next_of nesting s ≡ course_of next_of lifted s

@@ -1,0 +1,138 @@
+//! `for start test step body` (for(n)).
+
+ghost use Rattle.std.specs.Prelude.{◌≡◌, ◌≤◌, ℕ, [], IfOk};
+ghost use Rattle.conditions.specs.ForLoop as definition;
+ghost use Rattle.conditions.specs.GoesOn.{Comes};
+ghost use Rattle.conditions.specs.Starting.{IsLifted, next_of, scripts_held};
+ghost use Rattle.conditions.specs.Turning as turning_as;
+ghost use Rattle.conditions.specs.Weight.{scripts_in_text};
+ghost use Rattle.state.specs.Nesting.{Advances};
+ghost use Rattle.state.specs.Status.{Status};
+ghost use Rattle.state.specs.View.{FitsState, outcome_of};
+
+use crate::arguments::wrong_args;
+use crate::deeper::deeper;
+use crate::formula::read;
+use crate::turning::{self, Loop, turn};
+use acts::NoMemory;
+use state::nesting::raised;
+use state::{Nesting, Outcome, State};
+use std::alloc::Allocator;
+use std::rc::Rc;
+use tclparse::Script;
+use tcltext::Value;
+
+/// The words behind `start`, while that runs, and the levels that may still stand in the loop.
+#[derive(Drop)]
+pub struct Start<A: Allocator> {
+    pub test: Value<A>,
+    pub step: Value<A>,
+    pub body: Value<A>,
+    pub levels: u8,
+}
+
+/// What is held while a script of the loop runs.
+#[derive(Drop)]
+pub enum Held<A: Allocator> {
+    Start(Box<Start<A>, A>),
+    Turns(turning::Held<A>),
+}
+
+/// Runs `start`.
+pub fn begin<A: Allocator + Copy>(
+    alloc: A,
+    state: &mut State<A>,
+    args: &[Value<A>],
+    levels: u8,
+) -> Result<Nesting<A, Held<A>>, NoMemory>
+    ensures comes { (s : Status) → FitsState state.old s → IfOk result (λ nesting.
+        Comes next_of nesting state.new (definition.for_loop levels args.now s)) }
+    ensures left { state.new.left ≤ state.old.left }
+{
+    let [start, test, step, body] = args else {
+        return Ok(Nesting::Has(wrong_args(alloc, b"for")?));
+    };
+    let script = Script::read(alloc, start.as_slice())?;
+    let test = test.share()?;
+    let step = step.share()?;
+    let body = body.share()?;
+    let start = Start {
+        test,
+        step,
+        body,
+        levels,
+    };
+    let held = Held::Start(Box::new(alloc, start)?);
+    deeper(alloc, script, levels, held)
+}
+
+/// Hands the loop how a script of it ended.
+pub fn resumed<A: Allocator + Copy>(
+    alloc: A,
+    state: &mut State<A>,
+    held: Held<A>,
+    outcome: Outcome<A>,
+) -> Result<Nesting<A, Held<A>>, NoMemory>
+    ensures comes { (s : Status) → FitsState state.old s → IfOk result (λ nesting.
+        Comes next_of nesting state.new (next_of held s (outcome_of outcome))) }
+    ensures left { state.new.left ≤ state.old.left }
+    ensures advances { IfOk result (λ nesting.
+        Advances scripts_held nesting state.new.left state.old.left (scripts_held held)) }
+{
+    match held {
+        Held::Start(start) => match outcome {
+            Ok(_) => Ok(lifted(begin_turns(alloc, state, Box::into_inner(start))?)),
+            Err(leave) => Ok(Nesting::Has(Err(leave))),
+        },
+        Held::Turns(own) => Ok(lifted(turning::resumed(alloc, state, own, outcome)?)),
+    }
+}
+
+/// Reads the test and the scripts, and begins the first turn.
+fn begin_turns<A: Allocator + Copy>(
+    alloc: A,
+    state: &mut State<A>,
+    start: Start<A>,
+) -> Result<Nesting<A, turning::Held<A>>, NoMemory>
+    ensures comes { (s : Status) → FitsState state.old s → IfOk result (λ nesting.
+        Comes turning_as.next_of nesting state.new
+        (definition.started start.levels start.test start.step start.body s [])) }
+    ensures left { state.new.left ≤ state.old.left }
+    ensures advances { IfOk result (λ nesting. Advances turning_as.scripts_held nesting
+        state.new.left state.old.left (scripts_in_text start.test)) }
+{
+    let Start {
+        test,
+        step,
+        body,
+        levels,
+    } = start;
+    match read(alloc, test.as_slice())? {
+        Ok(test) => {
+            let behind = Script::read(alloc, step.as_slice())?;
+            let body = Script::read(alloc, body.as_slice())?;
+            let step = Some(behind);
+            let turns = Loop {
+                test,
+                body,
+                step,
+                levels,
+            };
+            turn(alloc, state, Rc::new(alloc, turns)?)
+        }
+        Err(fault) => Ok(Nesting::Has(raised(alloc, &fault)?)),
+    }
+}
+
+/// How far the turns of a loop have come, as how far `for` has.
+fn lifted<A: Allocator>(nesting: Nesting<A, turning::Held<A>>) -> Nesting<A, Held<A>>
+    ensures lifted { IsLifted nesting result }
+    ensures advances { (new old most : ℕ) →
+        Advances turning_as.scripts_held nesting new old most →
+        Advances scripts_held result new old most }
+{
+    match nesting {
+        Nesting::Has(outcome) => Nesting::Has(outcome),
+        Nesting::Runs(script, levels, held) => Nesting::Runs(script, levels, Held::Turns(held)),
+    }
+}

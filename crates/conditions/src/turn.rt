@@ -1,0 +1,46 @@
+//! What follows the scripts of a loop's turn.
+
+ghost use Rattle.std.specs.Prelude.{◌≡◌, MatchOption};
+ghost use Rattle.conditions.specs.Loop.{on_step};
+ghost use Rattle.plan.specs.Plan.{Ends};
+ghost use Rattle.state.specs.Dialogue.{Course};
+ghost use Rattle.state.specs.Status.{Status};
+ghost use Rattle.state.specs.Turn.{on_turn};
+ghost use Rattle.state.specs.View.{outcome_of};
+
+use state::{Code, Leave, Outcome};
+use std::alloc::Allocator;
+use tcltext::Value;
+
+/// How a loop ends behind its body; none where it goes on (break(n); continue(n)).
+pub fn end_behind_body<A: Allocator>(outcome: Outcome<A>) -> Option<Outcome<A>>
+    ensures { (next : Status → Course) (s : Status) →
+        let course = on_turn next s (outcome_of outcome) in
+        MatchOption result (course ≡ next s) (λ end. course ≡ Ends (s, outcome_of end)) }
+{
+    match outcome {
+        Ok(_) => None,
+        Err(Leave::Coded(code, value)) => match code {
+            Code::Continue => None,
+            Code::Break => Some(Ok(Value::empty())),
+            _ => Some(Err(Leave::Coded(code, value))),
+        },
+        Err(Leave::Stopped(stop)) => Some(Err(Leave::Stopped(stop))),
+    }
+}
+
+/// How a loop ends behind the script that stands behind each turn; none where it goes on (for(n)).
+pub(crate) fn end_behind_step<A: Allocator>(outcome: Outcome<A>) -> Option<Outcome<A>>
+    ensures { (next : Status → Course) (s : Status) →
+        let course = on_step next s (outcome_of outcome) in
+        MatchOption result (course ≡ next s) (λ end. course ≡ Ends (s, outcome_of end)) }
+{
+    match outcome {
+        Ok(_) => None,
+        Err(Leave::Coded(code, value)) => match code {
+            Code::Break => Some(Ok(Value::empty())),
+            _ => Some(Err(Leave::Coded(code, value))),
+        },
+        Err(Leave::Stopped(stop)) => Some(Err(Leave::Stopped(stop))),
+    }
+}

@@ -1,0 +1,49 @@
+//! `while test body` (while(n)).
+
+ghost use Rattle.std.specs.Prelude.{◌≡◌, ◌≤◌, IfOk};
+ghost use Rattle.conditions.specs.GoesOn.{Comes};
+ghost use Rattle.conditions.specs.Turning.{next_of};
+ghost use Rattle.conditions.specs.WhileLoop as definition;
+ghost use Rattle.state.specs.Status.{Status};
+ghost use Rattle.state.specs.View.{FitsState};
+
+use crate::arguments::wrong_args;
+use crate::formula::read;
+use crate::turning::{Held, Loop, turn};
+use acts::NoMemory;
+use state::nesting::raised;
+use state::{Nesting, State};
+use std::alloc::Allocator;
+use std::rc::Rc;
+use tclparse::Script;
+use tcltext::Value;
+
+/// Reads the test and the body, and begins the first turn.
+pub fn begin<A: Allocator + Copy>(
+    alloc: A,
+    state: &mut State<A>,
+    args: &[Value<A>],
+    levels: u8,
+) -> Result<Nesting<A, Held<A>>, NoMemory>
+    ensures comes { (s : Status) → FitsState state.old s → IfOk result (λ nesting.
+        Comes next_of nesting state.new (definition.while_loop levels args.now s)) }
+    ensures left { state.new.left ≤ state.old.left }
+{
+    let [test, body] = args else {
+        return Ok(Nesting::Has(wrong_args(alloc, b"while")?));
+    };
+    match read(alloc, test.as_slice())? {
+        Ok(test) => {
+            let body = Script::read(alloc, body.as_slice())?;
+            let step = None;
+            let turns = Loop {
+                test,
+                body,
+                step,
+                levels,
+            };
+            turn(alloc, state, Rc::new(alloc, turns)?)
+        }
+        Err(fault) => Ok(Nesting::Has(raised(alloc, &fault)?)),
+    }
+}
