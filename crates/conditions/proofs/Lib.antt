@@ -1,6 +1,9 @@
+pub mod Advancing
 pub mod Beginning
+pub mod Branching
 pub mod Comings
 pub mod Evaluating
 pub mod Passing
 pub mod Reading
+pub mod Tested
 pub mod Turns

@@ -6,6 +6,7 @@ pub mod Test
 pub mod Expr
 pub mod Branches
 pub mod Conditional
+pub mod Choosing
 pub mod Loop
 pub mod GoesOn
 pub mod Turning

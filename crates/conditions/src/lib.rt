@@ -1,7 +1,9 @@
-//! The commands that evaluate formulas: `expr`, `while`, `for`.
+//! The commands that evaluate formulas: `expr`, `if`, `while`, `for`.
 #![tactic(auto)]
 
 mod arguments;
+pub mod branches;
+pub mod conditional;
 mod deeper;
 pub mod expr;
 pub mod for_loop;

@@ -1,0 +1,76 @@
+-- How the branches of the code, and what if holds, stand to those of the definition.
+use Rattle.std.specs.Prelude.{◌≡◌, ℕ, ◌+◌, ◌<◌, length, map, option_map, sum_by, Option, Some, None}
+use Rattle.conditions.specs.Branches.{Branch, Branches, branches, no_branch, with_branch, behind as after_body}
+use Rattle.conditions.specs.Conditional.{chooses, chosen, passes}
+use Rattle.conditions.specs.Test.{on_tested}
+use Rattle.conditions.specs.Weight.{scripts_in_text}
+use Rattle.conditions.specs.declared.branches.Behind.{Behind}
+use Rattle.conditions.specs.declared.branches.Behind.TheVariants as behind
+use Rattle.conditions.specs.declared.branches.Branch as coded
+use Rattle.conditions.specs.declared.branches.Branches as all
+use Rattle.conditions.specs.declared.branches.Front.{Front}
+use Rattle.conditions.specs.declared.conditional.Held.{Held}
+use Rattle.conditions.specs.declared.conditional.Held.TheVariants as held
+use Rattle.conditions.specs.declared.conditional.Tested.{Tested}
+use Rattle.evaluation.specs.Scripts.{scripts_behind}
+use Rattle.evaluation.specs.View.{resumed}
+use Rattle.state.specs.Dialogue.{Course, on_value}
+use Rattle.state.specs.Outcome.{Outcome}
+use Rattle.state.specs.Status.{Status}
+
+-- the branch that one of the code's stands for
+abbrev pub branch_of : {A : Type 0} → coded.Branch A → Branch
+branch_of b = record { test = b.test; body = b.body }
+
+-- the branches that those of the code stand for
+abbrev pub branches_of : {A : Type 0} → all.Branches A → Branches
+branches_of all = record {
+  tests = map (λ b. branch_of b) all.tests.items;
+  otherwise = all.otherwise;
+}
+
+-- what stands behind a body in the code, as branches
+abbrev pub behind_of : {A : Type 0} → Behind A → Option Branches
+behind_of (behind.Branches words) = branches words.now
+behind_of (behind.End last) = Some (no_branch (option_map (λ body. body.now) last))
+behind_of behind.Wrong = None
+
+-- the branches there have fewer words than that
+abbrev pub HasFewerWords : {A : Type 0} → Behind A → ℕ → Type 0
+HasFewerWords (behind.Branches words) n = length words.now < n
+HasFewerWords (behind.End last) n = Unit {0}
+HasFewerWords behind.Wrong n = Unit {0}
+
+-- some words are branches of which this is the first, or none is there
+abbrev pub IsFront : {A : Type 0} → Option (Front A) → Option Branches → Type 0
+IsFront None found = found ≡ None
+IsFront (Some front) found =
+    found ≡ option_map (with_branch front.test.now front.body.now) (after_body front.behind.now)
+
+-- the body behind the first test that holds, of branches of the code
+abbrev pub chosen_of : {A : Type 0} → ℕ → all.Branches A → Status → Course
+chosen_of levels all s = chooses levels (branches_of all).tests (branches_of all).otherwise s
+
+-- what follows a script in a test (if(n))
+abbrev pub behind_test : {A : Type 0} → Tested A → Status → Outcome → Course
+behind_test own = on_value (resumed own.levels own.formula (on_tested
+    (chosen own.levels own.body (branches_of own.branches).tests own.branches.otherwise)))
+
+-- what follows a script of if (if(n))
+abbrev pub next_of : {A : Type 0} → Held A → Status → Outcome → Course
+next_of (held.Test own) = behind_test own.value
+next_of held.Body = passes
+
+-- the scripts that stand in the tests of branches
+abbrev pub scripts_in_tests : {A : Type 0} → all.Branches A → ℕ
+scripts_in_tests all = sum_by (λ b. scripts_in_text b.test) all.tests.items
+
+-- the scripts that if may still run behind a script in a test: those that are left in that test,
+-- those in the tests behind it, and a body
+abbrev pub scripts_tested : {A : Type 0} → Tested A → ℕ
+scripts_tested own = 1 + scripts_behind own.formula + scripts_in_tests own.branches
+
+-- the scripts that if may still run
+abbrev pub scripts_held : {A : Type 0} → Held A → ℕ
+scripts_held (held.Test own) = scripts_tested own.value
+scripts_held held.Body = 0
