@@ -1,6 +1,7 @@
 pub mod Advancing
 pub mod Beginning
 pub mod Branching
+pub mod Closed
 pub mod Comings
 pub mod Evaluating
 pub mod Passing

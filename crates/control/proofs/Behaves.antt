@@ -9,7 +9,7 @@ use Rattle.control.specs.Eval.{eval, passed}
 use Rattle.control.specs.Control as control
 use Rattle.control.specs.Control.{Control}
 use Rattle.pure.specs.Concat.{concatenated}
-use Rattle.state.proofs.Closed.{Closed, within_closed, writes_closed, named_closed}
+use Rattle.state.proofs.Closed.{Closed, Loops, Ticks, within_closed, writes_closed, named_closed}
 use Rattle.state.specs.Dialogue.{Course}
 use Rattle.state.specs.Outcome.{Outcome, Gives, Leaves, Stops}
 use Rattle.state.specs.Status.{Status}
@@ -64,8 +64,9 @@ module _ (P : Status → Course → Type 0) (closed : Closed P) where
       within_closed P closed levels (concatenated (w ∷ ws)) s passed (λ u o. closed.over u o)
 
   -- each command
-  pub does_closed : (c : Control) (levels : ℕ) (args : List (List ℕ)) (s : Status) →
-      P s (does c levels args s)
-  does_closed control.Catch levels args s = catch_closed levels args s
-  does_closed control.Eval levels args s = eval_closed levels args s
-  does_closed control.Foreach levels args s = foreach_closed P closed levels args s
+  pub does_closed : Ticks P P → Loops P → (c : Control) (levels : ℕ) (args : List (List ℕ))
+      (s : Status) → P s (does c levels args s)
+  does_closed ticks loops control.Catch levels args s = catch_closed levels args s
+  does_closed ticks loops control.Eval levels args s = eval_closed levels args s
+  does_closed ticks loops control.Foreach levels args s =
+      foreach_closed P closed ticks levels args s

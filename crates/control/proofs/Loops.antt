@@ -1,20 +1,18 @@
 -- What holds of foreach, where it holds of all that is put together so.
-use Rattle.std.proofs.Common.{ℕ, List, [], ◌∷◌, ◌++◌, length, Bool, true, false, is_some, Result, Ok, Err}
+use Rattle.std.proofs.Common.{ℕ, List, [], ◌∷◌, ◌++◌, length, Bool, true, false, is_some}
 use Rattle.std.specs.List.{list_all}
 use Rattle.std.specs.Prelude.{codes, if◌then◌else◌}
 use Rattle.acts.specs.Flaw as flaw
-use Rattle.acts.specs.Flaw.{text_of}
 use Rattle.control.specs.Foreach.{Pair, assigns, begins, foreach, is_taken, most_asked, on_names, rows, turns, with_pair, with_pairs, wrong_words}
 use Rattle.state.specs.Turn.{on_turn}
-use Rattle.state.proofs.Closed.{Closed, inside_closed, listed_closed, named_closed, raises_closed, tick_closed, turn_closed, writes_closed}
+use Rattle.state.proofs.Closed.{Closed, Ticks, inside_closed, listed_closed, named_closed, raises_closed, tick_closed, turn_closed, writes_closed}
 use Rattle.state.specs.Dialogue.{Course, raises}
-use Rattle.state.specs.Outcome.{Outcome, Gives, Leaves, Stops, Error, Return, Break, Continue, Again, AgainRunning}
-use Rattle.state.specs.Piece.{ListText, ScriptText, ScriptTree}
+use Rattle.state.specs.Outcome.{Gives}
+use Rattle.state.specs.Piece.{ScriptText, ScriptTree}
 use Rattle.state.specs.Status.{Status}
 use Rattle.tclparse.specs.Variable.{named}
-use Rattle.tcltext.specs.Flaw as list
 
-module _ (P : Status → Course → Type 0) (closed : Closed P) where
+module _ (P : Status → Course → Type 0) (closed : Closed P) (ticks : Ticks P P) where
   good_closed : (good : Bool) (ns : List (List ℕ)) (s : Status)
       (next : List (List ℕ) → Course) → P s (next ns) →
       P s (if good then next ns else raises flaw.BadVariable s)
@@ -54,7 +52,7 @@ module _ (P : Status → Course → Type 0) (closed : Closed P) where
       (s : Status) → P s (turns levels body all s)
   turns_closed levels body [] s = closed.over s (Gives [])
   turns_closed levels body (first ∷ more) s =
-      assigns_closed first s _ (λ t. tick_closed P closed t _ (λ u.
+      assigns_closed first s _ (λ t. tick_closed P P closed.over ticks t _ (λ u.
       inside_closed P closed levels body u (on_turn (turns levels body more))
       (turn_closed P closed (turns levels body more) (turns_closed levels body more))))
 

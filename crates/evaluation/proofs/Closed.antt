@@ -1,67 +1,31 @@
 -- What holds of a formula where it holds of all that may follow it.
-use Rattle.std.proofs.Common.{ℕ, List, [], ◌∷◌, ◌++◌, Bool, true, false, None, Result, Ok, Err, if◌then◌else◌}
-use Rattle.acts.specs.Flaw.{Flaw, text_of}
-use Rattle.meanings.specs.Meaning.{Meaning, Gives, Raises, Splits, Matches, flaw_of_list, truth}
+use Rattle.std.proofs.Common.{ℕ, List, [], ◌∷◌, ◌++◌, Bool, true, false, Result, Ok, Err, if◌then◌else◌}
+use Rattle.acts.specs.Flaw.{Flaw}
+use Rattle.meanings.specs.Meaning.{Meaning, Gives, Raises, Splits, Matches, truth}
 use Rattle.operators.specs.Binary.{binary}
 use Rattle.operators.specs.Function as function
 use Rattle.operators.specs.Truth.{truth_of}
 use Rattle.operators.specs.Unary.{unary}
 use Rattle.operators.specs.Value.{written, result}
-use Rattle.state.specs.Dialogue.{Course, on_value, raises}
-use Rattle.state.specs.Listed.{on_list}
-use Rattle.state.specs.Outcome as outcome
-use Rattle.state.specs.Outcome.{Outcome, Leaves, Stops, Error}
-use Rattle.state.specs.Piece.{ListText, TestText}
+use Rattle.state.specs.Dialogue.{Course}
+use Rattle.state.specs.Piece.{TestText}
 use Rattle.state.specs.Status.{Status}
-use Rattle.state.proofs.Closed.{Closed, inside_closed}
+use Rattle.state.proofs.Closed.{Closed, listed_closed, raises_closed}
 use Rattle.tclparse.specs.Formula.{Formula, numeral, text, call, prefix, row, choice, Links, no_links, link, Formulas, no_formulas, formula}
-use Rattle.tclparse.specs.Tree.{Commands, Parts}
 use Rattle.tclparse.specs.declared.operator.Infix.{Infix}
 use Rattle.tclparse.specs.declared.operator.Infix.TheVariants.{Both, AndAlso, OrElse}
-use Rattle.tcltext.specs.Flaw as list
-use Rattle.words.specs.Words.{nested, parts}
-use Rattle.words.proofs.Holds.{parts_hold}
+use Rattle.words.proofs.Closed.{parts_closed}
 use Rattle.evaluation.specs.Evaluated.{on_meaning, on_truth, told, joined, evaluated, linked, arguments, tested, valued}
 use Rattle.evaluation.proofs.Outer.{Next}
 
 module _ (P : Status → Course → Type 0) (closed : Closed P) where
-  raised : (s : Status) (flaw : Flaw) → P s (raises flaw s)
-  raised s flaw = closed.over s (Leaves Error (text_of flaw))
-
-  value_closed : (next : Next) → ((u : Status) (v : List ℕ) → P u (next u v)) →
-      (u : Status) (o : Outcome) → P u (on_value next u o)
-  value_closed next each u (outcome.Gives v) = each u v
-  value_closed next each u (Leaves code v) = closed.over u (Leaves code v)
-  value_closed next each u (Stops stop) = closed.over u (Stops stop)
-
-  nested_closed : (levels : ℕ) (commands : Commands) (s : Status) (next : Next) →
-      ((u : Status) (v : List ℕ) → P u (next u v)) → P s (nested levels commands s next)
-  nested_closed levels commands s next each =
-      inside_closed P closed levels (record { commands = commands; fault = None }) s
-      (on_value next) (value_closed next each)
-
-  -- the parts of a word
-  pub parts_closed : (levels : ℕ) (ps : Parts) (bytes : List ℕ) (s : Status) (next : Next) →
-      ((u : Status) (v : List ℕ) → P u (next u v)) → P s (parts levels ps bytes s next)
-  parts_closed levels ps bytes s next each =
-      parts_hold P raised nested_closed
-      (λ u subject on read. closed.reading (ListText subject) u on read)
-      levels ps bytes s next each
-
-  list_closed : (s : Status) (next : List (List ℕ) → Course) →
-      ((elements : List (List ℕ)) → P s (next elements)) →
-      (split : Result (List (List ℕ)) list.Flaw) → P s (on_list s next split)
-  list_closed s next each (Ok elements) = each elements
-  list_closed s next each (Err why) = raised s (flaw_of_list why)
-
   meaning_closed : (meaning : Meaning) (s : Status) (next : List ℕ → Course) →
       ((v : List ℕ) → P s (next v)) → P s (on_meaning meaning s next)
   meaning_closed (Gives value) s next each = each value
-  meaning_closed (Raises flaw) s next each = raised s flaw
+  meaning_closed (Raises flaw) s next each = raises_closed P closed flaw s
   meaning_closed (Splits subject more) s next each =
-      closed.reading (ListText subject) s _
-      (list_closed s (λ elements. on_meaning (more elements) s next)
-      (λ elements. meaning_closed (more elements) s next each))
+      listed_closed P closed subject s _
+      (λ elements. meaning_closed (more elements) s next each)
   meaning_closed (Matches pattern subject more) s next each =
       closed.reading (TestText pattern subject) s _
       (λ takes. meaning_closed (more takes) s next each)
@@ -69,7 +33,7 @@ module _ (P : Status → Course → Type 0) (closed : Closed P) where
   truth_closed : (r : Result Bool Flaw) (s : Status) (next : Bool → Course) →
       ((holds : Bool) → P s (next holds)) → P s (on_truth r s next)
   truth_closed (Ok holds) s next each = each holds
-  truth_closed (Err flaw) s next each = raised s flaw
+  truth_closed (Err flaw) s next each = raises_closed P closed flaw s
 
   either_closed : (holds : Bool) (s : Status) (p q : Course) → P s p → P s q →
       P s (if holds then p else q)
@@ -99,7 +63,8 @@ module _ (P : Status → Course → Type 0) (closed : Closed P) where
         ((u : Status) (v : List ℕ) → P u (next u v)) → P s (evaluated levels f s next)
     evaluated_closed levels (numeral digits) s next each =
         meaning_closed (written digits) s _ (λ v. each s v)
-    evaluated_closed levels (text ps) s next each = parts_closed levels ps [] s next each
+    evaluated_closed levels (text ps) s next each =
+        parts_closed P closed levels ps [] s next each
     evaluated_closed levels (call g fs) s next each =
         arguments_closed levels fs [] s _
         (λ u vs. meaning_closed (function.call g vs) u _ (λ v. each u v))

@@ -1,23 +1,23 @@
--- What holds of each command, procedures among them, where it holds of those that run no script, and
--- of all that is put together so.
+-- What holds of each command, procedures among them, where it holds of those that run no script, of
+-- loops, and of all that is put together so.
 use Rattle.std.proofs.Common.{ℕ, List, [], ◌∷◌, Option, Some, None}
 use Rattle.commands.specs.Commands as leaf
 use Rattle.control.specs.Commands.{named}
 use Rattle.control.specs.Control.{Control}
 use Rattle.control.proofs.Behaves.{call_closed, does_closed}
 use Rattle.runs.specs.Commands.{called, chosen, command}
-use Rattle.state.proofs.Closed.{Closed}
+use Rattle.state.proofs.Closed.{Closed, Loops, Ticks}
 use Rattle.state.specs.Dialogue.{Course}
 use Rattle.state.specs.Outcome.{Gives}
 use Rattle.state.specs.Status.{Status}
 use Rattle.tclstate.specs.Pairs.{found}
 use Rattle.tclstate.specs.Procs.{Procedure}
 
-module _ (P : Status → Course → Type 0) (closed : Closed P)
+module _ (P : Status → Course → Type 0) (closed : Closed P) (ticks : Ticks P P) (loops : Loops P)
     (plain : (s : Status) (words : List (List ℕ)) → P s (leaf.command s words)) where
   chosen_closed : (c : Option Control) (levels : ℕ) (name : List ℕ) (args : List (List ℕ))
       (s : Status) → P s (chosen c levels name args s)
-  chosen_closed (Some c) levels name args s = does_closed P closed c levels args s
+  chosen_closed (Some c) levels name args s = does_closed P closed ticks loops c levels args s
   chosen_closed None levels name args s = plain s (name ∷ args)
 
   called_closed : (p : Option Procedure) (levels : ℕ) (name : List ℕ) (args : List (List ℕ))

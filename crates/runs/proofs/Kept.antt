@@ -1,5 +1,5 @@
 -- The rows of each wait hold.
-use Rattle.std.proofs.Common.{ℕ, zero, suc, ◌+◌, List, [], ◌∷◌, ◌++◌, Bool, true, false, Option, Some, None, if◌then◌else◌}
+use Rattle.std.proofs.Common.{ℕ, ◌+◌, List, [], ◌∷◌, ◌++◌, Bool, true, false, if◌then◌else◌}
 use Rattle.acts.specs.Deed.{Deed, Reply}
 use Rattle.acts.specs.Deed as said
 use Rattle.acts.specs.Fits.{fits}
@@ -9,25 +9,18 @@ use Rattle.commands.specs.Commands as leaf
 use Rattle.commands.proofs.Behaves.{command_behaves}
 use Rattle.plan.specs.Kept.{Keeps, EachKeeps}
 use Rattle.plan.specs.Plan.{Ends}
-use Rattle.runs.specs.Commands.{command}
 use Rattle.runs.specs.Closing.{does, closes, closes_log, ends_with, reported, reports, closing}
 use Rattle.runs.specs.Ending.{Ending, Over, stopped}
-use Rattle.runs.specs.Scripts.{behind, script, plan_of}
-use Rattle.runs.proofs.Command.{command_closed}
+use Rattle.runs.specs.Scripts.{plan_of}
+use Rattle.runs.proofs.Pieces.{Inherited, piece_holds, top}
 use Rattle.state.proofs.Behaves.{behaves_keeps}
-use Rattle.state.proofs.Closed.{Closed}
 use Rattle.state.specs.Behaves.{worth}
-use Rattle.state.specs.Dialogue.{Course, Dialogue, tick_of, is_no_more, on_value}
+use Rattle.state.specs.Dialogue.{Course, Dialogue, is_no_more}
 use Rattle.state.specs.Outcome.{Outcome, Gives, Leaves, Stops, Error, Return, Break, Continue, Again, AgainRunning}
 use Rattle.state.specs.Outcome as stop
-use Rattle.state.specs.Piece.{Script, One, IsTree}
+use Rattle.state.specs.Piece.{IsTree}
 use Rattle.state.specs.Rows.{Holds}
 use Rattle.state.specs.Status.{Status, Peer, opened}
-use Rattle.tclparse.specs.Fault.{Fault}
-use Rattle.tclparse.specs.Tree.{Words, Commands, no_commands}
-use Rattle.tclparse.specs.Tree as tree
-use Rattle.words.specs.Words.{words}
-use Rattle.words.proofs.Holds.{words_keeps}
 
 -- any state may come
 abbrev pub AnyState : Status → Type 0
@@ -37,54 +30,25 @@ AnyState s = Unit {0}
 abbrev pub CourseKeeps : Course → Type 0
 CourseKeeps c = Keeps IsTree AnyState Holds (λ left. Unit {0}) c
 
-behind_keeps : (fault : Option Fault) (s : Status) (value : List ℕ) →
-    CourseKeeps (behind fault s value)
-behind_keeps None s value = tt
-behind_keeps (Some fault) s value = tt
+-- the same at each rank, from any state
+abbrev KeepsFrom : ℕ → Status → Course → Type 0
+KeepsFrom r s c = CourseKeeps c
 
-value_keeps : (next : Status → List ℕ → Course) →
-    ((u : Status) (v : List ℕ) → CourseKeeps (next u v)) →
-    (u : Status) (o : Outcome) → CourseKeeps (on_value next u o)
-value_keeps next each u (Gives v) = each u v
-value_keeps next each u (Leaves code v) = tt
-value_keeps next each u (Stops stop) = tt
-
-script_keeps : (levels : ℕ) (cs : Commands) (fault : Option Fault) (s : Status) (value : List ℕ) →
-    CourseKeeps (script levels cs fault s value)
-script_keeps levels no_commands fault s value = behind_keeps fault s value
-script_keeps levels (tree.command ws cs) fault s value = (
-  tt,
-  λ u o kept.
-      value_keeps (script levels cs fault) (λ t v. script_keeps levels cs fault t v) u o,
-)
-
--- the same, from any state
-abbrev KeepsFrom : Status → Course → Type 0
-KeepsFrom s c = CourseKeeps c
-
-keeps_closed : Closed KeepsFrom
-keeps_closed = record {
-  over = λ s o. tt;
-  runs = λ levels tree s next each. (tt, λ u o kept. each u o);
-  reading = λ text s next each tree is. each tree;
-  writing = λ scopes s course keeps. keeps;
-  ticking = λ left s course is keeps. keeps;
+keeps_inherited : Inherited KeepsFrom
+keeps_inherited = record {
+  over = λ r s o. tt;
+  calls = λ r piece s next below each. (tt, λ u o kept. each u o);
+  reading = λ r text s next each tree is. each tree;
+  writing = λ r scopes s course keeps. keeps;
+  ticking = λ r left s course is keeps. keeps;
 }
 
-plain_keeps : (s : Status) (words : List (List ℕ)) → KeepsFrom s (leaf.command s words)
+plain_keeps : (s : Status) (words : List (List ℕ)) → KeepsFrom top s (leaf.command s words)
 plain_keeps s words =
     behaves_keeps s.left (worth s + 3) (leaf.command s words) (command_behaves s words)
 
-tick_keeps : (left : ℕ) (levels : ℕ) (ws : Words) (s : Status) →
-    CourseKeeps (tick_of left s (λ t. words levels ws [] t (command levels)))
-tick_keeps zero levels ws s = tt
-tick_keeps (suc left) levels ws s =
-    words_keeps AnyState Holds levels ws [] (record s { left = left }) (command levels) tt
-    (λ u vs kept. command_closed KeepsFrom keeps_closed plain_keeps levels u vs)
-
 pub each_keeps : EachKeeps IsTree AnyState Holds plan_of
-each_keeps (Script tree levels) s kept = script_keeps levels tree.commands tree.fault s []
-each_keeps (One ws levels) s kept = tick_keeps s.left levels ws s
+each_keeps piece s kept = piece_holds KeepsFrom keeps_inherited plain_keeps piece s
 
 -- a dialogue that closes a run waits for nothing
 abbrev ClosingKeeps : Dialogue Over → Type 0

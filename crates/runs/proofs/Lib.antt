@@ -1,6 +1,7 @@
 pub mod Tests
 pub mod Trees
 pub mod Command
+pub mod Pieces
 pub mod Paid
 pub mod Kept
 pub mod Finite

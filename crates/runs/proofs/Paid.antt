@@ -1,5 +1,5 @@
 -- Each piece pays for its acts out of what its state is worth.
-use Rattle.std.proofs.Common.{◌≡◌, ℕ, zero, suc, ◌+◌, ◌-◌, ◌≤◌, List, [], ◌∷◌, ◌++◌, length, Bool, true, false, Option, Some, None, if◌then◌else◌, refl, arith}
+use Rattle.std.proofs.Common.{◌≡◌, ℕ, suc, ◌+◌, ◌-◌, ◌≤◌, List, [], ◌∷◌, ◌++◌, length, Bool, true, false, if◌then◌else◌, refl, arith}
 use Rattle.acts.specs.Deed.{Deed, Reply}
 use Rattle.acts.specs.Deed as said
 use Rattle.acts.specs.Fits.{fits}
@@ -10,24 +10,17 @@ use Rattle.commands.proofs.Behaves.{command_behaves}
 use Rattle.plan.specs.Paid.{Pays, EachPays}
 use Rattle.plan.specs.Plan.{Ends}
 use Rattle.plan.proofs.Paid.{more_pays}
-use Rattle.runs.specs.Commands.{command}
 use Rattle.runs.specs.Closing.{does, closes, closes_log, ends_with, reported, reports, closing}
 use Rattle.runs.specs.Ending.{Ending, Over, stopped}
-use Rattle.runs.specs.Scripts.{behind, script, one, plan_of}
-use Rattle.runs.proofs.Command.{command_closed}
+use Rattle.runs.specs.Scripts.{plan_of}
+use Rattle.runs.proofs.Pieces.{Inherited, piece_holds, rank, top}
 use Rattle.state.proofs.Behaves.{behaves_pays}
-use Rattle.state.proofs.Closed.{Closed}
 use Rattle.state.specs.Behaves.{worth, closing_of_log}
-use Rattle.state.specs.Dialogue.{Course, Dialogue, tick_of, is_no_more, on_value}
-use Rattle.state.specs.Outcome.{Outcome, Gives, Leaves, Stops, Code, Error, Return, Break, Continue, Again, AgainRunning}
+use Rattle.state.specs.Dialogue.{Course, Dialogue, is_no_more}
+use Rattle.state.specs.Outcome.{Outcome, Gives, Leaves, Stops, Error, Return, Break, Continue, Again, AgainRunning}
 use Rattle.state.specs.Outcome as stop
-use Rattle.state.specs.Piece.{Piece, Script, One, IsTree}
+use Rattle.state.specs.Piece.{Piece, Script, One, Loop, IsTree}
 use Rattle.state.specs.Status.{Status, Peer, opened}
-use Rattle.tclparse.specs.Fault.{Fault}
-use Rattle.tclparse.specs.Tree.{Words, Commands, no_commands}
-use Rattle.tclparse.specs.Tree as tree
-use Rattle.words.specs.Words.{words}
-use Rattle.words.proofs.Holds.{words_pays}
 
 -- a piece costs what its state is worth
 abbrev pub price : Piece → Status → ℕ
@@ -37,67 +30,46 @@ price piece s = worth s
 abbrev pub CoursePays : ℕ → Course → Type 0
 CoursePays had c = Pays IsTree price worth (λ left. worth left.0) had c
 
-behind_pays : (fault : Option Fault) (s : Status) (value : List ℕ) →
-    CoursePays (worth s) (behind fault s value)
-behind_pays None s value = omega arith
-behind_pays (Some fault) s value = omega arith
+-- what a course has beside what its state is worth: behind a tick, three
+abbrev spare : ℕ → ℕ
+spare (suc (suc (suc r))) = 3
+spare _ = 0
 
-value_pays : (next : Status → List ℕ → Course) →
-    ((u : Status) (v : List ℕ) → CoursePays (worth u) (next u v)) →
-    (u : Status) (o : Outcome) → CoursePays (worth u) (on_value next u o)
-value_pays next each u (Gives v) = each u v
-value_pays next each u (Leaves code v) = omega arith
-value_pays next each u (Stops stop) = omega arith
+-- a course pays out of what its state is worth, and of what it has beside that
+abbrev PaysFrom : ℕ → Status → Course → Type 0
+PaysFrom r s c = CoursePays (worth s + spare r) c
 
-script_pays : (levels : ℕ) (cs : Commands) (fault : Option Fault) (s : Status) (value : List ℕ) →
-    CoursePays (worth s) (script levels cs fault s value)
-script_pays levels no_commands fault s value = behind_pays fault s value
-script_pays levels (tree.command ws cs) fault s value = (
-  omega arith,
-  λ u o less.
-      more_pays IsTree price worth (λ left. worth left.0) (worth u)
-      (worth u + (worth s - worth s)) (on_value (script levels cs fault) u o) (omega arith)
-      (value_pays (script levels cs fault) (λ t v. script_pays levels cs fault t v) u o),
-)
-
--- a course pays out of what its state is worth, and of three
-abbrev PaysFrom : Status → Course → Type 0
-PaysFrom s c = CoursePays (worth s + 3) c
-
-pays_closed : Closed PaysFrom
-pays_closed = record {
-  over = λ s o. omega arith;
-  runs = λ levels tree s next each. (
+pays_inherited : Inherited PaysFrom
+pays_inherited = record {
+  over = λ r s o. omega arith;
+  calls = λ r piece s next below each. (
     omega arith,
     λ u o less.
-        more_pays IsTree price worth (λ left. worth left.0) (worth u + 3)
-        (worth u + ((worth s + 3) - worth s)) (next u o) (omega arith) (each u o),
+        more_pays IsTree price worth (λ left. worth left.0) (worth u + spare r)
+        (worth u + ((worth s + spare r) - worth s)) (next u o) (omega arith) (each u o),
   );
-  reading = λ text s next each tree is. each tree;
-  writing = λ scopes s course pays. pays;
-  ticking = λ left s course is pays.
+  reading = λ r text s next each tree is. each tree;
+  writing = λ r scopes s course pays. pays;
+  ticking = λ r left s course is pays.
       let after : Status = record s { left = left } in
-      more_pays IsTree price worth (λ left. worth left.0) (worth after + 3) (worth s + 3) course
-      (omega (arith, is)) pays;
+      more_pays IsTree price worth (λ left. worth left.0) (worth after + 3) (worth s + spare r)
+      course (omega (arith, is)) pays;
 }
 
-plain_pays : (s : Status) (words : List (List ℕ)) → PaysFrom s (leaf.command s words)
+plain_pays : (s : Status) (words : List (List ℕ)) → PaysFrom top s (leaf.command s words)
 plain_pays s words =
     behaves_pays price s.left (worth s + 3) (leaf.command s words) (command_behaves s words)
 
-tick_pays : (left : ℕ) (levels : ℕ) (ws : Words) (s : Status) → s.left ≡ left →
-    CoursePays (worth s) (tick_of left s (λ t. words levels ws [] t (command levels)))
-tick_pays zero levels ws s is = omega arith
-tick_pays (suc left) levels ws s is =
-    let after : Status = record s { left = left } in
-    more_pays IsTree price worth (λ left. worth left.0) (worth after + 3) (worth s)
-    (words levels ws [] after (command levels)) (omega (arith, is))
-    (words_pays price worth 3 (λ tree n t. omega arith) levels ws [] after (command levels)
-    (command_closed PaysFrom pays_closed plain_pays levels))
+none_spare : (piece : Piece) → spare (rank piece) ≡ 0
+none_spare (Script tree levels) = refl
+none_spare (One ws levels) = refl
+none_spare (Loop loop levels) = refl
 
 pub each_pays : EachPays IsTree price worth plan_of
-each_pays (Script tree levels) s = script_pays levels tree.commands tree.fault s []
-each_pays (One ws levels) s = tick_pays s.left levels ws s refl
+each_pays piece s =
+    let none = none_spare piece in
+    more_pays IsTree price worth (λ left. worth left.0) (worth s + spare (rank piece)) (worth s)
+    (plan_of piece s) (omega (arith, none)) (piece_holds PaysFrom pays_inherited plain_pays piece s)
 
 -- a dialogue that closes a run pays so, and keeps nothing
 abbrev ClosingPays : ℕ → Dialogue Over → Type 0

@@ -2,13 +2,13 @@
 use Rattle.std.proofs.Common.{◌≡◌, ℕ, zero, suc, List, [], Option, Some, None, Result, Ok, Err, refl}
 use Rattle.acts.specs.Flaw as flaw
 use Rattle.acts.specs.Flaw.{text_of}
-use Rattle.plan.specs.Plan.{Ends, Reads, Calls}
+use Rattle.plan.specs.Plan.{Ends, Reads, Calls, goes}
 use Rattle.meanings.specs.Meaning.{flaw_of_list}
-use Rattle.state.specs.Dialogue.{Course, inside, raises, tick, tick_of, within}
+use Rattle.state.specs.Dialogue.{Course, inside, on_value, raises, tick, tick_of, within}
 use Rattle.state.specs.Listed.{on_list, with_list}
 use Rattle.state.specs.Outcome.{Outcome, Gives, Leaves, Stops, Error, Return, Break, Continue, Again, AgainRunning}
 use Rattle.state.specs.Outcome as stop
-use Rattle.state.specs.Piece.{Script, ListText, ScriptTree, ScriptText, Text, Tree}
+use Rattle.state.specs.Piece.{Script, Loop, ListText, LoopTree, ScriptTree, ScriptText, Text, Tree}
 use Rattle.state.specs.Status.{Status}
 use Rattle.state.specs.Turn.{on_turn}
 use Rattle.state.specs.Variables.{reads, writes, found, stored, spelled, flaw_of_trouble, on_name, with_name}
@@ -17,7 +17,7 @@ use Rattle.tclstate.specs.Scopes.{Scopes, Trouble, read, written}
 use Rattle.tcltext.specs.Flaw as list
 
 -- P says from which states which courses are so: ends are, and so is what begins with a script, a
--- text that is read, a variable that is written or a tick, where all that may follow is
+-- text that is read or a variable that is written, where all that may follow is
 pub record Closed (P : Status → Course → Type 0) : Type 0 where
   pub over : (s : Status) (o : Outcome) → P s (Ends (s, o))
   pub runs : (levels : ℕ) (tree : ScriptTree) (s : Status) (next : Status → Outcome → Course) →
@@ -26,8 +26,38 @@ pub record Closed (P : Status → Course → Type 0) : Type 0 where
       ((tree : Tree text) → P s (next tree)) → P s (Reads text next)
   pub writing : (scopes : Scopes) (s : Status) (course : Course) →
       P (record s { scopes = scopes }) course → P s course
-  pub ticking : (left : ℕ) (s : Status) (course : Course) → s.left ≡ suc left →
-      P (record s { left = left }) course → P s course
+
+-- what is Q behind a tick is P before it
+abbrev pub Ticks : (Status → Course → Type 0) → (Status → Course → Type 0) → Type 0
+Ticks P Q =
+    (left : ℕ) (s : Status) (course : Course) → s.left ≡ suc left →
+    Q (record s { left = left }) course → P s course
+
+-- each loop is so
+abbrev pub Loops : (Status → Course → Type 0) → Type 0
+Loops P = (loop : LoopTree) (levels : ℕ) (s : Status) → P s (goes (Loop loop levels) s)
+
+module _ (P Q : Status → Course → Type 0) (over : (s : Status) (o : Outcome) → P s (Ends (s, o)))
+    (ticks : Ticks P Q) where
+  tick_of_closed : (left : ℕ) (s : Status) (next : Status → Course) → s.left ≡ left →
+      ((u : Status) → Q u (next u)) → P s (tick_of left s next)
+  tick_of_closed zero s next is each = over s (Stops stop.Limit)
+  tick_of_closed (suc left) s next is each =
+      ticks left s (next (record s { left = left })) is (each (record s { left = left }))
+
+  -- a tick
+  pub tick_closed : (s : Status) (next : Status → Course) → ((u : Status) → Q u (next u)) →
+      P s (tick s next)
+  tick_closed s next each = tick_of_closed s.left s next refl each
+
+module _ (P : Status → Course → Type 0) (over : (s : Status) (o : Outcome) → P s (Ends (s, o))) where
+  -- a value, and on with it
+  pub value_closed : (next : Status → List ℕ → Course) →
+      ((u : Status) (v : List ℕ) → P u (next u v)) → (s : Status) (o : Outcome) →
+      P s (on_value next s o)
+  value_closed next each s (Gives value) = each s value
+  value_closed next each s (Leaves code value) = over s (Leaves code value)
+  value_closed next each s (Stops stop) = over s (Stops stop)
 
 module _ (P : Status → Course → Type 0) (closed : Closed P) where
   -- a script one level deeper
@@ -43,17 +73,6 @@ module _ (P : Status → Course → Type 0) (closed : Closed P) where
   within_closed levels text s next each =
       closed.reading (ScriptText text) s (λ tree. inside levels tree s next)
       (λ tree. inside_closed levels tree s next each)
-
-  tick_of_closed : (left : ℕ) (s : Status) (next : Status → Course) → s.left ≡ left →
-      ((u : Status) → P u (next u)) → P s (tick_of left s next)
-  tick_of_closed zero s next is each = closed.over s (Stops stop.Limit)
-  tick_of_closed (suc left) s next is each =
-      closed.ticking left s (next (record s { left = left })) is (each (record s { left = left }))
-
-  -- a tick
-  pub tick_closed : (s : Status) (next : Status → Course) → ((u : Status) → P u (next u)) →
-      P s (tick s next)
-  tick_closed s next each = tick_of_closed s.left s next refl each
 
   found_closed : (r : Result (List ℕ) Trouble) (name : List ℕ) (s : Status)
       (next : List ℕ → Course) → ((v : List ℕ) → P s (next v)) → P s (found r name s next)

@@ -1,5 +1,5 @@
 pub mod Steps
 pub mod Levels
 pub mod Command
-pub mod Holds
+pub mod Closed
 pub mod Scripts

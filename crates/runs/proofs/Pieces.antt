@@ -1,0 +1,83 @@
+-- What holds of each piece, by the pieces that it calls.
+use Rattle.std.proofs.Common.{ℕ, ◌<◌, List, [], Option, Some, None, arith}
+use Rattle.commands.specs.Commands as leaf
+use Rattle.conditions.proofs.Closed.{turns_closed}
+use Rattle.plan.specs.Plan.{Ends, Reads, Calls}
+use Rattle.runs.specs.Commands.{command}
+use Rattle.runs.specs.Scripts.{behind, script, one, plan_of}
+use Rattle.runs.proofs.Command.{command_closed}
+use Rattle.state.proofs.Closed.{Closed, Loops, Ticks, tick_closed, value_closed}
+use Rattle.state.specs.Dialogue.{Course}
+use Rattle.state.specs.Outcome.{Outcome}
+use Rattle.state.specs.Piece.{Piece, Script, One, Loop, Text, Tree}
+use Rattle.state.specs.Status.{Status}
+use Rattle.tclparse.specs.Fault.{Fault}
+use Rattle.tclparse.specs.Tree.{Words, Commands, no_commands}
+use Rattle.tclparse.specs.Tree as tree
+use Rattle.tclstate.specs.Scopes.{Scopes}
+use Rattle.words.proofs.Closed.{words_closed}
+
+-- a script is above its commands, and a loop is above its scripts
+abbrev pub rank : Piece → ℕ
+rank (One _ _) = 0
+rank (Script _ _) = 1
+rank (Loop _ _) = 2
+
+-- above all pieces: behind a tick each may be called
+abbrev pub top : ℕ
+top = 3
+
+-- P says of each rank which courses are so that call pieces below it, and from which states: ends
+-- are, and so is what begins with such a call, a text that is read, a variable that is written or a
+-- tick, where all that may follow is
+pub record Inherited (P : ℕ → Status → Course → Type 0) : Type 0 where
+  pub over : (r : ℕ) (s : Status) (o : Outcome) → P r s (Ends (s, o))
+  pub calls : (r : ℕ) (piece : Piece) (s : Status) (next : Status → Outcome → Course) →
+      rank piece < r → ((u : Status) (o : Outcome) → P r u (next u o)) →
+      P r s (Calls piece s next)
+  pub reading : (r : ℕ) (text : Text) (s : Status) (next : Tree text → Course) →
+      ((tree : Tree text) → P r s (next tree)) → P r s (Reads text next)
+  pub writing : (r : ℕ) (scopes : Scopes) (s : Status) (course : Course) →
+      P r (record s { scopes = scopes }) course → P r s course
+  pub ticking : (r : ℕ) → Ticks (P r) (P top)
+
+module _ (P : ℕ → Status → Course → Type 0) (so : Inherited P)
+    (plain : (s : Status) (words : List (List ℕ)) → P top s (leaf.command s words)) where
+  closed_above : (r : ℕ) → 1 < r → Closed (P r)
+  closed_above r above = record {
+    over = so.over r;
+    runs = λ levels tree s next each. so.calls r (Script tree levels) s next above each;
+    reading = so.reading r;
+    writing = so.writing r;
+  }
+
+  loops : Loops (P top)
+  loops loop levels s =
+      so.calls top (Loop loop levels) s _ (omega arith) (λ u o. so.over top u o)
+
+  behind_holds : (fault : Option Fault) (s : Status) (value : List ℕ) → P 1 s (behind fault s value)
+  behind_holds None s value = so.over 1 s _
+  behind_holds (Some fault) s value = so.over 1 s _
+
+  script_holds : (levels : ℕ) (cs : Commands) (fault : Option Fault) (s : Status)
+      (value : List ℕ) → P 1 s (script levels cs fault s value)
+  script_holds levels no_commands fault s value = behind_holds fault s value
+  script_holds levels (tree.command ws cs) fault s value =
+      so.calls 1 (One ws levels) s _ (omega arith)
+      (value_closed (P 1) (so.over 1) (script levels cs fault)
+      (λ u v. script_holds levels cs fault u v))
+
+  one_holds : (levels : ℕ) (ws : Words) (s : Status) → P 0 s (one levels ws s)
+  one_holds levels ws s =
+      let closed = closed_above top (omega arith) in
+      tick_closed (P 0) (P top) (so.over 0) (so.ticking 0) s _ (λ t.
+      words_closed (P top) closed levels ws [] t (command levels)
+      (λ u vs. command_closed (P top) closed (so.ticking top) loops plain levels u vs))
+
+  -- each piece
+  pub piece_holds : (piece : Piece) (s : Status) → P (rank piece) s (plan_of piece s)
+  piece_holds (Script tree levels) s = script_holds levels tree.commands tree.fault s []
+  piece_holds (One ws levels) s = one_holds levels ws s
+  piece_holds (Loop loop levels) s =
+      turns_closed (P 2) (P top) (closed_above 2 (omega arith)) (so.ticking 2)
+      (closed_above top (omega arith)) loops loop levels s
