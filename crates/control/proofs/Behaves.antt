@@ -1,6 +1,7 @@
 -- What holds of each call and of each command that runs scripts, where it holds of all that is put
 -- together so.
 use Rattle.std.proofs.Common.{ℕ, List, [], ◌∷◌, Option, Some, None}
+use Rattle.conditions.proofs.Closed.{conditional_closed, expr_closed, for_closed, while_closed}
 use Rattle.control.specs.Calls.{call, ended, frame_of, returned, runs_with}
 use Rattle.control.specs.Catch.{catch, caught, stores_in, number_of}
 use Rattle.control.proofs.Loops.{foreach_closed}
@@ -68,5 +69,9 @@ module _ (P : Status → Course → Type 0) (closed : Closed P) where
       (s : Status) → P s (does c levels args s)
   does_closed ticks loops control.Catch levels args s = catch_closed levels args s
   does_closed ticks loops control.Eval levels args s = eval_closed levels args s
+  does_closed ticks loops control.Expr levels args s = expr_closed P closed levels args s
+  does_closed ticks loops control.For levels args s = for_closed P closed loops levels args s
   does_closed ticks loops control.Foreach levels args s =
       foreach_closed P closed ticks levels args s
+  does_closed ticks loops control.If levels args s = conditional_closed P closed levels args s
+  does_closed ticks loops control.While levels args s = while_closed P closed loops levels args s

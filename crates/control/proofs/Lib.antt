@@ -3,6 +3,7 @@ pub mod Behaves
 pub mod Calling
 pub mod Catching
 pub mod Evaluating
+pub mod Lifted
 pub mod Loops
 pub mod Names
 pub mod Pairing

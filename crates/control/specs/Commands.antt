@@ -1,6 +1,10 @@
 -- Which command that runs scripts a name has, and what it does.
 use Rattle.std.specs.Prelude.{ℕ, List, codes, Option, Some, None, if◌then◌else◌}
 use Rattle.std.specs.Str.{bytes_eq}
+use Rattle.conditions.specs.Conditional.{conditional}
+use Rattle.conditions.specs.Expr.{expr}
+use Rattle.conditions.specs.ForLoop.{for_loop}
+use Rattle.conditions.specs.WhileLoop.{while_loop}
 use Rattle.control.specs.Catch.{catch}
 use Rattle.control.specs.Eval.{eval}
 use Rattle.control.specs.Control as control
@@ -14,11 +18,19 @@ abbrev pub named : List ℕ → Option Control
 named name =
     if bytes_eq name (codes "catch") then Some control.Catch
     else if bytes_eq name (codes "eval") then Some control.Eval
+    else if bytes_eq name (codes "expr") then Some control.Expr
+    else if bytes_eq name (codes "for") then Some control.For
     else if bytes_eq name (codes "foreach") then Some control.Foreach
+    else if bytes_eq name (codes "if") then Some control.If
+    else if bytes_eq name (codes "while") then Some control.While
     else None
 
 -- what a command does with the words behind its name, in which so many levels may still stand
 abbrev pub does : Control → ℕ → List (List ℕ) → Status → Course
 does control.Catch levels args s = catch levels args s
 does control.Eval levels args s = eval levels args s
+does control.Expr levels args s = expr levels args s
+does control.For levels args s = for_loop levels args s
 does control.Foreach levels args s = foreach levels args s
+does control.If levels args s = conditional levels args s
+does control.While levels args s = while_loop levels args s

@@ -1,7 +1,11 @@
 -- The commands that run scripts.
 
--- one for each name (catch(n), eval(n), foreach(n))
+-- one for each name (catch(n), eval(n), expr(n), for(n), foreach(n), if(n), while(n))
 pub data Control : Type 0 where
   Catch : Control
   Eval : Control
+  Expr : Control
+  For : Control
   Foreach : Control
+  If : Control
+  While : Control

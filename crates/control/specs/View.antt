@@ -1,5 +1,9 @@
 -- How the commands of the code, and what they hold, stand to those of the definition.
-use Rattle.std.specs.Prelude.{◌≡◌, ℕ, ◌<◌, ◌⊎◌, List, Option, Some, None}
+use Rattle.std.specs.Prelude.{◌≡◌, ℕ, ◌<◌, List, Option, Some, None}
+use Rattle.conditions.specs.Choosing as if_then
+use Rattle.conditions.specs.Expr as expr
+use Rattle.conditions.specs.Starting as for_loop
+use Rattle.conditions.specs.Turning as while_loop
 use Rattle.control.specs.Calls as calls
 use Rattle.control.specs.Calls.{call}
 use Rattle.control.specs.Catch as catch
@@ -26,14 +30,22 @@ use Rattle.tclstate.specs.Procs.{Procedure}
 abbrev pub control_of : coded.Control → Control
 control_of control.Catch = meant.Catch
 control_of control.Eval = meant.Eval
+control_of control.Expr = meant.Expr
+control_of control.For = meant.For
 control_of control.Foreach = meant.Foreach
+control_of control.If = meant.If
+control_of control.While = meant.While
 
 -- what follows the script that runs within a command
 abbrev pub next_of : {A : Type 0} → Held A → Status → Outcome → Course
 next_of (held.Call own) = calls.next_of own
 next_of (held.Catch own) = catch.next_of own
 next_of (held.Eval own) = eval.next_of own
+next_of (held.Expr own) = expr.next_of own
+next_of (held.For own) = for_loop.next_of own
 next_of (held.Foreach own) = foreach.next_of own
+next_of (held.If own) = if_then.next_of own
+next_of (held.While own) = while_loop.next_of own
 
 -- a script runs again only after a tick (this project's own rule)
 abbrev pub TicksFirst : {A H : Type 0} → Nesting A H → ℕ → ℕ → Type 0
@@ -45,14 +57,11 @@ abbrev pub scripts_held : {A : Type 0} → Held A → ℕ
 scripts_held (held.Call own) = 0
 scripts_held (held.Catch own) = 0
 scripts_held (held.Eval own) = 0
+scripts_held (held.Expr own) = expr.scripts_held own
+scripts_held (held.For own) = for_loop.scripts_held own
 scripts_held (held.Foreach own) = 0
-
--- a script runs again only after a tick, or where fewer may follow it without one (this project's
--- own rule)
-abbrev pub Advances : {A : Type 0} → Nesting A (Held A) → ℕ → ℕ → ℕ → Type 0
-Advances (nesting.Has outcome) new old most = Unit {0}
-Advances (nesting.Runs script levels held) new old most =
-    (new < old) ⊎ (scripts_held held < most)
+scripts_held (held.If own) = if_then.scripts_held own
+scripts_held (held.While own) = while_loop.scripts_held own
 
 -- what is at hand of one command is the same course as one of all commands
 abbrev pub IsLifted : {A H : Type 0} → (H → Status → Outcome → Course) → Nesting A H →

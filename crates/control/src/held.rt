@@ -1,13 +1,19 @@
 //! What a command holds while a script runs within it.
 
 ghost use Rattle.std.specs.Prelude.{ℕ};
-ghost use Rattle.control.specs.View.{Advances, IsLifted, TicksFirst};
+ghost use Rattle.conditions.specs.Choosing as choosing;
+ghost use Rattle.conditions.specs.Expr as formulas;
+ghost use Rattle.conditions.specs.Starting as starting;
+ghost use Rattle.conditions.specs.Turning as turns;
+ghost use Rattle.control.specs.View.{IsLifted, TicksFirst, scripts_held};
 ghost use Rattle.control.specs.Calls as calling;
 ghost use Rattle.control.specs.Catch as catches;
 ghost use Rattle.control.specs.Eval as evals;
 ghost use Rattle.control.specs.Looping as loops;
+ghost use Rattle.state.specs.Nesting.{Advances};
 
 use crate::{calls, catch, eval, foreach};
+use conditions::{conditional, expr, for_loop, turning};
 use state::Nesting;
 use std::alloc::Allocator;
 
@@ -18,14 +24,18 @@ pub enum Held<A: Allocator> {
     Call(calls::Held),
     Catch(catch::Held<A>),
     Eval(eval::Held),
+    Expr(expr::Held<A>),
+    For(for_loop::Held<A>),
     Foreach(foreach::Held<A>),
+    If(conditional::Held<A>),
+    While(turning::Held<A>),
 }
 
 /// How far a call has come, as a command.
 pub(crate) fn from_call<A: Allocator>(nesting: Nesting<A, calls::Held>) -> Nesting<A, Held<A>>
     ensures lifted { IsLifted calling.next_of nesting result }
     ensures advances { (new old most : ℕ) →
-        TicksFirst nesting new old → Advances result new old most }
+        TicksFirst nesting new old → Advances scripts_held result new old most }
 {
     match nesting {
         Nesting::Has(outcome) => Nesting::Has(outcome),
@@ -37,7 +47,7 @@ pub(crate) fn from_call<A: Allocator>(nesting: Nesting<A, calls::Held>) -> Nesti
 pub(crate) fn from_catch<A: Allocator>(nesting: Nesting<A, catch::Held<A>>) -> Nesting<A, Held<A>>
     ensures lifted { IsLifted catches.next_of nesting result }
     ensures advances { (new old most : ℕ) →
-        TicksFirst nesting new old → Advances result new old most }
+        TicksFirst nesting new old → Advances scripts_held result new old most }
 {
     match nesting {
         Nesting::Has(outcome) => Nesting::Has(outcome),
@@ -49,11 +59,61 @@ pub(crate) fn from_catch<A: Allocator>(nesting: Nesting<A, catch::Held<A>>) -> N
 pub(crate) fn from_eval<A: Allocator>(nesting: Nesting<A, eval::Held>) -> Nesting<A, Held<A>>
     ensures lifted { IsLifted evals.next_of nesting result }
     ensures advances { (new old most : ℕ) →
-        TicksFirst nesting new old → Advances result new old most }
+        TicksFirst nesting new old → Advances scripts_held result new old most }
 {
     match nesting {
         Nesting::Has(outcome) => Nesting::Has(outcome),
         Nesting::Runs(script, levels, held) => Nesting::Runs(script, levels, Held::Eval(held)),
+    }
+}
+
+/// How far `expr` has come, as a command.
+pub(crate) fn from_expr<A: Allocator>(nesting: Nesting<A, expr::Held<A>>) -> Nesting<A, Held<A>>
+    ensures lifted { IsLifted formulas.next_of nesting result }
+    ensures advances { (new old most : ℕ) → Advances formulas.scripts_held nesting new old most →
+        Advances scripts_held result new old most }
+{
+    match nesting {
+        Nesting::Has(outcome) => Nesting::Has(outcome),
+        Nesting::Runs(script, levels, held) => Nesting::Runs(script, levels, Held::Expr(held)),
+    }
+}
+
+/// How far `for` has come, as a command.
+pub(crate) fn from_for<A: Allocator>(nesting: Nesting<A, for_loop::Held<A>>) -> Nesting<A, Held<A>>
+    ensures lifted { IsLifted starting.next_of nesting result }
+    ensures advances { (new old most : ℕ) → Advances starting.scripts_held nesting new old most →
+        Advances scripts_held result new old most }
+{
+    match nesting {
+        Nesting::Has(outcome) => Nesting::Has(outcome),
+        Nesting::Runs(script, levels, held) => Nesting::Runs(script, levels, Held::For(held)),
+    }
+}
+
+/// How far `if` has come, as a command.
+pub(crate) fn from_if<A: Allocator>(
+    nesting: Nesting<A, conditional::Held<A>>,
+) -> Nesting<A, Held<A>>
+    ensures lifted { IsLifted choosing.next_of nesting result }
+    ensures advances { (new old most : ℕ) → Advances choosing.scripts_held nesting new old most →
+        Advances scripts_held result new old most }
+{
+    match nesting {
+        Nesting::Has(outcome) => Nesting::Has(outcome),
+        Nesting::Runs(script, levels, held) => Nesting::Runs(script, levels, Held::If(held)),
+    }
+}
+
+/// How far `while` has come, as a command.
+pub(crate) fn from_while<A: Allocator>(nesting: Nesting<A, turning::Held<A>>) -> Nesting<A, Held<A>>
+    ensures lifted { IsLifted turns.next_of nesting result }
+    ensures advances { (new old most : ℕ) → Advances turns.scripts_held nesting new old most →
+        Advances scripts_held result new old most }
+{
+    match nesting {
+        Nesting::Has(outcome) => Nesting::Has(outcome),
+        Nesting::Runs(script, levels, held) => Nesting::Runs(script, levels, Held::While(held)),
     }
 }
 
@@ -63,7 +123,7 @@ pub(crate) fn from_foreach<A: Allocator>(
 ) -> Nesting<A, Held<A>>
     ensures lifted { IsLifted loops.next_of nesting result }
     ensures advances { (new old most : ℕ) →
-        TicksFirst nesting new old → Advances result new old most }
+        TicksFirst nesting new old → Advances scripts_held result new old most }
 {
     match nesting {
         Nesting::Has(outcome) => Nesting::Has(outcome),

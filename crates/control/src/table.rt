@@ -2,14 +2,18 @@
 
 ghost use Rattle.std.specs.Prelude.{◌≡◌, ◌≤◌, IfOk, option_map};
 ghost use Rattle.control.specs.Commands as definition;
-ghost use Rattle.control.specs.View.{Advances, IsCalled, control_of, next_of, scripts_held};
-ghost use Rattle.state.specs.Nesting.{Nests};
+ghost use Rattle.control.specs.View.{IsCalled, control_of, next_of, scripts_held};
+ghost use Rattle.conditions.specs.GoesOn.{Comes};
+ghost use Rattle.state.specs.Nesting.{Advances};
 ghost use Rattle.state.specs.Status.{Status};
 ghost use Rattle.state.specs.View.{FitsState, outcome_of};
 
-use crate::held::{Held, from_call, from_catch, from_eval, from_foreach};
+use crate::held::{
+    Held, from_call, from_catch, from_eval, from_expr, from_for, from_foreach, from_if, from_while,
+};
 use crate::{calls, catch, eval, foreach};
 use acts::NoMemory;
+use conditions::{conditional, expr, for_loop, turning, while_loop};
 use state::{Nesting, Outcome, State};
 use std::alloc::Allocator;
 use tcltext::Value;
@@ -19,7 +23,11 @@ use tcltext::Value;
 pub enum Control {
     Catch,
     Eval,
+    Expr,
+    For,
     Foreach,
+    If,
+    While,
 }
 
 impl Control {
@@ -31,8 +39,16 @@ impl Control {
             Some(Control::Catch)
         } else if name == b"eval".as_slice() {
             Some(Control::Eval)
+        } else if name == b"expr".as_slice() {
+            Some(Control::Expr)
+        } else if name == b"for".as_slice() {
+            Some(Control::For)
         } else if name == b"foreach".as_slice() {
             Some(Control::Foreach)
+        } else if name == b"if".as_slice() {
+            Some(Control::If)
+        } else if name == b"while".as_slice() {
+            Some(Control::While)
         } else {
             None
         }
@@ -65,6 +81,7 @@ pub fn call<A: Allocator + Copy>(
 ///
 /// # Errors
 /// `NoMemory` where memory is refused.
+#[tactic(auto, using(crate::proofs::Lifted::commands_lifted))]
 pub fn begin<A: Allocator + Copy>(
     alloc: A,
     state: &mut State<A>,
@@ -72,15 +89,19 @@ pub fn begin<A: Allocator + Copy>(
     args: &[Value<A>],
     levels: u8,
 ) -> Result<Nesting<A, Held<A>>, NoMemory>
-    ensures nests { (s : Status) → FitsState state.old s → IfOk result (λ nesting.
-        Nests next_of nesting state.new
+    ensures comes { (s : Status) → FitsState state.old s → IfOk result (λ nesting.
+        Comes next_of nesting state.new
         (definition.does (control_of control) levels args.now s)) }
     ensures left { state.new.left ≤ state.old.left }
 {
     match control {
         Control::Catch => Ok(from_catch(catch::begin(alloc, state, args, levels)?)),
         Control::Eval => Ok(from_eval(eval::begin(alloc, state, args, levels)?)),
+        Control::Expr => Ok(from_expr(expr::begin(alloc, state, args, levels)?)),
+        Control::For => Ok(from_for(for_loop::begin(alloc, state, args, levels)?)),
         Control::Foreach => Ok(from_foreach(foreach::begin(alloc, state, args, levels)?)),
+        Control::If => Ok(from_if(conditional::begin(alloc, state, args, levels)?)),
+        Control::While => Ok(from_while(while_loop::begin(alloc, state, args, levels)?)),
     }
 }
 
@@ -88,22 +109,27 @@ pub fn begin<A: Allocator + Copy>(
 ///
 /// # Errors
 /// `NoMemory` where memory is refused.
+#[tactic(auto, using(crate::proofs::Lifted::commands_lifted))]
 pub fn resumed<A: Allocator + Copy>(
     alloc: A,
     state: &mut State<A>,
     held: Held<A>,
     outcome: Outcome<A>,
 ) -> Result<Nesting<A, Held<A>>, NoMemory>
-    ensures nests { (s : Status) → FitsState state.old s → IfOk result (λ nesting.
-        Nests next_of nesting state.new (next_of held s (outcome_of outcome))) }
+    ensures comes { (s : Status) → FitsState state.old s → IfOk result (λ nesting.
+        Comes next_of nesting state.new (next_of held s (outcome_of outcome))) }
     ensures left { state.new.left ≤ state.old.left }
     ensures advances { IfOk result (λ nesting.
-        Advances nesting state.new.left state.old.left (scripts_held held)) }
+        Advances scripts_held nesting state.new.left state.old.left (scripts_held held)) }
 {
     match held {
         Held::Call(_) => Ok(from_call(calls::resumed(alloc, state, outcome)?)),
         Held::Catch(own) => Ok(from_catch(catch::resumed(alloc, state, own, outcome)?)),
         Held::Eval(own) => Ok(from_eval(eval::resumed(state, own, outcome))),
+        Held::Expr(own) => Ok(from_expr(expr::resumed(alloc, state, own, outcome)?)),
+        Held::For(own) => Ok(from_for(for_loop::resumed(alloc, state, own, outcome)?)),
         Held::Foreach(own) => Ok(from_foreach(foreach::resumed(alloc, state, own, outcome)?)),
+        Held::If(own) => Ok(from_if(conditional::resumed(alloc, state, own, outcome)?)),
+        Held::While(own) => Ok(from_while(turning::resumed(alloc, state, own, outcome)?)),
     }
 }
