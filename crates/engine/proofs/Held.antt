@@ -1,9 +1,8 @@
 -- Commands that run scripts, and what they hold meanwhile.
-use Rattle.std.proofs.Common.{◌≡◌, ◌∙◌, ◌-◌, ℕ, ◌≤◌, List, [], ◌∷◌, drop, get_or, length, take, Option, Some, None, option_map, Result, Ok, refl, sym, ap, arith}
+use Rattle.std.proofs.Common.{◌≡◌, ◌-◌, ℕ, ◌≤◌, List, [], ◌∷◌, drop, get_or, length, take, Some, None, Result, Ok, refl, sym, ap, arith}
 use Rattle.std.proofs.lemmas.List.{length-drop, take_all}
 use Rattle.commands.specs.Commands as leaf
-use Rattle.commands.specs.View as table
-use Rattle.commands.specs.declared.waits.Waits.{Waits}
+use Rattle.conditions.specs.GoesOn.{Comes}
 use Rattle.control.specs.Calls.{call}
 use Rattle.control.specs.Commands.{does, named}
 use Rattle.control.specs.Control.{Control}
@@ -15,19 +14,14 @@ use Rattle.engine.specs.Phases.{Begins, Leads, course_of_next}
 use Rattle.engine.specs.declared.machine.Next.TheVariants as next
 use Rattle.engine.specs.declared.frame.Frame.{Frame}
 use Rattle.engine.specs.declared.frame.Frame.TheVariants as frame
-use Rattle.engine.proofs.Machines.{over_goes}
-use Rattle.engine.proofs.Silent.{reaches_goes, same_goes, then_goes}
-use Rattle.plan.specs.Plan.{Ends}
+use Rattle.engine.proofs.Silent.{comes_goes, same_goes, then_goes}
 use Rattle.runs.specs.Commands.{command}
 use Rattle.state.specs.Dialogue.{Course, gives}
-use Rattle.state.specs.Leaf.{HasOutcome, course_of}
-use Rattle.state.specs.Nesting.{Nests}
+use Rattle.state.specs.Leaf.{course_of}
 use Rattle.state.specs.Nesting as nests
 use Rattle.state.specs.Outcome.{Gives}
 use Rattle.state.specs.Status.{Status}
-use Rattle.state.specs.declared.leaf.Leaf.{Leaf}
 use Rattle.state.specs.declared.leaf.Leaf.TheVariants as at_hand
-use Rattle.state.specs.declared.nesting.Nesting.{Nesting}
 use Rattle.state.specs.declared.nesting.Nesting.TheVariants as nesting
 use Rattle.state.specs.declared.outcome.Leave.{Leave}
 use Rattle.state.specs.declared.state.State.{State}
@@ -38,12 +32,12 @@ use Rattle.tclstate.specs.Procs.{Procedure}
 module _ {A : Type 0} (fs : List (Frame A)) where
   -- a command that is over goes on under the frames
   pub over_held : (r : Result (List ℕ) (Leave A)) (state : State A) (course : Course) →
-      Nests (control.next_of {A = A}) (nesting.Has r) state course →
+      Comes (control.next_of {A = A}) (nesting.Has r) state course →
       Leads (at_hand.Has r) fs state (left_of course fs)
   over_held r state course shown = record {
     status = shown.status;
     fits = shown.fits;
-    goes = reaches_goes fs shown.reaches;
+    goes = comes_goes fs shown.goes;
   }
 
   -- a script stands on the stack above the command that runs it
@@ -58,12 +52,12 @@ module _ {A : Type 0} (fs : List (Frame A)) where
   pub runs_held : (script : Script A) (levels : ℕ) (held : Held A) (new : List (Frame A))
       (state : State A) (course : Course) →
       new ≡ frame.Script (begun script levels) ∷ frame.Held held ∷ fs →
-      Nests (control.next_of {A = A}) (nesting.Runs script levels held) state course →
+      Comes (control.next_of {A = A}) (nesting.Runs script levels held) state course →
       Begins (course_of_next {A = A} next.Again) new state (left_of course fs)
   runs_held script levels held new state course on shown = record {
     status = shown.status;
     fits = shown.fits;
-    goes = then_goes (reaches_goes fs shown.reaches)
+    goes = then_goes (comes_goes fs shown.goes)
         (held_goes script levels held new shown.status on);
   }
 
@@ -71,26 +65,14 @@ module _ {A : Type 0} (fs : List (Frame A)) where
   pub runs_on : (script : Script A) (levels : ℕ) (held : Held A) (new : List (Frame A))
       (state : State A) (course : Course) (none : List ℕ) → none ≡ [] →
       new ≡ frame.Script (begun script levels) ∷ frame.Held held ∷ fs →
-      Nests (control.next_of {A = A}) (nesting.Runs script levels held) state course →
+      Comes (control.next_of {A = A}) (nesting.Runs script levels held) state course →
       Leads (at_hand.Has (Ok none)) new state (left_of course fs)
   runs_on script levels held new state course none is on shown = record {
     status = shown.status;
     fits = shown.fits;
-    goes = then_goes (reaches_goes fs shown.reaches)
+    goes = then_goes (comes_goes fs shown.goes)
         (then_goes (held_goes script levels held new shown.status on)
         (same_goes (ap (λ v. onward_of new shown.status (Gives v)) (sym is))));
-  }
-
-  -- what a command has come to is at hand, with the frames that it left
-  pub nests_lead : (n : Nesting A (Held A)) (l : Leaf A (Waits A)) (new : List (Frame A))
-      (state : State A) (course : Course) →
-      ((s : Status) → Goes (left_of (nests.course_of (control.next_of {A = A}) n s) fs)
-      (left_of (course_of table.next_of l s) new)) →
-      Nests (control.next_of {A = A}) n state course → Leads l new state (left_of course fs)
-  nests_lead n l new state course each shown = record {
-    status = shown.status;
-    fits = shown.fits;
-    goes = then_goes (reaches_goes fs shown.reaches) (each shown.status);
   }
 
 module _ (levels : ℕ) (words : List (List ℕ)) (s : Status) where

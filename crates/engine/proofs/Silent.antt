@@ -1,17 +1,18 @@
 -- Silent steps: one after the other, under frames, and what they do to the runs that are left.
-use Rattle.std.proofs.Common.{◌≡◌, ℕ, List, [], ◌∷◌, refl, sym, ap, subst}
-use Rattle.engine.specs.Frames.{left_of, onward_of}
+use Rattle.std.proofs.Common.{◌≡◌, List, ap, subst}
+use Rattle.conditions.specs.GoesOn as loops_go
+use Rattle.conditions.specs.GoesOn.{GoesOn}
+use Rattle.engine.specs.Frames.{left_of}
 use Rattle.engine.specs.Goes.{Goes, here, calls, reads}
 use Rattle.engine.specs.declared.frame.Frame.{Frame}
 use Rattle.plan.specs.Exact.{Same}
-use Rattle.plan.specs.Plan.{Reads, Calls, and_then, onward}
 use Rattle.plan.specs.Runs.{Runs}
-use Rattle.plan.proofs.Exact.{same, same_turned, then_same, call_is_exact, read_is_exact}
+use Rattle.plan.proofs.Exact.{same, then_same, call_is_exact, read_is_exact}
 use Rattle.runs.specs.Ending.{Over}
 use Rattle.runs.specs.Scripts.{plan_of}
 use Rattle.runs.proofs.Trees.{one_tree}
 use Rattle.state.specs.Dialogue.{Course, Dialogue}
-use Rattle.state.specs.Piece.{Text, Tree, IsTree}
+use Rattle.state.specs.Piece.{IsTree}
 use Rattle.state.specs.Reaches as words_reach
 use Rattle.state.specs.Reaches.{Reaches}
 
@@ -28,6 +29,13 @@ pub reaches_goes : {A : Type 0} (frames : List (Frame A)) {p q : Course} → Rea
     Goes (left_of p frames) (left_of q frames)
 reaches_goes frames words_reach.here = here
 reaches_goes frames (words_reach.reads tree is a) = reads tree is (reaches_goes frames a)
+
+-- so does one that begins turns of loops too
+pub comes_goes : {A : Type 0} (frames : List (Frame A)) {p q : Course} → GoesOn p q →
+    Goes (left_of p frames) (left_of q frames)
+comes_goes frames loops_go.here = here
+comes_goes frames (loops_go.reads tree is a) = reads tree is (comes_goes frames a)
+comes_goes frames (loops_go.turning a) = calls (comes_goes frames a)
 
 -- equal courses go on alike
 pub same_left : {A : Type 0} (frames : List (Frame A)) {p q : Course} → p ≡ q →

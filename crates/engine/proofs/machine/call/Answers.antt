@@ -5,7 +5,7 @@ use Rattle.control.specs.View.{IsCalled, control_of, next_of}
 use Rattle.engine.specs.Frames.{stack}
 use Rattle.engine.proofs.Held.{command_calls, command_none, command_plain, command_runs, first_word, no_word, rest_words}
 use Rattle.engine.proofs.Machines.{leads_from, on_ok, over_leads, shown_leads}
-use Rattle.engine.proofs.Silent.{reaches_goes, same_left, then_goes}
+use Rattle.engine.proofs.Silent.{comes_goes, reaches_goes, same_left, then_goes}
 use Rattle.state.specs.Outcome.{Gives}
 use Rattle.tclstate.specs.Pairs.{found}
 use Rattle.engine.proofs.machine.call.Goals as goal
@@ -82,13 +82,13 @@ returns-in_ok-nesting-in-Some-read-clause-leads g c = λ s fits.
     let undefined : found s.procedures first ≡ None =
     ap (λ name. found s.procedures name) (sym c.as_slice.ensures) ∙ kept.0 in
     let known : named first ≡ Some control = rw c.as_slice-2.ensures at (sym c.in-Some-read.ensures) in
-    let shown = c.in_ok-nesting-in-Some-read.ensures.nests s kept.1 in
+    let shown = c.in_ok-nesting-in-Some-read.ensures.comes s kept.1 in
     on_ok c.hold-in-Some-read.result (λ leaf goes. record {
       status = shown.status;
       fits = shown.fits;
       goes = then_goes
           (same_left frames
           (command_runs levels words s first rest split undefined control known))
-          (then_goes (reaches_goes frames shown.reaches) goes);
+          (then_goes (comes_goes frames shown.goes) goes);
     })
     (c.hold-in-Some-read.ensures.leads shown.status)
