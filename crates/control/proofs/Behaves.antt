@@ -5,6 +5,7 @@ use Rattle.conditions.proofs.Closed.{conditional_closed, expr_closed, for_closed
 use Rattle.control.specs.Calls.{call, ended, frame_of, returned, runs_with}
 use Rattle.control.specs.Catch.{catch, caught, stores_in, number_of}
 use Rattle.control.proofs.Loops.{foreach_closed}
+use Rattle.control.proofs.Switching.{switch_closed}
 use Rattle.control.specs.Commands.{does}
 use Rattle.control.specs.Eval.{eval, passed}
 use Rattle.control.specs.Control as control
@@ -74,4 +75,5 @@ module _ (P : Status → Course → Type 0) (closed : Closed P) where
   does_closed ticks loops control.Foreach levels args s =
       foreach_closed P closed ticks levels args s
   does_closed ticks loops control.If levels args s = conditional_closed P closed levels args s
+  does_closed ticks loops control.Switch levels args s = switch_closed P closed levels args s
   does_closed ticks loops control.While levels args s = while_closed P closed loops levels args s

@@ -10,6 +10,7 @@ use Rattle.control.specs.Eval.{eval}
 use Rattle.control.specs.Control as control
 use Rattle.control.specs.Control.{Control}
 use Rattle.control.specs.Foreach.{foreach}
+use Rattle.control.specs.Switch.{switch}
 use Rattle.state.specs.Dialogue.{Course}
 use Rattle.state.specs.Status.{Status}
 
@@ -22,6 +23,7 @@ named name =
     else if bytes_eq name (codes "for") then Some control.For
     else if bytes_eq name (codes "foreach") then Some control.Foreach
     else if bytes_eq name (codes "if") then Some control.If
+    else if bytes_eq name (codes "switch") then Some control.Switch
     else if bytes_eq name (codes "while") then Some control.While
     else None
 
@@ -33,4 +35,5 @@ does control.Expr levels args s = expr levels args s
 does control.For levels args s = for_loop levels args s
 does control.Foreach levels args s = foreach levels args s
 does control.If levels args s = conditional levels args s
+does control.Switch levels args s = switch levels args s
 does control.While levels args s = while_loop levels args s

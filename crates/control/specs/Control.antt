@@ -1,6 +1,6 @@
 -- The commands that run scripts.
 
--- one for each name (catch(n), eval(n), expr(n), for(n), foreach(n), if(n), while(n))
+-- one for each name (catch(n), eval(n), expr(n), for(n), foreach(n), if(n), switch(n), while(n))
 pub data Control : Type 0 where
   Catch : Control
   Eval : Control
@@ -8,4 +8,5 @@ pub data Control : Type 0 where
   For : Control
   Foreach : Control
   If : Control
+  Switch : Control
   While : Control

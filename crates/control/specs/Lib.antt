@@ -5,4 +5,5 @@ pub mod Control
 pub mod Commands
 pub mod Foreach
 pub mod Looping
+pub mod Switch
 pub mod View

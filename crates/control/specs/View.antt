@@ -34,6 +34,7 @@ control_of control.Expr = meant.Expr
 control_of control.For = meant.For
 control_of control.Foreach = meant.Foreach
 control_of control.If = meant.If
+control_of control.Switch = meant.Switch
 control_of control.While = meant.While
 
 -- what follows the script that runs within a command

@@ -21,3 +21,17 @@ pub(crate) fn wrong_args<A: Allocator + Copy>(
 {
     raised(alloc, &Fault::WrongArgs(Vec::from_slice(alloc, command)?))
 }
+
+/// A word that a command does not take.
+pub(crate) fn bad_argument<A: Allocator + Copy>(
+    alloc: A,
+    word: &[u8],
+    command: &[u8],
+) -> Result<Outcome<A>, NoMemory>
+    ensures { IfOk result (λ outcome.
+        outcome_of outcome ≡ Leaves Error (text_of (flaw.BadArgument word.now command.now))) }
+{
+    let word = Vec::from_slice(alloc, word)?;
+    let command = Vec::from_slice(alloc, command)?;
+    raised(alloc, &Fault::BadArgument { word, command })
+}

@@ -59,7 +59,7 @@ pub fn resumed<A: Allocator>(
 }
 
 /// Runs a script, one level deeper.
-fn run<A: Allocator + Copy>(
+pub(crate) fn run<A: Allocator + Copy>(
     alloc: A,
     state: &State<A>,
     text: &[u8],

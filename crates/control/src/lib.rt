@@ -9,6 +9,7 @@ pub mod foreach;
 mod held;
 mod listed;
 pub mod pair;
+pub mod switch;
 mod table;
 mod turn;
 

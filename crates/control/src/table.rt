@@ -11,7 +11,7 @@ ghost use Rattle.state.specs.View.{FitsState, outcome_of};
 use crate::held::{
     Held, from_call, from_catch, from_eval, from_expr, from_for, from_foreach, from_if, from_while,
 };
-use crate::{calls, catch, eval, foreach};
+use crate::{calls, catch, eval, foreach, switch};
 use acts::NoMemory;
 use conditions::{conditional, expr, for_loop, turning, while_loop};
 use state::{Nesting, Outcome, State};
@@ -27,6 +27,7 @@ pub enum Control {
     For,
     Foreach,
     If,
+    Switch,
     While,
 }
 
@@ -47,6 +48,8 @@ impl Control {
             Some(Control::Foreach)
         } else if name == b"if".as_slice() {
             Some(Control::If)
+        } else if name == b"switch".as_slice() {
+            Some(Control::Switch)
         } else if name == b"while".as_slice() {
             Some(Control::While)
         } else {
@@ -101,6 +104,7 @@ pub fn begin<A: Allocator + Copy>(
         Control::For => Ok(from_for(for_loop::begin(alloc, state, args, levels)?)),
         Control::Foreach => Ok(from_foreach(foreach::begin(alloc, state, args, levels)?)),
         Control::If => Ok(from_if(conditional::begin(alloc, state, args, levels)?)),
+        Control::Switch => Ok(from_eval(switch::begin(alloc, state, args, levels)?)),
         Control::While => Ok(from_while(while_loop::begin(alloc, state, args, levels)?)),
     }
 }

@@ -1,0 +1,15 @@
+use Rattle.std.proofs.Common.{ℕ, List, Option, length}
+use Rattle.control.specs.Switch.{chosen, mode_of}
+use Rattle.state.specs.Dialogue.{Course}
+use Rattle.state.specs.Reaches.{Reaches}
+use Rattle.state.specs.Status.{Status}
+use Rattle.control.proofs.switch.chosen.Given as goal
+
+abbrev pub invariant-arms : goal.invariant-arms
+invariant-arms g l =
+    (s : Status) (next : Option (List ℕ) → Course) →
+    Reaches (chosen (mode_of l.mode) l.text l.fn.arms s next)
+    (chosen (mode_of l.mode) l.text l.rest s next)
+
+abbrev pub decreases-arms : goal.decreases-arms
+decreases-arms g l = length l.rest
