@@ -30,7 +30,7 @@ use Rattle.variables.specs.Unset.{cleared, removes, removes_named, some_words, i
 abbrev Keeps : Status → Course → Type 0
 Keeps s course = Behaves s.left (worth s + 3) course
 
-on_name_behaves : (n : Option (List ℕ × Option (List ℕ))) (s : Status)
+pub on_name_behaves : (n : Option (List ℕ × Option (List ℕ))) (s : Status)
     (next : List ℕ → Option (List ℕ) → Course) →
     ((name : List ℕ) (index : Option (List ℕ)) → Keeps s (next name index)) →
     Keeps s (on_name n s next)
@@ -120,7 +120,7 @@ lappend_behaves (n ∷ vs) s =
     (λ elements. put_behaves_at name index (canonical (elements ++ vs)) s)))
 
 -- what is left after a removal
-cleared_behaves : (t had : ℕ) (r : Result Scopes Trouble) (quiet : Bool) (name : List ℕ)
+pub cleared_behaves : (t had : ℕ) (r : Result Scopes Trouble) (quiet : Bool) (name : List ℕ)
     (s : Status) (next : Status → Course) → s.left ≤ t → worth s ≤ had →
     ((u : Status) → u.left ≤ t → worth u ≤ had → Behaves t had (next u)) →
     Behaves t had (cleared r quiet name s next)

@@ -2,3 +2,6 @@ pub mod Named
 pub mod Removed
 pub mod Readings
 pub mod Behaves
+pub mod ArrayBehaves
+pub mod Taking
+pub mod Elements

@@ -7,6 +7,8 @@ pub mod Lappend
 pub mod Unset
 pub mod Global
 pub mod Info
+pub mod Finds
+pub mod Array
 pub mod Unsets
 pub mod Lists
 pub mod View

@@ -4,6 +4,7 @@ ghost use Rattle.std.specs.Prelude.{ℕ, ◌+◌, List};
 ghost use Rattle.state.specs.Behaves.{Behaves, worth};
 ghost use Rattle.state.specs.Status.{Status};
 ghost use Rattle.variables.specs.Append.{append};
+ghost use Rattle.variables.specs.Array.{array};
 ghost use Rattle.variables.specs.Global.{global};
 ghost use Rattle.variables.specs.Incr.{incr};
 ghost use Rattle.variables.specs.Info.{info};
@@ -45,6 +46,12 @@ pub fn unset_behaves()
 #[tactic(auto, using(crate::proofs::Behaves::global_behaves))]
 pub fn global_behaves()
     ensures { (args : List (List ℕ)) (s : Status) → Behaves s.left (worth s + 3) (global args s) }
+{}
+
+/// `array` runs no script, uses up no tick, and makes no act.
+#[tactic(auto, using(crate::proofs::ArrayBehaves::array_behaves))]
+pub fn array_behaves()
+    ensures { (args : List (List ℕ)) (s : Status) → Behaves s.left (worth s + 3) (array args s) }
 {}
 
 /// `info` runs no script, uses up no tick, and makes no act.

@@ -2,6 +2,7 @@
 #![tactic(auto)]
 
 pub mod append;
+pub mod array;
 pub mod global;
 mod held;
 pub mod incr;

@@ -142,7 +142,7 @@ fn remove_all<A: Allocator + Copy>(
 }
 
 /// Removes a variable or an element, or answers the script's error where that can't be.
-fn remove<A: Allocator + Copy>(
+pub(crate) fn remove<A: Allocator + Copy>(
     alloc: A,
     state: &mut State<A>,
     quiet: bool,

@@ -1,0 +1,88 @@
+//! The indexes of an array, and those of them that a pattern takes (array(n), array names).
+#![tactic(auto, using(state::proofs::Reaches::same_reaches))]
+
+ghost use Rattle.std.specs.Prelude.{◌≡◌, ℕ, List, IfOk, option_copied};
+ghost use Rattle.state.specs.Dialogue.{Course};
+ghost use Rattle.state.specs.Reaches.{Reaches};
+ghost use Rattle.state.specs.Status.{Status};
+ghost use Rattle.state.specs.View.{FitsState};
+ghost use Rattle.variables.specs.Array.Indexes as definition;
+ghost use Rattle.variables.specs.Finds.{Finds};
+
+use acts::{Fault, NoMemory};
+use meanings::MeaningFault;
+use state::State;
+use std::alloc::Allocator;
+use tcltext::{Pattern, PatternError, Value};
+
+/// The indexes of the array that a name means, in order, all of them or those that a pattern takes;
+/// none where the name means no array.
+///
+/// # Errors
+/// The script's error where the pattern is too long. `NoMemory` where memory is refused.
+pub fn indexes<A: Allocator + Copy>(
+    alloc: A,
+    state: &State<A>,
+    name: &[u8],
+    index: Option<&[u8]>,
+    pattern: Option<&[u8]>,
+) -> Result<Vec<Value<A>, A>, MeaningFault<A>>
+    ensures { (s : Status) → FitsState state.now s → Finds result (definition.with_indexes
+        name.now (option_copied index.entry) (option_copied pattern.entry) s) s }
+{
+    let all = all(alloc, state, name, index)?;
+    match pattern {
+        None => Ok(all),
+        Some(pattern) => matched(alloc, pattern, &all),
+    }
+}
+
+/// All indexes of the array that a name means, in order; none where it means no array, as the name
+/// of an element.
+fn all<A: Allocator + Copy>(
+    alloc: A,
+    state: &State<A>,
+    name: &[u8],
+    index: Option<&[u8]>,
+) -> Result<Vec<Value<A>, A>, NoMemory>
+    ensures { IfOk result (λ all. all.items ≡ definition.indexes_of state.now.scopes
+        name.now (option_copied index.entry)) }
+{
+    match index {
+        None => state.scopes.names(alloc, name),
+        Some(_) => Ok(Vec::new(alloc)),
+    }
+}
+
+/// The texts that the pattern of a word takes, in their order.
+fn matched<A: Allocator + Copy>(
+    alloc: A,
+    word: &[u8],
+    texts: &[Value<A>],
+) -> Result<Vec<Value<A>, A>, MeaningFault<A>>
+    ensures { (s : Status) → Finds result (definition.matched word.now texts.now s) s }
+{
+    match Pattern::plain(alloc, word) {
+        Ok(pattern) => Ok(taken(alloc, &pattern, texts)?),
+        Err(PatternError::TooLong) => Err(MeaningFault::Fault(Fault::PatternTooLong)),
+        Err(PatternError::NoMemory(refusal)) => Err(MeaningFault::NoMemory(refusal)),
+    }
+}
+
+/// The texts that a pattern takes, in their order.
+fn taken<A: Allocator + Copy>(
+    alloc: A,
+    pattern: &Pattern<A>,
+    texts: &[Value<A>],
+) -> Result<Vec<Value<A>, A>, NoMemory>
+    ensures { IfOk result (λ found. (next : List (List ℕ) → Course) →
+        Reaches (definition.taken pattern.now.items texts.now next) (next found.items)) }
+{
+    let mut found = Vec::new(alloc);
+    for text in texts {
+        if pattern.whole(text.as_slice()) {
+            found.push(text.share()?)?;
+        }
+    }
+    Ok(found)
+}

@@ -1,0 +1,122 @@
+//! `array unset a ?w?` (array(n)).
+#![tactic(auto, using(state::proofs::Reaches::same_reaches))]
+
+ghost use Rattle.std.specs.Prelude.{◌≡◌, ◌≤◌, [], IfOk, option_copied};
+ghost use Rattle.state.specs.Dialogue.{gives};
+ghost use Rattle.state.specs.Leaf.{Shows};
+ghost use Rattle.state.specs.Status.{Status};
+ghost use Rattle.state.specs.View.{FitsState};
+ghost use Rattle.variables.specs.Array.Unset as definition;
+ghost use Rattle.variables.specs.Waits.{next_of};
+
+use super::exists::is_array;
+use super::indexes::indexes;
+use crate::unset::remove;
+use crate::waits::Waits;
+use acts::{Fault, NoMemory};
+use meanings::MeaningFault;
+use state::arguments::wrong_args;
+use state::leaf::{empty, raises};
+use state::{Leaf, State};
+use std::alloc::Allocator;
+use tclparse::{Name, variable_name};
+use tcltext::Value;
+
+/// Removes an array, or those of its elements whose indexes a pattern takes.
+pub fn unset<A: Allocator + Copy>(
+    alloc: A,
+    state: &mut State<A>,
+    words: &[Value<A>],
+) -> Result<Leaf<A, Waits>, NoMemory>
+    ensures shows { (s : Status) → FitsState state.old s → IfOk result (λ leaf.
+        Shows next_of leaf state.new (definition.unset words.now s)) }
+    ensures left { state.new.left ≤ state.old.left }
+{
+    match words {
+        [word] => unset_named(alloc, state, word.as_slice(), None),
+        [word, pattern] => unset_named(alloc, state, word.as_slice(), Some(pattern.as_slice())),
+        _ => wrong_args(alloc, b"array"),
+    }
+}
+
+/// Removes what a word names, where it names an array.
+fn unset_named<A: Allocator + Copy>(
+    alloc: A,
+    state: &mut State<A>,
+    word: &[u8],
+    pattern: Option<&[u8]>,
+) -> Result<Leaf<A, Waits>, NoMemory>
+    ensures shows { (s : Status) → FitsState state.old s → IfOk result (λ leaf.
+        Shows next_of leaf state.new
+        (definition.unsets_named word.now (option_copied pattern.entry) s)) }
+    ensures left { state.new.left ≤ state.old.left }
+{
+    let Ok(Name { name, index }) = variable_name(word) else {
+        return raises(alloc, &Fault::BadVariable);
+    };
+    match pattern {
+        None => drop_array(alloc, state, name, index),
+        Some(pattern) => remove_matched(alloc, state, name, index, pattern),
+    }
+}
+
+/// Removes what a name means, where it is an array.
+fn drop_array<A: Allocator + Copy>(
+    alloc: A,
+    state: &mut State<A>,
+    name: &[u8],
+    index: Option<&[u8]>,
+) -> Result<Leaf<A, Waits>, NoMemory>
+    ensures shows { (s : Status) → FitsState state.old s → IfOk result (λ leaf.
+        Shows next_of leaf state.new
+        (definition.drops name.now (option_copied index.entry) s)) }
+    ensures left { state.new.left ≤ state.old.left }
+{
+    if !is_array(state, name, index) {
+        return Ok(empty());
+    }
+    match remove(alloc, state, false, name, None)? {
+        None => Ok(empty()),
+        Some(fault) => raises(alloc, &fault),
+    }
+}
+
+/// Removes the elements of an array whose indexes a pattern takes.
+fn remove_matched<A: Allocator + Copy>(
+    alloc: A,
+    state: &mut State<A>,
+    name: &[u8],
+    index: Option<&[u8]>,
+    pattern: &[u8],
+) -> Result<Leaf<A, Waits>, NoMemory>
+    ensures shows { (s : Status) → FitsState state.old s → IfOk result (λ leaf.
+        Shows next_of leaf state.new (definition.removes_matched
+        name.now (option_copied index.entry) pattern.now s)) }
+    ensures left { state.new.left ≤ state.old.left }
+{
+    match indexes(alloc, state, name, index, Some(pattern)) {
+        Ok(indexes) => remove_all(alloc, state, name, indexes),
+        Err(MeaningFault::Fault(fault)) => raises(alloc, &fault),
+        Err(MeaningFault::NoMemory(refusal)) => Err(refusal),
+    }
+}
+
+/// Removes the elements at these indexes, the last one first, so that a removal moves only those
+/// that stay.
+fn remove_all<A: Allocator + Copy>(
+    alloc: A,
+    state: &mut State<A>,
+    name: &[u8],
+    mut indexes: Vec<Value<A>, A>,
+) -> Result<Leaf<A, Waits>, NoMemory>
+    ensures shows { (s : Status) → FitsState state.old s → IfOk result (λ leaf.
+        Shows next_of leaf state.new (definition.removes name.now indexes.items s (gives []))) }
+    ensures left { state.new.left ≤ state.old.left }
+{
+    while let Some(index) = indexes.pop() {
+        if let Some(fault) = remove(alloc, state, false, name, Some(index.as_slice()))? {
+            return raises(alloc, &fault);
+        }
+    }
+    Ok(empty())
+}
