@@ -17,6 +17,7 @@ use Rattle.state.proofs.Behaves.{if_behaves}
 use Rattle.state.specs.Behaves.{Behaves, worth}
 use Rattle.state.specs.Status.{Status}
 use Rattle.texts.proofs.Behaves.{text_behaves}
+use Rattle.variables.proofs.ArrayBehaves.{array_behaves}
 use Rattle.variables.proofs.Behaves.{set_behaves, append_behaves, incr_behaves, lappend_behaves, unset_behaves, global_behaves, info_behaves}
 use Rattle.writing.proofs.Behaves.{puts_behaves}
 
@@ -36,6 +37,7 @@ does_behaves builtin.Incr args s = incr_behaves args s
 does_behaves builtin.Lappend args s = lappend_behaves args s
 does_behaves builtin.Unset args s = unset_behaves args s
 does_behaves builtin.Global args s = global_behaves args s
+does_behaves builtin.Array args s = array_behaves args s
 does_behaves builtin.Info args s = info_behaves args s
 does_behaves builtin.Proc args s = proc_behaves args s
 does_behaves builtin.Spawn args s = spawn_behaves args s

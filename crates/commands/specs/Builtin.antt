@@ -18,6 +18,7 @@ pub data Builtin : Type 0 where
   Lappend : Builtin
   Unset : Builtin
   Global : Builtin
+  Array : Builtin
   Info : Builtin
   Proc : Builtin
   Spawn : Builtin

@@ -24,6 +24,7 @@ use Rattle.processes.specs.Spawn.{spawn}
 use Rattle.pure.specs.Pure as pure
 use Rattle.texts.specs.Text.{text}
 use Rattle.variables.specs.Append.{append}
+use Rattle.variables.specs.Array.{array}
 use Rattle.variables.specs.Global.{global}
 use Rattle.variables.specs.Incr.{incr}
 use Rattle.variables.specs.Info.{info}
@@ -49,6 +50,7 @@ named name =
     else if bytes_eq name (codes "lappend") then Some builtin.Lappend
     else if bytes_eq name (codes "unset") then Some builtin.Unset
     else if bytes_eq name (codes "global") then Some builtin.Global
+    else if bytes_eq name (codes "array") then Some builtin.Array
     else if bytes_eq name (codes "info") then Some builtin.Info
     else if bytes_eq name (codes "proc") then Some builtin.Proc
     else if bytes_eq name (codes "spawn") then Some builtin.Spawn
@@ -75,6 +77,7 @@ does builtin.Incr args s = incr args s
 does builtin.Lappend args s = lappend args s
 does builtin.Unset args s = unset args s
 does builtin.Global args s = global args s
+does builtin.Array args s = array args s
 does builtin.Info args s = info args s
 does builtin.Proc args s = proc args s
 does builtin.Spawn args s = spawn args s

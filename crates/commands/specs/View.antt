@@ -35,6 +35,7 @@ builtin_of builtin.Incr = meant.Incr
 builtin_of builtin.Lappend = meant.Lappend
 builtin_of builtin.Unset = meant.Unset
 builtin_of builtin.Global = meant.Global
+builtin_of builtin.Array = meant.Array
 builtin_of builtin.Info = meant.Info
 builtin_of builtin.Proc = meant.Proc
 builtin_of builtin.Spawn = meant.Spawn

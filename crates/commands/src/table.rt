@@ -28,7 +28,7 @@ use state::{Leaf, State};
 use std::alloc::Allocator;
 use tcltext::Value;
 use texts::text;
-use variables::{append, global, incr, info, lappend, set, unset};
+use variables::{append, array, global, incr, info, lappend, set, unset};
 use writing::puts;
 
 /// The commands.
@@ -48,6 +48,7 @@ enum Builtin {
     Lappend,
     Unset,
     Global,
+    Array,
     Info,
     Proc,
     Spawn,
@@ -92,6 +93,8 @@ impl Builtin {
             Some(Builtin::Unset)
         } else if name == b"global".as_slice() {
             Some(Builtin::Global)
+        } else if name == b"array".as_slice() {
+            Some(Builtin::Array)
         } else if name == b"info".as_slice() {
             Some(Builtin::Info)
         } else if name == b"proc".as_slice() {
@@ -182,6 +185,7 @@ fn call<A: Allocator + Copy>(
         Builtin::Lappend => Ok(from_variables(lappend::begin(alloc, state, args)?)),
         Builtin::Unset => Ok(from_variables(unset::begin(alloc, state, args)?)),
         Builtin::Global => Ok(from_variables(global::begin(alloc, state, args)?)),
+        Builtin::Array => Ok(from_variables(array::begin(alloc, state, args)?)),
         Builtin::Info => Ok(from_variables(info::begin(alloc, state, args)?)),
         Builtin::Proc => Ok(from_procedures(proc::begin(alloc, state, args)?)),
         Builtin::Spawn => Ok(from_spawn(spawn::begin(alloc, state, args)?)),
