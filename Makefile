@@ -6,7 +6,8 @@
 # make rows     runs the rows, and writes how many there are to the stored output of rowtests
 # make edits    the edits of edits/ that the prover must refuse, for the crates that changed (SINCE=COMMIT)
 # make compare  random scripts against tclsh8.6 (SCRIPTS=N, SEED=S)
-.PHONY: demo rx test house rows edits compare clean
+# make bench    times of out/rx beside those of tclsh8.6 and jimsh
+.PHONY: demo rx test house rows edits compare bench clean
 
 FIRST := $(CURDIR)/examples/hello-cat
 SCRIPTS ?= 100000
@@ -36,6 +37,9 @@ edits:
 compare:
 	cd crates/rowtests && rt run -- --scripts /dev/null
 	compare/compare --scripts $(SCRIPTS) --seed $(SEED)
+
+bench: rx
+	bench/bench
 
 clean:
 	rm -rf out crates/*/out
