@@ -30,7 +30,7 @@ KINDS = [
     (rb"missing close-brace", rb"missing close-brace.*"),
 ]
 KINDS = [(re.compile(own, re.DOTALL), re.compile(other, re.DOTALL)) for own, other in KINDS]
-CAUGHT = re.compile(rb"\x02([^\x02\x03]*)\x03")
+CAUGHT = re.compile(rb"\x1d([^\x1d\x1e]*)\x1e")
 
 
 def is_same_text(own, other):

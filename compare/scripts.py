@@ -7,9 +7,9 @@ LISTS = ["l", "k"]
 NUMBERS = ["n", "i"]
 PROCEDURES = ["p", "q", "r"]
 
-# Stands first in each script: what a script caught is shown between the bytes 2 and 3, and the text of an error goes no
+# Stands first in each script: what a script caught is shown between the bytes 29 and 30, and the text of an error goes no
 # further than that.
-SAID = 'proc said {c m} {puts -nonewline "\\x02$c:$m\\x03"; lindex [list $m {} $m] $c}\n'
+SAID = 'proc said {c m} {puts -nonewline "\\x1d$c:$m\\x1e"; lindex [list $m {} $m] $c}\n'
 # Stands behind it in most scripts, so that there is something to read and to call.
 HEAD = (
     "set a 1; set b {x y}; set long_name \\{; set n 7; set i -3; set l {a {b c} d 2 {} }; set k [list 1 2 \\{]\n"
