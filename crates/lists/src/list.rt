@@ -4,29 +4,25 @@
 ghost use Rattle.std.specs.Prelude.{◌≡◌, ◌≤◌, IfOk};
 ghost use Rattle.lists.specs.List as definition;
 ghost use Rattle.state.specs.Leaf.{Shows};
+ghost use Rattle.state.specs.NoWaits.{next_of};
 ghost use Rattle.state.specs.Status.{Status};
 ghost use Rattle.state.specs.View.{FitsState};
 
 use acts::NoMemory;
 use state::leaf::gives;
-use state::{Leaf, State};
+use state::{Leaf, NoWaits, State};
 use std::alloc::Allocator;
-use tcltext::{Value, join_values};
-
-/// What waits for the answer to an act: `list` makes none.
-#[derive(Clone, Copy)]
-pub enum Waits {}
+use tcltext::Value;
 
 /// Gives the list of the words, in its canonical text.
 pub fn begin<A: Allocator + Copy>(
     alloc: A,
     state: &mut State<A>,
     args: &[Value<A>],
-) -> Result<Leaf<A, Waits>, NoMemory>
+) -> Result<Leaf<A, NoWaits>, NoMemory>
     ensures shows { (s : Status) → FitsState state.old s →
-        IfOk result (λ leaf. Shows definition.next_of leaf state.new (definition.list args.now s)) }
+        IfOk result (λ leaf. Shows next_of leaf state.new (definition.list args.now s)) }
     ensures left { state.new.left ≤ state.old.left }
 {
-    let text = join_values(alloc, args)?;
-    Ok(gives(Value::new(alloc, text)?))
+    Ok(gives(Value::list(alloc, args)?))
 }

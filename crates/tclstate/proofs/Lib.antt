@@ -4,3 +4,4 @@ mod Innermost
 mod Keys
 mod Reach
 mod Reading
+pub mod Rewritten

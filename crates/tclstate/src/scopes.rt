@@ -1,5 +1,5 @@
 //! Scopes: the variables of a script and of the procedures that run.
-ghost use Rattle.std.specs.Prelude.{◌≡◌, None, Some, Ok, IfOk, OnOk, IfErr, OnErr, option_copied};
+ghost use Rattle.std.specs.Prelude.{◌≡◌, [], None, Some, Ok, IfOk, OnOk, IfErr, OnErr, option_copied};
 ghost use Rattle.std.specs.Option.{option_map};
 ghost use Rattle.tclstate.specs.Scopes as spec;
 ghost use Rattle.tclstate.specs.ScopeError.{HasTrouble, HasTroubleOrRefusal};
@@ -192,6 +192,31 @@ impl<A: Allocator + Copy> Scopes<A> {
             Some(frame) => frame.set(&mut self.globals, alloc, name, index, value),
             None => self.globals.set(alloc, name, index, value),
         }
+    }
+
+    /// Takes the text of a name, or of its element at an index, out of there, to be changed and
+    /// written back. The empty text stands there meanwhile, so that no one else shares what was
+    /// taken unless a script copied it.
+    ///
+    /// # Errors
+    /// Those of [`get`](Scopes::get), and `NoMemory`; nothing has changed after them.
+    pub fn take(
+        &mut self,
+        alloc: A,
+        name: &[u8],
+        index: Option<&[u8]>,
+    ) -> Result<Value<A>, ScopeError>
+        ensures value { IfOk result
+            (λ value. spec.read self.old name.now (option_copied index.entry) ≡ Ok value) }
+        ensures emptied { OnOk result
+            (spec.written self.old name.now (option_copied index.entry) [] ≡ Ok self.new) }
+        ensures trouble { IfErr result (λ e. HasTroubleOrRefusal e
+            (spec.read self.old name.now (option_copied index.entry))) }
+        ensures unchanged { OnErr result (self.new ≡ self.old) }
+    {
+        let value = self.get(name, index)?.share()?;
+        self.set(alloc, name, index, Value::empty())?;
+        Ok(value)
     }
 
     /// Makes a name an array, which an array is already (array(n), array set).

@@ -5,6 +5,7 @@ pub mod Elements
 pub mod Unique
 pub mod Total
 pub mod Written
+pub mod Behind
 pub mod Numbers
 pub mod Numerals
 pub mod Range

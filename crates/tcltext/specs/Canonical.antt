@@ -1,7 +1,8 @@
 -- How a list is written (list(n); the spelling of an element that is not bare is this project's own
 -- rule).
-use Rattle.std.specs.Prelude.{ℕ, ◌+◌, ◌-◌, ◌==◌, ◌&&◌, ◌||◌, not, List, [], ◌∷◌, ◌++◌, Bool, true, false, if◌then◌else◌}
+use Rattle.std.specs.Prelude.{◌≡◌, ℕ, ◌+◌, ◌-◌, ◌==◌, ◌&&◌, ◌||◌, not, List, [], ◌∷◌, ◌++◌, Bool, true, false, if◌then◌else◌}
 use Rattle.std.specs.List.{list_any}
+use Rattle.tcltext.specs.Elements.{IsList}
 use Rattle.tcltext.specs.White.{is_white}
 
 -- White and the bytes ; " $ [ ] { } \, which a bare element doesn't have (this project's own rule).
@@ -64,3 +65,12 @@ joined first (e ∷ v) = (if first then [] else 32 ∷ []) ++ (written first e +
 -- The text of a list: its elements' spellings with a blank between them (list(n)).
 abbrev pub canonical : List (List ℕ) → List ℕ
 canonical v = joined true v
+
+-- The text is that of some list (list(n)).
+abbrev pub IsCanonical : List ℕ → Type 0
+IsCanonical x = (v : List (List ℕ)) × (x ≡ canonical v)
+
+-- The first text is a list, and the other is the canonical text of that list (Tcl_SplitList(3);
+-- list(n)).
+abbrev pub IsListOf : List ℕ → List ℕ → Type 0
+IsListOf x y = (v : List (List ℕ)) × IsList v x × (y ≡ canonical v)

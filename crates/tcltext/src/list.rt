@@ -4,6 +4,7 @@ mod element;
 mod fault;
 mod join;
 mod split;
+mod values;
 
 pub use fault::ListFault;
 pub use join::{join_list, join_values, push_element};

@@ -5,3 +5,4 @@ pub mod Behaves
 pub mod ArrayBehaves
 pub mod Taking
 pub mod Elements
+pub mod Taken

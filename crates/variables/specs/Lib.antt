@@ -1,4 +1,3 @@
-pub mod Waits
 pub mod Held
 pub mod Set
 pub mod Append
@@ -12,3 +11,4 @@ pub mod Array
 pub mod Unsets
 pub mod Lists
 pub mod View
+pub mod Taken

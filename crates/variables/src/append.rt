@@ -8,14 +8,13 @@ ghost use Rattle.state.specs.Status.{Status};
 ghost use Rattle.state.specs.View.{FitsState};
 ghost use Rattle.variables.specs.Append as definition;
 ghost use Rattle.variables.specs.Held.{puts};
-ghost use Rattle.variables.specs.Waits.{next_of};
+ghost use Rattle.state.specs.NoWaits.{next_of};
 
-use crate::held::{self, held};
-use crate::waits::Waits;
+use crate::held::{self, taken};
 use acts::{Fault, NoMemory};
 use state::arguments::wrong_args;
 use state::leaf::raises;
-use state::{Leaf, State};
+use state::{Leaf, NoWaits, State};
 use std::alloc::Allocator;
 use tclparse::{Name, variable_name};
 use tcltext::Value;
@@ -25,7 +24,7 @@ pub fn begin<A: Allocator + Copy>(
     alloc: A,
     state: &mut State<A>,
     args: &[Value<A>],
-) -> Result<Leaf<A, Waits>, NoMemory>
+) -> Result<Leaf<A, NoWaits>, NoMemory>
     ensures shows { (s : Status) → FitsState state.old s →
         IfOk result (λ leaf. Shows next_of leaf state.new (definition.append args.now s)) }
     ensures left { state.new.left ≤ state.old.left }
@@ -43,7 +42,7 @@ fn append<A: Allocator + Copy>(
     state: &mut State<A>,
     word: &[u8],
     texts: &[Value<A>],
-) -> Result<Leaf<A, Waits>, NoMemory>
+) -> Result<Leaf<A, NoWaits>, NoMemory>
     ensures shows { (s : Status) → FitsState state.old s → IfOk result (λ leaf.
         Shows next_of leaf state.new (definition.appends word.now texts.now s)) }
     ensures left { state.new.left ≤ state.old.left }
@@ -61,34 +60,35 @@ fn extend<A: Allocator + Copy>(
     name: &[u8],
     index: Option<&[u8]>,
     texts: &[Value<A>],
-) -> Result<Leaf<A, Waits>, NoMemory>
+) -> Result<Leaf<A, NoWaits>, NoMemory>
     ensures shows { (s : Status) → FitsState state.old s → IfOk result (λ leaf.
         Shows next_of leaf state.new
         (definition.extends name.now (option_copied index.entry) (concat texts.now) s)) }
     ensures left { state.new.left ≤ state.old.left }
 {
-    match held(alloc, state, name, index)? {
-        Ok(Some(text)) => put(alloc, state, name, index, text.as_slice(), texts),
-        Ok(None) => put(alloc, state, name, index, b"", texts),
+    match taken(alloc, state, name, index)? {
+        Ok(Some(text)) => put(alloc, state, name, index, text, texts),
+        Ok(None) => put(alloc, state, name, index, Value::empty(), texts),
         Err(fault) => raises(alloc, &fault),
     }
 }
 
-/// Writes a text with others behind it, and gives the whole.
+/// Writes a text with others behind it, and gives the whole. The text grows in place where no one
+/// else shares it.
 fn put<A: Allocator + Copy>(
     alloc: A,
     state: &mut State<A>,
     name: &[u8],
     index: Option<&[u8]>,
-    text: &[u8],
+    text: Value<A>,
     texts: &[Value<A>],
-) -> Result<Leaf<A, Waits>, NoMemory>
+) -> Result<Leaf<A, NoWaits>, NoMemory>
     ensures shows { (s : Status) → FitsState state.old s → IfOk result (λ leaf.
         Shows next_of leaf state.new (puts name.now (option_copied index.entry)
-        (text.now ++ concat texts.now) s)) }
+        (text ++ concat texts.now) s)) }
     ensures left { state.new.left ≤ state.old.left }
 {
-    let mut whole = Vec::from_slice(alloc, text)?;
+    let mut whole = text.into_vec(alloc)?;
     push_all(&mut whole, texts)?;
     let value = Value::new(alloc, whole)?;
     held::put(alloc, state, name, index, &value)

@@ -3,10 +3,10 @@
 
 ghost use Rattle.std.specs.Prelude.{◌≡◌, ◌≤◌, IfOk};
 ghost use Rattle.state.specs.Leaf.{Shows};
+ghost use Rattle.state.specs.NoWaits.{next_of};
 ghost use Rattle.state.specs.Status.{Status};
 ghost use Rattle.state.specs.View.{FitsState};
 ghost use Rattle.variables.specs.Array as definition;
-ghost use Rattle.variables.specs.Waits.{next_of};
 
 mod exists;
 mod get;
@@ -16,10 +16,9 @@ mod set;
 mod size;
 mod unset;
 
-use crate::waits::Waits;
 use acts::NoMemory;
 use state::arguments::{bad_argument, wrong_args};
-use state::{Leaf, State};
+use state::{Leaf, NoWaits, State};
 use std::alloc::Allocator;
 use tcltext::Value;
 
@@ -62,7 +61,7 @@ impl Subcommand {
         alloc: A,
         state: &mut State<A>,
         words: &[Value<A>],
-    ) -> Result<Leaf<A, Waits>, NoMemory>
+    ) -> Result<Leaf<A, NoWaits>, NoMemory>
         ensures shows { (s : Status) → FitsState state.old s → IfOk result (λ leaf.
             Shows next_of leaf state.new (definition.does self words.now s)) }
         ensures left { state.new.left ≤ state.old.left }
@@ -83,7 +82,7 @@ pub fn begin<A: Allocator + Copy>(
     alloc: A,
     state: &mut State<A>,
     args: &[Value<A>],
-) -> Result<Leaf<A, Waits>, NoMemory>
+) -> Result<Leaf<A, NoWaits>, NoMemory>
     ensures shows { (s : Status) → FitsState state.old s →
         IfOk result (λ leaf. Shows next_of leaf state.new (definition.array args.now s)) }
     ensures left { state.new.left ≤ state.old.left }

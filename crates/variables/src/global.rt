@@ -8,13 +8,12 @@ ghost use Rattle.state.specs.Status.{Status};
 ghost use Rattle.state.specs.View.{FitsState};
 ghost use Rattle.tclparse.specs.Variable.{named};
 ghost use Rattle.variables.specs.Global as definition;
-ghost use Rattle.variables.specs.Waits.{next_of};
+ghost use Rattle.state.specs.NoWaits.{next_of};
 
-use crate::waits::Waits;
 use acts::{Fault, NoMemory};
 use state::arguments::wrong_args;
 use state::leaf::{empty, raises};
-use state::{Leaf, State};
+use state::{Leaf, NoWaits, State};
 use std::alloc::Allocator;
 use tclparse::variable_name;
 use tclstate::Scopes;
@@ -26,7 +25,7 @@ pub fn begin<A: Allocator + Copy>(
     alloc: A,
     state: &mut State<A>,
     args: &[Value<A>],
-) -> Result<Leaf<A, Waits>, NoMemory>
+) -> Result<Leaf<A, NoWaits>, NoMemory>
     ensures shows { (s : Status) → FitsState state.old s →
         IfOk result (λ leaf. Shows next_of leaf state.new (definition.global args.now s)) }
     ensures left { state.new.left ≤ state.old.left }
@@ -42,7 +41,7 @@ fn link_named<A: Allocator + Copy>(
     alloc: A,
     state: &mut State<A>,
     words: &[Value<A>],
-) -> Result<Leaf<A, Waits>, NoMemory>
+) -> Result<Leaf<A, NoWaits>, NoMemory>
     ensures shows { (s : Status) → FitsState state.old s → IfOk result (λ leaf.
         Shows next_of leaf state.new (definition.links_named words.now s)) }
     ensures left { state.new.left ≤ state.old.left }
@@ -58,7 +57,7 @@ fn link<A: Allocator + Copy>(
     alloc: A,
     state: &mut State<A>,
     words: &[Value<A>],
-) -> Result<Leaf<A, Waits>, NoMemory>
+) -> Result<Leaf<A, NoWaits>, NoMemory>
     ensures shows { (s : Status) → FitsState state.old s → IfOk result (λ leaf.
         Shows next_of leaf state.new (definition.links_all words.now s)) }
     ensures left { state.new.left ≤ state.old.left }

@@ -7,14 +7,13 @@ ghost use Rattle.state.specs.Status.{Status};
 ghost use Rattle.state.specs.View.{FitsState};
 ghost use Rattle.variables.specs.Incr as definition;
 ghost use Rattle.variables.specs.View.{HoldsNumber, IsNumber};
-ghost use Rattle.variables.specs.Waits.{next_of};
+ghost use Rattle.state.specs.NoWaits.{next_of};
 
 use crate::held::{self, held};
-use crate::waits::Waits;
 use acts::{Fault, NoMemory};
 use state::arguments::wrong_args;
 use state::leaf::raises;
-use state::{Leaf, State};
+use state::{Leaf, NoWaits, State};
 use std::alloc::Allocator;
 use tclparse::{Name, variable_name};
 use tcltext::{Value, print_int, read_int};
@@ -24,7 +23,7 @@ pub fn begin<A: Allocator + Copy>(
     alloc: A,
     state: &mut State<A>,
     args: &[Value<A>],
-) -> Result<Leaf<A, Waits>, NoMemory>
+) -> Result<Leaf<A, NoWaits>, NoMemory>
     ensures shows { (s : Status) → FitsState state.old s →
         IfOk result (λ leaf. Shows next_of leaf state.new (definition.incr args.now s)) }
     ensures left { state.new.left ≤ state.old.left }
@@ -41,7 +40,7 @@ fn add_one<A: Allocator + Copy>(
     alloc: A,
     state: &mut State<A>,
     word: &[u8],
-) -> Result<Leaf<A, Waits>, NoMemory>
+) -> Result<Leaf<A, NoWaits>, NoMemory>
     ensures shows { (s : Status) → FitsState state.old s → IfOk result (λ leaf.
         Shows next_of leaf state.new (definition.add_one word.now s)) }
     ensures left { state.new.left ≤ state.old.left }
@@ -58,7 +57,7 @@ fn add_text<A: Allocator + Copy>(
     state: &mut State<A>,
     word: &[u8],
     by: &[u8],
-) -> Result<Leaf<A, Waits>, NoMemory>
+) -> Result<Leaf<A, NoWaits>, NoMemory>
     ensures shows { (s : Status) → FitsState state.old s → IfOk result (λ leaf.
         Shows next_of leaf state.new (definition.add_text word.now by.now s)) }
     ensures left { state.new.left ≤ state.old.left }
@@ -79,7 +78,7 @@ fn add<A: Allocator + Copy>(
     name: &[u8],
     index: Option<&[u8]>,
     by: i64,
-) -> Result<Leaf<A, Waits>, NoMemory>
+) -> Result<Leaf<A, NoWaits>, NoMemory>
     ensures shows { (s : Status) → FitsState state.old s → IfOk result (λ leaf.
         Shows next_of leaf state.new
         (definition.add name.now (option_copied index.entry) by s)) }
@@ -117,7 +116,7 @@ fn put_sum<A: Allocator + Copy>(
     index: Option<&[u8]>,
     number: i64,
     by: i64,
-) -> Result<Leaf<A, Waits>, NoMemory>
+) -> Result<Leaf<A, NoWaits>, NoMemory>
     ensures shows { (s : Status) → FitsState state.old s → IfOk result (λ leaf.
         Shows next_of leaf state.new
         (definition.put_in_range name.now (option_copied index.entry) (number +ℤ by) s)) }
@@ -136,7 +135,7 @@ fn put<A: Allocator + Copy>(
     name: &[u8],
     index: Option<&[u8]>,
     number: i64,
-) -> Result<Leaf<A, Waits>, NoMemory>
+) -> Result<Leaf<A, NoWaits>, NoMemory>
     ensures shows { (s : Status) → FitsState state.old s → IfOk result (λ leaf.
         Shows next_of leaf state.new
         (definition.put name.now (option_copied index.entry) number s)) }

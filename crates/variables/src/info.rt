@@ -7,13 +7,12 @@ ghost use Rattle.state.specs.Status.{Status};
 ghost use Rattle.state.specs.View.{FitsState};
 ghost use Rattle.tclstate.specs.Scopes.{read};
 ghost use Rattle.variables.specs.Info as definition;
-ghost use Rattle.variables.specs.Waits.{next_of};
+ghost use Rattle.state.specs.NoWaits.{next_of};
 
-use crate::waits::Waits;
 use acts::{Fault, NoMemory};
 use state::arguments::{bad_argument, wrong_args};
 use state::leaf::{gives, raises};
-use state::{Leaf, State};
+use state::{Leaf, NoWaits, State};
 use std::alloc::Allocator;
 use tclparse::{Name, variable_name};
 use tclstate::ScopeError;
@@ -24,7 +23,7 @@ pub fn begin<A: Allocator + Copy>(
     alloc: A,
     state: &mut State<A>,
     args: &[Value<A>],
-) -> Result<Leaf<A, Waits>, NoMemory>
+) -> Result<Leaf<A, NoWaits>, NoMemory>
     ensures shows { (s : Status) → FitsState state.old s →
         IfOk result (λ leaf. Shows next_of leaf state.new (definition.info args.now s)) }
     ensures left { state.new.left ≤ state.old.left }
@@ -44,7 +43,7 @@ fn exists<A: Allocator + Copy>(
     alloc: A,
     state: &State<A>,
     args: &[Value<A>],
-) -> Result<Leaf<A, Waits>, NoMemory>
+) -> Result<Leaf<A, NoWaits>, NoMemory>
     ensures { (s : Status) → FitsState state.now s → IfOk result (λ leaf.
         Shows next_of leaf state.now (definition.exists args.now s)) }
 {

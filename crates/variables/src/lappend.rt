@@ -1,33 +1,32 @@
 //! `lappend n ?v ..?` (lappend(n)).
 #![tactic(auto, using(state::proofs::Reaches::same_reaches))]
 
-ghost use Rattle.std.specs.Prelude.{◌≡◌, ◌≤◌, ◌++◌, IfOk, OnOk, option_copied};
+ghost use Rattle.std.specs.Prelude.{◌≡◌, ◌≤◌, ◌++◌, ℕ, List, IfOk, option_copied};
 ghost use Rattle.state.specs.Leaf.{Shows};
 ghost use Rattle.state.specs.Status.{Status};
 ghost use Rattle.state.specs.View.{FitsState};
-ghost use Rattle.tcltext.specs.Canonical.{canonical};
+ghost use Rattle.tcltext.specs.Canonical.{canonical, IsCanonical};
 ghost use Rattle.variables.specs.Held.{puts};
 ghost use Rattle.variables.specs.Lappend as definition;
 ghost use Rattle.variables.specs.Lists.{HoldsList};
-ghost use Rattle.variables.specs.Waits.{next_of};
+ghost use Rattle.state.specs.NoWaits.{next_of};
 
-use crate::held::{self, held};
-use crate::waits::Waits;
+use crate::held::{self, held, release};
 use acts::{Fault, NoMemory};
-use meanings::{MeaningFault, elements};
+use meanings::{MeaningFault, list_of};
 use state::arguments::wrong_args;
 use state::leaf::raises;
-use state::{Leaf, State};
+use state::{Leaf, NoWaits, State};
 use std::alloc::Allocator;
 use tclparse::{Name, variable_name};
-use tcltext::{Value, join_values};
+use tcltext::Value;
 
 /// Puts elements behind those of a variable's list, and gives the whole in its canonical text.
 pub fn begin<A: Allocator + Copy>(
     alloc: A,
     state: &mut State<A>,
     args: &[Value<A>],
-) -> Result<Leaf<A, Waits>, NoMemory>
+) -> Result<Leaf<A, NoWaits>, NoMemory>
     ensures shows { (s : Status) → FitsState state.old s →
         IfOk result (λ leaf. Shows next_of leaf state.new (definition.lappend args.now s)) }
     ensures left { state.new.left ≤ state.old.left }
@@ -48,65 +47,55 @@ fn extend<A: Allocator + Copy>(
     name: &[u8],
     index: Option<&[u8]>,
     more: &[Value<A>],
-) -> Result<Leaf<A, Waits>, NoMemory>
+) -> Result<Leaf<A, NoWaits>, NoMemory>
     ensures shows { (s : Status) → FitsState state.old s → IfOk result (λ leaf.
         Shows next_of leaf state.new
         (definition.extends name.now (option_copied index.entry) more.now s)) }
     ensures left { state.new.left ≤ state.old.left }
 {
     match list_in(alloc, state, name, index) {
-        Ok(elements) => put(alloc, state, name, index, elements, more),
+        Ok(list) => put(alloc, state, name, index, list, more),
         Err(MeaningFault::Fault(fault)) => raises(alloc, &fault),
         Err(MeaningFault::NoMemory(refusal)) => Err(refusal),
     }
 }
 
-/// The elements of the list of a variable or an element, none where it is missing, or the script's
-/// error where it can't be read or is no list.
+/// The canonical text of the list of a variable or an element, the empty list where it is missing,
+/// or the script's error where it can't be read or is no list.
 fn list_in<A: Allocator + Copy>(
     alloc: A,
     state: &State<A>,
     name: &[u8],
     index: Option<&[u8]>,
-) -> Result<Vec<Value<A>, A>, MeaningFault<A>>
-    ensures { (s : Status) → FitsState state.now s →
+) -> Result<Value<A>, MeaningFault<A>>
+    ensures list { (s : Status) → FitsState state.now s →
         HoldsList result name.now (option_copied index.entry) s }
+    ensures canonical { IfOk result IsCanonical }
 {
     match held(alloc, state, name, index)? {
-        Ok(Some(text)) => elements(alloc, text.as_slice()),
-        Ok(None) => Ok(Vec::new(alloc)),
+        Ok(Some(text)) => list_of(alloc, &text),
+        Ok(None) => Ok(Value::empty()),
         Err(fault) => Err(MeaningFault::Fault(fault)),
     }
 }
 
-/// Writes a list with more elements behind it in its canonical text, and gives that.
+/// Writes a list with more elements behind it in its canonical text, and gives that. What the
+/// variable holds is let go of first, so that the list grows in place where no one else shares it.
 fn put<A: Allocator + Copy>(
     alloc: A,
     state: &mut State<A>,
     name: &[u8],
     index: Option<&[u8]>,
-    mut elements: Vec<Value<A>, A>,
+    list: Value<A>,
     more: &[Value<A>],
-) -> Result<Leaf<A, Waits>, NoMemory>
-    ensures shows { (s : Status) → FitsState state.old s → IfOk result (λ leaf.
-        Shows next_of leaf state.new (puts name.now (option_copied index.entry)
-        (canonical (elements.items ++ more.now)) s)) }
+) -> Result<Leaf<A, NoWaits>, NoMemory>
+    requires { IsCanonical list }
+    ensures shows { (v : List (List ℕ)) → list ≡ canonical v → (s : Status) →
+        FitsState state.old s → IfOk result (λ leaf. Shows next_of leaf state.new
+        (puts name.now (option_copied index.entry) (canonical (v ++ more.now)) s)) }
     ensures left { state.new.left ≤ state.old.left }
 {
-    push_all(&mut elements, more)?;
-    let value = Value::new(alloc, join_values(alloc, &elements)?)?;
-    held::put(alloc, state, name, index, &value)
-}
-
-/// Puts elements behind others. On `Err` some of them may stand there.
-fn push_all<A: Allocator + Copy>(
-    elements: &mut Vec<Value<A>, A>,
-    more: &[Value<A>],
-) -> Result<(), NoMemory>
-    ensures { OnOk result (elements.new.items ≡ elements.old.items ++ more.now) }
-{
-    for element in more {
-        elements.push(element.share()?)?;
-    }
-    Ok(())
+    release(alloc, state, name, index)?;
+    let whole = list.push_elements(alloc, more)?;
+    held::put(alloc, state, name, index, &whole)
 }

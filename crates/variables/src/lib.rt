@@ -11,6 +11,3 @@ pub mod lappend;
 pub mod laws;
 pub mod set;
 pub mod unset;
-mod waits;
-
-pub use waits::Waits;

@@ -7,15 +7,14 @@ ghost use Rattle.state.specs.Status.{Status};
 ghost use Rattle.state.specs.View.{FitsState};
 ghost use Rattle.variables.specs.Set as definition;
 ghost use Rattle.variables.specs.View.{Reads};
-ghost use Rattle.variables.specs.Waits.{next_of};
+ghost use Rattle.state.specs.NoWaits.{next_of};
 
 use crate::held;
-use crate::waits::Waits;
 use acts::{Fault, NoMemory};
 use state::arguments::wrong_args;
 use state::leaf::{gives, raises};
 use state::variables::trouble;
-use state::{Leaf, State};
+use state::{Leaf, NoWaits, State};
 use std::alloc::Allocator;
 use tclparse::{Name, variable_name};
 use tcltext::Value;
@@ -25,7 +24,7 @@ pub fn begin<A: Allocator + Copy>(
     alloc: A,
     state: &mut State<A>,
     args: &[Value<A>],
-) -> Result<Leaf<A, Waits>, NoMemory>
+) -> Result<Leaf<A, NoWaits>, NoMemory>
     ensures shows { (s : Status) → FitsState state.old s →
         IfOk result (λ leaf. Shows next_of leaf state.new (definition.set args.now s)) }
     ensures left { state.new.left ≤ state.old.left }
@@ -42,7 +41,7 @@ fn get<A: Allocator + Copy>(
     alloc: A,
     state: &State<A>,
     word: &[u8],
-) -> Result<Leaf<A, Waits>, NoMemory>
+) -> Result<Leaf<A, NoWaits>, NoMemory>
     ensures { (s : Status) → FitsState state.now s → IfOk result (λ leaf.
         Shows next_of leaf state.now (definition.get word.now s)) }
 {
@@ -61,7 +60,7 @@ fn put<A: Allocator + Copy>(
     state: &mut State<A>,
     word: &[u8],
     value: &Value<A>,
-) -> Result<Leaf<A, Waits>, NoMemory>
+) -> Result<Leaf<A, NoWaits>, NoMemory>
     ensures shows { (s : Status) → FitsState state.old s → IfOk result (λ leaf.
         Shows next_of leaf state.new (definition.put word.now value.now s)) }
     ensures left { state.new.left ≤ state.old.left }

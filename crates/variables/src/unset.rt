@@ -1,22 +1,19 @@
 //! `unset ?-nocomplain? ?--? n ..` (unset(n)).
 #![tactic(auto, using(state::proofs::Reaches::same_reaches))]
 
-ghost use Rattle.std.specs.Prelude.{◌≡◌, ◌≤◌, IfOk, is_some, option_copied};
-ghost use Rattle.std.specs.List.{list_all};
+ghost use Rattle.std.specs.Prelude.{◌≡◌, ◌≤◌, IfOk, option_copied};
 ghost use Rattle.state.specs.Leaf.{Shows};
 ghost use Rattle.state.specs.Status.{Status};
 ghost use Rattle.state.specs.View.{FitsState};
-ghost use Rattle.tclparse.specs.Variable.{named};
 ghost use Rattle.variables.specs.Unset as definition;
 ghost use Rattle.variables.specs.Unsets.{Clears, IsPassed, is_missing};
-ghost use Rattle.variables.specs.Waits.{next_of};
+ghost use Rattle.state.specs.NoWaits.{next_of};
 
-use crate::waits::Waits;
 use acts::{Fault, NoMemory};
 use state::arguments::{bad_argument, is_flag, wrong_args};
 use state::leaf::{empty, raises};
-use state::variables::trouble;
-use state::{Leaf, State};
+use state::variables::{all_named, trouble};
+use state::{Leaf, NoWaits, State};
 use std::alloc::Allocator;
 use tclparse::{Name, variable_name};
 use tclstate::ScopeError;
@@ -30,7 +27,7 @@ pub fn begin<A: Allocator + Copy>(
     alloc: A,
     state: &mut State<A>,
     args: &[Value<A>],
-) -> Result<Leaf<A, Waits>, NoMemory>
+) -> Result<Leaf<A, NoWaits>, NoMemory>
     ensures shows { (s : Status) → FitsState state.old s →
         IfOk result (λ leaf. Shows next_of leaf state.new (definition.unset args.now s)) }
     ensures left { state.new.left ≤ state.old.left }
@@ -51,7 +48,7 @@ fn behind_flag<A: Allocator + Copy>(
     state: &mut State<A>,
     quiet: bool,
     args: &[Value<A>],
-) -> Result<Leaf<A, Waits>, NoMemory>
+) -> Result<Leaf<A, NoWaits>, NoMemory>
     ensures shows { (s : Status) → FitsState state.old s → IfOk result (λ leaf.
         Shows next_of leaf state.new (definition.behind_flag quiet args.now s)) }
     ensures left { state.new.left ≤ state.old.left }
@@ -77,7 +74,7 @@ fn some_words<A: Allocator + Copy>(
     state: &mut State<A>,
     quiet: bool,
     words: &[Value<A>],
-) -> Result<Leaf<A, Waits>, NoMemory>
+) -> Result<Leaf<A, NoWaits>, NoMemory>
     ensures shows { (s : Status) → FitsState state.old s → IfOk result (λ leaf.
         Shows next_of leaf state.new (definition.some_words quiet words.now s)) }
     ensures left { state.new.left ≤ state.old.left }
@@ -95,7 +92,7 @@ fn remove_named<A: Allocator + Copy>(
     state: &mut State<A>,
     quiet: bool,
     words: &[Value<A>],
-) -> Result<Leaf<A, Waits>, NoMemory>
+) -> Result<Leaf<A, NoWaits>, NoMemory>
     ensures shows { (s : Status) → FitsState state.old s → IfOk result (λ leaf.
         Shows next_of leaf state.new (definition.removes_named quiet words.now s)) }
     ensures left { state.new.left ≤ state.old.left }
@@ -107,25 +104,13 @@ fn remove_named<A: Allocator + Copy>(
     }
 }
 
-/// Whether each word names a variable or an element.
-fn all_named<A: Allocator + Copy>(words: &[Value<A>]) -> bool
-    ensures { result ≡ list_all (λ w. is_some (named w)) words.now }
-{
-    for word in words {
-        if variable_name(word.as_slice()).is_err() {
-            return false;
-        }
-    }
-    true
-}
-
 /// Removes what the words name, in turn.
 fn remove_all<A: Allocator + Copy>(
     alloc: A,
     state: &mut State<A>,
     quiet: bool,
     words: &[Value<A>],
-) -> Result<Leaf<A, Waits>, NoMemory>
+) -> Result<Leaf<A, NoWaits>, NoMemory>
     ensures shows { (s : Status) → FitsState state.old s → IfOk result (λ leaf.
         Shows next_of leaf state.new (definition.removes quiet words.now s)) }
     ensures left { state.new.left ≤ state.old.left }

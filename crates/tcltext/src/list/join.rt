@@ -1,7 +1,7 @@
 //! Writing a list as a text.
 
 ghost use Rattle.std.specs.Prelude.{◌≡◌, [], ◌∷◌, ◌++◌, if◌then◌else◌, IfOk, OnOk};
-ghost use Rattle.tcltext.specs.Canonical.{canonical, written, is_special, is_comment, is_bare, is_braceable, escape_name, escaped_bytes, pairs_up};
+ghost use Rattle.tcltext.specs.Canonical.{canonical, joined, written, is_special, is_comment, is_bare, is_braceable, escape_name, escaped_bytes, pairs_up};
 ghost use Rattle.std.specs.List.{list_any};
 ghost use Rattle.tcltext.specs.Elements.{IsList};
 ghost use Rattle.tcltext.specs.Seen.{texts};
@@ -34,12 +34,23 @@ pub fn join_values<A: Allocator>(alloc: A, list: &[Value<A>]) -> Result<Vec<u8, 
     ensures reads_back { IfOk result (λ t. IsList list.now t.items) }
 {
     let mut text = Vec::new(alloc);
-    let mut first = true;
-    for element in list {
-        push_next(&mut text, first, element.as_slice())?;
+    push_values(&mut text, true, list)?;
+    Ok(text)
+}
+
+/// Writes elements behind a text, each with a blank before it but the very first of the list.
+pub(crate) fn push_values<A: Allocator>(
+    text: &mut Vec<u8, A>,
+    mut first: bool,
+    elements: &[Value<A>],
+) -> Result<(), NoMemory>
+    ensures { OnOk result (text.new.items ≡ text.old.items ++ joined first elements.now) }
+{
+    for element in elements {
+        push_next(text, first, element.as_slice())?;
         first = false;
     }
-    Ok(text)
+    Ok(())
 }
 
 // Writes an element behind a text, and a blank before it where it is not the first.

@@ -3,19 +3,18 @@
 
 ghost use Rattle.std.specs.Prelude.{◌≡◌, IfOk, option_copied};
 ghost use Rattle.state.specs.Leaf.{Shows};
+ghost use Rattle.state.specs.NoWaits.{next_of};
 ghost use Rattle.state.specs.Status.{Status};
 ghost use Rattle.state.specs.View.{FitsState};
 ghost use Rattle.tclstate.specs.Scopes.{read};
 ghost use Rattle.variables.specs.Array.Exists as definition;
 ghost use Rattle.variables.specs.Array.Words as words;
-ghost use Rattle.variables.specs.Waits.{next_of};
 
-use crate::waits::Waits;
 use acts::{Fault, NoMemory};
 use meanings::truth;
 use state::arguments::wrong_args;
 use state::leaf::{gives, raises};
-use state::{Leaf, State};
+use state::{Leaf, NoWaits, State};
 use std::alloc::Allocator;
 use tclparse::{Name, variable_name};
 use tclstate::ScopeError;
@@ -26,7 +25,7 @@ pub fn exists<A: Allocator + Copy>(
     alloc: A,
     state: &State<A>,
     words: &[Value<A>],
-) -> Result<Leaf<A, Waits>, NoMemory>
+) -> Result<Leaf<A, NoWaits>, NoMemory>
     ensures { (s : Status) → FitsState state.now s → IfOk result (λ leaf.
         Shows next_of leaf state.now (definition.exists words.now s)) }
 {

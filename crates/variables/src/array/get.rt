@@ -3,30 +3,29 @@
 
 ghost use Rattle.std.specs.Prelude.{◌≡◌, ◌∷◌, ◌++◌, [], IfOk, OnOk, option_copied};
 ghost use Rattle.state.specs.Leaf.{Shows};
+ghost use Rattle.state.specs.NoWaits.{next_of};
 ghost use Rattle.state.specs.Status.{Status};
 ghost use Rattle.state.specs.View.{FitsState};
 ghost use Rattle.variables.specs.Array.Get as definition;
 ghost use Rattle.variables.specs.Finds.{Finds};
-ghost use Rattle.variables.specs.Waits.{next_of};
 
 use super::indexes::indexes;
-use crate::waits::Waits;
 use acts::{Fault, NoMemory};
 use meanings::MeaningFault;
 use state::arguments::wrong_args;
 use state::leaf::{gives, raises};
 use state::variables::trouble;
-use state::{Leaf, State};
+use state::{Leaf, NoWaits, State};
 use std::alloc::Allocator;
 use tclparse::{Name, variable_name};
-use tcltext::{Value, join_values};
+use tcltext::Value;
 
 /// Gives the list of an array's indexes with their values, or of those that a pattern takes.
 pub fn get<A: Allocator + Copy>(
     alloc: A,
     state: &State<A>,
     words: &[Value<A>],
-) -> Result<Leaf<A, Waits>, NoMemory>
+) -> Result<Leaf<A, NoWaits>, NoMemory>
     ensures { (s : Status) → FitsState state.now s → IfOk result (λ leaf.
         Shows next_of leaf state.now (definition.get words.now s)) }
 {
@@ -43,7 +42,7 @@ fn list_named<A: Allocator + Copy>(
     state: &State<A>,
     word: &[u8],
     pattern: Option<&[u8]>,
-) -> Result<Leaf<A, Waits>, NoMemory>
+) -> Result<Leaf<A, NoWaits>, NoMemory>
     ensures { (s : Status) → FitsState state.now s → IfOk result (λ leaf.
         Shows next_of leaf state.now
         (definition.lists_named word.now (option_copied pattern.entry) s)) }
@@ -61,7 +60,7 @@ fn list<A: Allocator + Copy>(
     name: &[u8],
     index: Option<&[u8]>,
     pattern: Option<&[u8]>,
-) -> Result<Leaf<A, Waits>, NoMemory>
+) -> Result<Leaf<A, NoWaits>, NoMemory>
     ensures { (s : Status) → FitsState state.now s → IfOk result (λ leaf.
         Shows next_of leaf state.now (definition.lists
         name.now (option_copied index.entry) (option_copied pattern.entry) s)) }
@@ -79,12 +78,12 @@ fn list_values<A: Allocator + Copy>(
     state: &State<A>,
     name: &[u8],
     indexes: &[Value<A>],
-) -> Result<Leaf<A, Waits>, NoMemory>
+) -> Result<Leaf<A, NoWaits>, NoMemory>
     ensures { (s : Status) → FitsState state.now s → IfOk result (λ leaf.
         Shows next_of leaf state.now (definition.lists_values name.now indexes.now s)) }
 {
     match values(alloc, state, name, indexes) {
-        Ok(elements) => Ok(gives(Value::new(alloc, join_values(alloc, &elements)?)?)),
+        Ok(elements) => Ok(gives(Value::list(alloc, &elements)?)),
         Err(MeaningFault::Fault(fault)) => raises(alloc, &fault),
         Err(MeaningFault::NoMemory(refusal)) => Err(refusal),
     }

@@ -3,28 +3,27 @@
 
 ghost use Rattle.std.specs.Prelude.{IfOk, option_copied};
 ghost use Rattle.state.specs.Leaf.{Shows};
+ghost use Rattle.state.specs.NoWaits.{next_of};
 ghost use Rattle.state.specs.Status.{Status};
 ghost use Rattle.state.specs.View.{FitsState};
 ghost use Rattle.variables.specs.Array.Names as definition;
-ghost use Rattle.variables.specs.Waits.{next_of};
 
 use super::indexes::indexes;
-use crate::waits::Waits;
 use acts::{Fault, NoMemory};
 use meanings::MeaningFault;
 use state::arguments::wrong_args;
 use state::leaf::{gives, raises};
-use state::{Leaf, State};
+use state::{Leaf, NoWaits, State};
 use std::alloc::Allocator;
 use tclparse::{Name, variable_name};
-use tcltext::{Value, join_values};
+use tcltext::Value;
 
 /// Gives the list of an array's indexes, or of those that a pattern takes.
 pub fn names<A: Allocator + Copy>(
     alloc: A,
     state: &State<A>,
     words: &[Value<A>],
-) -> Result<Leaf<A, Waits>, NoMemory>
+) -> Result<Leaf<A, NoWaits>, NoMemory>
     ensures { (s : Status) → FitsState state.now s → IfOk result (λ leaf.
         Shows next_of leaf state.now (definition.names words.now s)) }
 {
@@ -41,7 +40,7 @@ fn list<A: Allocator + Copy>(
     state: &State<A>,
     word: &[u8],
     pattern: Option<&[u8]>,
-) -> Result<Leaf<A, Waits>, NoMemory>
+) -> Result<Leaf<A, NoWaits>, NoMemory>
     ensures { (s : Status) → FitsState state.now s → IfOk result (λ leaf.
         Shows next_of leaf state.now
         (definition.lists word.now (option_copied pattern.entry) s)) }
@@ -50,7 +49,7 @@ fn list<A: Allocator + Copy>(
         return raises(alloc, &Fault::BadVariable);
     };
     match indexes(alloc, state, name, index, pattern) {
-        Ok(indexes) => Ok(gives(Value::new(alloc, join_values(alloc, &indexes)?)?)),
+        Ok(indexes) => Ok(gives(Value::list(alloc, &indexes)?)),
         Err(MeaningFault::Fault(fault)) => raises(alloc, &fault),
         Err(MeaningFault::NoMemory(refusal)) => Err(refusal),
     }

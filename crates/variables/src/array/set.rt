@@ -4,18 +4,17 @@
 ghost use Rattle.std.specs.Prelude.{◌≡◌, ◌≤◌, IfOk};
 ghost use Rattle.state.specs.Leaf.{Shows};
 ghost use Rattle.state.specs.Listed.{with_list};
+ghost use Rattle.state.specs.NoWaits.{next_of};
 ghost use Rattle.state.specs.Status.{Status};
 ghost use Rattle.state.specs.View.{FitsState};
 ghost use Rattle.variables.specs.Array.Set as definition;
-ghost use Rattle.variables.specs.Waits.{next_of};
 
-use crate::waits::Waits;
 use acts::{Fault, NoMemory};
 use meanings::{MeaningFault, elements};
 use state::arguments::{bad_argument, wrong_args};
 use state::leaf::{empty, raises};
 use state::variables::{store, trouble};
-use state::{Leaf, State};
+use state::{Leaf, NoWaits, State};
 use std::alloc::Allocator;
 use tclparse::{Name, variable_name};
 use tcltext::Value;
@@ -25,7 +24,7 @@ pub fn set<A: Allocator + Copy>(
     alloc: A,
     state: &mut State<A>,
     words: &[Value<A>],
-) -> Result<Leaf<A, Waits>, NoMemory>
+) -> Result<Leaf<A, NoWaits>, NoMemory>
     ensures shows { (s : Status) → FitsState state.old s → IfOk result (λ leaf.
         Shows next_of leaf state.new (definition.set words.now s)) }
     ensures left { state.new.left ≤ state.old.left }
@@ -42,7 +41,7 @@ fn set_named<A: Allocator + Copy>(
     state: &mut State<A>,
     word: &[u8],
     list: &[u8],
-) -> Result<Leaf<A, Waits>, NoMemory>
+) -> Result<Leaf<A, NoWaits>, NoMemory>
     ensures shows { (s : Status) → FitsState state.old s → IfOk result (λ leaf.
         Shows next_of leaf state.new (definition.sets word.now list.now s)) }
     ensures left { state.new.left ≤ state.old.left }
@@ -63,7 +62,7 @@ fn set_list<A: Allocator + Copy>(
     state: &mut State<A>,
     name: &[u8],
     list: &[u8],
-) -> Result<Leaf<A, Waits>, NoMemory>
+) -> Result<Leaf<A, NoWaits>, NoMemory>
     ensures shows { (s : Status) → FitsState state.old s → IfOk result (λ leaf.
         Shows next_of leaf state.new
         (with_list list.now s (definition.fills_evenly name.now list.now s))) }
@@ -83,7 +82,7 @@ fn fill_evenly<A: Allocator + Copy>(
     name: &[u8],
     list: &[u8],
     elements: &[Value<A>],
-) -> Result<Leaf<A, Waits>, NoMemory>
+) -> Result<Leaf<A, NoWaits>, NoMemory>
     ensures shows { (s : Status) → FitsState state.old s → IfOk result (λ leaf.
         Shows next_of leaf state.new
         (definition.fills_evenly name.now list.now s elements.now)) }
@@ -102,7 +101,7 @@ fn fill<A: Allocator + Copy>(
     state: &mut State<A>,
     name: &[u8],
     elements: &[Value<A>],
-) -> Result<Leaf<A, Waits>, NoMemory>
+) -> Result<Leaf<A, NoWaits>, NoMemory>
     ensures shows { (s : Status) → FitsState state.old s → IfOk result (λ leaf.
         Shows next_of leaf state.new (definition.fills name.now elements.now s)) }
     ensures left { state.new.left ≤ state.old.left }
@@ -122,7 +121,7 @@ fn write_all<A: Allocator + Copy>(
     state: &mut State<A>,
     name: &[u8],
     elements: &[Value<A>],
-) -> Result<Leaf<A, Waits>, NoMemory>
+) -> Result<Leaf<A, NoWaits>, NoMemory>
     ensures shows { (s : Status) → FitsState state.old s → IfOk result (λ leaf.
         Shows next_of leaf state.new (definition.writes_all name.now elements.now s)) }
     ensures left { state.new.left ≤ state.old.left }

@@ -4,20 +4,19 @@
 ghost use Rattle.std.specs.Prelude.{◌≡◌, ◌≤◌, [], IfOk, option_copied};
 ghost use Rattle.state.specs.Dialogue.{gives};
 ghost use Rattle.state.specs.Leaf.{Shows};
+ghost use Rattle.state.specs.NoWaits.{next_of};
 ghost use Rattle.state.specs.Status.{Status};
 ghost use Rattle.state.specs.View.{FitsState};
 ghost use Rattle.variables.specs.Array.Unset as definition;
-ghost use Rattle.variables.specs.Waits.{next_of};
 
 use super::exists::is_array;
 use super::indexes::indexes;
 use crate::unset::remove;
-use crate::waits::Waits;
 use acts::{Fault, NoMemory};
 use meanings::MeaningFault;
 use state::arguments::wrong_args;
 use state::leaf::{empty, raises};
-use state::{Leaf, State};
+use state::{Leaf, NoWaits, State};
 use std::alloc::Allocator;
 use tclparse::{Name, variable_name};
 use tcltext::Value;
@@ -27,7 +26,7 @@ pub fn unset<A: Allocator + Copy>(
     alloc: A,
     state: &mut State<A>,
     words: &[Value<A>],
-) -> Result<Leaf<A, Waits>, NoMemory>
+) -> Result<Leaf<A, NoWaits>, NoMemory>
     ensures shows { (s : Status) → FitsState state.old s → IfOk result (λ leaf.
         Shows next_of leaf state.new (definition.unset words.now s)) }
     ensures left { state.new.left ≤ state.old.left }
@@ -45,7 +44,7 @@ fn unset_named<A: Allocator + Copy>(
     state: &mut State<A>,
     word: &[u8],
     pattern: Option<&[u8]>,
-) -> Result<Leaf<A, Waits>, NoMemory>
+) -> Result<Leaf<A, NoWaits>, NoMemory>
     ensures shows { (s : Status) → FitsState state.old s → IfOk result (λ leaf.
         Shows next_of leaf state.new
         (definition.unsets_named word.now (option_copied pattern.entry) s)) }
@@ -66,7 +65,7 @@ fn drop_array<A: Allocator + Copy>(
     state: &mut State<A>,
     name: &[u8],
     index: Option<&[u8]>,
-) -> Result<Leaf<A, Waits>, NoMemory>
+) -> Result<Leaf<A, NoWaits>, NoMemory>
     ensures shows { (s : Status) → FitsState state.old s → IfOk result (λ leaf.
         Shows next_of leaf state.new
         (definition.drops name.now (option_copied index.entry) s)) }
@@ -88,7 +87,7 @@ fn remove_matched<A: Allocator + Copy>(
     name: &[u8],
     index: Option<&[u8]>,
     pattern: &[u8],
-) -> Result<Leaf<A, Waits>, NoMemory>
+) -> Result<Leaf<A, NoWaits>, NoMemory>
     ensures shows { (s : Status) → FitsState state.old s → IfOk result (λ leaf.
         Shows next_of leaf state.new (definition.removes_matched
         name.now (option_copied index.entry) pattern.now s)) }
@@ -108,7 +107,7 @@ fn remove_all<A: Allocator + Copy>(
     state: &mut State<A>,
     name: &[u8],
     mut indexes: Vec<Value<A>, A>,
-) -> Result<Leaf<A, Waits>, NoMemory>
+) -> Result<Leaf<A, NoWaits>, NoMemory>
     ensures shows { (s : Status) → FitsState state.old s → IfOk result (λ leaf.
         Shows next_of leaf state.new (definition.removes name.now indexes.items s (gives []))) }
     ensures left { state.new.left ≤ state.old.left }

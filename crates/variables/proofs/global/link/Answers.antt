@@ -3,7 +3,7 @@ use Rattle.state.proofs.Fits.{scopes_fit}
 use Rattle.state.proofs.Shown.{over}
 use Rattle.state.specs.Dialogue.{gives}
 use Rattle.variables.specs.Global.{links}
-use Rattle.variables.specs.Waits.{next_of}
+use Rattle.state.specs.NoWaits.{next_of}
 use Rattle.variables.proofs.global.link.Goals as goal
 
 pub returns-clause-shows : goal.returns-clause-shows

@@ -3,7 +3,7 @@ use Rattle.acts.specs.Flaw as flaw
 use Rattle.state.proofs.Shown.{over_ok}
 use Rattle.state.specs.Dialogue.{raises}
 use Rattle.variables.specs.Incr.{put_in_range}
-use Rattle.variables.specs.Waits.{next_of}
+use Rattle.state.specs.NoWaits.{next_of}
 use Rattle.variables.proofs.incr.put_sum.Goals as goal
 
 pub returns-in-None-clause-shows : goal.returns-in-None-clause-shows

@@ -6,7 +6,7 @@ use Rattle.state.specs.Arguments.{is_flag}
 use Rattle.state.specs.Dialogue.{raises}
 use Rattle.state.specs.Status.{Status}
 use Rattle.variables.specs.Unset.{behind_flag, is_nocomplain}
-use Rattle.variables.specs.Waits.{next_of}
+use Rattle.state.specs.NoWaits.{next_of}
 use Rattle.variables.proofs.unset.behind_flag.Goals as goal
 
 -- the first word is another flag

@@ -5,7 +5,7 @@ use Rattle.state.proofs.Shown.{over, over_ok}
 use Rattle.tclparse.specs.Variable.{named}
 use Rattle.variables.proofs.Removed.{then_gone, then_told, unnamed}
 use Rattle.variables.specs.Unset.{removes}
-use Rattle.variables.specs.Waits.{next_of}
+use Rattle.state.specs.NoWaits.{next_of}
 use Rattle.variables.proofs.unset.remove_all.Goals as goal
 
 pub returns-in_default-clause-shows : goal.returns-in_default-clause-shows

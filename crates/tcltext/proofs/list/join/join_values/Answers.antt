@@ -7,5 +7,5 @@ use Rattle.tcltext.proofs.list.join.join_values.Goals as goal
 
 pub returns-clause-reads_back : goal.returns-clause-reads_back
 returns-clause-reads_back g c =
-    let e : c.loop-element.text.items ≡ canonical c.args.list.now = grind (arith, common_steps) in
+    let e : c.push_values.new.text.items ≡ canonical c.args.list.now = grind (arith, common_steps) in
     subst (IsList c.args.list.now) (sym e) (reads_back c.args.list.now)

@@ -2,7 +2,7 @@ use Rattle.std.proofs.Common.{ℕ, List, sym, ap}
 use Rattle.state.proofs.Reaches.{same_reaches, then_reaches}
 use Rattle.state.proofs.Shown.{shows_after_ok}
 use Rattle.variables.specs.Array.Get.{lists_values}
-use Rattle.variables.specs.Waits.{next_of}
+use Rattle.state.specs.NoWaits.{next_of}
 use Rattle.variables.proofs.array.get.list.Goals as goal
 
 pub returns-in-Ok : goal.returns-in-Ok

@@ -7,7 +7,7 @@ use Rattle.tclstate.specs.ScopeError.{HasTroubleOrRefusal}
 use Rattle.tclstate.specs.Scopes.{with_array}
 use Rattle.variables.proofs.Elements.{array_made}
 use Rattle.variables.specs.Array.Set.{writes_all}
-use Rattle.variables.specs.Waits.{next_of}
+use Rattle.state.specs.NoWaits.{next_of}
 use Rattle.variables.proofs.array.set.fill.Goals as goal
 
 pub returns-in-Ok-clause-shows : goal.returns-in-Ok-clause-shows

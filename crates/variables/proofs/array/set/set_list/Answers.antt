@@ -4,7 +4,7 @@ use Rattle.state.proofs.Listed.{list_reaches, no_list_reaches}
 use Rattle.state.proofs.Shown.{over_after_ok, shows_after_ok}
 use Rattle.tcltext.specs.Elements.{IsList}
 use Rattle.variables.specs.Array.Set.{fills_evenly}
-use Rattle.variables.specs.Waits.{next_of}
+use Rattle.state.specs.NoWaits.{next_of}
 use Rattle.variables.proofs.array.set.set_list.Goals as goal
 
 pub returns-in-Ok-clause-shows : goal.returns-in-Ok-clause-shows

@@ -2,7 +2,7 @@ use Rattle.std.proofs.Common.{◌∙◌, ◌-◌, ◌≤◌, length, drop, take,
 use Rattle.state.proofs.Shown.{over_ok}
 use Rattle.variables.proofs.Elements.{writes_first}
 use Rattle.variables.specs.Array.Set.{writes_all}
-use Rattle.variables.specs.Waits.{next_of}
+use Rattle.state.specs.NoWaits.{next_of}
 use Rattle.variables.proofs.array.set.write_all.Goals as goal
 
 pub returns-in-Err-clause-shows : goal.returns-in-Err-clause-shows

@@ -2,7 +2,7 @@ use Rattle.std.proofs.Common.{◌∙◌, []}
 use Rattle.state.proofs.Shown.{over_ok}
 use Rattle.state.specs.Dialogue.{gives}
 use Rattle.variables.proofs.Elements.{one_gone, one_stays}
-use Rattle.variables.specs.Waits.{next_of}
+use Rattle.state.specs.NoWaits.{next_of}
 use Rattle.variables.proofs.array.unset.remove_all.Goals as goal
 
 pub returns-in-Some-2-clause-shows : goal.returns-in-Some-2-clause-shows

@@ -2,7 +2,7 @@ use Rattle.std.proofs.Common.{ℕ, List, []}
 use Rattle.state.proofs.Shown.{shows_after_ok}
 use Rattle.state.specs.Dialogue.{gives}
 use Rattle.variables.specs.Array.Unset.{removes}
-use Rattle.variables.specs.Waits.{next_of}
+use Rattle.state.specs.NoWaits.{next_of}
 use Rattle.variables.proofs.array.unset.remove_matched.Goals as goal
 
 pub returns-in-Ok-clause-shows : goal.returns-in-Ok-clause-shows

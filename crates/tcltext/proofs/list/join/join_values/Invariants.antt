@@ -1,7 +1,0 @@
-use Rattle.std.proofs.Common.{◌≡◌, ◌++◌, drop, true}
-use Rattle.tcltext.specs.Canonical.{joined}
-use Rattle.tcltext.proofs.list.join.join_values.Given as goal
-
-abbrev pub invariant-loop-element : goal.invariant-loop-element
-invariant-loop-element g l = l.text.items ++ joined l.first (drop l.element-index l.list)
-    ≡ joined true l.list
