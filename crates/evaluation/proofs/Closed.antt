@@ -8,6 +8,7 @@ use Rattle.operators.specs.Truth.{truth_of}
 use Rattle.operators.specs.Unary.{unary}
 use Rattle.operators.specs.Value.{written, result}
 use Rattle.state.specs.Dialogue.{Course}
+use Rattle.state.specs.Meant.{on_meaning}
 use Rattle.state.specs.Piece.{TestText}
 use Rattle.state.specs.Status.{Status}
 use Rattle.state.proofs.Closed.{Closed, listed_closed, raises_closed}
@@ -15,7 +16,7 @@ use Rattle.tclparse.specs.Formula.{Formula, numeral, text, call, prefix, row, ch
 use Rattle.tclparse.specs.declared.operator.Infix.{Infix}
 use Rattle.tclparse.specs.declared.operator.Infix.TheVariants.{Both, AndAlso, OrElse}
 use Rattle.words.proofs.Closed.{parts_closed}
-use Rattle.evaluation.specs.Evaluated.{on_meaning, on_truth, told, joined, evaluated, linked, arguments, tested, valued}
+use Rattle.evaluation.specs.Evaluated.{on_truth, told, joined, evaluated, linked, arguments, tested, valued}
 use Rattle.evaluation.proofs.Outer.{Next}
 
 module _ (P : Status → Course → Type 0) (closed : Closed P) where

@@ -1,4 +1,3 @@
-mod Meant
 pub mod Outer
 pub mod Steps
 pub mod Closed

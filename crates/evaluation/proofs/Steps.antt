@@ -58,12 +58,6 @@ meets_more (it.Value value) m n fewer le = tt
 meets_more (it.Script commands place) m n fewer le = omega arith
 meets_more (it.Fault fault) m n fewer le = tt
 
--- what holds of an answer where something else does
-pub on_ok : {X E : Type 0} (r : Result X E) (P Q : X → Type 0) → ((x : X) → P x → Q x) →
-    IfOk r P → IfOk r Q
-on_ok (Ok x) P Q each holds = each x holds
-on_ok (Err e) P Q each holds = holds
-
 -- what an operand came to, and then what was made of it
 pub and_reaches : {A E : Type 0} (r : Result (Evaluated A) E) (levels : ℕ) (p q : Course) (k : Next)
     (s : Status) → Reaches p q → IfOk r (λ met. Reaches q (course_of levels met k s)) →

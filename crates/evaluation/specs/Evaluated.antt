@@ -1,30 +1,19 @@
 -- What the values of formulas are.
 use Rattle.std.specs.Prelude.{ℕ, List, [], ◌∷◌, ◌++◌, Bool, true, false, Result, Ok, Err, if◌then◌else◌}
 use Rattle.acts.specs.Flaw.{Flaw}
-use Rattle.meanings.specs.Meaning.{Meaning, Gives, Raises, Splits, Matches, truth}
+use Rattle.meanings.specs.Meaning.{Meaning, Gives, Raises, truth}
 use Rattle.operators.specs.Binary.{binary}
 use Rattle.operators.specs.Function as function
 use Rattle.operators.specs.Value.{written, result}
 use Rattle.operators.specs.Truth.{truth_of}
 use Rattle.operators.specs.Unary.{unary}
-use Rattle.plan.specs.Plan.{Reads}
 use Rattle.state.specs.Dialogue.{Course, raises}
-use Rattle.state.specs.Listed.{with_list}
-use Rattle.state.specs.Piece.{TestText}
+use Rattle.state.specs.Meant.{on_meaning}
 use Rattle.state.specs.Status.{Status}
 use Rattle.tclparse.specs.Formula.{Formula, numeral, text, call, prefix, row, choice, Links, no_links, link, Formulas, no_formulas, formula}
 use Rattle.tclparse.specs.declared.operator.Infix.{Infix}
 use Rattle.tclparse.specs.declared.operator.Infix.TheVariants.{Both, AndAlso, OrElse}
 use Rattle.words.specs.Words.{parts}
-
--- on with the value of a function of texts, once its texts are read; or its error (expr(n))
-abbrev pub on_meaning : Meaning → Status → (List ℕ → Course) → Course
-on_meaning (Gives value) s next = next value
-on_meaning (Raises flaw) s next = raises flaw s
-on_meaning (Splits list more) s next =
-    with_list list s (λ elements. on_meaning (more elements) s next)
-on_meaning (Matches pattern subject more) s next =
-    Reads (TestText pattern subject) (λ takes. on_meaning (more takes) s next)
 
 -- on with a truth value, where there is one (expr(n), operands)
 abbrev pub on_truth : Result Bool Flaw → Status → (Bool → Course) → Course

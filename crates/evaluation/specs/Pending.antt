@@ -11,7 +11,8 @@ use Rattle.evaluation.specs.declared.pending.Opened.{Opened}
 use Rattle.evaluation.specs.declared.pending.Opened.TheVariants as opened
 use Rattle.evaluation.specs.declared.pending.Pending.{Pending}
 use Rattle.evaluation.specs.declared.pending.Pending.TheVariants as pending
-use Rattle.evaluation.specs.Evaluated.{on_meaning, told}
+use Rattle.evaluation.specs.Evaluated.{told}
+use Rattle.state.specs.Meant.{on_meaning}
 
 -- this is the truth value of a text, or the error that it has none (expr(n), operands)
 abbrev pub TruthIs : {A : Type 0} → Result Bool (Fault A) → List ℕ → Type 0

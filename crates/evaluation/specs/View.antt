@@ -21,7 +21,8 @@ use Rattle.evaluation.specs.declared.open.Evaluated.{Evaluated}
 use Rattle.evaluation.specs.declared.open.Evaluated.TheVariants as it
 use Rattle.evaluation.specs.declared.open.OpenFormula.{OpenFormula}
 use Rattle.evaluation.specs.Pending.{settled}
-use Rattle.evaluation.specs.Evaluated.{on_meaning, on_truth, evaluated, linked, arguments}
+use Rattle.evaluation.specs.Evaluated.{on_truth, evaluated, linked, arguments}
+use Rattle.state.specs.Meant.{on_meaning}
 
 -- the operators of a row from a place on, with their right operands
 abbrev pub links_from : {A : Type 0} → Rc (Row A) A → ℕ → tree.Links

@@ -7,7 +7,7 @@ ghost use Rattle.state.specs.Dialogue.{Course};
 ghost use Rattle.state.specs.Reaches.{Reaches};
 ghost use Rattle.state.specs.Status.{Status};
 ghost use Rattle.evaluation.specs.Evaluated as meant;
-ghost use Rattle.evaluation.specs.Evaluated.{on_meaning};
+ghost use Rattle.state.specs.Meant.{on_meaning};
 ghost use Rattle.evaluation.specs.Pending.{TruthIs};
 ghost use Rattle.evaluation.specs.Scripts.{MeetsFewer, scripts_in, scripts_in_all, scripts_in_choice, scripts_in_links};
 ghost use Rattle.evaluation.specs.View.{chosen, course_of, course_of_link, formulas_from, links_from};

@@ -9,7 +9,7 @@ ghost use Rattle.state.specs.Reaches.{Reaches};
 ghost use Rattle.state.specs.Status.{Status};
 ghost use Rattle.words.specs.Scripts as words;
 ghost use Rattle.words.specs.View.{course_of_met};
-ghost use Rattle.evaluation.specs.Evaluated.{on_meaning};
+ghost use Rattle.state.specs.Meant.{on_meaning};
 ghost use Rattle.evaluation.specs.Scripts.{MeetsFewer, scripts_around, scripts_in_around};
 ghost use Rattle.evaluation.specs.View.{IsDirect, IsStopped, after, behind, course_of};
 

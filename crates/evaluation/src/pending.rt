@@ -6,7 +6,8 @@ ghost use Rattle.meanings.specs.View.{Answers};
 ghost use Rattle.state.specs.Dialogue.{Course};
 ghost use Rattle.state.specs.Status.{Status};
 ghost use Rattle.state.specs.Reaches.{Reaches};
-ghost use Rattle.evaluation.specs.Evaluated.{joined as joined_as, on_meaning};
+ghost use Rattle.evaluation.specs.Evaluated.{joined as joined_as};
+ghost use Rattle.state.specs.Meant.{on_meaning};
 ghost use Rattle.evaluation.specs.View.{IsDirect, course_of};
 ghost use Rattle.evaluation.specs.Pending.{TruthIs, course_of_opened, settled as settled_as};
 

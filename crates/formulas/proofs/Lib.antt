@@ -6,3 +6,11 @@ pub mod Leaves
 pub mod Unique
 pub mod Shorter
 pub mod Exists
+pub mod PartTexts
+pub mod NumeralTexts
+pub mod RowTexts
+pub mod FormulaTexts
+pub mod SpellableParts
+pub mod SpellableNumerals
+pub mod SpellableRows
+pub mod SpellableFormulas

@@ -1,17 +1,14 @@
 -- What begins an operand, and what stands behind one, takes something of the text, and opens no
 -- more than may be open.
-use Rattle.std.proofs.Common.{◌≡◌, ℕ, zero, suc, ◌+◌, ◌-◌, ◌<◌, ◌≤◌, ◌==◌, ◌||◌, List, [], ◌∷◌, length, take, drop, Bool, true, false, Option, Some, None, if◌then◌else◌, refl, sym, ap, subst, ◌∙◌, arith, codes}
-use Rattle.std.specs.Str.{bytes_eq}
+use Rattle.std.proofs.Common.{◌≡◌, ℕ, zero, suc, ◌+◌, ◌<◌, ◌≤◌, ◌==◌, ◌||◌, List, [], ◌∷◌, length, drop, Bool, true, false, Option, Some, None, if◌then◌else◌, refl, arith}
 use Rattle.std.proofs.lemmas.List.{length-drop}
 use Rattle.tcltext.specs.Digit.{is_digit}
 use Rattle.tcltext.specs.White.{is_white, skip_white}
 use Rattle.tclparse.specs.declared.operator.Unary.{Unary}
 use Rattle.tclparse.specs.declared.operator.Infix.{Infix}
 use Rattle.tclparse.specs.declared.operator.Function.{Function}
-use Rattle.tclparse.specs.Context.{begins_with}
 use Rattle.tclparse.specs.Variable.{is_name, name_at, after_name}
-use Rattle.tclparse.specs.FormulaFault.{FormulaFault}
-use Rattle.tclparse.specs.FormulaPiece.{Leaf, no_leaf, a_numeral, a_word, in_quotes, in_braces, a_substitution, Opening, a_leaf, a_prefix, a_parenthesis, a_call, Following, end, fault, an_infix, a_choice, is_numeric, digit_count, begins_marked, numeral_length, numeral_leaf, unary, is_truth_word, function, opens, call_opening, name_opening, word_opening, prefix_opening, opening_at, opening, single, is_letter, begins_letter, pair, word_pair, long, short, choice_following, short_following, long_following, following}
+use Rattle.tclparse.specs.FormulaPiece.{Leaf, no_leaf, a_numeral, a_word, in_quotes, in_braces, a_substitution, Opening, a_leaf, a_prefix, a_parenthesis, a_call, Following, end, fault, an_infix, a_choice, is_numeric, digit_count, begins_marked, numeral_length, numeral_leaf, unary, is_truth_word, function, opens, call_opening, name_opening, word_opening, prefix_opening, opening_at, opening, long, short, choice_following, short_following, long_following, following}
 
 positive_if : (b : Bool) (m n : ℕ) → (b ≡ true → 0 < m) → (b ≡ false → 0 < n) →
     0 < (if b then m else n)

@@ -3,3 +3,4 @@ pub mod View
 pub mod Seen
 pub mod Group
 pub mod Reads
+pub mod Spellable

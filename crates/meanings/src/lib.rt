@@ -9,4 +9,4 @@ mod list;
 
 pub use boolean::truth;
 pub use fault::MeaningFault;
-pub use list::elements;
+pub use list::{elements, list_of, no_list};

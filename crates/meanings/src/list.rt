@@ -3,6 +3,7 @@
 ghost use Rattle.std.specs.Prelude.{IfOk, IfErr, option_map};
 ghost use Rattle.meanings.specs.Meaning.{flaw_of_list};
 ghost use Rattle.meanings.specs.View.{Tells, IsNoList};
+ghost use Rattle.tcltext.specs.Canonical.{IsListOf};
 ghost use Rattle.tcltext.specs.Elements.{IsList};
 ghost use Rattle.tcltext.specs.Seen.{flaw_of};
 
@@ -28,8 +29,23 @@ pub fn elements<A: Allocator + Copy>(
     }
 }
 
-/// Why a text is no list.
-fn no_list<A: Allocator>(fault: ListFault) -> MeaningFault<A>
+/// The canonical text of the list that a text is (Tcl_SplitList(3); list(n)).
+///
+/// # Errors
+/// Those of [`elements`].
+pub fn list_of<A: Allocator + Copy>(alloc: A, text: &Value<A>) -> Result<Value<A>, MeaningFault<A>>
+    ensures list { IfOk result (IsListOf text.now) }
+    ensures fault { IfErr result (IsNoList text.now) }
+{
+    match text.as_list(alloc) {
+        Ok(list) => Ok(list),
+        Err(fault) => Err(no_list(fault)),
+    }
+}
+
+/// Why a text is no list, as the script's error (Tcl_SplitList(3)); `NoMemory` where memory was
+/// refused.
+pub fn no_list<A: Allocator>(fault: ListFault) -> MeaningFault<A>
     ensures { Tells result (option_map flaw_of_list (flaw_of fault)) }
 {
     let told = match fault {

@@ -14,7 +14,8 @@ use Rattle.state.proofs.Reaches.{same_reaches, then_reaches}
 use Rattle.tclparse.specs.Formula as tree
 use Rattle.tclparse.specs.View.{parts_of}
 use Rattle.evaluation.specs.Evaluated as meant
-use Rattle.evaluation.specs.Evaluated.{on_meaning, on_truth}
+use Rattle.evaluation.specs.Evaluated.{on_truth}
+use Rattle.state.specs.Meant.{on_meaning}
 use Rattle.evaluation.specs.Pending.{course_of_opened, settled}
 use Rattle.evaluation.specs.Scripts.{scripts_in, scripts_in_all, scripts_in_choice, scripts_in_links}
 use Rattle.evaluation.specs.View.{behind, chosen, course_of, course_of_link, formulas_from, links_from}

@@ -1,4 +1,4 @@
-use Rattle.evaluation.proofs.Meant.{value_reaches, fault_reaches}
+use Rattle.state.proofs.Meant.{value_reaches, fault_reaches}
 use Rattle.evaluation.proofs.open.answered.Goals as goal
 
 pub returns-in-Ok-clause-reaches : goal.returns-in-Ok-clause-reaches

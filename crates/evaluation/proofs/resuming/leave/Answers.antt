@@ -3,7 +3,8 @@ use Rattle.operators.specs.Function.{call as called}
 use Rattle.state.proofs.Reaches.{same_reaches}
 use Rattle.state.specs.Dialogue.{Course}
 use Rattle.state.specs.Status.{Status}
-use Rattle.evaluation.specs.Evaluated.{arguments, on_meaning}
+use Rattle.evaluation.specs.Evaluated.{arguments}
+use Rattle.state.specs.Meant.{on_meaning}
 use Rattle.evaluation.specs.View.{behind, formulas_from}
 use Rattle.evaluation.proofs.Steps.{and_reaches}
 use Rattle.evaluation.proofs.resuming.leave.Goals as goal
