@@ -1,0 +1,147 @@
+-- What the calls of the table are to the ids of the definition.
+use Rattle.std.proofs.Common.{◌≡◌, ℕ, ◌==◌, ◌&&◌, Bool, true, false, List, [], ◌∷◌, ◌++◌, map, if◌then◌else◌, refl, sym, ap, ◌∙◌}
+use Rattle.acts.specs.declared.id.Id.{Id}
+use Rattle.matchbuf.specs.Held.{held}
+use Rattle.matchbuf.specs.Journal.{IsJournal, window, size_of}
+use Rattle.matchbuf.proofs.Windows.{fits_arrived, fits_sized}
+use Rattle.dialog.specs.Lines.{Line, at_line, without, reaching, reached, resized, dropping, fresh_line}
+use Rattle.dialog.specs.Peers.{Kind, Peer, opened, is_open_at, at_peer, fresh, shut, arrived, sized, set_nulls, line, HaveJournals, FitsPeers}
+use Rattle.dialog.specs.Views.{line_by}
+use Rattle.dialog.proofs.Chosen.{own_fits}
+use Rattle.dialog.proofs.Peers.{Keeps, changes, opened-first, have}
+
+arrives : (bytes : List ℕ) (p : Peer) → IsJournal p.journal → Keeps (arrived bytes) (reached bytes) p
+arrives bytes p is =
+    let fits = fits_arrived p.journal (held (window p.journal) (size_of p.journal))
+    (reaching p.drops_nulls bytes) (own_fits p is) in
+    record {
+      as_open = refl;
+      journal = fits.is_journal;
+      same = ap (λ (w : List ℕ). line_by p.id (held w (size_of p.journal)) p.drops_nulls)
+          fits.bytes;
+    }
+
+sizes : (max : ℕ) (p : Peer) → IsJournal p.journal → Keeps (sized max) (resized max) p
+sizes max p is =
+    let fits = fits_sized p.journal (held (window p.journal) (size_of p.journal)) max
+    (own_fits p is) in
+    record {
+      as_open = refl;
+      journal = fits.is_journal;
+      same = ap (λ (w : List ℕ). line_by p.id (held w max) p.drops_nulls) fits.bytes;
+    }
+
+-- an arrival, a size, a setting
+pub fits_arrival : (bytes : List ℕ) (i : Id) (ls new : List Line) → new ≡ at_line (reached bytes) i ls
+    → (ps : List Peer) → FitsPeers ls ps → FitsPeers new (at_peer (arrived bytes) i ps)
+fits_arrival bytes i ls new is ps fits =
+    rw is (changes (arrived bytes) (reached bytes) i ps ls (λ p at j. arrives bytes p j) fits)
+
+pub fits_size : (max : ℕ) (i : Id) (ls new : List Line) → new ≡ at_line (resized max) i ls
+    → (ps : List Peer) → FitsPeers ls ps → FitsPeers new (at_peer (sized max) i ps)
+fits_size max i ls new is ps fits =
+    rw is (changes (sized max) (resized max) i ps ls (λ p at j. sizes max p j) fits)
+
+pub fits_setting : (drops : Bool) (i : Id) (ls new : List Line) → new ≡ at_line (dropping drops) i ls
+    → (ps : List Peer) → FitsPeers ls ps → FitsPeers new (at_peer (set_nulls drops) i ps)
+fits_setting drops i ls new is ps fits =
+    rw is (changes (set_nulls drops) (dropping drops) i ps ls
+    (λ p at j. record { as_open = refl; journal = j; same = refl }) fits)
+
+-- the ids have journals and these lines
+record Left (ps : List Peer) (ls : List Line) : Type 0 where
+  journals : HaveJournals (opened ps)
+  lines : map line (opened ps) ≡ ls
+
+-- an open id closed
+module _ (i : Id) where
+  abbrev Goal : List Peer → Type 0
+  Goal ps = HaveJournals (opened ps) → Left (at_peer shut i ps) (without i (map line (opened ps)))
+
+  at-first : (p : Peer) (ps : List Peer) (a b : Bool) → p.is_open ≡ a → (p.id.0 == i.0) ≡ b →
+      at_peer shut i (p ∷ ps) ≡ (if a && b then shut p ∷ ps else p ∷ at_peer shut i ps)
+  at-first p ps a b is hit = λ k. if is k && hit k then shut p ∷ ps else p ∷ at_peer shut i ps
+
+  out-first : (l : Line) (ls : List Line) (b : Bool) → (l.id.0 == i.0) ≡ b →
+      without i (l ∷ ls) ≡ (if b then ls else l ∷ without i ls)
+  out-first l ls b hit = ap (λ (c : Bool). if c then ls else l ∷ without i ls) hit
+
+  by : (p : Peer) (ps : List Peer) (a b : Bool) → p.is_open ≡ a → (p.id.0 == i.0) ≡ b → Goal ps →
+      Goal (p ∷ ps)
+  by p ps false b closed is rest = λ journals.
+      let e : opened (p ∷ ps) ≡ opened ps = opened-first p ps false closed in
+      let more : Left (at_peer shut i ps) (without i (map line (opened ps))) =
+      rest (have _ _ (sym e) journals) in
+      let after : opened (at_peer shut i (p ∷ ps)) ≡ opened (at_peer shut i ps) =
+      ap opened (at-first p ps false b closed is)
+      ∙ opened-first p (at_peer shut i ps) false closed in
+      record {
+        journals = have _ _ after more.journals;
+        lines = ap (map line) after ∙ more.lines ∙ ap (λ os. without i (map line os)) (sym e);
+      }
+  by p ps true false is miss rest = λ journals.
+      let e : opened (p ∷ ps) ≡ p ∷ opened ps = opened-first p ps true is in
+      let had : HaveJournals (p ∷ opened ps) = have _ _ (sym e) journals in
+      let more : Left (at_peer shut i ps) (without i (map line (opened ps))) = rest had.1 in
+      let after : opened (at_peer shut i (p ∷ ps)) ≡ p ∷ opened (at_peer shut i ps) =
+      ap opened (at-first p ps true false is miss)
+      ∙ opened-first p (at_peer shut i ps) true is in
+      record {
+        journals = have _ _ after (had.0, more.journals);
+        lines = ap (map line) after ∙ ap (λ ls. line p ∷ ls) more.lines
+            ∙ sym (out-first (line p) (map line (opened ps)) false miss)
+            ∙ ap (λ os. without i (map line os)) (sym e);
+      }
+  by p ps true true is hit rest = λ journals.
+      let e : opened (p ∷ ps) ≡ p ∷ opened ps = opened-first p ps true is in
+      let had : HaveJournals (p ∷ opened ps) = have _ _ (sym e) journals in
+      let after : opened (at_peer shut i (p ∷ ps)) ≡ opened ps =
+      ap opened (at-first p ps true true is hit) in
+      record {
+        journals = have _ _ after had.1;
+        lines = ap (map line) after ∙ sym (out-first (line p) (map line (opened ps)) true hit)
+            ∙ ap (λ os. without i (map line os)) (sym e);
+      }
+
+  all : (ps : List Peer) → Goal ps
+  all [] = λ journals. record { journals = tt; lines = refl }
+  all (p ∷ ps) = by p ps p.is_open (p.id.0 == i.0) refl refl (all ps)
+
+  pub fits_closed : (ls new : List Line) → new ≡ without i ls → (ps : List Peer) →
+      FitsPeers ls ps → FitsPeers new (at_peer shut i ps)
+  fits_closed ls new is ps fits =
+      let left = all ps fits.journals in
+      let lines : map line (opened (at_peer shut i ps)) ≡ new =
+      left.lines ∙ ap (without i) fits.lines ∙ sym is in
+      record { journals = left.journals; lines = lines }
+
+-- an id opened behind all others
+opened-more : (i : Id) (kind : Kind) (ps : List Peer) →
+    opened (ps ++ fresh i kind ∷ []) ≡ opened ps ++ fresh i kind ∷ []
+opened-more i kind [] = refl
+opened-more i kind (p ∷ ps) = by p.is_open (opened-more i kind ps)
+  where
+    by : (a : Bool) → opened (ps ++ fresh i kind ∷ []) ≡ opened ps ++ fresh i kind ∷ [] →
+        (if a then p ∷ opened (ps ++ fresh i kind ∷ []) else opened (ps ++ fresh i kind ∷ []))
+        ≡ (if a then p ∷ opened ps else opened ps) ++ fresh i kind ∷ []
+    by true rest = ap (λ qs. p ∷ qs) rest
+    by false rest = rest
+
+have-more : (ps : List Peer) (p : Peer) → HaveJournals ps → IsJournal p.journal →
+    HaveJournals (ps ++ p ∷ [])
+have-more [] p had is = (is, tt)
+have-more (q ∷ ps) p had is = (had.0, have-more ps p had.1 is)
+
+map-more : (ps : List Peer) (p : Peer) → map line (ps ++ p ∷ []) ≡ map line ps ++ line p ∷ []
+map-more [] p = refl
+map-more (q ∷ ps) p = ap (λ ls. line q ∷ ls) (map-more ps p)
+
+pub fits_opened : (i : Id) (ls new : List Line) → new ≡ ls ++ fresh_line i ∷ [] →
+    (ps : List Peer) (kind : Kind) → FitsPeers ls ps →
+    FitsPeers new (ps ++ fresh i kind ∷ [])
+fits_opened i ls new is ps kind fits = record {
+  journals = have _ _ (opened-more i kind ps)
+      (have-more (opened ps) (fresh i kind) fits.journals tt);
+  lines = ap (map line) (opened-more i kind ps) ∙ map-more (opened ps) (fresh i kind)
+      ∙ ap (λ ms. ms ++ fresh_line i ∷ []) fits.lines ∙ sym is;
+}

@@ -1,0 +1,22 @@
+use Rattle.std.proofs.Common.{◌∙◌, ap, sym}
+use Rattle.dialog.proofs.Changes.{fits_closed}
+use Rattle.dialog.proofs.Lines.{gone_in, absent_in}
+use Rattle.dialog.proofs.table.Table.close.Goals as goal
+
+pub returns-in-Some-clause-lines : goal.returns-in-Some-clause-lines
+returns-in-Some-clause-lines g c =
+    c.remove.ensures.items
+    ∙ gone_in c.args.id c.args.self.now.lines c.self.inside.entries.items c.in-Some.place
+    (ap (λ t. t.lines) c.self.view_is) c.in-Some.ensures
+
+pub returns-in-Some-clause-fits : goal.returns-in-Some-clause-fits
+returns-in-Some-clause-fits g c =
+    fits_closed c.args.id c.args.self.now.lines _ (returns-in-Some-clause-lines g c)
+
+pub returns-in_default-clause-lines : goal.returns-in_default-clause-lines
+returns-in_default-clause-lines g c =
+    sym (absent_in c.args.id c.args.self.now.lines (λ l. l) c.in_default.ensures).all_left
+
+pub returns-in_default-clause-fits : goal.returns-in_default-clause-fits
+returns-in_default-clause-fits g c =
+    fits_closed c.args.id c.args.self.now.lines _ (returns-in_default-clause-lines g c)

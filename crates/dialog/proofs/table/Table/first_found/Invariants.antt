@@ -1,0 +1,14 @@
+use Rattle.std.proofs.Common.{◌≡◌, length}
+use Rattle.dialog.specs.Choice.{IsFoundFor}
+use Rattle.dialog.proofs.Firsts.{Leads}
+use Rattle.dialog.proofs.table.Table.first_found.Given as goal
+
+-- the table is as it was, and none of the pairs that are passed has it
+abbrev pub invariant-loop-pair : goal.invariant-loop-pair
+invariant-loop-pair g l = record {
+  same : l.self ≡ l.initial.self;
+  leads : Leads (IsFoundFor l.initial.self.lines l.trigger) l.rest l.pairs;
+}
+
+abbrev pub decreases-loop-pair : goal.decreases-loop-pair
+decreases-loop-pair g l = length l.rest

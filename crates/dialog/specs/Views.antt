@@ -1,0 +1,29 @@
+-- What contracts see of the types of the code.
+use Rattle.std.specs.Prelude.{ℕ, Bool, List}
+use Rattle.acts.specs.declared.id.Id.{Id}
+use Rattle.matchbuf.specs.Held.{Held}
+use Rattle.dialog.specs.Branches.{Awaited, Branch, Sought, FullBuffer, Eof, Timeout, Default}
+use Rattle.dialog.specs.Lines.{Line}
+use Rattle.dialog.specs.declared.branch.Awaited.{Awaited as Coded}
+use Rattle.dialog.specs.declared.branch.Awaited.TheVariants as coded
+
+-- a line by its parts
+abbrev pub line_by : Id → Held → Bool → Line
+line_by id h drops = record { id = id; held = h; drops_nulls = drops }
+
+-- what a branch of the code waits for
+abbrev pub awaited_of : {A : Type 0} → Coded A → Awaited
+awaited_of (coded.Sought pattern) = Sought pattern
+awaited_of coded.FullBuffer = FullBuffer
+awaited_of coded.Eof = Eof
+awaited_of coded.Timeout = Timeout
+awaited_of coded.Default = Default
+
+-- a branch of the code by its parts
+abbrev pub branch_of : {A : Type 0} → Coded A → Bool → Bool → List ℕ → Branch
+branch_of awaited stays tells body = record {
+  awaited = awaited_of awaited;
+  stays = stays;
+  tells_places = tells;
+  body = body;
+}

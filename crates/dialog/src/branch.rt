@@ -1,0 +1,120 @@
+//! Branches of `expect`, and the pairs of an id and a branch among which it chooses.
+
+ghost use Rattle.std.specs.Prelude.{◌≡◌};
+ghost use Rattle.dialog.specs.Choice.{takes_full, takes_end, takes_timeout};
+ghost use Rattle.dialog.specs.Views.{awaited_of};
+
+use acts::Id;
+use std::alloc::Allocator;
+use std::marker::Model;
+use std::rc::Rc;
+use tcltext::{Pattern, Value};
+
+/// What a branch waits for (expect(1), expect).
+#[derive(Drop)]
+pub enum Awaited<A: Allocator> {
+    /// That the pattern is found in the window.
+    Sought(Pattern<A>),
+    /// That the buffer holds as many bytes as it may.
+    FullBuffer,
+    /// That nothing more comes from the id.
+    Eof,
+    /// That the timer runs out.
+    Timeout,
+    /// An end or a timeout.
+    Default,
+}
+
+impl<A: Allocator> Awaited<A> {
+    /// Whether it is a full buffer.
+    pub(crate) fn takes_full(&self) -> bool
+        ensures { result ≡ takes_full (awaited_of self.now) }
+    {
+        matches!(self, Awaited::FullBuffer)
+    }
+
+    /// Whether it is an end.
+    pub(crate) fn takes_end(&self) -> bool
+        ensures { result ≡ takes_end (awaited_of self.now) }
+    {
+        matches!(self, Awaited::Eof | Awaited::Default)
+    }
+
+    /// Whether it is a timeout.
+    pub(crate) fn takes_timeout(&self) -> bool
+        ensures { result ≡ takes_timeout (awaited_of self.now) }
+    {
+        matches!(self, Awaited::Timeout | Awaited::Default)
+    }
+}
+
+/// A branch of `expect`: what it waits for, and the script that runs then (expect(1), expect).
+#[derive(Drop)]
+pub struct Branch<A: Allocator> {
+    awaited: Awaited<A>,
+    stays: bool,
+    tells_places: bool,
+    body: Value<A>,
+}
+
+impl<A: Allocator> Model for Branch<A> {
+    ghost use Rattle.dialog.specs.Branches.{Branch as Plain};
+
+    ghost Value = { Plain };
+
+    ghost use Rattle.dialog.specs.Views.{branch_of};
+
+    ghost view = { λ b. branch_of b.awaited b.stays b.tells_places b.body };
+}
+
+/// A branch for one id (expect(1), expect, `-i`).
+#[derive(Drop)]
+pub struct Pair<A: Allocator> {
+    id: Id,
+    branch: Rc<Branch<A>, A>,
+}
+
+impl<A: Allocator> Model for Pair<A> {
+    ghost use Rattle.dialog.specs.Branches.{Pair as Plain, pair};
+
+    ghost Value = { Plain };
+
+    ghost view = { λ p. pair p.id p.branch.value };
+}
+
+impl<A: Allocator> Pair<A> {
+    /// The id.
+    pub fn id(&self) -> Id
+        ensures { result ≡ self.now.id }
+    {
+        self.id
+    }
+
+    /// What its branch waits for.
+    pub(crate) fn awaited(&self) -> &Awaited<A>
+        ensures { awaited_of result.now ≡ self.now.branch.awaited }
+    {
+        &self.branch.awaited
+    }
+
+    /// Whether the bytes that its branch finds stay in the buffer (`-notransfer`).
+    pub(crate) fn stays(&self) -> bool
+        ensures { result ≡ self.now.branch.stays }
+    {
+        self.branch.stays
+    }
+
+    /// Whether the places of a match are told (`-indices`).
+    pub(crate) fn tells_places(&self) -> bool
+        ensures { result ≡ self.now.branch.tells_places }
+    {
+        self.branch.tells_places
+    }
+
+    /// The script of its branch.
+    pub(crate) fn body(&self) -> &Value<A>
+        ensures { result.now ≡ self.now.branch.body }
+    {
+        &self.branch.body
+    }
+}

@@ -1,0 +1,170 @@
+//! An open id with its match buffer.
+ghost use Rattle.std.specs.Prelude.{◌≡◌, ◌≤◌, ◌==◌, ◌↔◌, length, true, Err, IfOk, OnOk, OnErr, IfSome, MatchOption};
+ghost use Rattle.dialog.specs.Choice.{front_of, share_by, shortened_to};
+ghost use Rattle.dialog.specs.Lines.{reached, resized, dropping, row_of_line, without_nulls};
+ghost use Rattle.matchbuf.specs.Size.{IsSize};
+ghost use Rattle.dialog.specs.Views.{line_by};
+ghost use Rattle.tcltext.specs.Pattern.Match.{IsFound, SitsNowhere};
+
+use acts::{Id, NoMemory, Row};
+use matchbuf::{MatchBuf, MatchBufError};
+use std::alloc::Allocator;
+use std::marker::Model;
+use tcltext::{Found, Pattern, Scratch};
+
+/// An open id: its match buffer, and whether nulls are removed from what arrives.
+#[derive(Drop)]
+pub(crate) struct Entry<A: Allocator> {
+    id: Id,
+    buffer: MatchBuf<A>,
+    drops_nulls: bool,
+}
+
+impl<A: Allocator> Model for Entry<A> {
+    ghost use Rattle.dialog.specs.Lines.{Line};
+    ghost use Rattle.dialog.specs.Views.{line_by};
+
+    ghost Value = { Line };
+
+    ghost view = { λ e. line_by e.id e.buffer e.drops_nulls };
+}
+
+impl<A: Allocator> Entry<A> {
+    /// An id that is just opened.
+    pub(crate) fn new(id: Id, buffer: MatchBuf<A>) -> Entry<A>
+        ensures { result ≡ line_by id buffer true }
+    {
+        Entry {
+            id,
+            buffer,
+            drops_nulls: true,
+        }
+    }
+
+    /// The id.
+    pub(crate) fn id(&self) -> Id
+        ensures { result ≡ self.now.id }
+    {
+        self.id
+    }
+
+    /// Whether its buffer holds as many bytes as it may.
+    pub(crate) fn is_full(&self) -> bool
+        ensures { result ≡ (length self.now.held.bytes == self.now.held.max) }
+    {
+        self.buffer.is_full()
+    }
+
+    /// How many bytes its buffer holds.
+    pub(crate) fn len(&self) -> usize
+        ensures len { result ≡ length self.now.held.bytes }
+        ensures within { result ≤ self.now.held.max }
+    {
+        self.buffer.len()
+    }
+
+    /// How many bytes its buffer may hold.
+    pub(crate) fn max(&self) -> u32
+        ensures max { result ≡ self.now.held.max }
+        ensures within { result ≤ 1000000 }
+    {
+        self.buffer.max()
+    }
+
+    /// Sets whether nulls are removed.
+    pub(crate) fn set_nulls(&mut self, drops: bool)
+        ensures { self.new ≡ dropping drops self.old }
+    {
+        self.drops_nulls = drops;
+    }
+
+    /// Puts bytes into its buffer, without their nulls where those are removed. No memory is asked
+    /// for.
+    pub(crate) fn arrive(&mut self, mut bytes: Vec<u8, A>)
+        ensures { self.new ≡ reached bytes.items self.old }
+    {
+        if self.drops_nulls {
+            remove_nulls(&mut bytes);
+            self.buffer.arrive(&bytes);
+        } else {
+            self.buffer.arrive(&bytes);
+        }
+    }
+
+    /// What a wait tells of the id.
+    pub(crate) fn row(&self) -> Row
+        ensures { result ≡ row_of_line self.now }
+    {
+        let max = self.buffer.max();
+        let held = self.buffer.len() as u32;
+        let room = max - held;
+        let want = if room == 0 { max.div_ceil(2) } else { room };
+        Row {
+            id: self.id,
+            held,
+            max,
+            want,
+        }
+    }
+}
+
+impl<A: Allocator + Copy> Entry<A> {
+    /// Finds a pattern in the window. No memory is asked for.
+    pub(crate) fn search(&mut self, alloc: A, pattern: &Pattern<A>) -> Option<Found>
+        ensures unchanged { self.new ≡ self.old }
+        ensures found { let window = self.old.held.bytes in MatchOption result
+            (SitsNowhere pattern.now window)
+            (λ found. IsFound pattern.now window found.start found.end) }
+    {
+        let room = self.buffer.len() as u32;
+        let Ok(mut scratch) = Scratch::new(alloc, room) else {
+            unreachable!()
+        };
+        let window = self.buffer.window();
+        pattern.find(window, &mut scratch).found
+    }
+
+    /// Hands out the match and all before it, or the whole window where there is no match. They are
+    /// consumed, but for a match that stays. On `Err` nothing is consumed.
+    pub(crate) fn hand_out(
+        &mut self,
+        alloc: A,
+        found: Option<Found>,
+        stays: bool,
+    ) -> Result<Vec<u8, A>, NoMemory>
+        requires { IfSome found (λ f. f.end ≤ length self.old.held.bytes) }
+        ensures bytes { IfOk result (λ bytes. bytes.items ≡ front_of found self.old.held.bytes) }
+        ensures line { OnOk result (self.new ≡ shortened_to (share_by stays found) self.old) }
+        ensures unchanged { OnErr result (self.new ≡ self.old) }
+    {
+        let end = match found {
+            Some(found) => found.end,
+            None => self.buffer.len(),
+        };
+        let window = self.buffer.window();
+        let bytes = Vec::from_slice(alloc, &window[..end])?;
+        if found.is_none() || !stays {
+            self.buffer.take(end);
+        }
+        Ok(bytes)
+    }
+
+    /// Sets the size of its buffer.
+    ///
+    /// # Errors
+    /// `Size` where `max` is no size of a buffer, and `NoMemory`. The entry is then as it was.
+    pub(crate) fn set_max(&mut self, max: u32) -> Result<(), MatchBufError>
+        ensures line { OnOk result (self.new ≡ resized max self.old) }
+        ensures unchanged { OnErr result (self.new ≡ self.old) }
+        ensures size { (result ≡ Err MatchBufError.Size) ↔ ¬ IsSize max }
+    {
+        self.buffer.set_max(max)
+    }
+}
+
+/// Removes the nulls of an arrival (expect(1), remove_nulls).
+fn remove_nulls<A: Allocator>(bytes: &mut Vec<u8, A>)
+    ensures { bytes.new.items ≡ without_nulls bytes.old.items }
+{
+    bytes.retain(|b| *b != 0);
+}
