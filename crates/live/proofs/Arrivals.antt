@@ -1,0 +1,40 @@
+-- What answers a wait.
+use Rattle.std.proofs.Common.{◌≡◌, true, false, Bool, ◌&&◌, ◌||◌, ℕ, List, [], ◌∷◌, refl}
+use Rattle.std.proofs.lemmas.Bool.{false≢true}
+use Rattle.std.specs.List.{list_any}
+use Rattle.acts.specs.declared.id.Id.{Id}
+use Rattle.acts.specs.declared.row.Row.{Row}
+use Rattle.acts.specs.declared.act.Timer.{Timer}
+use Rattle.acts.specs.Deed.{Reply}
+use Rattle.acts.specs.Deed as said
+use Rattle.acts.specs.Fits.{fits_wait, has_row}
+use Rattle.live.specs.Arriving.{comes}
+
+-- no row passes a test that nothing passes
+no_row : (rows : List Row) → list_any {X = Row} (λ row. false) rows ≡ true → ⊥
+no_row [] found = false≢true found
+no_row (row ∷ rows) found = no_row rows found
+
+-- a test of less
+less : (a b c d : Bool) → ((a && b) || c) ≡ true → (c ≡ true → d ≡ true) → (a || d) ≡ true
+less true b c d found others = refl
+less false b c d found others = others found
+
+-- bytes that come are those of a row
+any_row : (id : Id) (bytes : List ℕ) (rows : List Row) → comes rows (said.Arrive id bytes) ≡ true →
+    has_row rows id ≡ true
+any_row id bytes [] found = absurd (false≢true found)
+any_row id bytes (row ∷ rows) found = less _ _ _ _ found (any_row id bytes rows)
+
+-- what answers one of the rows fits the wait
+pub comes_fits : (rows : List Row) (timer : Timer) (reply : Reply) → comes rows reply ≡ true →
+    fits_wait rows timer reply ≡ true
+comes_fits rows timer (said.Arrive id bytes) found = any_row id bytes rows found
+comes_fits rows timer (said.Ended id) found = found
+comes_fits rows timer said.Done found = absurd (no_row rows found)
+comes_fits rows timer (said.Failed sent) found = absurd (no_row rows found)
+comes_fits rows timer (said.Started pid) found = absurd (no_row rows found)
+comes_fits rows timer said.Refused found = absurd (no_row rows found)
+comes_fits rows timer (said.Exited status) found = absurd (no_row rows found)
+comes_fits rows timer said.TimedOut found = absurd (no_row rows found)
+comes_fits rows timer said.NoMore found = refl

@@ -1,0 +1,4 @@
+pub mod Arriving
+pub mod Early
+pub mod Live
+pub mod Look

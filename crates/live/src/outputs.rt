@@ -1,0 +1,72 @@
+//! Standard output, standard error and the log file.
+
+ghost use Rattle.std.specs.Prelude.{◌≡◌, true};
+ghost use Rattle.acts.specs.Deed.{reply_of};
+ghost use Rattle.acts.specs.Fits as table;
+
+use crate::system::{refused, text_of};
+use acts::{Answer, LogMode};
+use std::alloc::Global;
+use std::fs::{File, OpenOptions};
+use std::io::{self, ErrorKind, Write};
+use std::rt::Files;
+
+/// Writes a text, and says how many bytes went out where it fails. A write that was interrupted is
+/// tried again.
+pub fn write_text<W: Write>(writer: &mut W, text: &[u8]) -> Answer<Global>
+    ensures { table.fits_write text.now (reply_of result) ≡ true }
+{
+    let mut rest = text;
+    'text: for _ in 0..u64::MAX {
+        if rest.is_empty() {
+            return Answer::Done;
+        }
+        match writer.write(rest) {
+            Ok(0) => break 'text,
+            Ok(count) => rest = &rest[count..],
+            Err(error) if error.kind() == ErrorKind::Interrupted => {}
+            Err(_) => break 'text,
+        }
+    }
+    Answer::Failed(text.len().saturating_sub(rest.len()) as u64)
+}
+
+/// Writes a text to the log file; where none is open, nothing goes out.
+pub fn write_log(log: &mut Option<File>, text: &[u8]) -> Answer<Global>
+    ensures { table.fits_write text.now (reply_of result) ≡ true }
+{
+    match log {
+        Some(file) => write_text(file, text),
+        None => Answer::Failed(0),
+    }
+}
+
+/// Opens a log file in place of the one that is open. Where that is refused, the one that is open
+/// stays.
+pub fn open_log<R: Files<File = File>>(
+    rt: &R,
+    log: &mut Option<File>,
+    name: &[u8],
+    mode: LogMode,
+) -> Answer<Global>
+    ensures { table.fits_open (reply_of result) ≡ true }
+{
+    match log_file(rt, name, mode) {
+        Ok(file) => {
+            *log = Some(file);
+            Answer::Done
+        }
+        Err(error) => refused(&error),
+    }
+}
+
+/// The file of a log, which is made where there is none.
+fn log_file<R: Files<File = File>>(rt: &R, name: &[u8], mode: LogMode) -> io::Result<File> {
+    let mut how = OpenOptions::new();
+    how.create(true);
+    match mode {
+        LogMode::Append => how.append(true),
+        LogMode::Truncate => how.write(true).truncate(true),
+    };
+    how.open(rt, text_of(name)?)
+}

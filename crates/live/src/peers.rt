@@ -1,0 +1,108 @@
+//! The programs and servers that are open, under their ids.
+
+ghost use Rattle.std.specs.Prelude.{◌≤◌, length};
+ghost use Rattle.live.specs.Early.{most_early};
+ghost use Rattle.live.specs.Look.{IsWithin};
+
+use crate::link::{Link, Look};
+use crate::waiting::Waiting;
+use acts::Id;
+use std::alloc::{AllocError, Global};
+use std::io;
+use std::net::Net;
+
+/// The most bytes that are kept of what comes from an id while it is sent something.
+const MOST_EARLY: usize = 1_000_000;
+
+/// The most bytes that one read takes: as many as a pipe holds.
+const MOST_READ: usize = 65_536;
+
+/// A program or a server that is open.
+#[derive(Drop)]
+pub struct Peer {
+    pub id: Id,
+    pub link: Link,
+    /// What came while something was sent, and was not handed on yet.
+    early: Vec<u8>,
+}
+
+impl Peer {
+    /// Looks once for bytes, and puts them at the start of the room: what was kept comes first.
+    pub fn look(&mut self, room: &mut [u8]) -> Look
+        ensures { IsWithin result (length room.new) }
+    {
+        if self.early.is_empty() {
+            return self.link.look(room);
+        }
+        let most = room.len().min(self.early.len());
+        if most == 0 {
+            return Look::Silence;
+        }
+        room[..most].copy_from_slice(&self.early[..most]);
+        self.early.drain(..most);
+        Look::Bytes(most)
+    }
+
+    /// Keeps what has come already, up to a bound, and says whether that was anything. Where memory
+    /// is refused, what came is lost.
+    pub fn keep(&mut self, room: &mut [u8]) -> Result<bool, AllocError>
+        ensures bound { length self.old.early.items ≤ most_early
+            → length self.new.early.items ≤ most_early }
+    {
+        let most = MOST_EARLY.saturating_sub(self.early.len()).min(room.len());
+        let room = &mut room[..most];
+        match self.link.look(room) {
+            Look::Bytes(count) => {
+                self.early.extend_from_slice(&room[..count])?;
+                Ok(true)
+            }
+            Look::Silence | Look::End => Ok(false),
+        }
+    }
+}
+
+/// All that is open, and what waits for it need.
+#[derive(Drop)]
+pub struct Peers {
+    pub alloc: Global,
+    pub list: Vec<Peer>,
+    /// The id that a wait was answered for last.
+    pub last: Option<Id>,
+    pub waiting: Waiting,
+    /// Where reads go.
+    pub room: Vec<u8>,
+}
+
+impl Peers {
+    /// Nothing is open. Errors: memory, or the system gives no poll.
+    pub fn new<R: Net + AllocGlobal>(rt: &R) -> io::Result<Peers> {
+        let alloc = rt.alloc();
+        Ok(Peers {
+            alloc,
+            list: Vec::new(alloc),
+            last: None,
+            waiting: Waiting::new(rt)?,
+            room: vec![in alloc; 0u8; MOST_READ]?,
+        })
+    }
+
+    /// Makes room for one more.
+    pub fn reserve(&mut self) -> Result<(), AllocError> {
+        self.list.reserve(1)
+    }
+
+    /// Adds a link under an id. An `Err` closes the link.
+    pub fn open(&mut self, id: Id, link: Link) -> io::Result<()> {
+        self.waiting.watch(&link)?;
+        let early = Vec::new(self.alloc);
+        self.list
+            .push(Peer { id, link, early })
+            .map_err(AllocError::from)?;
+        Ok(())
+    }
+
+    /// Closes the link of an id, where one is open.
+    pub fn close(&mut self, id: Id) {
+        self.list.retain(|peer| peer.id != id);
+    }
+}

@@ -1,0 +1,93 @@
+//! Programs over pipes.
+
+ghost use Rattle.std.specs.Prelude.{◌≡◌, true};
+ghost use Rattle.acts.specs.Deed.{reply_of};
+ghost use Rattle.acts.specs.Fits as table;
+
+use crate::link::Link;
+use crate::peers::Peers;
+use crate::system::{refused, text_of};
+use acts::{Answer, Id};
+use std::alloc::{AllocError, Global};
+use std::io::{self, ErrorKind};
+use std::process::{Child, Command, Processes, Stdio, SystemProcess};
+
+/// A program that was started under an id and not waited for yet.
+#[derive(Drop)]
+pub struct Program {
+    id: Id,
+    child: Child<SystemProcess>,
+}
+
+impl Program {
+    /// Starts a program with its arguments, and gives the two pipes to it. Its standard error stays
+    /// that of this process.
+    fn start<R: Processes<Started = SystemProcess> + AllocGlobal>(
+        rt: &R,
+        id: Id,
+        words: &[Vec<u8>],
+    ) -> io::Result<(Program, Link)> {
+        let Some((name, args)) = words.split_first() else {
+            return Err(io::Error::from(ErrorKind::InvalidInput));
+        };
+        let mut command = Command::new(rt.alloc(), text_of(name)?)?;
+        for arg in args {
+            command.arg(text_of(arg)?)?;
+        }
+        command.stdin(Stdio::piped());
+        command.stdout(Stdio::piped());
+        let mut child = command.spawn(rt)?;
+        let (Some(input), Some(output)) = (child.stdin.take(), child.stdout.take()) else {
+            return Err(io::Error::from(ErrorKind::Other));
+        };
+        Ok((Program { id, child }, Link::program(input, output)?))
+    }
+}
+
+/// Starts a program under an id, and says the number of its process.
+pub fn spawn<R: Processes<Started = SystemProcess> + AllocGlobal>(
+    rt: &R,
+    peers: &mut Peers,
+    programs: &mut Vec<Program>,
+    id: Id,
+    words: &[Vec<u8>],
+) -> Answer<Global>
+    ensures { table.fits_spawn (reply_of result) ≡ true }
+{
+    match started(rt, peers, programs, id, words) {
+        Ok(number) => Answer::Started(number),
+        Err(error) => refused(&error),
+    }
+}
+
+/// Starts a program under an id, and gives the number of its process. Room for it is made before.
+fn started<R: Processes<Started = SystemProcess> + AllocGlobal>(
+    rt: &R,
+    peers: &mut Peers,
+    programs: &mut Vec<Program>,
+    id: Id,
+    words: &[Vec<u8>],
+) -> io::Result<u64> {
+    peers.reserve()?;
+    programs.reserve(1)?;
+    let (program, link) = Program::start(rt, id, words)?;
+    let number = u64::from(program.child.id());
+    programs.push(program).map_err(AllocError::from)?;
+    peers.open(id, link)?;
+    Ok(number)
+}
+
+/// Waits for the program of an id to end, and takes it out of those that were started. There are no
+/// more answers where no program was started under the id, or it was waited for already.
+pub fn reap(programs: &mut Vec<Program>, id: Id) -> Answer<Global>
+    ensures { table.fits_reap (reply_of result) ≡ true }
+{
+    let Some(place) = programs.iter().position(|program| program.id == id) else {
+        return Answer::NoMore;
+    };
+    let mut program = programs.remove(place);
+    match program.child.wait() {
+        Ok(status) => Answer::Exited(status.code().and_then(|code| u8::try_from(code).ok())),
+        Err(_) => Answer::NoMore,
+    }
+}

@@ -1,0 +1,70 @@
+//! Sending to programs and servers that may answer meanwhile.
+
+ghost use Rattle.std.specs.Prelude.{◌≡◌, true};
+ghost use Rattle.std.specs.Io.{WritesAtMost};
+ghost use Rattle.acts.specs.Deed.{reply_of};
+ghost use Rattle.acts.specs.Fits as table;
+
+use crate::peers::{Peer, Peers};
+use crate::waiting::Waiting;
+use acts::{Answer, Id};
+use std::alloc::Global;
+use std::io::{self, ErrorKind};
+
+impl Peers {
+    /// Sends a text to an id, and says how many bytes went out where it has gone or is not open.
+    /// There are no more answers where memory was refused.
+    pub fn send(&mut self, id: Id, text: &[u8]) -> Answer<Global>
+        ensures { table.fits_write text.now (reply_of result) ≡ true }
+    {
+        match self.list.iter_mut().find(|peer| peer.id == id) {
+            Some(peer) => send_to(peer, &mut self.waiting, &mut self.room, text),
+            None => Answer::Failed(0),
+        }
+    }
+}
+
+/// Sends a text. While that cannot go on, what comes from the same id is kept, so that a program
+/// that waits for its reader goes on as well.
+fn send_to(peer: &mut Peer, waiting: &mut Waiting, room: &mut [u8], text: &[u8]) -> Answer<Global>
+    ensures { table.fits_write text.now (reply_of result) ≡ true }
+{
+    let mut rest = text;
+    'text: for _ in 0..u64::MAX {
+        if rest.is_empty() {
+            return Answer::Done;
+        }
+        match send_some(peer, waiting, room, rest) {
+            Ok(count) => rest = &rest[count..],
+            Err(error) if error.kind() == ErrorKind::OutOfMemory => return Answer::NoMore,
+            Err(_) => break 'text,
+        }
+    }
+    Answer::Failed(text.len().saturating_sub(rest.len()) as u64)
+}
+
+/// Sends some bytes from the front of a text that has some, and says how many; none where it could
+/// not go on, and what came was kept, or the system's wait ended.
+fn send_some(
+    peer: &mut Peer,
+    waiting: &mut Waiting,
+    room: &mut [u8],
+    text: &[u8],
+) -> io::Result<usize>
+    ensures { WritesAtMost result text.now }
+{
+    match peer.link.write(text) {
+        Ok(0) => Err(io::Error::from(ErrorKind::WriteZero)),
+        Ok(count) => Ok(count),
+        Err(error) => match error.kind() {
+            ErrorKind::Interrupted => Ok(0),
+            ErrorKind::WouldBlock => {
+                if !peer.keep(room)? {
+                    waiting.pause_to_write(&peer.link)?;
+                }
+                Ok(0)
+            }
+            _ => Err(error),
+        },
+    }
+}

@@ -1,0 +1,28 @@
+//! What the system's errors and texts are to a run.
+
+ghost use Rattle.std.specs.Prelude.{◌≡◌, true};
+ghost use Rattle.acts.specs.Deed.{reply_of};
+ghost use Rattle.acts.specs.Fits as table;
+
+use acts::Answer;
+use std::alloc::Global;
+use std::io::{self, ErrorKind};
+use std::str;
+
+/// The answer to an act that the system refused: no more answers where memory was refused, and else
+/// that it is refused.
+pub fn refused(error: &io::Error) -> Answer<Global>
+    ensures spawn { table.fits_spawn (reply_of result) ≡ true }
+    ensures open { table.fits_open (reply_of result) ≡ true }
+{
+    if error.kind() == ErrorKind::OutOfMemory {
+        Answer::NoMore
+    } else {
+        Answer::Refused
+    }
+}
+
+/// The text of a name: the system takes names that are UTF-8 alone.
+pub fn text_of(bytes: &[u8]) -> io::Result<&str> {
+    str::from_utf8(bytes).map_err(|_| io::Error::from(ErrorKind::InvalidInput))
+}

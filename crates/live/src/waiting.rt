@@ -1,0 +1,117 @@
+//! Waiting until a link can go on, or until the timer runs out.
+
+ghost use Rattle.std.specs.Prelude.{◌≡◌, true, IfOk};
+ghost use Rattle.acts.specs.Fits.{runs_out};
+ghost use Rattle.live.specs.declared.waiting.Left.TheVariants.{Nothing};
+
+use crate::link::Link;
+use acts::Timer;
+use mio::unix::SourceFd;
+use mio::{Events, Interest, Poll, Token};
+use std::alloc::Global;
+use std::io;
+use std::net::Net;
+use std::os::fd::AsRawFd;
+use std::rt::Clock;
+use std::time::{Duration, Instant};
+
+/// How many events one call takes from the system at most.
+const MOST_EVENTS: usize = 64;
+
+/// All links have one token, since a wait looks at its links itself.
+const ANY: Token = Token(0);
+
+/// How long a wait may go on.
+#[derive(Clone, Copy, Debug, PartialEq, Eq)]
+pub enum Left {
+    /// As long as it takes.
+    Endless,
+    /// So long.
+    For(Duration),
+    /// No longer.
+    Nothing,
+}
+
+/// The links that are watched, and the time at which the timer runs out.
+#[derive(Drop)]
+pub struct Waiting {
+    poll: Poll,
+    events: Events<Global>,
+    /// None where that time lies beyond what the clock can tell, or no timer was started.
+    deadline: Option<Instant>,
+}
+
+impl Waiting {
+    /// No link, and no timer. Errors: memory, or the system gives no poll.
+    pub fn new<R: Net + AllocGlobal>(rt: &R) -> io::Result<Waiting> {
+        Ok(Waiting {
+            poll: Poll::new(rt)?,
+            events: Events::with_capacity(rt.alloc(), MOST_EVENTS)?,
+            deadline: None,
+        })
+    }
+
+    /// Has pauses end when something new can be read. A link that is dropped is watched no more.
+    pub fn watch(&self, link: &Link) -> io::Result<()> {
+        let mut source = SourceFd(&link.read_end());
+        self.poll
+            .registry()
+            .register(&mut source, ANY, Interest::READABLE)
+    }
+
+    /// Starts the timer where a wait starts it. An `Err` of the clock leaves the earlier one.
+    pub fn start(&mut self, clock: &impl Clock, timer: Timer) -> io::Result<()> {
+        if let Timer::Start(seconds) = timer {
+            let now = Instant::now(clock)?;
+            self.deadline = now.checked_add(Duration::from_secs(seconds));
+        }
+        Ok(())
+    }
+
+    /// How long a wait with this timer may still go on.
+    pub fn left(&self, clock: &impl Clock, timer: Timer) -> io::Result<Left>
+        ensures { IfOk result (λ left. left ≡ Nothing → runs_out timer ≡ true) }
+    {
+        if timer == Timer::Endless {
+            return Ok(Left::Endless);
+        }
+        let Some(deadline) = self.deadline else {
+            return Ok(Left::Endless);
+        };
+        let now = Instant::now(clock)?;
+        if now >= deadline {
+            return Ok(Left::Nothing);
+        }
+        Ok(Left::For(deadline.saturating_duration_since(now)))
+    }
+
+    /// Waits until something new can be read from any link, or a signal comes, or the time is up.
+    pub fn pause(&mut self, time: Option<Duration>) -> io::Result<()> {
+        self.poll.poll(&mut self.events, time)
+    }
+
+    /// Waits until the link can be written, or something new can be read from any.
+    pub fn pause_to_write(&mut self, link: &Link) -> io::Result<()> {
+        match link {
+            Link::Program { input, .. } => {
+                let mut source = SourceFd(&input.as_raw_fd());
+                self.poll
+                    .registry()
+                    .register(&mut source, ANY, Interest::WRITABLE)?;
+                let ended = self.pause(None);
+                self.poll.registry().deregister(&mut source)?;
+                ended
+            }
+            Link::Server(stream) => {
+                let mut source = SourceFd(&stream.as_raw_fd());
+                let both = Interest::READABLE | Interest::WRITABLE;
+                self.poll.registry().reregister(&mut source, ANY, both)?;
+                let ended = self.pause(None);
+                self.poll
+                    .registry()
+                    .reregister(&mut source, ANY, Interest::READABLE)?;
+                ended
+            }
+        }
+    }
+}
