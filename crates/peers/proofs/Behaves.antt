@@ -6,6 +6,7 @@ use Rattle.state.proofs.Behaves.{if_behaves, ask_behaves, current_behaves}
 use Rattle.state.proofs.Tables.{without, opened-closed}
 use Rattle.state.specs.Arguments.{is_flag}
 use Rattle.state.specs.Behaves.{Behaves, worth}
+use Rattle.state.specs.Channels.{connection, on_connection}
 use Rattle.state.specs.Status.{Peer, Status, opened, closed}
 use Rattle.state.specs.Variables.{named, on_open}
 use Rattle.peers.specs.Close.{close, closes, over}
@@ -35,6 +36,11 @@ open_behaves : (o : Option Id) (name : List ℕ) (s : Status) →
 open_behaves None name s = (omega arith, omega arith)
 open_behaves (Some i) name s = closes_behaves s i
 
+connection_behaves : (o : Option Id) (text : List ℕ) (s : Status) →
+    Behaves s.left (worth s + 3) (on_connection o text s (closes s))
+connection_behaves None text s = (omega arith, omega arith)
+connection_behaves (Some i) text s = closes_behaves s i
+
 pub close_behaves : (args : List (List ℕ)) (s : Status) →
     Behaves s.left (worth s + 3) (close args s)
 close_behaves [] s =
@@ -42,8 +48,8 @@ close_behaves [] s =
     (closes_behaves s)
 close_behaves (w ∷ []) s =
     if_behaves s.left (worth s + 3) (is_id_flag w) _ _ (omega arith, omega arith)
-    (if_behaves s.left (worth s + 3) (is_flag w) _ _
-    (omega arith, omega arith) (omega arith, omega arith))
+    (if_behaves s.left (worth s + 3) (is_flag w) _ _ (omega arith, omega arith)
+    (connection_behaves (connection (opened s.peers) w) w s))
 close_behaves (w ∷ name ∷ []) s =
     if_behaves s.left (worth s + 3) (is_id_flag w) _ _
     (open_behaves (named (opened s.peers) name) name s) (omega arith, omega arith)

@@ -7,6 +7,7 @@ use Rattle.acts.specs.Flaw as flaw
 use Rattle.peers.specs.declared.close.Waits.{Waits}
 use Rattle.peers.specs.Words.{is_id_flag, misplaced, surplus}
 use Rattle.state.specs.Arguments.{is_flag}
+use Rattle.state.specs.Channels.{with_connection}
 use Rattle.state.specs.Dialogue.{Course, gives, raises, ask}
 use Rattle.state.specs.Status.{Status, opened, shut}
 use Rattle.state.specs.Variables.{named, on_open, with_current}
@@ -23,12 +24,12 @@ closes s i = ask (said.Close i) s (over i)
 abbrev pub closes_named : List ℕ → Status → Course
 closes_named name s = on_open (named (opened s.peers) name) name s (closes s)
 
--- a word alone would be a channel, and none is open (close(n))
+-- a word alone is a channel, whose connection is closed (close(n))
 abbrev pub by_word : List ℕ → Status → Course
 by_word w s =
     if is_id_flag w then raises (flaw.WrongArgs (codes "close")) s
     else if is_flag w then raises (flaw.BadArgument w (codes "close")) s
-    else raises (flaw.NoChannel w) s
+    else with_connection w s (closes s)
 
 -- the flag, and the id that stands behind it (expect(1), close)
 abbrev pub by_flag : List ℕ → List ℕ → Status → Course

@@ -4,6 +4,7 @@
 ghost use Rattle.std.specs.Prelude.{◌≡◌, ◌≤◌, IfOk};
 ghost use Rattle.acts.specs.Deed.{Reply, deed_of, reply_of};
 ghost use Rattle.peers.specs.Close as definition;
+ghost use Rattle.state.specs.Channels.{with_connection};
 ghost use Rattle.state.specs.Leaf.{Shows};
 ghost use Rattle.state.specs.Status.{Status};
 ghost use Rattle.state.specs.Variables.{with_current};
@@ -25,7 +26,7 @@ pub struct Waits {
     pub id: Id,
 }
 
-/// Begins to close the id in force, or the one that stands behind the flag.
+/// Begins to close the id in force, the one that stands behind the flag, or that of a channel.
 pub fn begin<A: Allocator + Copy>(
     alloc: A,
     state: &mut State<A>,
@@ -37,7 +38,7 @@ pub fn begin<A: Allocator + Copy>(
 {
     match args {
         [] => close_current(alloc, state),
-        [word] => refuse(alloc, state, word.as_slice()),
+        [word] => close_by_word(alloc, state, word.as_slice()),
         [flag, name] => close_by_flag(alloc, state, flag.as_slice(), name.as_slice()),
         [flag, _, word, ..] => surplus(alloc, flag.as_slice(), word.as_slice(), b"close"),
     }
@@ -115,8 +116,8 @@ fn close_named<A: Allocator + Copy>(
     }
 }
 
-/// Refuses a word alone: it would be a channel, and none is open.
-fn refuse<A: Allocator + Copy>(
+/// Closes the connection of the channel that a word alone is.
+fn close_by_word<A: Allocator + Copy>(
     alloc: A,
     state: &State<A>,
     word: &[u8],
@@ -130,5 +131,21 @@ fn refuse<A: Allocator + Copy>(
     if is_flag(word) {
         return bad_argument(alloc, word, b"close");
     }
-    raises(alloc, &Fault::NoChannel(Vec::from_slice(alloc, word)?))
+    close_channel(alloc, state, word)
+}
+
+/// Closes the connection of a channel, where it is open.
+fn close_channel<A: Allocator + Copy>(
+    alloc: A,
+    state: &State<A>,
+    word: &[u8],
+) -> Result<Leaf<A, Waits>, NoMemory>
+    ensures { (s : Status) → FitsState state.now s → IfOk result (λ leaf.
+        Shows definition.next_of leaf state.now
+        (with_connection word.now s (definition.closes s))) }
+{
+    match state.table.connection(word) {
+        Some(id) => Ok(Leaf::Asks(Act::Close(id), Waits { id })),
+        None => raises(alloc, &Fault::NoChannel(Vec::from_slice(alloc, word)?)),
+    }
 }

@@ -1,5 +1,8 @@
+pub mod Taken
+pub mod Ports
+pub mod Behaves
 pub mod SpawnBehaves
 pub mod SendBehaves
 pub mod Launches
-pub mod Runs
 pub mod SleepBehaves
+pub mod SocketBehaves

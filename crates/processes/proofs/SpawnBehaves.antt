@@ -1,5 +1,5 @@
 -- What spawn keeps to.
-use Rattle.std.proofs.Common.{◌≡◌, ℕ, ◌+◌, ◌-◌, ◌^◌, ◌≤◌, nat_le, Bool, true, false, List, [], ◌∷◌, ◌++◌, length, None, arith, ap, ◌∙◌, length-append}
+use Rattle.std.proofs.Common.{ℕ, ◌+◌, ◌-◌, ◌≤◌, Bool, true, false, List, [], ◌∷◌, None, arith}
 use Rattle.std.specs.Prelude.{codes, decimal}
 use Rattle.acts.specs.declared.id.Id.{Id}
 use Rattle.acts.specs.Deed.{Reply}
@@ -7,19 +7,13 @@ use Rattle.acts.specs.Deed as said
 use Rattle.acts.specs.Flaw as flaw
 use Rattle.acts.specs.Id.{id_text}
 use Rattle.state.proofs.Behaves.{if_behaves, ask_behaves, written_behaves, writes_behaves}
-use Rattle.state.proofs.Tables.{opened-more}
 use Rattle.state.specs.Arguments.{is_flag}
 use Rattle.state.specs.Behaves.{Behaves, worth}
 use Rattle.state.specs.Dialogue.{gives, raises, written}
-use Rattle.state.specs.Status.{Kind, Process, Status, fresh, opened}
-use Rattle.processes.specs.Spawn.{spawn, spawns, launches, echoes, starts, started, runs, opens, echo_of, next_id, numbered, is_noecho, wrong_words}
-
--- one more id is open
-worth-opens : (i : Id) (kind : Kind) (s : Status) → worth (opens i kind s) ≡ worth s + 1
-worth-opens i kind s =
-    let more : length (opened (s.peers ++ fresh i kind ∷ [])) ≡ length (opened s.peers) + 1 =
-    ap length (opened-more i kind s.peers) ∙ length-append (opened s.peers) (fresh i kind ∷ []) in
-    omega (arith, more)
+use Rattle.state.specs.Status.{Process, Status}
+use Rattle.processes.specs.Numbers.{next_id, numbered, opens, with_next}
+use Rattle.processes.specs.Spawn.{spawn, spawns, echoes, starts, started, runs, echo_of, is_noecho, wrong_words}
+use Rattle.processes.proofs.Behaves.{worth-opens, next_behaves}
 
 runs_behaves : (t had : ℕ) (i : Id) (pid : ℕ) (s : Status) → s.left ≤ t → worth s + 1 ≤ had →
     Behaves t had (runs i pid s)
@@ -40,27 +34,21 @@ starts_behaves t had i words s le paid =
     ask_behaves t had (said.Spawn i words) s (started i words) tt le (omega arith)
     (λ reply. started_behaves t (had - 1) i words s reply le (omega arith))
 
-echoes_behaves : (echo : Bool) (words : List (List ℕ)) (s : Status) →
-    Behaves s.left (worth s + 3) (echoes echo words s)
-echoes_behaves true words s =
-    ask_behaves s.left (worth s + 3) (said.Out (echo_of words)) (numbered s)
-    (written (starts (next_id s) words)) tt (omega arith) (omega arith)
-    (λ reply. written_behaves s.left (worth s + 3 - 1) (numbered s)
-    (starts (next_id s) words) reply (omega arith) (omega arith)
-    (starts_behaves s.left (worth s + 3 - 1) (next_id s) words (numbered s)
-    (omega arith) (omega arith)))
-echoes_behaves false words s =
-    starts_behaves s.left (worth s + 3) (next_id s) words (numbered s) (omega arith) (omega arith)
+echoes_behaves : (echo : Bool) (words : List (List ℕ)) (t had : ℕ) (i : Id) (s : Status) →
+    s.left ≤ t → worth s + 3 ≤ had → Behaves t had (echoes echo words i s)
+echoes_behaves true words t had i s le paid =
+    ask_behaves t had (said.Out (echo_of words)) s (written (starts i words)) tt le (omega arith)
+    (λ reply. written_behaves t (had - 1) s
+    (starts i words) reply le (omega arith)
+    (starts_behaves t (had - 1) i words s le (omega arith)))
+echoes_behaves false words t had i s le paid = starts_behaves t had i words s le (omega arith)
 
 launches_behaves : (echo : Bool) (words : List (List ℕ)) (s : Status) →
-    Behaves s.left (worth s + 3) (launches echo words s)
+    Behaves s.left (worth s + 3) (with_next s (echoes echo words))
 launches_behaves echo words s =
-    let full : Behaves s.left (worth s + 3) (raises flaw.TooManyIds s) =
-    (omega arith, omega arith) in
-    if_behaves s.left (worth s + 3) (nat_le 64 (length (opened s.peers)))
-    (raises flaw.TooManyIds s) _ full
-    (if_behaves s.left (worth s + 3) (nat_le (2 ^ 64) s.next) (raises flaw.TooManyIds s)
-    (echoes echo words s) full (echoes_behaves echo words s))
+    next_behaves s.left (worth s + 3) s (echoes echo words) (omega arith) (omega arith)
+    (echoes_behaves echo words s.left (worth s + 3) (next_id s) (numbered s)
+    (omega arith) (omega arith))
 
 spawns_behaves : (echo : Bool) (words : List (List ℕ)) (s : Status) →
     Behaves s.left (worth s + 3) (spawns echo words s)
@@ -68,7 +56,7 @@ spawns_behaves echo [] s = (omega arith, omega arith)
 spawns_behaves echo (w ∷ ws) s =
     if_behaves s.left (worth s + 3) (is_noecho w) (wrong_words s) _ (omega arith, omega arith)
     (if_behaves s.left (worth s + 3) (is_flag w) (raises (flaw.BadArgument w (codes "spawn")) s)
-    (launches echo (w ∷ ws) s) (omega arith, omega arith) (launches_behaves echo (w ∷ ws) s))
+    (with_next s (echoes echo (w ∷ ws))) (omega arith, omega arith) (launches_behaves echo (w ∷ ws) s))
 
 pub spawn_behaves : (args : List (List ℕ)) (s : Status) →
     Behaves s.left (worth s + 3) (spawn args s)

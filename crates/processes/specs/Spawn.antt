@@ -1,5 +1,5 @@
 -- What spawn does.
-use Rattle.std.specs.Prelude.{ℕ, ◌+◌, ◌^◌, nat_le, Bool, true, false, List, [], ◌∷◌, ◌++◌, length, None, codes, decimal, if◌then◌else◌}
+use Rattle.std.specs.Prelude.{ℕ, Bool, true, false, List, [], ◌∷◌, ◌++◌, None, codes, decimal, if◌then◌else◌}
 use Rattle.std.specs.Str.{bytes_eq}
 use Rattle.acts.specs.declared.id.Id.{Id}
 use Rattle.acts.specs.Deed.{Deed, Reply}
@@ -8,8 +8,9 @@ use Rattle.acts.specs.Flaw as flaw
 use Rattle.acts.specs.Id.{id_text}
 use Rattle.state.specs.Arguments.{is_flag}
 use Rattle.state.specs.Dialogue.{Course, gives, raises, ask, written}
-use Rattle.state.specs.Status.{Kind, Process, Status, fresh, opened}
+use Rattle.state.specs.Status.{Process, Status}
 use Rattle.state.specs.Variables.{writes}
+use Rattle.processes.specs.Numbers.{with_next, opens}
 use Rattle.processes.specs.View.{words_of, words_spawned}
 use Rattle.processes.specs.declared.spawn.Waits.{Waits}
 use Rattle.processes.specs.declared.spawn.Waits.TheVariants as waits
@@ -18,10 +19,6 @@ use Rattle.processes.specs.declared.spawn.Waits.TheVariants as waits
 abbrev pub name_of : List (List ℕ) → List ℕ
 name_of [] = []
 name_of (w ∷ ws) = w
-
--- an id is opened (expect(1), spawn)
-abbrev pub opens : Id → Kind → Status → Status
-opens i kind s = record s { peers = s.peers ++ fresh i kind ∷ [] }
 
 -- the id of a process is open and in force, and the number of the process is given; where the
 -- variable is not written the id stays open (expect(1), spawn)
@@ -47,26 +44,10 @@ after_blanks (w ∷ ws) = 32 ∷ w ++ after_blanks ws
 abbrev pub echo_of : List (List ℕ) → List ℕ
 echo_of words = codes "spawn" ++ after_blanks words ++ 10 ∷ []
 
--- the next number is used up (this project's own rule)
-abbrev pub numbered : Status → Status
-numbered s = record s { next = s.next + 1 }
-
--- the id of the next number (this project's own rule)
-abbrev pub next_id : Status → Id
-next_id s = record { 0 = s.next }
-
--- a program is started under the next number, after its echo where it has one (expect(1), spawn)
-abbrev pub echoes : Bool → List (List ℕ) → Status → Course
-echoes true words s =
-    ask (said.Out (echo_of words)) (numbered s) (written (starts (next_id s) words))
-echoes false words s = starts (next_id s) words (numbered s)
-
--- at most 64 ids are open, and numbers are below 2^64 (this project's own rule)
-abbrev pub launches : Bool → List (List ℕ) → Status → Course
-launches echo words s =
-    if nat_le 64 (length (opened s.peers)) then raises flaw.TooManyIds s
-    else if nat_le (2 ^ 64) s.next then raises flaw.TooManyIds s
-    else echoes echo words s
+-- a program is started, after its echo where it has one (expect(1), spawn)
+abbrev pub echoes : Bool → List (List ℕ) → Id → Status → Course
+echoes true words i s = ask (said.Out (echo_of words)) s (written (starts i words))
+echoes false words i s = starts i words s
 
 -- the flag that keeps a command from being echoed (expect(1), spawn)
 abbrev pub is_noecho : List ℕ → Bool
@@ -83,7 +64,7 @@ spawns echo [] s = wrong_words s
 spawns echo (w ∷ ws) s =
     if is_noecho w then wrong_words s
     else if is_flag w then raises (flaw.BadArgument w (codes "spawn")) s
-    else launches echo (w ∷ ws) s
+    else with_next s (echoes echo (w ∷ ws))
 
 -- spawn ?-noecho? word .. (expect(1), spawn)
 abbrev pub spawn : List (List ℕ) → Status → Course

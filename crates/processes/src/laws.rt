@@ -3,6 +3,7 @@
 ghost use Rattle.std.specs.Prelude.{ℕ, ◌+◌, List};
 ghost use Rattle.processes.specs.Send.{send};
 ghost use Rattle.processes.specs.Sleep.{sleep};
+ghost use Rattle.processes.specs.Socket.{socket};
 ghost use Rattle.processes.specs.Spawn.{spawn};
 ghost use Rattle.state.specs.Behaves.{Behaves, worth};
 ghost use Rattle.state.specs.Status.{Status};
@@ -17,6 +18,12 @@ pub fn spawn_behaves()
 #[tactic(auto, using(crate::proofs::SendBehaves::send_behaves))]
 pub fn send_behaves()
     ensures { (args : List (List ℕ)) (s : Status) → Behaves s.left (worth s + 3) (send args s) }
+{}
+
+/// `socket` runs no script, uses up no tick, and makes its act and opens its id out of three.
+#[tactic(auto, using(crate::proofs::SocketBehaves::socket_behaves))]
+pub fn socket_behaves()
+    ensures { (args : List (List ℕ)) (s : Status) → Behaves s.left (worth s + 3) (socket args s) }
 {}
 
 /// `sleep` runs no script, uses up no tick, and makes its act out of three.

@@ -5,6 +5,7 @@ ghost use Rattle.std.specs.Prelude.{◌≡◌, ◌∷◌, ◌≤◌, ℕ, List, 
 ghost use Rattle.acts.specs.Deed.{deed_of, reply_of};
 ghost use Rattle.acts.specs.Flaw as flaw;
 ghost use Rattle.acts.specs.Flaw.{text_of};
+ghost use Rattle.processes.specs.Numbers as numbers;
 ghost use Rattle.processes.specs.Spawn as definition;
 ghost use Rattle.processes.specs.View.{words_of, words_spawned};
 ghost use Rattle.state.specs.Dialogue.{written};
@@ -13,12 +14,13 @@ ghost use Rattle.state.specs.Outcome.{Leaves, Error};
 ghost use Rattle.state.specs.Status.{Status};
 ghost use Rattle.state.specs.View.{FitsState};
 
+use crate::numbers::take_number;
 use acts::decimal::push_decimal;
 use acts::{Act, Answer, Fault, Id, NoMemory};
 use state::arguments::{bad_argument, is_flag, wrong_args};
 use state::leaf::{gives, raises, stops};
 use state::variables::{SPAWN_ID, store};
-use state::{Leaf, State, Stop};
+use state::{Kind, Leaf, State, Stop};
 use std::alloc::Allocator;
 use tcltext::Value;
 
@@ -104,17 +106,27 @@ fn launch<A: Allocator + Copy>(
     words: &[Value<A>],
 ) -> Result<Leaf<A, Waits<A>>, NoMemory>
     ensures shows { (s : Status) → FitsState state.old s → IfOk result (λ leaf.
-        Shows definition.next_of leaf state.new (definition.launches echo words.now s)) }
+        Shows definition.next_of leaf state.new
+        (numbers.with_next s (definition.echoes echo words.now))) }
     ensures left { state.new.left ≡ state.old.left }
 {
-    if state.table.is_full() {
-        return raises(alloc, &Fault::TooManyIds);
+    match take_number(alloc, state)? {
+        Ok(id) => start(alloc, state, id, echo, words),
+        Err(leaf) => Ok(leaf),
     }
-    let Some(number) = state.next else {
-        return raises(alloc, &Fault::TooManyIds);
-    };
-    state.next = number.checked_add(1);
-    let id = Id(number);
+}
+
+/// Starts a program, or echoes the command first.
+fn start<A: Allocator + Copy>(
+    alloc: A,
+    state: &State<A>,
+    id: Id,
+    echo: bool,
+    words: &[Value<A>],
+) -> Result<Leaf<A, Waits<A>>, NoMemory>
+    ensures { (s : Status) → FitsState state.now s → IfOk result (λ leaf.
+        Shows definition.next_of leaf state.now (definition.echoes echo words.now id s)) }
+{
     let copies = copies_of(alloc, words)?;
     if !echo {
         return Ok(Leaf::Asks(Act::Spawn(id, copies), Waits::Started(id)));
@@ -201,7 +213,7 @@ fn run<A: Allocator + Copy>(
     push_decimal(&mut digits, pid)?;
     let value = Value::new(alloc, digits)?;
     let name = Value::new(alloc, id.text(alloc)?)?;
-    state.table.open(alloc, id)?;
+    state.table.open(alloc, id, Kind::Process(pid))?;
     match store(alloc, state, SPAWN_ID, None, name)? {
         Ok(()) => Ok(gives(value)),
         Err(fault) => raises(alloc, &fault),

@@ -8,9 +8,9 @@ use Rattle.peers.proofs.close.begin.Goals as goal
 pub returns-in-len1-clause-shows : goal.returns-in-len1-clause-shows
 returns-in-len1-clause-shows g c = λ s fits.
     let one = single c.args.args.now c.word-item.result (omega arith) c.word-item.is in
-    shows_ok next_of c.args.state.now c.refuse.result
+    shows_ok next_of c.args.state.now c.close_by_word.result
     (ap (λ words. close words s) one ∙ ap (λ w. by_word w s) (sym c.as_slice.ensures))
-    (c.refuse.ensures s fits)
+    (c.close_by_word.ensures s fits)
 
 pub returns-in-len3-up-clause-shows : goal.returns-in-len3-up-clause-shows
 returns-in-len3-up-clause-shows g c = λ s fits.

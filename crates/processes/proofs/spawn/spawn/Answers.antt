@@ -1,4 +1,4 @@
-use Rattle.std.proofs.Common.{◌≡◌, ◌∙◌, false, true, sym, ap, arith}
+use Rattle.std.proofs.Common.{◌≡◌, ◌∙◌, false, true, sym, ap}
 use Rattle.processes.specs.Spawn.{is_noecho, next_of}
 use Rattle.processes.proofs.Launches.{spawns-flag}
 use Rattle.state.proofs.Shown.{over_ok}
