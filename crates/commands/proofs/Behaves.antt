@@ -11,6 +11,7 @@ use Rattle.logs.proofs.Behaves.{send_error_behaves}
 use Rattle.peers.proofs.Behaves.{close_behaves}
 use Rattle.procedures.proofs.Behaves.{proc_behaves}
 use Rattle.processes.proofs.SleepBehaves.{sleep_behaves}
+use Rattle.processes.proofs.SocketBehaves.{socket_behaves}
 use Rattle.processes.proofs.SendBehaves.{send_behaves}
 use Rattle.processes.proofs.SpawnBehaves.{spawn_behaves}
 use Rattle.state.proofs.Behaves.{if_behaves}
@@ -43,6 +44,7 @@ does_behaves builtin.Proc args s = proc_behaves args s
 does_behaves builtin.Spawn args s = spawn_behaves args s
 does_behaves builtin.Send args s = send_behaves args s
 does_behaves builtin.Sleep args s = sleep_behaves args s
+does_behaves builtin.Socket args s = socket_behaves args s
 does_behaves builtin.Close args s = close_behaves args s
 does_behaves builtin.SendError args s = send_error_behaves args s
 does_behaves builtin.Expect args s = expect_behaves args s

@@ -1,12 +1,6 @@
 -- What a command comes to whose name none has.
-use Rattle.std.proofs.Common.{◌≡◌, ℕ, ◌≤◌, List, [], ◌∷◌, length, get_or, None, Result, IfOk, sym, ap, ◌∙◌, arith}
-use Rattle.acts.specs.Deed.{Deed, Reply}
-use Rattle.memory.specs.declared.NoMemory.{NoMemory}
+use Rattle.std.proofs.Common.{◌≡◌, ℕ, ◌≤◌, List, [], ◌∷◌, length, get_or, None, sym, ap, ◌∙◌, arith}
 use Rattle.commands.specs.Commands.{named, unknown, command}
-use Rattle.state.specs.declared.leaf.Leaf.{Leaf}
-use Rattle.state.specs.declared.state.State.{State}
-use Rattle.state.specs.Dialogue.{Course}
-use Rattle.state.specs.Leaf.{Shows}
 use Rattle.state.specs.Status.{Status}
 
 pub unknown-named : (words : List (List ℕ)) (a n m : List ℕ) (s : Status) → 1 ≤ length words →
@@ -15,9 +9,3 @@ unknown-named [] a n m s some first is same none = absurd (omega arith)
 unknown-named (x ∷ xs) a n m s some first is same none =
     let absent : named x ≡ None = ap named (sym (is ∙ first)) ∙ sym none in
     rw absent (ap (λ (name : List ℕ). unknown name s) (sym (same ∙ first)))
-
--- the same course under another name
-pub shows_as : {A W : Type 0} (next : W → Deed → Status → Reply → Course) (state : State A)
-    {course other : Course} (r : Result (Leaf A W) NoMemory) → course ≡ other →
-    IfOk r (λ l. Shows next l state other) → IfOk r (λ l. Shows next l state course)
-shows_as next state r is shows = rw is shows

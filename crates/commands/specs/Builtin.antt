@@ -24,6 +24,7 @@ pub data Builtin : Type 0 where
   Spawn : Builtin
   Send : Builtin
   Sleep : Builtin
+  Socket : Builtin
   Close : Builtin
   SendError : Builtin
   Expect : Builtin

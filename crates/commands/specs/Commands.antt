@@ -20,6 +20,7 @@ use Rattle.peers.specs.Close.{close}
 use Rattle.procedures.specs.Proc.{proc}
 use Rattle.processes.specs.Send.{send}
 use Rattle.processes.specs.Sleep.{sleep}
+use Rattle.processes.specs.Socket.{socket}
 use Rattle.processes.specs.Spawn.{spawn}
 use Rattle.pure.specs.Pure as pure
 use Rattle.texts.specs.Text.{text}
@@ -56,6 +57,7 @@ named name =
     else if bytes_eq name (codes "spawn") then Some builtin.Spawn
     else if bytes_eq name (codes "send") then Some builtin.Send
     else if bytes_eq name (codes "sleep") then Some builtin.Sleep
+    else if bytes_eq name (codes "socket") then Some builtin.Socket
     else if bytes_eq name (codes "close") then Some builtin.Close
     else if bytes_eq name (codes "send_error") then Some builtin.SendError
     else if bytes_eq name (codes "expect") then Some builtin.Expect
@@ -83,6 +85,7 @@ does builtin.Proc args s = proc args s
 does builtin.Spawn args s = spawn args s
 does builtin.Send args s = send args s
 does builtin.Sleep args s = sleep args s
+does builtin.Socket args s = socket args s
 does builtin.Close args s = close args s
 does builtin.SendError args s = send_error args s
 does builtin.Expect args s = expect args s

@@ -12,12 +12,12 @@ use Rattle.state.specs.Dialogue.{Course}
 use Rattle.state.specs.Leaf.{course_of}
 use Rattle.state.specs.Status.{Status}
 use Rattle.expects.specs.Expect as expect
-use Rattle.logs.specs.SendError as send_error
 use Rattle.peers.specs.Close as close
 use Rattle.processes.specs.Send as send
 use Rattle.processes.specs.Sleep as sleep
+use Rattle.processes.specs.Socket as socket
 use Rattle.processes.specs.Spawn as spawn
-use Rattle.writing.specs.Puts as puts
+use Rattle.writing.specs.Channel as channel
 
 -- the command that one of the code's stands for
 abbrev pub builtin_of : named.Builtin → Builtin
@@ -41,6 +41,7 @@ builtin_of builtin.Proc = meant.Proc
 builtin_of builtin.Spawn = meant.Spawn
 builtin_of builtin.Send = meant.Send
 builtin_of builtin.Sleep = meant.Sleep
+builtin_of builtin.Socket = meant.Socket
 builtin_of builtin.Close = meant.Close
 builtin_of builtin.SendError = meant.SendError
 builtin_of builtin.Expect = meant.Expect
@@ -48,12 +49,12 @@ builtin_of (builtin.Text command) = meant.Text command
 
 -- what follows the answer to an act of a command
 abbrev pub next_of : {A : Type 0} → Waits A → Deed → Status → Reply → Course
-next_of (waits.Puts own) = puts.next_of own
+next_of (waits.Write own) = channel.next_of own
 next_of (waits.Spawn own) = spawn.next_of own
 next_of (waits.Send own) = send.next_of own
 next_of (waits.Sleep own) = sleep.next_of own
+next_of (waits.Socket own) = socket.next_of own
 next_of (waits.Close own) = close.next_of own
-next_of (waits.SendError own) = send_error.next_of own
 next_of (waits.Expect own) = expect.next_of own
 
 -- what is at hand of one command is the same course as one of all commands

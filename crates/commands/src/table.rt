@@ -11,8 +11,8 @@ ghost use Rattle.state.specs.View.{FitsState};
 
 use crate::left_out::is_left_out;
 use crate::waits::{
-    Waits, from_close, from_expect, from_leaving, from_list, from_procedures, from_puts, from_send,
-    from_send_error, from_sleep, from_spawn, from_text, from_variables,
+    Waits, from_close, from_expect, from_send, from_sleep, from_socket, from_spawn, from_write,
+    without_acts,
 };
 use acts::{Act, Answer, Fault, NoMemory};
 use expects::expect;
@@ -21,7 +21,7 @@ use lists::list;
 use logs::send_error;
 use peers::close;
 use procedures::proc;
-use processes::{send, sleep, spawn};
+use processes::{send, sleep, socket, spawn};
 use pure::Pure;
 use state::leaf::{empty, raises};
 use state::{Leaf, State};
@@ -29,7 +29,7 @@ use std::alloc::Allocator;
 use tcltext::Value;
 use texts::text;
 use variables::{append, array, global, incr, info, lappend, set, unset};
-use writing::puts;
+use writing::{channel, puts};
 
 /// The commands.
 #[derive(Clone, Copy, Debug, PartialEq, Eq)]
@@ -54,6 +54,7 @@ enum Builtin {
     Spawn,
     Send,
     Sleep,
+    Socket,
     Close,
     SendError,
     Expect,
@@ -105,6 +106,8 @@ impl Builtin {
             Some(Builtin::Send)
         } else if name == b"sleep".as_slice() {
             Some(Builtin::Sleep)
+        } else if name == b"socket".as_slice() {
+            Some(Builtin::Socket)
         } else if name == b"close".as_slice() {
             Some(Builtin::Close)
         } else if name == b"send_error".as_slice() {
@@ -171,30 +174,31 @@ fn call<A: Allocator + Copy>(
     ensures left { state.new.left ≤ state.old.left }
 {
     match builtin {
-        Builtin::Puts => Ok(from_puts(puts::begin(alloc, state, args)?)),
-        Builtin::List => Ok(from_list(list::begin(alloc, state, args)?)),
-        Builtin::Break => Ok(from_leaving(breaks::begin(alloc, state, args)?)),
-        Builtin::Continue => Ok(from_leaving(continues::begin(alloc, state, args)?)),
-        Builtin::Return => Ok(from_leaving(returns::begin(alloc, state, args)?)),
-        Builtin::Error => Ok(from_leaving(error::begin(alloc, state, args)?)),
-        Builtin::Exit => Ok(from_leaving(exit::begin(alloc, state, args)?)),
-        Builtin::ExpContinue => Ok(from_leaving(exp_continue::begin(alloc, state, args)?)),
-        Builtin::Set => Ok(from_variables(set::begin(alloc, state, args)?)),
-        Builtin::Append => Ok(from_variables(append::begin(alloc, state, args)?)),
-        Builtin::Incr => Ok(from_variables(incr::begin(alloc, state, args)?)),
-        Builtin::Lappend => Ok(from_variables(lappend::begin(alloc, state, args)?)),
-        Builtin::Unset => Ok(from_variables(unset::begin(alloc, state, args)?)),
-        Builtin::Global => Ok(from_variables(global::begin(alloc, state, args)?)),
-        Builtin::Array => Ok(from_variables(array::begin(alloc, state, args)?)),
-        Builtin::Info => Ok(from_variables(info::begin(alloc, state, args)?)),
-        Builtin::Proc => Ok(from_procedures(proc::begin(alloc, state, args)?)),
+        Builtin::Puts => Ok(from_write(puts::begin(alloc, state, args)?)),
+        Builtin::List => Ok(without_acts(list::begin(alloc, state, args)?)),
+        Builtin::Break => Ok(without_acts(breaks::begin(alloc, state, args)?)),
+        Builtin::Continue => Ok(without_acts(continues::begin(alloc, state, args)?)),
+        Builtin::Return => Ok(without_acts(returns::begin(alloc, state, args)?)),
+        Builtin::Error => Ok(without_acts(error::begin(alloc, state, args)?)),
+        Builtin::Exit => Ok(without_acts(exit::begin(alloc, state, args)?)),
+        Builtin::ExpContinue => Ok(without_acts(exp_continue::begin(alloc, state, args)?)),
+        Builtin::Set => Ok(without_acts(set::begin(alloc, state, args)?)),
+        Builtin::Append => Ok(without_acts(append::begin(alloc, state, args)?)),
+        Builtin::Incr => Ok(without_acts(incr::begin(alloc, state, args)?)),
+        Builtin::Lappend => Ok(without_acts(lappend::begin(alloc, state, args)?)),
+        Builtin::Unset => Ok(without_acts(unset::begin(alloc, state, args)?)),
+        Builtin::Global => Ok(without_acts(global::begin(alloc, state, args)?)),
+        Builtin::Array => Ok(without_acts(array::begin(alloc, state, args)?)),
+        Builtin::Info => Ok(without_acts(info::begin(alloc, state, args)?)),
+        Builtin::Proc => Ok(without_acts(proc::begin(alloc, state, args)?)),
         Builtin::Spawn => Ok(from_spawn(spawn::begin(alloc, state, args)?)),
         Builtin::Send => Ok(from_send(send::begin(alloc, state, args)?)),
         Builtin::Sleep => Ok(from_sleep(sleep::begin(alloc, state, args)?)),
+        Builtin::Socket => Ok(from_socket(socket::begin(alloc, state, args)?)),
         Builtin::Close => Ok(from_close(close::begin(alloc, state, args)?)),
-        Builtin::SendError => Ok(from_send_error(send_error::begin(alloc, state, args)?)),
+        Builtin::SendError => Ok(from_write(send_error::begin(alloc, state, args)?)),
         Builtin::Expect => Ok(from_expect(expect::begin(alloc, state, args)?)),
-        Builtin::Text(own) => Ok(from_text(text::begin(alloc, state, own, args)?)),
+        Builtin::Text(own) => Ok(without_acts(text::begin(alloc, state, own, args)?)),
     }
 }
 
@@ -214,14 +218,12 @@ pub fn answered<A: Allocator + Copy>(
     ensures left { state.new.left ≤ state.old.left }
 {
     match waits {
-        Waits::Puts(own) => Ok(from_puts(puts::answered(alloc, state, act, own, answer)?)),
+        Waits::Write(own) => Ok(from_write(channel::answered(alloc, state, act, own, answer)?)),
         Waits::Spawn(own) => Ok(from_spawn(spawn::answered(alloc, state, act, own, answer)?)),
         Waits::Send(own) => Ok(from_send(send::answered(alloc, state, act, own, answer)?)),
         Waits::Sleep(own) => Ok(from_sleep(sleep::answered(alloc, state, act, own, answer)?)),
+        Waits::Socket(own) => Ok(from_socket(socket::answered(alloc, state, act, own, answer)?)),
         Waits::Close(own) => Ok(from_close(close::answered(alloc, state, act, own, answer)?)),
-        Waits::SendError(own) => {
-            Ok(from_send_error(send_error::answered(alloc, state, act, own, answer)?))
-        }
         Waits::Expect(own) => Ok(from_expect(expect::answered(alloc, state, act, own, answer)?)),
     }
 }

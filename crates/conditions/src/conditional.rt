@@ -18,11 +18,12 @@ use crate::deeper::{deeper, nested};
 use crate::test::{Test, of_evaluated, of_text};
 use acts::NoMemory;
 use evaluation::OpenFormula;
-use state::nesting::raised;
+use kept::Kept;
+use state::outcome::raised;
 use state::{Nesting, Outcome, State};
 use std::alloc::Allocator;
 use std::rc::Rc;
-use tclparse::{Command, Script};
+use tclparse::Command;
 use tclstate::Scopes;
 use tcltext::Value;
 
@@ -57,7 +58,7 @@ pub fn begin<A: Allocator + Copy>(
     ensures left { state.new.left ≡ state.old.left }
 {
     match Branches::read(alloc, args)? {
-        Some(branches) => choose(alloc, &state.scopes, branches, levels),
+        Some(branches) => choose(alloc, &state.scopes, &mut state.kept, branches, levels),
         None => Ok(Nesting::Has(wrong_args(alloc, b"if")?)),
     }
 }
@@ -79,7 +80,13 @@ pub fn resumed<A: Allocator + Copy>(
         return Ok(Nesting::Has(outcome));
     };
     match outcome {
-        Ok(value) => on_with_test(alloc, &state.scopes, Box::into_inner(own), &value),
+        Ok(value) => on_with_test(
+            alloc,
+            &state.scopes,
+            &mut state.kept,
+            Box::into_inner(own),
+            &value,
+        ),
         Err(leave) => Ok(Nesting::Has(Err(leave))),
     }
 }
@@ -88,6 +95,7 @@ pub fn resumed<A: Allocator + Copy>(
 fn on_with_test<A: Allocator + Copy>(
     alloc: A,
     scopes: &Scopes<A>,
+    kept: &mut Kept<A>,
     own: Tested<A>,
     value: &Value<A>,
 ) -> Result<Nesting<A, Held<A>>, NoMemory>
@@ -104,8 +112,8 @@ fn on_with_test<A: Allocator + Copy>(
     } = own;
     let evaluated = formula.resume(alloc, scopes, value)?;
     match of_evaluated(alloc, evaluated)? {
-        Test::Holds(true) => run(alloc, body.as_slice(), levels),
-        Test::Holds(false) => choose(alloc, scopes, branches, levels),
+        Test::Holds(true) => run(alloc, kept, body.as_slice(), levels),
+        Test::Holds(false) => choose(alloc, scopes, kept, branches, levels),
         Test::Script(commands, formula) => {
             let own = Tested {
                 formula,
@@ -123,6 +131,7 @@ fn on_with_test<A: Allocator + Copy>(
 fn choose<A: Allocator + Copy>(
     alloc: A,
     scopes: &Scopes<A>,
+    kept: &mut Kept<A>,
     branches: Branches<A>,
     levels: u8,
 ) -> Result<Nesting<A, Held<A>>, NoMemory>
@@ -137,7 +146,7 @@ fn choose<A: Allocator + Copy>(
     } = branches;
     'branches: while let Some(Branch { test, body }) = tests.pop_front() {
         match of_text(alloc, scopes, test.as_slice())? {
-            Test::Holds(true) => return run(alloc, body.as_slice(), levels),
+            Test::Holds(true) => return run(alloc, kept, body.as_slice(), levels),
             Test::Holds(false) => {}
             Test::Script(commands, formula) => {
                 let branches = Branches { tests, otherwise };
@@ -153,7 +162,7 @@ fn choose<A: Allocator + Copy>(
         }
     }
     match otherwise {
-        Some(body) => run(alloc, body.as_slice(), levels),
+        Some(body) => run(alloc, kept, body.as_slice(), levels),
         None => Ok(Nesting::Has(Ok(Value::empty()))),
     }
 }
@@ -161,6 +170,7 @@ fn choose<A: Allocator + Copy>(
 /// Runs the body that was chosen, one level deeper.
 fn run<A: Allocator + Copy>(
     alloc: A,
+    kept: &mut Kept<A>,
     text: &[u8],
     levels: u8,
 ) -> Result<Nesting<A, Held<A>>, NoMemory>
@@ -169,7 +179,7 @@ fn run<A: Allocator + Copy>(
     ensures advances { (new old most : ℕ) → 0 < most → IfOk result (λ nesting.
         Advances scripts_held nesting new old most) }
 {
-    let body = Script::read(alloc, text)?;
+    let body = kept.get(text)?;
     deeper(alloc, body, levels, Held::Body)
 }
 

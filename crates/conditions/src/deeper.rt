@@ -11,7 +11,7 @@ ghost use Rattle.words.specs.Words as words;
 
 use acts::{Fault, NoMemory};
 use state::Nesting;
-use state::nesting::raised;
+use state::outcome::raised;
 use std::alloc::Allocator;
 use std::rc::Rc;
 use tclparse::{Command, Script};

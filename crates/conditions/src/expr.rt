@@ -16,7 +16,7 @@ use acts::NoMemory;
 use evaluation::{Evaluated, OpenFormula, begin as evaluate};
 use operators::result;
 use pure::concatenated;
-use state::nesting::raised;
+use state::outcome::raised;
 use state::{Nesting, Outcome, State};
 use std::alloc::Allocator;
 use tcltext::Value;

@@ -15,11 +15,10 @@ use crate::deeper::deeper;
 use crate::formula::read;
 use crate::turning::{self, Loop, turn};
 use acts::NoMemory;
-use state::nesting::raised;
+use state::outcome::raised;
 use state::{Nesting, Outcome, State};
 use std::alloc::Allocator;
 use std::rc::Rc;
-use tclparse::Script;
 use tcltext::Value;
 
 /// The words behind `start`, while that runs, and the levels that may still stand in the loop.
@@ -52,7 +51,7 @@ pub fn begin<A: Allocator + Copy>(
     let [start, test, step, body] = args else {
         return Ok(Nesting::Has(wrong_args(alloc, b"for")?));
     };
-    let script = Script::read(alloc, start.as_slice())?;
+    let script = state.kept.get(start.as_slice())?;
     let test = test.share()?;
     let step = step.share()?;
     let body = body.share()?;
@@ -109,8 +108,8 @@ fn begin_turns<A: Allocator + Copy>(
     } = start;
     match read(alloc, test.as_slice())? {
         Ok(test) => {
-            let behind = Script::read(alloc, step.as_slice())?;
-            let body = Script::read(alloc, body.as_slice())?;
+            let behind = state.kept.get(step.as_slice())?;
+            let body = state.kept.get(body.as_slice())?;
             let step = Some(behind);
             let turns = Loop {
                 test,

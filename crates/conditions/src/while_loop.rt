@@ -11,11 +11,10 @@ use crate::arguments::wrong_args;
 use crate::formula::read;
 use crate::turning::{Held, Loop, turn};
 use acts::NoMemory;
-use state::nesting::raised;
+use state::outcome::raised;
 use state::{Nesting, State};
 use std::alloc::Allocator;
 use std::rc::Rc;
-use tclparse::Script;
 use tcltext::Value;
 
 /// Reads the test and the body, and begins the first turn.
@@ -34,7 +33,7 @@ pub fn begin<A: Allocator + Copy>(
     };
     match read(alloc, test.as_slice())? {
         Ok(test) => {
-            let body = Script::read(alloc, body.as_slice())?;
+            let body = state.kept.get(body.as_slice())?;
             let step = None;
             let turns = Loop {
                 test,

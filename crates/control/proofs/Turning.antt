@@ -2,23 +2,13 @@
 use Rattle.std.proofs.Common.{◌≡◌, ℕ, suc, List, [], map, refl}
 use Rattle.control.specs.Foreach.{Pair, assigns, behind, row, rows, turns}
 use Rattle.state.specs.Turn.{on_turn}
-use Rattle.state.specs.Dialogue.{Course, gives, inside, leaves, stops, tick}
+use Rattle.state.specs.Dialogue.{Course, gives, inside, leaves, tick}
 use Rattle.state.specs.Outcome.{Leaves}
-use Rattle.state.specs.Outcome as stop
 use Rattle.state.specs.Piece.{ScriptTree}
 use Rattle.state.specs.Status.{Status}
 use Rattle.state.specs.View.{code_of}
 use Rattle.state.specs.declared.outcome.Code as coded
 use Rattle.state.specs.declared.outcome.Code.TheVariants as code
-
--- a tick is taken where one is left, and the run stops where none is
-pub tick_taken : (s : Status) (left : ℕ) (next : Status → Course) → s.left ≡ suc left →
-    tick s next ≡ next (record s { left = left })
-tick_taken s left next is = rw is refl
-
-pub tick_refused : (s : Status) (next : Status → Course) → s.left ≡ 0 →
-    tick s next ≡ stops stop.Limit s
-tick_refused s next is = rw is refl
 
 -- a code other than those of loops passes
 pub passes : (c : coded.Code) (value : List ℕ) (next : Status → Course) (s : Status) →

@@ -8,7 +8,7 @@ ghost use Rattle.state.specs.View.{outcome_of};
 
 use acts::{Fault, NoMemory};
 use state::Outcome;
-use state::nesting::raised;
+use state::outcome::raised;
 use std::alloc::Allocator;
 
 /// A command that was given another number of words than it takes.

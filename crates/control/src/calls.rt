@@ -12,7 +12,7 @@ ghost use Rattle.tclstate.specs.Scopes.{entered};
 
 use crate::arguments::wrong_args;
 use acts::{Fault, NoMemory};
-use state::nesting::raised;
+use state::outcome::raised;
 use state::{Code, Leave, Nesting, Outcome, State};
 use std::alloc::Allocator;
 use tclparse::Script;
@@ -42,7 +42,7 @@ pub fn begin<A: Allocator + Copy>(
     let Some(frame) = frame_of(alloc, &procedure.formals, words)? else {
         return Ok(Some(Nesting::Has(wrong_args(alloc, name)?)));
     };
-    let body = Script::read(alloc, procedure.body.as_slice())?;
+    let body = state.kept.get(procedure.body.as_slice())?;
     Ok(Some(run(alloc, state, frame, body, levels)?))
 }
 

@@ -10,11 +10,11 @@ ghost use Rattle.state.specs.View.{FitsState, code_of, outcome_of};
 
 use crate::arguments::wrong_args;
 use acts::{Fault, NoMemory};
-use state::nesting::raised;
+use state::outcome::raised;
 use state::variables::store;
 use state::{Code, Leave, Nesting, Outcome, State};
 use std::alloc::Allocator;
-use tclparse::{Name, Script, variable_name};
+use tclparse::{Name, variable_name};
 use tcltext::{Value, print_nat};
 
 /// The variable that takes what came of the script, if there is one.
@@ -98,7 +98,7 @@ fn run<A: Allocator + Copy>(
     ensures left { state.new.left ≤ state.old.left }
 {
     let held = Held { word };
-    let script = Script::read(alloc, text)?;
+    let script = state.kept.get(text)?;
     let Some(inner) = levels.checked_sub(1) else {
         let outcome = raised(alloc, &Fault::TooManyNested)?;
         return resumed(alloc, state, held, outcome);

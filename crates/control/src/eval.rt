@@ -11,10 +11,9 @@ ghost use Rattle.state.specs.View.{FitsState, outcome_of};
 use crate::arguments::wrong_args;
 use acts::{Fault, NoMemory};
 use pure::concatenated;
-use state::nesting::raised;
+use state::outcome::raised;
 use state::{Nesting, Outcome, State};
 use std::alloc::Allocator;
-use tclparse::Script;
 use tcltext::Value;
 
 /// The script runs, and nothing else is held.
@@ -61,15 +60,16 @@ pub fn resumed<A: Allocator>(
 /// Runs a script, one level deeper.
 pub(crate) fn run<A: Allocator + Copy>(
     alloc: A,
-    state: &State<A>,
+    state: &mut State<A>,
     text: &[u8],
     levels: u8,
 ) -> Result<Nesting<A, Held>, NoMemory>
-    ensures { (s : Status) → FitsState state.now s → IfOk result (λ nesting.
-        Nests definition.next_of nesting state.now
+    ensures nests { (s : Status) → FitsState state.old s → IfOk result (λ nesting.
+        Nests definition.next_of nesting state.new
         (within levels text.now s definition.passed)) }
+    ensures left { state.new.left ≡ state.old.left }
 {
-    let script = Script::read(alloc, text)?;
+    let script = state.kept.get(text)?;
     let Some(inner) = levels.checked_sub(1) else {
         return Ok(Nesting::Has(raised(alloc, &Fault::TooManyNested)?));
     };

@@ -15,7 +15,8 @@ use crate::arguments::wrong_args;
 use crate::pair::Pair;
 use crate::turn::end_behind;
 use acts::{Fault, NoMemory};
-use state::nesting::raised;
+use state::nesting::shared;
+use state::outcome::raised;
 use state::{Leave, Nesting, Outcome, State, Stop};
 use std::alloc::Allocator;
 use tclparse::Script;
@@ -102,7 +103,7 @@ fn read<A: Allocator + Copy>(
     let [body] = rest else {
         return Ok(Nesting::Has(wrong_args(alloc, b"foreach")?));
     };
-    let body = Script::read(alloc, body.as_slice())?;
+    let body = state.kept.get(body.as_slice())?;
     let held = Held {
         pairs,
         turns,
@@ -171,9 +172,5 @@ fn run_body<A: Allocator + Copy>(alloc: A, held: Held<A>) -> Result<Nesting<A, H
     let Some(inner) = held.levels.checked_sub(1) else {
         return Ok(Nesting::Has(raised(alloc, &Fault::TooManyNested)?));
     };
-    let body = Script {
-        commands: held.body.commands.clone()?,
-        fault: held.body.fault,
-    };
-    Ok(Nesting::Runs(body, inner, held))
+    Ok(Nesting::Runs(shared(&held.body)?, inner, held))
 }

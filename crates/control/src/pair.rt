@@ -1,17 +1,15 @@
 //! Variables of `foreach`, with the elements that they are to take (foreach(n)).
 
-ghost use Rattle.std.specs.Prelude.{◌≡◌, ℕ, ◌<◌, length, drop, codes, is_some, IfOk, IfNone};
-ghost use Rattle.std.specs.List.{list_all};
+ghost use Rattle.std.specs.Prelude.{◌≡◌, ℕ, ◌<◌, length, drop, codes, IfOk, IfNone};
 ghost use Rattle.control.specs.Foreach.{asked, assigned, assigns, behind, dealt, first_of, with_names, with_pair};
 ghost use Rattle.control.specs.Looping.{Assigned, Comes, pair_of};
 ghost use Rattle.state.specs.Status.{Status};
 ghost use Rattle.state.specs.View.{FitsState};
-ghost use Rattle.tclparse.specs.Variable.{named};
 
 use crate::listed::elements_of;
 use acts::{Fault, NoMemory};
 use state::State;
-use state::variables::store;
+use state::variables::{all_named, store};
 use std::alloc::Allocator;
 use std::collections::VecDeque;
 use tclparse::{Name, variable_name};
@@ -140,16 +138,4 @@ fn names_of<A: Allocator + Copy>(
         return Ok(Err(Fault::BadVariable));
     }
     Ok(Ok(names))
-}
-
-/// Whether each word names a variable or an element.
-fn all_named<A: Allocator + Copy>(words: &[Value<A>]) -> bool
-    ensures { result ≡ list_all (λ w. is_some (named w)) words.now }
-{
-    for word in words {
-        if variable_name(word.as_slice()).is_err() {
-            return false;
-        }
-    }
-    true
 }

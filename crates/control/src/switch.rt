@@ -14,7 +14,7 @@ use crate::eval::{Held, run};
 use crate::listed::elements_of;
 use acts::{Fault, NoMemory};
 use state::arguments::begins_with_dash;
-use state::nesting::raised;
+use state::outcome::raised;
 use state::{Nesting, State};
 use std::alloc::Allocator;
 use tcltext::{Pattern, PatternError, Value};
@@ -49,12 +49,13 @@ pub fn begin<A: Allocator + Copy>(
 /// Goes on behind the flag that says the mode, if it stands first.
 fn on_flags<A: Allocator + Copy>(
     alloc: A,
-    state: &State<A>,
+    state: &mut State<A>,
     words: &[Value<A>],
     levels: u8,
 ) -> Result<Nesting<A, Held>, NoMemory>
-    ensures { (s : Status) → FitsState state.now s → IfOk result (λ nesting.
-        Nests next_of nesting state.now (definition.on_flags levels words.now s)) }
+    ensures nests { (s : Status) → FitsState state.old s → IfOk result (λ nesting.
+        Nests next_of nesting state.new (definition.on_flags levels words.now s)) }
+    ensures left { state.new.left ≡ state.old.left }
 {
     let [word, rest @ ..] = words else {
         return Ok(Nesting::Has(wrong_args(alloc, b"switch")?));
@@ -72,14 +73,15 @@ fn on_flags<A: Allocator + Copy>(
 /// Goes on behind `--`, if it stands first; any other word with a dash there is wrong.
 fn behind_flag<A: Allocator + Copy>(
     alloc: A,
-    state: &State<A>,
+    state: &mut State<A>,
     mode: Mode,
     words: &[Value<A>],
     levels: u8,
 ) -> Result<Nesting<A, Held>, NoMemory>
-    ensures { (s : Status) → FitsState state.now s → IfOk result (λ nesting.
-        Nests next_of nesting state.now
+    ensures nests { (s : Status) → FitsState state.old s → IfOk result (λ nesting.
+        Nests next_of nesting state.new
         (definition.behind_flag levels (mode_of mode) words.now s)) }
+    ensures left { state.new.left ≡ state.old.left }
 {
     let [word, rest @ ..] = words else {
         return Ok(Nesting::Has(wrong_args(alloc, b"switch")?));
@@ -97,13 +99,14 @@ fn behind_flag<A: Allocator + Copy>(
 /// Takes the text, and the patterns with their bodies: as one list, or as words.
 fn on_words<A: Allocator + Copy>(
     alloc: A,
-    state: &State<A>,
+    state: &mut State<A>,
     mode: Mode,
     words: &[Value<A>],
     levels: u8,
 ) -> Result<Nesting<A, Held>, NoMemory>
-    ensures { (s : Status) → FitsState state.now s → IfOk result (λ nesting.
-        Nests next_of nesting state.now (definition.on_words levels (mode_of mode) words.now s)) }
+    ensures nests { (s : Status) → FitsState state.old s → IfOk result (λ nesting.
+        Nests next_of nesting state.new (definition.on_words levels (mode_of mode) words.now s)) }
+    ensures left { state.new.left ≡ state.old.left }
 {
     match words {
         [] | [_] => Ok(Nesting::Has(wrong_args(alloc, b"switch")?)),
@@ -118,15 +121,16 @@ fn on_words<A: Allocator + Copy>(
 /// Tries the patterns, where each has its body.
 fn on_arms<A: Allocator + Copy>(
     alloc: A,
-    state: &State<A>,
+    state: &mut State<A>,
     mode: Mode,
     text: &[u8],
     arms: &[Value<A>],
     levels: u8,
 ) -> Result<Nesting<A, Held>, NoMemory>
-    ensures { (s : Status) → FitsState state.now s → IfOk result (λ nesting.
-        Nests next_of nesting state.now
+    ensures nests { (s : Status) → FitsState state.old s → IfOk result (λ nesting.
+        Nests next_of nesting state.new
         (definition.on_arms levels (mode_of mode) text.now arms.now s)) }
+    ensures left { state.new.left ≡ state.old.left }
 {
     if let Some(word) = left_over(arms) {
         return Ok(Nesting::Has(bad_argument(alloc, word.as_slice(), b"switch")?));

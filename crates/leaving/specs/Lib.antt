@@ -1,4 +1,3 @@
-pub mod Waits
 pub mod Breaks
 pub mod Continues
 pub mod Returns

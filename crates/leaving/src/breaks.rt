@@ -3,16 +3,15 @@
 
 ghost use Rattle.std.specs.Prelude.{◌≡◌, ◌≤◌, IfOk};
 ghost use Rattle.leaving.specs.Breaks as definition;
-ghost use Rattle.leaving.specs.Waits.{next_of};
+ghost use Rattle.state.specs.NoWaits.{next_of};
 ghost use Rattle.state.specs.Leaf.{Shows};
 ghost use Rattle.state.specs.Status.{Status};
 ghost use Rattle.state.specs.View.{FitsState};
 
-use crate::waits::Waits;
 use acts::NoMemory;
 use state::arguments::wrong_args;
 use state::leaf::leaves;
-use state::{Code, Leaf, State};
+use state::{Code, Leaf, NoWaits, State};
 use std::alloc::Allocator;
 use tcltext::Value;
 
@@ -21,7 +20,7 @@ pub fn begin<A: Allocator + Copy>(
     alloc: A,
     state: &mut State<A>,
     args: &[Value<A>],
-) -> Result<Leaf<A, Waits>, NoMemory>
+) -> Result<Leaf<A, NoWaits>, NoMemory>
     ensures shows { (s : Status) → FitsState state.old s →
         IfOk result (λ leaf. Shows next_of leaf state.new (definition.breaks args.now s)) }
     ensures left { state.new.left ≤ state.old.left }

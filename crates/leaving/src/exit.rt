@@ -3,17 +3,16 @@
 
 ghost use Rattle.std.specs.Prelude.{◌≡◌, ◌≤◌, IfOk};
 ghost use Rattle.leaving.specs.Exit as definition;
-ghost use Rattle.leaving.specs.Waits.{next_of};
+ghost use Rattle.state.specs.NoWaits.{next_of};
 ghost use Rattle.state.specs.Leaf.{Shows};
 ghost use Rattle.state.specs.Status.{Status};
 ghost use Rattle.state.specs.Variables.{whole_of};
 ghost use Rattle.state.specs.View.{FitsState};
 
-use crate::waits::Waits;
 use acts::{Fault, NoMemory};
 use state::arguments::{whole_number, wrong_args};
 use state::leaf::{raises, stops};
-use state::{Leaf, State, Stop};
+use state::{Leaf, NoWaits, State, Stop};
 use std::alloc::Allocator;
 use tcltext::Value;
 
@@ -22,7 +21,7 @@ pub fn begin<A: Allocator + Copy>(
     alloc: A,
     state: &mut State<A>,
     args: &[Value<A>],
-) -> Result<Leaf<A, Waits>, NoMemory>
+) -> Result<Leaf<A, NoWaits>, NoMemory>
     ensures shows { (s : Status) → FitsState state.old s →
         IfOk result (λ leaf. Shows next_of leaf state.new (definition.exit args.now s)) }
     ensures left { state.new.left ≤ state.old.left }
@@ -39,7 +38,7 @@ fn exit_with<A: Allocator + Copy>(
     alloc: A,
     state: &State<A>,
     word: &[u8],
-) -> Result<Leaf<A, Waits>, NoMemory>
+) -> Result<Leaf<A, NoWaits>, NoMemory>
     ensures { (s : Status) → FitsState state.now s → IfOk result (λ leaf.
         Shows next_of leaf state.now (definition.exit_with (whole_of word.now) word.now s)) }
 {

@@ -8,6 +8,3 @@ pub mod exit;
 pub mod exp_continue;
 pub mod laws;
 pub mod returns;
-mod waits;
-
-pub use waits::Waits;

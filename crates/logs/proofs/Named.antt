@@ -1,11 +1,9 @@
 -- What send_error comes to, where its words are known.
-use Rattle.std.proofs.Common.{◌≡◌, ℕ, ◌<◌, ◌≤◌, List, [], ◌∷◌, length, get_or, refl, arith}
+use Rattle.std.proofs.Common.{◌≡◌, ℕ, ◌≤◌, List, [], ◌∷◌, length, get_or, refl, arith}
 use Rattle.std.specs.Prelude.{codes}
-use Rattle.acts.specs.Deed.{Deed}
-use Rattle.acts.specs.Deed as said
-use Rattle.logs.specs.SendError.{send_error, puts_error}
+use Rattle.logs.specs.SendError.{send_error}
 use Rattle.logs.specs.Text.{misplaced}
-use Rattle.state.specs.Dialogue.{gives, raises, ask, written}
+use Rattle.state.specs.Dialogue.{raises}
 use Rattle.state.specs.Status.{Status}
 
 pub error-more : (words : List (List ℕ)) (a w : List ℕ) (s : Status) → 3 ≤ length words →
@@ -15,11 +13,3 @@ error-more [] a w s some first is = absurd (omega arith)
 error-more (x ∷ []) a w s some first is = absurd (omega arith)
 error-more (x ∷ y ∷ []) a w s some first is = absurd (omega arith)
 error-more (x ∷ y ∷ z ∷ zs) a w s some first is = rw (is, first) refl
-
-pub error-nothing : (bytes : List ℕ) (s : Status) → bytes ≡ [] → puts_error bytes s ≡ gives [] s
-error-nothing bytes s is = rw is refl
-
-pub error-bytes : (bytes : List ℕ) (s : Status) (deed : Deed) → 0 < length bytes →
-    deed ≡ said.Err bytes → puts_error bytes s ≡ ask deed s (written (gives []))
-error-bytes [] s deed some is = absurd (omega arith)
-error-bytes (b ∷ bs) s deed some is = rw is refl

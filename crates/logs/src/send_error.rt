@@ -2,26 +2,20 @@
 #![tactic(auto, using(state::proofs::Reaches::same_reaches))]
 
 ghost use Rattle.std.specs.Prelude.{◌≡◌, ◌≤◌, IfOk};
-ghost use Rattle.acts.specs.Deed.{deed_of, reply_of};
 ghost use Rattle.logs.specs.SendError as definition;
 ghost use Rattle.state.specs.Leaf.{Shows};
 ghost use Rattle.state.specs.Status.{Status};
 ghost use Rattle.state.specs.View.{FitsState};
+ghost use Rattle.writing.specs.Channel as writes;
+ghost use Rattle.writing.specs.Channel.{next_of};
 
 use crate::text::{is_dashes, misplaced};
-use acts::{Act, Answer, NoMemory};
+use acts::NoMemory;
 use state::arguments::{begins_with_dash, wrong_args};
-use state::leaf::{empty, stops};
-use state::{Leaf, State, Stop};
+use state::{Leaf, State};
 use std::alloc::Allocator;
 use tcltext::Value;
-
-/// What waits for the answer to an act.
-#[derive(Clone, Copy, Debug, PartialEq, Eq)]
-pub enum Waits {
-    /// The text is written, and the command is over.
-    Written,
-}
+use writing::channel::{Channel, Waits, write};
 
 /// Begins to write a text to standard error.
 pub fn begin<A: Allocator + Copy>(
@@ -30,7 +24,7 @@ pub fn begin<A: Allocator + Copy>(
     args: &[Value<A>],
 ) -> Result<Leaf<A, Waits>, NoMemory>
     ensures shows { (s : Status) → FitsState state.old s → IfOk result (λ leaf.
-        Shows definition.next_of leaf state.new (definition.send_error args.now s)) }
+        Shows next_of leaf state.new (definition.send_error args.now s)) }
     ensures left { state.new.left ≤ state.old.left }
 {
     match args {
@@ -41,25 +35,6 @@ pub fn begin<A: Allocator + Copy>(
     }
 }
 
-/// Goes on with the answer to the write.
-pub fn answered<A: Allocator + Copy>(
-    _alloc: A,
-    state: &mut State<A>,
-    act: Act<A>,
-    waits: Waits,
-    answer: Answer<A>,
-) -> Result<Leaf<A, Waits>, NoMemory>
-    ensures shows { (s : Status) → FitsState state.old s → IfOk result (λ leaf.
-        Shows definition.next_of leaf state.new
-        (definition.next_of waits (deed_of act) s (reply_of answer))) }
-    ensures left { state.new.left ≤ state.old.left }
-{
-    match answer {
-        Answer::Failed(_) => Ok(stops(Stop::WriterFailed)),
-        _ => Ok(empty()),
-    }
-}
-
 /// Writes a word that stands alone, unless it begins as flags do.
 fn put_alone<A: Allocator + Copy>(
     alloc: A,
@@ -67,7 +42,7 @@ fn put_alone<A: Allocator + Copy>(
     text: &[u8],
 ) -> Result<Leaf<A, Waits>, NoMemory>
     ensures { (s : Status) → FitsState state.now s → IfOk result (λ leaf.
-        Shows definition.next_of leaf state.now (definition.alone text.now s)) }
+        Shows next_of leaf state.now (definition.alone text.now s)) }
 {
     if begins_with_dash(text) {
         misplaced(alloc, text, b"send_error")
@@ -84,7 +59,7 @@ fn put_behind<A: Allocator + Copy>(
     text: &[u8],
 ) -> Result<Leaf<A, Waits>, NoMemory>
     ensures { (s : Status) → FitsState state.now s → IfOk result (λ leaf.
-        Shows definition.next_of leaf state.now (definition.behind word.now text.now s)) }
+        Shows next_of leaf state.now (definition.behind word.now text.now s)) }
 {
     if is_dashes(word) {
         put(alloc, state, text)
@@ -93,18 +68,15 @@ fn put_behind<A: Allocator + Copy>(
     }
 }
 
-/// Writes a text; where there are no bytes, nothing is written.
+/// Writes a text to standard error; where there are no bytes, nothing is written.
 fn put<A: Allocator + Copy>(
     alloc: A,
     state: &State<A>,
     text: &[u8],
 ) -> Result<Leaf<A, Waits>, NoMemory>
     ensures { (s : Status) → FitsState state.now s → IfOk result (λ leaf.
-        Shows definition.next_of leaf state.now (definition.puts_error text.now s)) }
+        Shows next_of leaf state.now (writes.put writes.Errors text.now s)) }
 {
-    if text.is_empty() {
-        return Ok(empty());
-    }
     let bytes = Vec::from_slice(alloc, text)?;
-    Ok(Leaf::Asks(Act::Err(bytes), Waits::Written))
+    Ok(write(state, Channel::Errors, bytes))
 }

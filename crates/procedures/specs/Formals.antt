@@ -2,7 +2,11 @@
 use Rattle.std.specs.Prelude.{ℕ, List, [], ◌∷◌, codes, Option, Some, None, Result, Ok, Err}
 use Rattle.acts.specs.Flaw as flaw
 use Rattle.acts.specs.Flaw.{Flaw}
-use Rattle.procedures.specs.Listed.{list_of, flaw_of_list}
+use Rattle.plan.specs.Plan.{Reads}
+use Rattle.state.specs.Dialogue.{Course, raises}
+use Rattle.state.specs.Listed.{with_list}
+use Rattle.state.specs.Piece.{ListText}
+use Rattle.state.specs.Status.{Status}
 use Rattle.tclparse.specs.Variable.{named}
 use Rattle.tclstate.specs.Formals.{Formal}
 use Rattle.tcltext.specs.Flaw as list
@@ -13,15 +17,20 @@ formal_in (Ok (name ∷ [])) = Some (record { name = name; default = None })
 formal_in (Ok (name ∷ default ∷ [])) = Some (record { name = name; default = Some default })
 formal_in _ = None
 
+-- a text is read as a list, and on with the formal that it is, if it is one (proc(n))
+abbrev pub with_formal : List ℕ → (Option Formal → Course) → Course
+with_formal text next = Reads (ListText text) (λ list. next (formal_in list))
+
 -- one formal more, where all are formals
 abbrev pub joined : Option Formal → Option (List Formal) → Option (List Formal)
 joined (Some f) (Some fs) = Some (f ∷ fs)
 joined _ _ = None
 
--- the formals that these texts are, where each is one (proc(n))
-abbrev pub formals_in : List (List ℕ) → Option (List Formal)
-formals_in [] = Some []
-formals_in (t ∷ ts) = joined (formal_in (list_of t)) (formals_in ts)
+-- on with the formals that these texts are, if each is one (proc(n))
+abbrev pub with_formals : List (List ℕ) → (Option (List Formal) → Course) → Course
+with_formals [] next = next (Some [])
+with_formals (t ∷ ts) next =
+    with_formal t (λ formal. with_formals ts (λ formals. next (joined formal formals)))
 
 -- the error of formals that are none; all of their text is told (this project's own rule)
 abbrev pub bad_formals : List ℕ → Flaw
@@ -54,11 +63,13 @@ abbrev pub usable : List ℕ → Option (List Formal) → Result (List Formal) F
 usable text None = Err (bad_formals text)
 usable text (Some fs) = checked (first_flaw text fs) fs
 
--- the formals that a list is, where the text is one (proc(n))
-abbrev pub of_list : List ℕ → Result (List (List ℕ)) list.Flaw → Result (List Formal) Flaw
-of_list text (Ok words) = usable text (formals_in words)
-of_list text (Err why) = Err (flaw_of_list why)
+-- on with formals, or with the script's error
+abbrev pub on_formals : Result (List Formal) Flaw → Status → (List Formal → Course) → Course
+on_formals (Ok fs) s next = next fs
+on_formals (Err flaw) s next = raises flaw s
 
--- the formals that a text is, or the script's error (proc(n))
-abbrev pub formals_of : List ℕ → Result (List Formal) Flaw
-formals_of text = of_list text (list_of text)
+-- a text is read as a list of formals, and on with them; the text that is no list, the element that
+-- is no formal and the name that is not that of a variable are told in this order (proc(n))
+abbrev pub with_formals_of : List ℕ → Status → (List Formal → Course) → Course
+with_formals_of text s next = with_list text s (λ words.
+    with_formals words (λ formals. on_formals (usable text formals) s next))

@@ -1,8 +1,7 @@
 -- What proc does.
-use Rattle.std.specs.Prelude.{ℕ, List, [], ◌∷◌, codes, Result, Ok, Err, if◌then◌else◌}
+use Rattle.std.specs.Prelude.{ℕ, List, [], ◌∷◌, codes, if◌then◌else◌}
 use Rattle.acts.specs.Flaw as flaw
-use Rattle.acts.specs.Flaw.{Flaw}
-use Rattle.procedures.specs.Formals.{formals_of}
+use Rattle.procedures.specs.Formals.{with_formals_of}
 use Rattle.state.specs.Dialogue.{Course, gives, raises}
 use Rattle.state.specs.Status.{Status}
 use Rattle.tclparse.specs.Variable.{holds_colons}
@@ -15,16 +14,12 @@ defines name formals body s =
     gives []
     (record s { procedures = put s.procedures name (record { formals = formals; body = body }) })
 
--- the same, where the formals can be read (proc(n))
-abbrev pub defines_with : Result (List Formal) Flaw → List ℕ → List ℕ → Status → Course
-defines_with (Ok formals) name body s = defines name formals body s
-defines_with (Err flaw) name body s = raises flaw s
-
--- the same; a name that holds the mark of a namespace is none (this project's own rule)
+-- the same, where the formals can be read (proc(n)); a name that holds the mark of a namespace is
+-- none (this project's own rule)
 abbrev pub defines_named : List ℕ → List ℕ → List ℕ → Status → Course
 defines_named name formals body s =
     if holds_colons name then raises flaw.BadVariable s
-    else defines_with (formals_of formals) name body s
+    else with_formals_of formals s (λ fs. defines name fs body s)
 
 -- proc n formals b (proc(n))
 abbrev pub proc : List (List ℕ) → Status → Course

@@ -1,29 +1,37 @@
 //! The formals of a procedure, as `proc` takes them.
 
-ghost use Rattle.std.specs.Prelude.{◌≡◌, IfOk, option_map};
+ghost use Rattle.std.specs.Prelude.{◌≡◌, List, codes, IfOk, option_map};
 ghost use Rattle.acts.specs.Flaw as flaw;
 ghost use Rattle.acts.specs.Flaw.{flaw_of};
 ghost use Rattle.procedures.specs.Formals as definition;
-ghost use Rattle.procedures.specs.View.{TellsFlaw, read_as};
-ghost use Rattle.std.specs.Prelude.{codes};
+ghost use Rattle.procedures.specs.Formals.{on_formals, with_formals_of};
+ghost use Rattle.procedures.specs.View.{read_as};
+ghost use Rattle.state.specs.Dialogue.{Course};
+ghost use Rattle.state.specs.Reaches.{Reaches};
+ghost use Rattle.state.specs.Status.{Status};
 ghost use Rattle.tclparse.specs.Variable.{named};
+ghost use Rattle.tclstate.specs.Formals as meant;
 
 use acts::{Fault, NoMemory};
+use meanings::{MeaningFault, no_list};
 use std::alloc::Allocator;
 use tclparse::variable_name;
 use tclstate::{Formal, Formals, FormalsError};
-use tcltext::ListFault;
 
 /// The formals that a text is, each with the name of a variable as a whole, or the script's error.
 pub fn formals_of<A: Allocator + Copy>(
     alloc: A,
     text: &[u8],
 ) -> Result<Result<Formals<A>, Fault<A>>, NoMemory>
-    ensures { IfOk result (λ r. read_as r ≡ definition.formals_of text.now) }
+    ensures { (s : Status) (next : List meant.Formal → Course) → IfOk result (λ r.
+        Reaches (with_formals_of text.now s next) (on_formals (read_as r) s next)) }
 {
     match Formals::read(alloc, text) {
         Ok(formals) => checked(alloc, text, formals),
-        Err(FormalsError::NotAList(fault)) => Ok(Err(no_list(fault)?)),
+        Err(FormalsError::NotAList(fault)) => match no_list(fault) {
+            MeaningFault::Fault(fault) => Ok(Err(fault)),
+            MeaningFault::NoMemory(refusal) => Err(refusal),
+        },
         Err(FormalsError::BadFormal) => Ok(Err(bad_formals(alloc, text)?)),
         Err(FormalsError::NoMemory(refusal)) => Err(refusal),
     }
@@ -87,18 +95,4 @@ fn bad_formals<A: Allocator + Copy>(alloc: A, text: &[u8]) -> Result<Fault<A>, N
         word: Vec::from_slice(alloc, text)?,
         command: Vec::from_slice(alloc, b"proc")?,
     })
-}
-
-/// Why a text is no list, as the script's error.
-fn no_list<A: Allocator>(fault: ListFault) -> Result<Fault<A>, NoMemory>
-    ensures { IfOk result (λ told. TellsFlaw told fault) }
-{
-    match fault {
-        ListFault::OpenBrace => Ok(Fault::ListOpenBrace),
-        ListFault::OpenQuote => Ok(Fault::ListOpenQuote),
-        ListFault::AfterBrace => Ok(Fault::ListAfterBrace),
-        ListFault::AfterQuote => Ok(Fault::ListAfterQuote),
-        ListFault::EscapeNotHere => Ok(Fault::EscapeNotHere),
-        ListFault::NoMemory(refusal) => Err(refusal),
-    }
 }

@@ -4,6 +4,3 @@
 mod formals;
 pub mod laws;
 pub mod proc;
-mod waits;
-
-pub use waits::Waits;

@@ -2,19 +2,19 @@
 #![tactic(auto, using(state::proofs::Reaches::same_reaches))]
 
 ghost use Rattle.std.specs.Prelude.{◌≤◌, IfOk};
+ghost use Rattle.procedures.specs.Formals.{on_formals};
 ghost use Rattle.procedures.specs.Proc as definition;
 ghost use Rattle.procedures.specs.View.{read_as};
-ghost use Rattle.procedures.specs.Waits.{next_of};
+ghost use Rattle.state.specs.NoWaits.{next_of};
 ghost use Rattle.state.specs.Leaf.{Shows};
 ghost use Rattle.state.specs.Status.{Status};
 ghost use Rattle.state.specs.View.{FitsState};
 
 use crate::formals::formals_of;
-use crate::waits::Waits;
 use acts::{Fault, NoMemory};
 use state::arguments::wrong_args;
 use state::leaf::{empty, raises};
-use state::{Leaf, State};
+use state::{Leaf, NoWaits, State};
 use std::alloc::Allocator;
 use tclparse::holds_colons;
 use tclstate::{Formals, Procedure};
@@ -26,7 +26,7 @@ pub fn begin<A: Allocator + Copy>(
     alloc: A,
     state: &mut State<A>,
     args: &[Value<A>],
-) -> Result<Leaf<A, Waits>, NoMemory>
+) -> Result<Leaf<A, NoWaits>, NoMemory>
     ensures shows { (s : Status) → FitsState state.old s →
         IfOk result (λ leaf. Shows next_of leaf state.new (definition.proc args.now s)) }
     ensures left { state.new.left ≤ state.old.left }
@@ -46,7 +46,7 @@ fn define_named<A: Allocator + Copy>(
     name: &[u8],
     formals: &[u8],
     body: &Value<A>,
-) -> Result<Leaf<A, Waits>, NoMemory>
+) -> Result<Leaf<A, NoWaits>, NoMemory>
     ensures shows { (s : Status) → FitsState state.old s → IfOk result (λ leaf.
         Shows next_of leaf state.new
         (definition.defines_named name.now formals.now body.now s)) }
@@ -66,10 +66,10 @@ fn define_with<A: Allocator + Copy>(
     name: &[u8],
     formals: Result<Formals<A>, Fault<A>>,
     body: &Value<A>,
-) -> Result<Leaf<A, Waits>, NoMemory>
+) -> Result<Leaf<A, NoWaits>, NoMemory>
     ensures shows { (s : Status) → FitsState state.old s → IfOk result (λ leaf.
         Shows next_of leaf state.new
-        (definition.defines_with (read_as formals) name.now body.now s)) }
+        (on_formals (read_as formals) s (λ fs. definition.defines name.now fs body.now s))) }
     ensures left { state.new.left ≤ state.old.left }
 {
     match formals {
@@ -85,7 +85,7 @@ fn define<A: Allocator + Copy>(
     name: &[u8],
     formals: Formals<A>,
     body: Value<A>,
-) -> Result<Leaf<A, Waits>, NoMemory>
+) -> Result<Leaf<A, NoWaits>, NoMemory>
     ensures shows { (s : Status) → FitsState state.old s → IfOk result (λ leaf.
         Shows next_of leaf state.new (definition.defines name.now formals body s)) }
     ensures left { state.new.left ≤ state.old.left }

@@ -8,7 +8,7 @@ use crate::place::{items_from, place_of};
 use crate::words::{bad_argument, wrong_args};
 use meanings::{MeaningFault, elements};
 use std::alloc::Allocator;
-use tcltext::{Value, join_values};
+use tcltext::Value;
 
 /// A part of a list.
 pub fn lrange<A: Allocator + Copy>(
@@ -53,6 +53,5 @@ fn part<A: Allocator + Copy>(
     let Some(to) = place_of(last, elements.len()) else {
         return bad_argument(alloc, last, b"lrange");
     };
-    let text = join_values(alloc, items_from(elements, from, to))?;
-    Ok(Value::new(alloc, text)?)
+    Ok(Value::list(alloc, items_from(elements, from, to))?)
 }

@@ -4,14 +4,13 @@ use Rattle.acts.specs.declared.id.Id.{Id}
 use Rattle.acts.specs.Deed.{Deed, Reply}
 use Rattle.acts.specs.Deed as said
 use Rattle.acts.specs.Fits.{fits}
-use Rattle.acts.specs.Flaw as flaw
 use Rattle.meanings.specs.Meaning.{Meaning, Gives, Raises, Splits, Matches}
 use Rattle.plan.specs.Finished.{Falls}
 use Rattle.plan.specs.Kept.{Keeps}
 use Rattle.plan.specs.Paid.{Pays}
 use Rattle.plan.specs.Plan.{Ends, Asks, Reads, Calls}
 use Rattle.state.specs.Behaves.{Behaves, worth}
-use Rattle.state.specs.Dialogue.{Course, ask, judged, is_no_more, stopping, written as after_write}
+use Rattle.state.specs.Dialogue.{Course, ask, is_no_more, stopping, written as after_write}
 use Rattle.state.specs.Listed.{with_list}
 use Rattle.state.specs.Meant.{meant}
 use Rattle.state.specs.Outcome as stop
@@ -19,7 +18,7 @@ use Rattle.state.specs.Outcome.{Stop}
 use Rattle.state.specs.Piece.{Piece, IsTree}
 use Rattle.state.specs.Rows.{Holds}
 use Rattle.state.specs.Status.{Status}
-use Rattle.state.specs.Variables.{reads, writes, found, stored, on_open, on_named, with_current, named, consulted}
+use Rattle.state.specs.Variables.{reads, writes, found, stored, on_open, on_named, with_current}
 use Rattle.tclstate.specs.Scopes.{Scopes, Trouble, read, written}
 
 -- with more ticks and more to pay with a course behaves too

@@ -1,5 +1,5 @@
 -- The two states fit again where one part of both has changed.
-use Rattle.std.proofs.Common.{◌≡◌, ℕ, List, Option, refl, ap}
+use Rattle.std.proofs.Common.{ℕ, List, Option, refl, ap}
 use Rattle.acts.specs.declared.id.Id.{Id}
 use Rattle.state.specs.Standing.{unpaired}
 use Rattle.state.specs.Status.{Peer, Status, closed, opened, shut}
@@ -94,4 +94,17 @@ module _ {A : Type 0} (state : State A) (s : Status) (fits : FitsState state s) 
     size = fits.size;
     next = fits.next;
     left = refl;
+  }
+
+  -- the scripts that are kept
+  pub kept_fits : (kept : List (List ℕ)) → FitsState (record state { kept = kept }) s
+  kept_fits kept = record {
+    scopes = fits.scopes;
+    procedures = fits.procedures;
+    peers = fits.peers;
+    standing = fits.standing;
+    logging = fits.logging;
+    size = fits.size;
+    next = fits.next;
+    left = fits.left;
   }

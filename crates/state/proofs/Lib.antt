@@ -13,3 +13,4 @@ pub mod Numbers
 pub mod Shown
 pub mod Listed
 pub mod Meant
+pub mod Ticks

@@ -1,5 +1,5 @@
 -- What follows a text that is read as a list, where it is known what it is.
-use Rattle.std.proofs.Common.{◌≡◌, ◌∙◌, ℕ, List, [], Result, Ok, Err, MatchResult, sym, ap}
+use Rattle.std.proofs.Common.{◌≡◌, ℕ, List, [], Result, Ok, Err, MatchResult, sym, ap}
 use Rattle.acts.specs.declared.fault.Fault.{Fault}
 use Rattle.acts.specs.Flaw.{flaw_of}
 use Rattle.acts.specs.Flaw as acts
@@ -8,7 +8,7 @@ use Rattle.meanings.specs.Meaning.{Answer, Comes, Gives, IsSplit, flaw_of_list}
 use Rattle.meanings.specs.View.{IsNoList}
 use Rattle.state.proofs.Reaches.{same_reaches}
 use Rattle.state.specs.Dialogue.{Course, raises}
-use Rattle.state.specs.Listed.{on_list, with_list}
+use Rattle.state.specs.Listed.{with_list}
 use Rattle.state.specs.Piece.{ListText}
 use Rattle.state.specs.Reaches.{Reaches, here, reads}
 use Rattle.state.specs.Status.{Status}

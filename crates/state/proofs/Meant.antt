@@ -1,46 +1,91 @@
 -- What a function of texts comes to, as a course.
-use Rattle.std.proofs.Common.{◌≡◌, ℕ, List, Result, Ok, Err, MatchResult, IfOk, sym, ap}
+use Rattle.std.proofs.Common.{◌≡◌, ℕ, List, Result, Ok, Err, MatchResult, IfOk, refl, sym, ap, subst}
 use Rattle.acts.specs.Deed.{Deed, Reply}
+use Rattle.acts.specs.Flaw.{flaw_of}
+use Rattle.acts.specs.declared.fault.Fault.{Fault}
 use Rattle.memory.specs.declared.NoMemory.{NoMemory}
-use Rattle.meanings.specs.Meaning.{Answer, Comes, IsSplit, Meaning, Gives, Raises, Splits, Matches, flaw_of_list}
+use Rattle.meanings.specs.Meaning.{Answer, Comes, Meaning, Gives, Raises, Splits, Matches, flaw_of_list}
+use Rattle.meanings.specs.View.{Answers}
+use Rattle.meanings.specs.declared.fault.MeaningFault.{MeaningFault}
+use Rattle.meanings.specs.declared.fault.MeaningFault.TheVariants as fault
 use Rattle.plan.specs.Plan.{Ends}
-use Rattle.state.proofs.Reaches.{same_reaches}
+use Rattle.state.proofs.Reaches.{same_reaches, then_reaches}
 use Rattle.state.proofs.Shown.{over_after}
-use Rattle.state.specs.Dialogue.{Course}
+use Rattle.state.specs.Dialogue.{Course, gives, raises}
 use Rattle.state.specs.declared.leaf.Leaf.{Leaf}
 use Rattle.state.specs.declared.state.State.{State}
 use Rattle.state.specs.Leaf.{IsMeant, Shows}
-use Rattle.state.specs.Listed.{with_list}
-use Rattle.state.specs.Meant.{meant, told}
+use Rattle.state.specs.Listed.{on_list}
+use Rattle.state.specs.Meant.{meant, on_meaning, told}
 use Rattle.state.specs.Piece.{ListText, TestText}
 use Rattle.state.specs.Reaches.{Reaches, reads}
 use Rattle.state.specs.Status.{Status}
 use Rattle.state.specs.View.{FitsState}
 use Rattle.tcltext.specs.Flaw.{Flaw}
 
+-- on with a value; an error is raised
+abbrev pub on_answer : Answer → Status → (List ℕ → Course) → Course
+on_answer (Ok value) s next = next value
+on_answer (Err flaw) s next = raises flaw s
+
+-- what follows the one reading of a text as a list
+split_reaches : (more : List (List ℕ) → Meaning) (answer : Answer) (s : Status)
+    (next : List ℕ → Course) →
+    ((elements : List (List ℕ)) → Comes (more elements) answer →
+    Reaches (on_meaning (more elements) s next) (on_answer answer s next)) →
+    (split : Result (List (List ℕ)) Flaw) →
+    MatchResult split (λ elements. Comes (more elements) answer)
+    (λ why. answer ≡ Err (flaw_of_list why)) →
+    Reaches (on_list s (λ elements. on_meaning (more elements) s next) split)
+    (on_answer answer s next)
+split_reaches more answer s next each (Ok elements) comes = each elements comes
+split_reaches more answer s next each (Err why) is =
+    same_reaches (ap (λ a. on_answer a s next) (sym is))
+
+-- a meaning goes on with its answer
+pub meaning_reaches : (meaning : Meaning) (answer : Answer) (s : Status) (next : List ℕ → Course) →
+    Comes meaning answer → Reaches (on_meaning meaning s next) (on_answer answer s next)
+meaning_reaches (Gives value) answer s next is =
+    same_reaches (ap (λ a. on_answer a s next) (sym is))
+meaning_reaches (Raises flaw) answer s next is =
+    same_reaches (ap (λ a. on_answer a s next) (sym is))
+meaning_reaches (Splits text more) answer s next comes =
+    reads {text = ListText text} comes.0 comes.1
+    (split_reaches more answer s next
+    (λ elements. meaning_reaches (more elements) answer s next) comes.0 comes.2)
+meaning_reaches (Matches pattern text more) answer s next comes =
+    reads {text = TestText pattern text} comes.0 comes.1
+    (meaning_reaches (more comes.0) answer s next comes.2)
+
+-- the same, of an answer of the code
+pub value_reaches : {A : Type 0} (meaning : Meaning) (it : Result (List ℕ) (MeaningFault A))
+    (value : List ℕ) (s : Status) (next : List ℕ → Course) → it ≡ Ok value → Answers meaning it →
+    Reaches (on_meaning meaning s next) (next value)
+value_reaches meaning it value s next is answers =
+    meaning_reaches meaning (Ok value) s next (subst (λ a. Answers meaning a) is answers)
+
+pub fault_reaches : {A : Type 0} (meaning : Meaning) (it : Result (List ℕ) (MeaningFault A))
+    (why : MeaningFault A) (told : Fault A) (s : Status) (next : List ℕ → Course) → it ≡ Err why →
+    why ≡ fault.Fault told → Answers meaning it →
+    Reaches (on_meaning meaning s next) (raises (flaw_of told) s)
+fault_reaches meaning it why told s next is also answers =
+    meaning_reaches meaning (Err (flaw_of told)) s next
+    (subst (λ a. Answers meaning (Err a)) also (subst (λ a. Answers meaning a) is answers))
+
 -- it is over with an answer
 abbrev over_with : Status → Answer → Course
 over_with s answer = Ends (s, told answer)
 
-split_comes : (text : List ℕ) (next : List (List ℕ) → Meaning) (a : Answer) (s : Status) →
-    ((v : List (List ℕ)) → Comes (next v) a → Reaches (meant (next v) s) (over_with s a)) →
-    (split : Result (List (List ℕ)) Flaw) → IsSplit text split →
-    MatchResult split (λ v. Comes (next v) a) (λ why. a ≡ Err (flaw_of_list why)) →
-    Reaches (meant (Splits text next) s) (over_with s a)
-split_comes text next a s each (Ok v) is comes =
-    reads {text = ListText text} (Ok v) is (each v comes)
-split_comes text next a s each (Err why) is same =
-    reads {text = ListText text} (Err why) is (same_reaches (ap (over_with s) (sym same)))
+over_is : (answer : Answer) (s : Status) →
+    on_answer answer s (λ value. gives value s) ≡ over_with s answer
+over_is (Ok value) s = refl
+over_is (Err flaw) s = refl
 
 -- where it comes to an answer, its course comes to that answer
 pub comes_reaches : (m : Meaning) (a : Answer) (s : Status) → Comes m a →
     Reaches (meant m s) (over_with s a)
-comes_reaches (Gives value) a s is = same_reaches (ap (over_with s) (sym is))
-comes_reaches (Raises flaw) a s is = same_reaches (ap (over_with s) (sym is))
-comes_reaches (Splits text next) a s is =
-    split_comes text next a s (λ v. comes_reaches (next v) a s) is.0 is.1 is.2
-comes_reaches (Matches pattern text next) a s is =
-    reads {text = TestText pattern text} is.0 is.1 (comes_reaches (next is.0) a s is.2)
+comes_reaches m a s comes =
+    then_reaches (meaning_reaches m a s (λ value. gives value s) comes) (same_reaches (over_is a s))
 
 module _ {A W : Type 0} (next : W → Deed → Status → Reply → Course) {state : State A}
     {s : Status} (m : Meaning) where

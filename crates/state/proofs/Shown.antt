@@ -1,5 +1,5 @@
 -- What is at hand, where it is known how it came about.
-use Rattle.std.proofs.Common.{◌≡◌, Result, Ok, Err, IfOk, sym, ap, ◌∙◌}
+use Rattle.std.proofs.Common.{◌≡◌, Result, Ok, Err, IfOk, sym, ap}
 use Rattle.acts.specs.Deed.{Deed, Reply}
 use Rattle.memory.specs.declared.NoMemory.{NoMemory}
 use Rattle.plan.specs.Plan.{Ends}

@@ -1,5 +1,5 @@
 -- What a change at one place of the code's ids is to those of the definition.
-use Rattle.std.proofs.Common.{◌≡◌, ℕ, suc, ◌+◌, ◌==◌, ◌&&◌, cond, Bool, true, false, List, [], ◌∷◌, ◌++◌, length, get_or, Option, Some, None, if◌then◌else◌, refl, sym, ap, ◌∙◌, arith, is_some}
+use Rattle.std.proofs.Common.{◌≡◌, ℕ, suc, ◌+◌, ◌==◌, cond, Bool, true, false, List, [], ◌∷◌, ◌++◌, length, get_or, Option, Some, None, if◌then◌else◌, refl, sym, ap, ◌∙◌, arith, is_some}
 use Rattle.std.proofs.Math.ListN.{set}
 use Rattle.std.specs.List.{position, position_from, remove}
 use Rattle.std.specs.Option.{option_map}
@@ -8,10 +8,11 @@ use Rattle.std.proofs.lemmas.Bool.Decides.{nat_tests}
 use Rattle.acts.specs.declared.id.Id.{Id}
 use Rattle.matchbuf.specs.Journal.{Record, Fits}
 use Rattle.state.specs.declared.table.Entry.{Entry}
-use Rattle.state.specs.Status.{Peer, Kind, fresh, opened, journal_in, journal_of, recorded, closed, is_open, is_open_at}
+use Rattle.state.specs.Status.{Peer, Kind, fresh, opened, journal_in, recorded, closed, is_open}
 use Rattle.std.specs.Str.{bytes_eq}
 use Rattle.acts.specs.Id.{id_text}
-use Rattle.state.specs.Tables.{FitsAll, FirstCloses}
+use Rattle.state.specs.Channels.{is_channel, connection}
+use Rattle.state.specs.Tables.{kind_of, FitsEntry, FitsAll, FirstCloses}
 use Rattle.state.specs.Variables.{named}
 
 shifted : (o : Option ℕ) (n : ℕ) → option_map (λ k. n + 1 + k) o
@@ -171,10 +172,10 @@ module _ {A : Type 0} where
   at i [] ps k x is has fits = absurd (cc)
   at i (e ∷ es) [] k x is has fits = absurd fits
   at i (e ∷ es) (p ∷ ps) k x is has fits =
-      let ids : (e.id.0 == i.0) ≡ (p.id.0 == i.0) = ap (λ z. z.0 == i.0) fits.0 in
+      let ids : (e.id.0 == i.0) ≡ (p.id.0 == i.0) = ap (λ z. z.0 == i.0) fits.0.id in
       at-by i e es p ps k x (p.id.0 == i.0) refl
-      (where_is (p.id.0 == i.0) (place i es) k (rw ids at is)) has fits.0 fits.1
-      (λ m found got. at i es ps m x found got fits.2)
+      (where_is (p.id.0 == i.0) (place i es) k (rw ids at is)) has fits.0.id fits.0.buffer
+      (λ m found got. at i es ps m x found got fits.1)
 
   absent-by : (i : Id) (es : List (Entry A)) (p : Peer) (ps : List Peer) (b : Bool) →
       (p.id.0 == i.0) ≡ b → cond b (Some 0) (option_map (λ n. n + 1) (place i es)) ≡ None →
@@ -188,62 +189,91 @@ module _ {A : Type 0} where
   absent i [] (p ∷ ps) is fits = absurd fits
   absent i (e ∷ es) [] is fits = refl
   absent i (e ∷ es) (p ∷ ps) is fits =
-      let ids : (e.id.0 == i.0) ≡ (p.id.0 == i.0) = ap (λ z. z.0 == i.0) fits.0 in
-      absent-by i es p ps (p.id.0 == i.0) refl (rw ids at is) (λ none. absent i es ps none fits.2)
+      let ids : (e.id.0 == i.0) ≡ (p.id.0 == i.0) = ap (λ z. z.0 == i.0) fits.0.id in
+      absent-by i es p ps (p.id.0 == i.0) refl (rw ids at is) (λ none. absent i es ps none fits.1)
+
+  -- an entry in the place of another, opened for the same
+  pub record InPlace (x y : Entry A) (es : List (Entry A)) (k : ℕ) : Type 0 where
+    pub has : x ≡ get_or es k x
+    pub kind : y.kind ≡ x.kind
+
+  in_rest : (x y e : Entry A) (es : List (Entry A)) (k m : ℕ) → k ≡ suc m →
+      InPlace x y (e ∷ es) k → InPlace x y es m
+  in_rest x y e es k m is there =
+      record { has = there.has ∙ ap (λ n. get_or (e ∷ es) n x) is; kind = there.kind }
+
+  -- in the first place it fits where its buffer does
+  fits-first : (i : Id) (x y e : Entry A) (es : List (Entry A)) (p q : Peer) (k : ℕ) →
+      (p.id.0 == i.0) ≡ true → k ≡ 0 → InPlace x y (e ∷ es) k → FitsEntry e p → y.id ≡ i →
+      q.id ≡ p.id → q.kind ≡ p.kind → Fits q.journal y.buffer → FitsEntry y q
+  fits-first i x y e es p q k hit is there fits id ids kinds buffer =
+      let same : x ≡ e = there.has ∙ ap (λ n. get_or (e ∷ es) n x) is in
+      record {
+        id = id ∙ sym (id-same p.id i hit) ∙ sym ids;
+        kind = ap kind_of there.kind ∙ ap (λ (z : Entry A). kind_of z.kind) same ∙ fits.kind
+            ∙ sym kinds;
+        buffer = buffer;
+      }
 
   -- another record in the journal of an id, and its buffer as it is then
   put-by : (i : Id) (e : Entry A) (es : List (Entry A)) (p : Peer) (ps : List Peer) (k : ℕ)
-      (y : Entry A) (r : Record) (j : List Record) (b : Bool) → (p.id.0 == i.0) ≡ b →
-      Where b (place i es) k → FitsAll (e ∷ es) (p ∷ ps) → journal_in (p ∷ ps) i ≡ Some j → y.id ≡ i
-      → Fits (r ∷ j) y.buffer → ((m : ℕ) → place i es ≡ Some m → journal_in ps i ≡ Some j →
+      (x y : Entry A) (r : Record) (j : List Record) (b : Bool) → (p.id.0 == i.0) ≡ b →
+      Where b (place i es) k → InPlace x y (e ∷ es) k → FitsAll (e ∷ es) (p ∷ ps) →
+      journal_in (p ∷ ps) i ≡ Some j → y.id ≡ i → Fits (r ∷ j) y.buffer →
+      ((m : ℕ) → place i es ≡ Some m → InPlace x y es m → journal_in ps i ≡ Some j →
       FitsAll (set es m y) (put_in r i ps)) → FitsAll (set (e ∷ es) k y) (put_in r i (p ∷ ps))
-  put-by i e es p ps k y r j true hit is fits has id new rest =
+  put-by i e es p ps k x y r j true hit is there fits has id new rest =
       let journal : p.journal ≡ j = let h : Some p.journal ≡ Some j = rw hit at has in cc in
-      let first : FitsAll (y ∷ es) (record p { journal = r ∷ p.journal } ∷ ps) =
-      (id ∙ sym (id-same p.id i hit), rw journal new, fits.2) in
+      let q : Peer = record p { journal = r ∷ p.journal } in
+      let first : FitsAll (y ∷ es) (q ∷ ps) =
+      (fits-first i x y e es p q k hit is there fits.0 id refl refl (rw journal new), fits.1) in
       rw (is, hit) first
-  put-by i e es p ps k y r j false miss f fits has id new rest =
-      let more : FitsAll (set es f.0 y) (put_in r i ps) = rest f.0 f.1 (rw miss at has) in
-      let first : FitsAll (e ∷ set es f.0 y) (p ∷ put_in r i ps) = (fits.0, fits.1, more) in
+  put-by i e es p ps k x y r j false miss f there fits has id new rest =
+      let more : FitsAll (set es f.0 y) (put_in r i ps) =
+      rest f.0 f.1 (in_rest x y e es k f.0 f.2 there) (rw miss at has) in
+      let first : FitsAll (e ∷ set es f.0 y) (p ∷ put_in r i ps) = (fits.0, more) in
       rw (f.2, miss) first
 
-  pub put : (i : Id) (es : List (Entry A)) (ps : List Peer) (k : ℕ) (y : Entry A) (r : Record)
-      (j : List Record) → place i es ≡ Some k → FitsAll es ps → journal_in ps i ≡ Some j → y.id ≡ i
-      → Fits (r ∷ j) y.buffer → FitsAll (set es k y) (put_in r i ps)
-  put i [] ps k y r j is fits has id new = absurd (cc)
-  put i (e ∷ es) [] k y r j is fits has id new = absurd fits
-  put i (e ∷ es) (p ∷ ps) k y r j is fits has id new =
-      let ids : (e.id.0 == i.0) ≡ (p.id.0 == i.0) = ap (λ z. z.0 == i.0) fits.0 in
-      put-by i e es p ps k y r j (p.id.0 == i.0) refl
-      (where_is (p.id.0 == i.0) (place i es) k (rw ids at is)) fits has id new
-      (λ m found got. put i es ps m y r j found fits.2 got id new)
+  pub put : (i : Id) (es : List (Entry A)) (ps : List Peer) (k : ℕ) (x y : Entry A) (r : Record)
+      (j : List Record) → place i es ≡ Some k → InPlace x y es k → FitsAll es ps →
+      journal_in ps i ≡ Some j → y.id ≡ i → Fits (r ∷ j) y.buffer →
+      FitsAll (set es k y) (put_in r i ps)
+  put i [] ps k x y r j is there fits has id new = absurd (cc)
+  put i (e ∷ es) [] k x y r j is there fits has id new = absurd fits
+  put i (e ∷ es) (p ∷ ps) k x y r j is there fits has id new =
+      let ids : (e.id.0 == i.0) ≡ (p.id.0 == i.0) = ap (λ z. z.0 == i.0) fits.0.id in
+      put-by i e es p ps k x y r j (p.id.0 == i.0) refl
+      (where_is (p.id.0 == i.0) (place i es) k (rw ids at is)) there fits has id new
+      (λ m found still got. put i es ps m x y r j found still fits.1 got id new)
 
   -- the same journal, and a buffer that fits it too
   keep-by : (i : Id) (e : Entry A) (es : List (Entry A)) (p : Peer) (ps : List Peer) (k : ℕ)
-      (y : Entry A) (j : List Record) (b : Bool) → (p.id.0 == i.0) ≡ b → Where b (place i es) k →
-      FitsAll (e ∷ es) (p ∷ ps) → journal_in (p ∷ ps) i ≡ Some j → y.id ≡ i → Fits j y.buffer →
-      ((m : ℕ) → place i es ≡ Some m → journal_in ps i ≡ Some j → FitsAll (set es m y) ps) →
-      FitsAll (set (e ∷ es) k y) (p ∷ ps)
-  keep-by i e es p ps k y j true hit is fits has id new rest =
+      (x y : Entry A) (j : List Record) (b : Bool) → (p.id.0 == i.0) ≡ b → Where b (place i es) k →
+      InPlace x y (e ∷ es) k → FitsAll (e ∷ es) (p ∷ ps) → journal_in (p ∷ ps) i ≡ Some j →
+      y.id ≡ i → Fits j y.buffer →
+      ((m : ℕ) → place i es ≡ Some m → InPlace x y es m → journal_in ps i ≡ Some j →
+      FitsAll (set es m y) ps) → FitsAll (set (e ∷ es) k y) (p ∷ ps)
+  keep-by i e es p ps k x y j true hit is there fits has id new rest =
       let journal : p.journal ≡ j = let h : Some p.journal ≡ Some j = rw hit at has in cc in
       let first : FitsAll (y ∷ es) (p ∷ ps) =
-      (id ∙ sym (id-same p.id i hit), rw journal new, fits.2) in
+      (fits-first i x y e es p p k hit is there fits.0 id refl refl (rw journal new), fits.1) in
       rw is first
-  keep-by i e es p ps k y j false miss f fits has id new rest =
-      let more : FitsAll (set es f.0 y) ps = rest f.0 f.1 (rw miss at has) in
-      let first : FitsAll (e ∷ set es f.0 y) (p ∷ ps) = (fits.0, fits.1, more) in
+  keep-by i e es p ps k x y j false miss f there fits has id new rest =
+      let more : FitsAll (set es f.0 y) ps =
+      rest f.0 f.1 (in_rest x y e es k f.0 f.2 there) (rw miss at has) in
+      let first : FitsAll (e ∷ set es f.0 y) (p ∷ ps) = (fits.0, more) in
       rw f.2 first
 
-  pub keep : (i : Id) (es : List (Entry A)) (ps : List Peer) (k : ℕ) (y : Entry A) (j : List Record)
-      → place i es ≡ Some k → FitsAll es ps → journal_in ps i ≡ Some j → y.id ≡ i → Fits j y.buffer
-      → FitsAll (set es k y) ps
-  keep i [] ps k y j is fits has id new = absurd (cc)
-  keep i (e ∷ es) [] k y j is fits has id new = absurd fits
-  keep i (e ∷ es) (p ∷ ps) k y j is fits has id new =
-      let ids : (e.id.0 == i.0) ≡ (p.id.0 == i.0) = ap (λ z. z.0 == i.0) fits.0 in
-      keep-by i e es p ps k y j (p.id.0 == i.0) refl
-      (where_is (p.id.0 == i.0) (place i es) k (rw ids at is)) fits has id new
-      (λ m found got. keep i es ps m y j found fits.2 got id new)
+  pub keep : (i : Id) (es : List (Entry A)) (ps : List Peer) (k : ℕ) (x y : Entry A)
+      (j : List Record) → place i es ≡ Some k → InPlace x y es k → FitsAll es ps →
+      journal_in ps i ≡ Some j → y.id ≡ i → Fits j y.buffer → FitsAll (set es k y) ps
+  keep i [] ps k x y j is there fits has id new = absurd (cc)
+  keep i (e ∷ es) [] k x y j is there fits has id new = absurd fits
+  keep i (e ∷ es) (p ∷ ps) k x y j is there fits has id new =
+      let ids : (e.id.0 == i.0) ≡ (p.id.0 == i.0) = ap (λ z. z.0 == i.0) fits.0.id in
+      keep-by i e es p ps k x y j (p.id.0 == i.0) refl
+      (where_is (p.id.0 == i.0) (place i es) k (rw ids at is)) there fits has id new
+      (λ m found still got. keep i es ps m x y j found still fits.1 got id new)
 
   -- nothing is there to be changed
   unchanged-by : (i : Id) (r : Record) (es : List (Entry A)) (p : Peer) (ps : List Peer) (b : Bool)
@@ -261,17 +291,17 @@ module _ {A : Type 0} where
   unchanged i r [] (p ∷ ps) is fits = absurd fits
   unchanged i r (e ∷ es) [] is fits = (refl, refl)
   unchanged i r (e ∷ es) (p ∷ ps) is fits =
-      let ids : (e.id.0 == i.0) ≡ (p.id.0 == i.0) = ap (λ z. z.0 == i.0) fits.0 in
+      let ids : (e.id.0 == i.0) ≡ (p.id.0 == i.0) = ap (λ z. z.0 == i.0) fits.0.id in
       unchanged-by i r es p ps (p.id.0 == i.0) refl (rw ids at is)
-      (λ none. unchanged i r es ps none fits.2)
+      (λ none. unchanged i r es ps none fits.1)
 
   gone-by : (i : Id) (e : Entry A) (es : List (Entry A)) (p : Peer) (ps : List Peer) (k : ℕ)
       (b : Bool) → (p.id.0 == i.0) ≡ b → Where b (place i es) k → FitsAll (e ∷ es) (p ∷ ps) →
       ((m : ℕ) → place i es ≡ Some m → FitsAll (remove es m) (without i ps)) →
       FitsAll (remove (e ∷ es) k) (without i (p ∷ ps))
-  gone-by i e es p ps k true hit is fits rest = rw (is, hit) fits.2
+  gone-by i e es p ps k true hit is fits rest = rw (is, hit) fits.1
   gone-by i e es p ps k false miss f fits rest =
-      let first : FitsAll (e ∷ remove es f.0) (p ∷ without i ps) = (fits.0, fits.1, rest f.0 f.1) in
+      let first : FitsAll (e ∷ remove es f.0) (p ∷ without i ps) = (fits.0, rest f.0 f.1) in
       rw (f.2, miss) first
 
   pub gone : (i : Id) (es : List (Entry A)) (ps : List Peer) (k : ℕ) → place i es ≡ Some k →
@@ -279,23 +309,23 @@ module _ {A : Type 0} where
   gone i [] ps k is fits = absurd (cc)
   gone i (e ∷ es) [] k is fits = absurd fits
   gone i (e ∷ es) (p ∷ ps) k is fits =
-      let ids : (e.id.0 == i.0) ≡ (p.id.0 == i.0) = ap (λ z. z.0 == i.0) fits.0 in
+      let ids : (e.id.0 == i.0) ≡ (p.id.0 == i.0) = ap (λ z. z.0 == i.0) fits.0.id in
       gone-by i e es p ps k (p.id.0 == i.0) refl
       (where_is (p.id.0 == i.0) (place i es) k (rw ids at is)) fits
-      (λ m found. gone i es ps m found fits.2)
+      (λ m found. gone i es ps m found fits.1)
 
-  pub more : (es : List (Entry A)) (ps : List Peer) (e : Entry A) (p : Peer) → FitsAll es ps → e.id
-      ≡ p.id → Fits p.journal e.buffer → FitsAll (es ++ e ∷ []) (ps ++ p ∷ [])
-  more [] [] e p fits id new = (id, new, tt)
-  more [] (q ∷ ps) e p fits id new = absurd fits
-  more (x ∷ es) [] e p fits id new = absurd fits
-  more (x ∷ es) (q ∷ ps) e p fits id new = (fits.0, fits.1, more es ps e p fits.2 id new)
+  pub more : (es : List (Entry A)) (ps : List Peer) (e : Entry A) (p : Peer) → FitsAll es ps →
+      FitsEntry e p → FitsAll (es ++ e ∷ []) (ps ++ p ∷ [])
+  more [] [] e p fits new = (new, tt)
+  more [] (q ∷ ps) e p fits new = absurd fits
+  more (x ∷ es) [] e p fits new = absurd fits
+  more (x ∷ es) (q ∷ ps) e p fits new = (fits.0, more es ps e p fits.1 new)
 
   pub length-fits : (es : List (Entry A)) (ps : List Peer) → FitsAll es ps → length es ≡ length ps
   length-fits [] [] fits = refl
   length-fits [] (p ∷ ps) fits = absurd fits
   length-fits (e ∷ es) [] fits = absurd fits
-  length-fits (e ∷ es) (p ∷ ps) fits = ap suc (length-fits es ps fits.2)
+  length-fits (e ∷ es) (p ∷ ps) fits = ap suc (length-fits es ps fits.1)
 
   opens-by : (i : Id) (es : List (Entry A)) (p : Peer) (ps : List Peer) (b : Bool) → (p.id.0 == i.0)
       ≡ b → is_some (place i es) ≡ is_some (journal_in ps i) →
@@ -310,8 +340,8 @@ module _ {A : Type 0} where
   opens i [] (p ∷ ps) fits = absurd fits
   opens i (e ∷ es) [] fits = absurd fits
   opens i (e ∷ es) (p ∷ ps) fits =
-      let ids : (e.id.0 == i.0) ≡ (p.id.0 == i.0) = ap (λ z. z.0 == i.0) fits.0 in
-      rw ids (opens-by i es p ps (p.id.0 == i.0) refl (opens i es ps fits.2))
+      let ids : (e.id.0 == i.0) ≡ (p.id.0 == i.0) = ap (λ z. z.0 == i.0) fits.0.id in
+      rw ids (opens-by i es p ps (p.id.0 == i.0) refl (opens i es ps fits.1))
 
   -- the first entry is taken out
   pub first : (e : Entry A) (es : List (Entry A)) (ps : List Peer) → FitsAll (e ∷ es) (opened ps) →
@@ -322,15 +352,15 @@ module _ {A : Type 0} where
           FitsAll (e ∷ es) qs → FirstCloses e.id es ps
       by e es ps [] is fits = absurd fits
       by e es ps (q ∷ qs) is fits =
-          let rest = first-closed ps qs e.id q is (sym fits.0) in
+          let rest = first-closed ps qs e.id q is (sym fits.0.id) in
           record {
             peer = q;
             others = qs;
             split = is;
-            same = sym fits.0;
+            same = sym fits.0.id;
             rest = rest;
             fits =
-                rw rest fits.2;
+                rw rest fits.1;
           }
 
   -- an entry taken out of the front
@@ -350,22 +380,52 @@ module _ {A : Type 0} where
   named_next e es [] text fits miss = absurd fits
   named_next e es (q ∷ qs) text fits miss =
       let off : bytes_eq text (id_text q.id.0) ≡ false =
-      ap (λ (i : Id). bytes_eq text (id_text i.0)) (sym fits.0) ∙ sym miss in
-      (qs, fits.2, rw off refl)
+      ap (λ (i : Id). bytes_eq text (id_text i.0)) (sym fits.0.id) ∙ sym miss in
+      (qs, fits.1, rw off refl)
 
   pub named_here : (e : Entry A) (es : List (Entry A)) (qs : List Peer) (text : List ℕ) →
       FitsAll (e ∷ es) qs → true ≡ bytes_eq text (id_text e.id.0) → Some e.id ≡ named qs text
   named_here e es [] text fits hit = absurd fits
   named_here e es (q ∷ qs) text fits hit =
       let on : bytes_eq text (id_text q.id.0) ≡ true =
-      ap (λ (i : Id). bytes_eq text (id_text i.0)) (sym fits.0) ∙ sym hit in
-      rw on (ap Some fits.0)
+      ap (λ (i : Id). bytes_eq text (id_text i.0)) (sym fits.0.id) ∙ sym hit in
+      rw on (ap Some fits.0.id)
 
   pub named_none : (es : List (Entry A)) (qs : List Peer) (text : List ℕ) → es ≡ [] → FitsAll es qs
       → None ≡ named qs text
   named_none [] [] text is fits = refl
   named_none [] (q ∷ qs) text is fits = absurd fits
   named_none (e ∷ es) qs text is fits = absurd (cc)
+
+  -- an entry is not the connection that is looked for, or it is
+  channel-same : (e : Entry A) (p : Peer) (text : List ℕ) → FitsEntry e p →
+      is_channel text (kind_of e.kind) e.id ≡ is_channel text p.kind p.id
+  channel-same e p text fits =
+      ap (λ kind. is_channel text kind e.id) fits.kind ∙ ap (is_channel text p.kind) fits.id
+
+  pub connection_next : (e : Entry A) (es : List (Entry A)) (qs : List Peer) (text : List ℕ) →
+      FitsAll (e ∷ es) qs → false ≡ is_channel text (kind_of e.kind) e.id → (rs : List Peer)
+      × FitsAll es rs × (connection rs text ≡ connection qs text)
+  connection_next e es [] text fits miss = absurd fits
+  connection_next e es (q ∷ qs) text fits miss =
+      let off : is_channel text q.kind q.id ≡ false =
+      sym (channel-same e q text fits.0) ∙ sym miss in
+      (qs, fits.1, rw off refl)
+
+  pub connection_here : (e : Entry A) (es : List (Entry A)) (qs : List Peer) (text : List ℕ) →
+      FitsAll (e ∷ es) qs → true ≡ is_channel text (kind_of e.kind) e.id →
+      Some e.id ≡ connection qs text
+  connection_here e es [] text fits hit = absurd fits
+  connection_here e es (q ∷ qs) text fits hit =
+      let on : is_channel text q.kind q.id ≡ true =
+      sym (channel-same e q text fits.0) ∙ sym hit in
+      rw on (ap Some fits.0.id)
+
+  pub connection_none : (es : List (Entry A)) (qs : List Peer) (text : List ℕ) → es ≡ [] →
+      FitsAll es qs → None ≡ connection qs text
+  connection_none [] [] text is fits = refl
+  connection_none [] (q ∷ qs) text is fits = absurd fits
+  connection_none (e ∷ es) qs text is fits = absurd (cc)
 
   pub none : (es : List (Entry A)) (ps : List Peer) → es ≡ [] → FitsAll es (opened ps) → opened ps
       ≡ []

@@ -1,6 +1,6 @@
 -- What a command keeps to that runs no script (this project's own rule).
 use Rattle.std.specs.Prelude.{ℕ, ◌+◌, ◌-◌, ◌*◌, ◌≤◌, length, Bool, true, false}
-use Rattle.acts.specs.Deed.{Deed, Reply}
+use Rattle.acts.specs.Deed.{Reply}
 use Rattle.plan.specs.Plan.{Ends, Asks, Reads, Calls}
 use Rattle.state.specs.Dialogue.{Course}
 use Rattle.state.specs.Piece.{Tree, IsTree}

@@ -1,14 +1,12 @@
 -- How far a command that runs no script has come, as a course.
-use Rattle.std.specs.Prelude.{◌≡◌, ℕ, List, Result, Ok, Err}
+use Rattle.std.specs.Prelude.{◌≡◌}
 use Rattle.acts.specs.Deed.{Deed, Reply, deed_of}
-use Rattle.acts.specs.declared.fault.Fault.{Fault}
-use Rattle.acts.specs.Flaw.{flaw_of, text_of}
 use Rattle.meanings.specs.Meaning.{Answer, Comes, Meaning}
 use Rattle.plan.specs.Plan.{Ends, Asks}
 use Rattle.state.specs.declared.leaf.Leaf.{Leaf}
 use Rattle.state.specs.declared.leaf.Leaf.TheVariants as leaf
 use Rattle.state.specs.declared.state.State.{State}
-use Rattle.state.specs.Outcome.{Outcome, Leaves, Error}
+use Rattle.state.specs.Outcome.{Outcome}
 use Rattle.state.specs.Dialogue.{Course, replied}
 use Rattle.state.specs.Meant.{told}
 use Rattle.state.specs.Reaches.{Reaches}
@@ -37,7 +35,3 @@ HasOutcome (leaf.Asks act waits) o = ⊥
 -- it has ended with what a function of texts comes to (Tcl(n), rule 2)
 abbrev pub IsMeant : {A W : Type 0} → Leaf A W → Meaning → Type 0
 IsMeant l meaning = (answer : Answer) × Comes meaning answer × HasOutcome l (told answer)
-
--- the error of a script with this text
-abbrev pub raised : {A : Type 0} → Fault A → Outcome
-raised fault = Leaves Error (text_of (flaw_of fault))

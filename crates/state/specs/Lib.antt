@@ -7,10 +7,12 @@ pub mod Reaches
 pub mod Listed
 pub mod Meant
 pub mod Variables
+pub mod Channels
 pub mod Rows
 pub mod Tables
 pub mod View
 pub mod Leaf
+pub mod NoWaits
 pub mod Nesting
 pub mod Behaves
 pub mod Arguments

@@ -1,5 +1,5 @@
 -- What a function of texts comes to, as a course.
-use Rattle.std.specs.Prelude.{List, Result, Ok, Err}
+use Rattle.std.specs.Prelude.{ℕ, List, Ok, Err}
 use Rattle.acts.specs.Flaw.{text_of}
 use Rattle.meanings.specs.Meaning.{Answer, Meaning, Gives, Raises, Splits, Matches}
 use Rattle.plan.specs.Plan.{Reads}
@@ -10,13 +10,19 @@ use Rattle.state.specs.Outcome.{Outcome, Leaves, Error}
 use Rattle.state.specs.Piece.{TestText}
 use Rattle.state.specs.Status.{Status}
 
--- its texts are read, and it is over with its value or its error; the state stays (Tcl(n), rule 2)
+-- on with the value of a function of texts, once its texts are read; or its error (Tcl(n), rule 2;
+-- expr(n))
+abbrev pub on_meaning : Meaning → Status → (List ℕ → Course) → Course
+on_meaning (Gives value) s next = next value
+on_meaning (Raises flaw) s next = raises flaw s
+on_meaning (Splits text more) s next =
+    with_list text s (λ elements. on_meaning (more elements) s next)
+on_meaning (Matches pattern text more) s next =
+    Reads (TestText pattern text) (λ takes. on_meaning (more takes) s next)
+
+-- it is over with its value or its error; the state stays (Tcl(n), rule 2)
 abbrev pub meant : Meaning → Status → Course
-meant (Gives value) s = gives value s
-meant (Raises flaw) s = raises flaw s
-meant (Splits text next) s = with_list text s (λ elements. meant (next elements) s)
-meant (Matches pattern text next) s =
-    Reads (TestText pattern text) (λ takes. meant (next takes) s)
+meant meaning s = on_meaning meaning s (λ value. gives value s)
 
 -- an answer as an outcome (Tcl(n), return codes)
 abbrev pub told : Answer → Outcome

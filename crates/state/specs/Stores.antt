@@ -1,5 +1,5 @@
 -- What the calls on variables answer.
-use Rattle.std.specs.Prelude.{◌≡◌, ℕ, List, Option, Some, None, Result, Ok, Err}
+use Rattle.std.specs.Prelude.{◌≡◌, ℕ, List, Option, Result, Ok, Err}
 use Rattle.acts.specs.declared.fault.Fault.{Fault}
 use Rattle.acts.specs.declared.id.Id.{Id}
 use Rattle.acts.specs.Flaw.{Flaw, flaw_of, text_of}

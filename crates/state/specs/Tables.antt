@@ -1,21 +1,35 @@
 -- How the open ids of the code stand to those of the definition.
-use Rattle.std.specs.Prelude.{◌≡◌, ℕ, ◌+◌, ◌≤◌, List, [], ◌∷◌, length, take, Option, Some, None}
+use Rattle.std.specs.Prelude.{◌≡◌, ℕ, ◌+◌, List, [], ◌∷◌, length, take, Option, Some, None}
 use Rattle.std.specs.declared.vec.Vec.{Vec}
 use Rattle.acts.specs.declared.id.Id.{Id}
 use Rattle.acts.specs.declared.row.Row.{Row}
 use Rattle.matchbuf.specs.Journal.{Record, Consumed, Fits, window, place_after}
 use Rattle.state.specs.declared.table.Entry.{Entry}
+use Rattle.state.specs.declared.table.Kind as kinds
+use Rattle.state.specs.declared.table.Kind.TheVariants as kind
 use Rattle.state.specs.declared.table.Selection.{Selection}
 use Rattle.state.specs.declared.table.Selection.TheVariants.{NotOpen, Taken, Missing}
-use Rattle.state.specs.Status.{Peer, opened, journal_of, recorded, closed}
+use Rattle.state.specs.Status.{Peer, Kind, Process, Socket, opened, journal_of, recorded, closed}
 use Rattle.state.specs.Rows.{first_place, row_of}
 
--- each buffer holds what its id's journal leaves
+-- what an id of the code was opened for (expect(1), spawn; socket(n))
+abbrev pub kind_of : kinds.Kind → Kind
+kind_of (kind.Process pid) = Process pid
+kind_of kind.Socket = Socket
+
+-- an entry is that of an id: it was opened for the same, and its buffer holds what the journal
+-- leaves
+pub record FitsEntry {A : Type 0} (e : Entry A) (p : Peer) : Type 0 where
+  pub id : e.id ≡ p.id
+  pub kind : kind_of e.kind ≡ p.kind
+  pub buffer : Fits p.journal e.buffer
+
+-- the entries are those of the ids, in the same order
 abbrev pub FitsAll : {A : Type 0} → List (Entry A) → List Peer → Type 0
 FitsAll [] [] = Unit {0}
 FitsAll [] (p ∷ ps) = ⊥
 FitsAll (e ∷ es) [] = ⊥
-FitsAll (e ∷ es) (p ∷ ps) = (e.id ≡ p.id) × Fits p.journal e.buffer × FitsAll es ps
+FitsAll (e ∷ es) (p ∷ ps) = FitsEntry e p × FitsAll es ps
 
 -- the match and all before it, which are these bytes, are consumed
 pub record Takes {A : Type 0} (bytes : List ℕ) (j : List Record) (p : List ℕ)

@@ -1,6 +1,7 @@
 -- How the state of the code stands to that of the definition.
-use Rattle.std.specs.Prelude.{◌≡◌, ℕ, ◌≤◌, ◌<◌, ◌^◌, List, map, Option, Some, None, Result, Ok, Err, true, false}
-use Rattle.std.specs.declared.vec.Vec.{Vec}
+use Rattle.std.specs.Prelude.{◌≡◌, ℕ, ◌≤◌, ◌<◌, ◌^◌, List, Option, Some, None, Result, Ok, Err, true, false}
+use Rattle.acts.specs.declared.fault.Fault.{Fault}
+use Rattle.acts.specs.Flaw.{flaw_of, text_of}
 use Rattle.state.specs.declared.outcome.Code as coded
 use Rattle.state.specs.declared.outcome.Code.TheVariants as code
 use Rattle.state.specs.declared.outcome.Stop as halted
@@ -36,6 +37,10 @@ abbrev pub outcome_of : {A : Type 0} → Result (List ℕ) (Leave A) → Outcome
 outcome_of (Ok value) = Gives value
 outcome_of (Err (leave.Coded code value)) = Leaves (code_of code) value
 outcome_of (Err (leave.Stopped stop)) = Stops (stop_of stop)
+
+-- a script's error as an outcome, with its text (Tcl(n), return codes)
+abbrev pub raised : {A : Type 0} → Fault A → Outcome
+raised fault = Leaves Error (text_of (flaw_of fault))
 
 -- the next number, where one below 2^64 is left
 abbrev pub IsNext : Option ℕ → ℕ → Type 0

@@ -1,14 +1,14 @@
 //! How far a command that runs no script has come.
 
 ghost use Rattle.std.specs.Prelude.{◌≡◌, [], IfOk};
-ghost use Rattle.acts.specs.Flaw.{flaw_of, text_of};
 ghost use Rattle.meanings.specs.Meaning.{Meaning};
 ghost use Rattle.meanings.specs.View.{Answers};
-ghost use Rattle.state.specs.Leaf.{HasOutcome, IsMeant, raised};
+ghost use Rattle.state.specs.Leaf.{HasOutcome, IsMeant};
 ghost use Rattle.state.specs.Outcome as outcome;
+ghost use Rattle.state.specs.View as definition;
 ghost use Rattle.state.specs.View.{code_of, stop_of};
 
-use crate::outcome::{Code, Leave, Outcome, Stop};
+use crate::outcome::{Code, Leave, Outcome, Stop, raised};
 use acts::{Act, Fault, NoMemory};
 use meanings::MeaningFault;
 use std::alloc::Allocator;
@@ -23,6 +23,10 @@ pub enum Leaf<A: Allocator, W: Drop> {
     /// An act waits for its answer.
     Asks(Act<A>, W),
 }
+
+/// What waits in a command that makes no act: nothing does.
+#[derive(Clone, Copy)]
+pub enum NoWaits {}
 
 /// The command is over with a value.
 pub fn gives<A: Allocator, W: Drop>(value: Value<A>) -> Leaf<A, W>
@@ -50,10 +54,9 @@ pub fn raises<A: Allocator + Copy, W: Drop>(
     alloc: A,
     fault: &Fault<A>,
 ) -> Result<Leaf<A, W>, NoMemory>
-    ensures { IfOk result (λ leaf. HasOutcome leaf (raised fault.now)) }
+    ensures { IfOk result (λ leaf. HasOutcome leaf (definition.raised fault.now)) }
 {
-    let text = Value::new(alloc, fault.text(alloc)?)?;
-    Ok(Leaf::Has(Err(Leave::Coded(Code::Error, text))))
+    Ok(Leaf::Has(raised(alloc, fault)?))
 }
 
 /// The command is over with what a function of texts came to: its value, or its error.

@@ -10,8 +10,8 @@ pub mod state;
 pub mod table;
 pub mod variables;
 
-pub use leaf::Leaf;
+pub use leaf::{Leaf, NoWaits};
 pub use nesting::Nesting;
 pub use outcome::{Code, Leave, Outcome, Stop};
 pub use state::State;
-pub use table::{Selection, Table};
+pub use table::{Kind, Selection, Table};

@@ -1,5 +1,10 @@
 //! How a part of a run ends.
 
+ghost use Rattle.std.specs.Prelude.{◌≡◌, IfOk};
+ghost use Rattle.state.specs.View as definition;
+ghost use Rattle.state.specs.View.{outcome_of};
+
+use acts::{Fault, NoMemory};
 use std::alloc::Allocator;
 use tcltext::Value;
 
@@ -46,3 +51,11 @@ pub enum Leave<A: Allocator> {
 
 /// How a part ends: with a value or otherwise.
 pub type Outcome<A> = Result<Value<A>, Leave<A>>;
+
+/// A script's error, as the end of a part.
+pub fn raised<A: Allocator + Copy>(alloc: A, fault: &Fault<A>) -> Result<Outcome<A>, NoMemory>
+    ensures { IfOk result (λ outcome. outcome_of outcome ≡ definition.raised fault.now) }
+{
+    let text = Value::new(alloc, fault.text(alloc)?)?;
+    Ok(Err(Leave::Coded(Code::Error, text)))
+}

@@ -1,6 +1,7 @@
 //! What a run keeps between acts.
 
 use crate::table::Table;
+use kept::Kept;
 use std::alloc::Allocator;
 use tclstate::{Procs, Scopes};
 
@@ -17,4 +18,7 @@ pub struct State<A: Allocator> {
     pub next: Option<u64>,
     /// The ticks that are left.
     pub left: u64,
+    /// The trees of the scripts that ran last within others, which say nothing that their texts do
+    /// not: the definition knows nothing of them.
+    pub kept: Kept<A>,
 }

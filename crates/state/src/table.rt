@@ -1,10 +1,10 @@
 //! The open ids, each with its match buffer.
 
-ghost use Rattle.std.specs.Prelude.{◌≡◌, ℕ, ◌≤◌, ◌==◌, ◌≢◌, ◌∷◌, ◌++◌, [], List, length, nat_le, position, IfOk, OnOk, OnErr, MatchBool, MatchOption, MatchResult, None, Some, false, true};
+ghost use Rattle.std.specs.Prelude.{◌≡◌, ℕ, ◌≤◌, ◌==◌, ◌≢◌, ◌∷◌, ◌++◌, [], List, length, nat_le, position, IfOk, OnOk, OnErr, MatchBool, MatchOption, MatchResult, None, Some, decimal, false, true};
 ghost use Rattle.std.specs.Str.{bytes_eq};
-ghost use Rattle.acts.specs.Id.{id_text};
-ghost use Rattle.state.specs.Status.{Peer, Kind, fresh, opened, journal_of, recorded, closed, is_open};
-ghost use Rattle.state.specs.Tables.{FirstCloses, FitsAll, Takes, Misses, Selects, Looks};
+ghost use Rattle.state.specs.Channels as channels;
+ghost use Rattle.state.specs.Status.{Peer, fresh, opened, journal_of, recorded, closed, is_open};
+ghost use Rattle.state.specs.Tables.{kind_of, FirstCloses, FitsAll, Takes, Misses, Selects, Looks};
 ghost use Rattle.state.specs.Rows.{first_place, without_nulls, row_of};
 ghost use Rattle.state.specs.Variables as variables;
 ghost use Rattle.matchbuf.specs.Journal.{Record, Arrived, Consumed, Sized, Fits, window, place_after};
@@ -21,10 +21,20 @@ pub const MOST_OPEN: usize = 64;
 /// The size of a new match buffer, in bytes (expect(1), match_max).
 const FIRST_SIZE: u32 = 2000;
 
+/// What an id is opened for.
+#[derive(Clone, Copy, Debug, PartialEq, Eq)]
+pub enum Kind {
+    /// A process of this number (expect(1), spawn).
+    Process(u64),
+    /// A connection, which is a channel to scripts (socket(n)).
+    Socket,
+}
+
 /// An open id.
 #[derive(Drop)]
 pub struct Entry<A: Allocator> {
     pub id: Id,
+    pub kind: Kind,
     pub buffer: MatchBuf<A>,
 }
 
@@ -72,7 +82,20 @@ impl<A: Allocator + Copy> Table<A> {
             result ≡ variables.named ps text.now }
     {
         for entry in &self.entries {
-            if is_spelled(entry.id, text) {
+            if is_spelled(text, b"exp", entry.id) {
+                return Some(entry.id);
+            }
+        }
+        None
+    }
+
+    /// The open connection whose channel a text spells.
+    pub fn connection(&self, text: &[u8]) -> Option<Id>
+        ensures { (ps : List Peer) → FitsAll self.now.entries.items ps →
+            result ≡ channels.connection ps text.now }
+    {
+        for entry in &self.entries {
+            if entry.is_channel(text) {
                 return Some(entry.id);
             }
         }
@@ -80,16 +103,15 @@ impl<A: Allocator + Copy> Table<A> {
     }
 
     /// Opens an id with an empty buffer.
-    pub fn open(&mut self, alloc: A, id: Id) -> Result<(), NoMemory>
-        ensures { OnOk result ((ps : List Peer) (kind : Kind) →
-            FitsAll self.old.entries.items (opened ps) →
-            FitsAll self.new.entries.items (opened (ps ++ fresh id kind ∷ []))) }
+    pub fn open(&mut self, alloc: A, id: Id, kind: Kind) -> Result<(), NoMemory>
+        ensures { OnOk result ((ps : List Peer) → FitsAll self.old.entries.items (opened ps) →
+            FitsAll self.new.entries.items (opened (ps ++ fresh id (kind_of kind) ∷ []))) }
     {
         let buffer = match MatchBuf::new(alloc, FIRST_SIZE) {
             Ok(buffer) => buffer,
             Err(error) => return Err(refusal_of(error)),
         };
-        self.entries.push(Entry { id, buffer })?;
+        self.entries.push(Entry { id, kind, buffer })?;
         Ok(())
     }
 
@@ -162,10 +184,21 @@ pub enum Selection<A: Allocator> {
 }
 
 impl<A: Allocator> Entry<A> {
+    /// Whether it is a connection whose channel a text spells.
+    fn is_channel(&self, text: &[u8]) -> bool
+        ensures { result ≡ channels.is_channel text.now (kind_of self.now.kind) self.now.id }
+    {
+        match self.kind {
+            Kind::Process(_) => false,
+            Kind::Socket => is_spelled(text, b"sock", self.id),
+        }
+    }
+
     /// Consumes the first match of an exact pattern and all before it, where there is one, and
     /// hands them out. On `Err` nothing is consumed.
     fn take_match(&mut self, alloc: A, pattern: &[u8]) -> Result<Option<Vec<u8, A>>, NoMemory>
         ensures same_id { self.new.id ≡ self.old.id }
+        ensures same_kind { self.new.kind ≡ self.old.kind }
         ensures takes { (j : List Record) → Fits j self.old.buffer →
             IfOk result (λ found. Looks found j pattern.now self.new) }
         ensures fails { (j : List Record) → Fits j self.old.buffer →
@@ -205,11 +238,11 @@ fn remove_nulls<A: Allocator>(bytes: &mut Vec<u8, A>)
     bytes.retain(|b| *b != 0);
 }
 
-/// Whether a text spells an id.
-fn is_spelled(id: Id, text: &[u8]) -> bool
-    ensures { result ≡ bytes_eq text.now (id_text id.0) }
+/// Whether a text is a prefix and the number of an id.
+fn is_spelled(text: &[u8], prefix: &[u8], id: Id) -> bool
+    ensures { result ≡ bytes_eq text.now (prefix.now ++ decimal id.0) }
 {
-    match text.strip_prefix(b"exp") {
+    match text.strip_prefix(prefix) {
         Some(digits) => digits == Buffer::new().format(id.0).as_bytes(),
         None => false,
     }

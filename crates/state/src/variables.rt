@@ -1,15 +1,18 @@
 //! The variables of a script, as commands read and write them.
 
-ghost use Rattle.std.specs.Prelude.{◌≡◌, IfOk, option_copied};
+ghost use Rattle.std.specs.Prelude.{◌≡◌, IfOk, is_some, option_copied};
+ghost use Rattle.std.specs.List.{list_all};
 ghost use Rattle.state.specs.Status.{Status};
 ghost use Rattle.state.specs.Stores.{Stores, IsTold, Current};
 ghost use Rattle.state.specs.Variables as variables;
 ghost use Rattle.state.specs.View.{FitsState};
+ghost use Rattle.tclparse.specs.Variable.{named};
 
 use crate::leaf::{Leaf, raises};
 use crate::state::State;
 use acts::{Fault, Id, NoMemory};
 use std::alloc::Allocator;
+use tclparse::variable_name;
 use tclstate::ScopeError;
 use tcltext::Value;
 
@@ -33,6 +36,18 @@ pub fn spelled<A: Allocator>(
         text.push(b')')?;
     }
     Ok(text)
+}
+
+/// Whether each word names a variable or an element.
+pub fn all_named<A: Allocator>(words: &[Value<A>]) -> bool
+    ensures { result ≡ list_all (λ w. is_some (named w)) words.now }
+{
+    for word in words {
+        if variable_name(word.as_slice()).is_err() {
+            return false;
+        }
+    }
+    true
 }
 
 /// The script's error where a variable is not read or written.

@@ -2,6 +2,7 @@
 
 ghost use Rattle.std.specs.Prelude.{◌≤◌, IfOk};
 ghost use Rattle.state.specs.Leaf.{Shows};
+ghost use Rattle.state.specs.NoWaits.{next_of};
 ghost use Rattle.state.specs.Status.{Status};
 ghost use Rattle.state.specs.View.{FitsState};
 ghost use Rattle.texts.specs.Text as definition;
@@ -9,13 +10,9 @@ ghost use Rattle.texts.specs.Text as definition;
 use acts::NoMemory;
 use pure::Pure;
 use state::leaf::answers;
-use state::{Leaf, State};
+use state::{Leaf, NoWaits, State};
 use std::alloc::Allocator;
 use tcltext::Value;
-
-/// What waits for the answer to an act: these commands make none.
-#[derive(Clone, Copy)]
-pub enum Waits {}
 
 /// Gives what a command says of the words behind its name.
 pub fn begin<A: Allocator + Copy>(
@@ -23,9 +20,9 @@ pub fn begin<A: Allocator + Copy>(
     state: &mut State<A>,
     command: Pure,
     args: &[Value<A>],
-) -> Result<Leaf<A, Waits>, NoMemory>
+) -> Result<Leaf<A, NoWaits>, NoMemory>
     ensures shows { (s : Status) → FitsState state.old s → IfOk result (λ leaf.
-        Shows definition.next_of leaf state.new (definition.text command args.now s)) }
+        Shows next_of leaf state.new (definition.text command args.now s)) }
     ensures left { state.new.left ≤ state.old.left }
 {
     answers(alloc, command.apply(alloc, args))

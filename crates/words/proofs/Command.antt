@@ -40,12 +40,6 @@ module _ {A : Type 0} (ws : List (Word A)) where
   at_word i w lt is levels values s call =
       ap (λ x. words levels x values s call) (next_word i w lt is)
 
--- what holds of a value holds of another where the one gives the other
-pub on_ok : {X E : Type 0} (r : Result X E) (P Q : X → Type 0) → ((x : X) → P x → Q x) →
-    IfOk r P → IfOk r Q
-on_ok (Ok x) P Q each holds = each x holds
-on_ok (Err e) P Q each holds = holds
-
 -- what the words that a value stands for come to that were put behind the values, or were not
 pub added : {A : Type 0} (told : Option (Fault A)) (expands : Bool) (value : List ℕ)
     (old new : List (List ℕ)) → told ≡ None → Adds told expands value old new →

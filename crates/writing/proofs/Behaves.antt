@@ -7,13 +7,15 @@ use Rattle.state.specs.Behaves.{Behaves, worth}
 use Rattle.state.specs.Dialogue.{gives, written}
 use Rattle.state.specs.Rows.{Holds}
 use Rattle.state.specs.Status.{Status}
-use Rattle.writing.specs.Puts.{puts, put, put_on, channel_of, line_of, bad_word, write_to, Channel, Output, Errors}
+use Rattle.writing.specs.Channel.{put, write_to, Channel, Output, Errors}
+use Rattle.writing.specs.Puts.{puts, put_on, channel_of, line_of, bad_word}
 
 holds : (channel : Channel) (bytes : List ℕ) → Holds (write_to channel bytes)
 holds Output bytes = tt
 holds Errors bytes = tt
 
-put_behaves : (channel : Channel) (bytes : List ℕ) (s : Status) →
+-- a write is paid for out of three
+pub put_behaves : (channel : Channel) (bytes : List ℕ) (s : Status) →
     Behaves s.left (worth s + 3) (put channel bytes s)
 put_behaves channel [] s = (omega arith, omega arith)
 put_behaves channel (b ∷ bs) s =

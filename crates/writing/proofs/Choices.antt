@@ -6,7 +6,8 @@ use Rattle.acts.specs.Flaw as flaw
 use Rattle.acts.specs.Deed.{Deed}
 use Rattle.state.specs.Dialogue.{gives, raises, ask, written}
 use Rattle.state.specs.Status.{Status}
-use Rattle.writing.specs.Puts.{puts, put, put_on, channel_of, line_of, bad_word, write_to, Channel, Output}
+use Rattle.writing.specs.Channel.{put, write_to, Channel, Output}
+use Rattle.writing.specs.Puts.{puts, put_on, channel_of, line_of, bad_word}
 
 module _ (words : List (List ℕ)) (s : Status) where
   pub one-text : (t : List ℕ) → words ≡ t ∷ [] → puts words s ≡ put Output (line_of t) s

@@ -1,2 +1,3 @@
+pub mod Channel
 pub mod Puts
 pub mod View

@@ -1,17 +1,10 @@
 -- What puts does.
 use Rattle.std.specs.Prelude.{ℕ, List, [], ◌∷◌, ◌++◌, codes, Option, Some, None, if◌then◌else◌}
 use Rattle.std.specs.Str.{bytes_eq}
-use Rattle.acts.specs.Deed.{Deed, Reply}
-use Rattle.acts.specs.Deed as said
 use Rattle.acts.specs.Flaw as flaw
-use Rattle.state.specs.Dialogue.{Course, gives, raises, ask, written}
+use Rattle.state.specs.Dialogue.{Course, raises}
 use Rattle.state.specs.Status.{Status}
-use Rattle.writing.specs.declared.puts.Waits.{Waits}
-
--- where a text is written to (puts(n))
-pub data Channel : Type 0 where
-  Output : Channel
-  Errors : Channel
+use Rattle.writing.specs.Channel.{Channel, Output, Errors, put}
 
 -- the channel of a name (puts(n))
 abbrev pub channel_of : List ℕ → Option Channel
@@ -19,16 +12,6 @@ channel_of word =
     if bytes_eq word (codes "stdout") then Some Output
     else if bytes_eq word (codes "stderr") then Some Errors
     else None
-
--- the write of bytes to a channel (puts(n))
-abbrev pub write_to : Channel → List ℕ → Deed
-write_to Output bytes = said.Out bytes
-write_to Errors bytes = said.Err bytes
-
--- bytes are written to a channel; where there are none, nothing is (this project's own rule)
-abbrev pub put : Channel → List ℕ → Status → Course
-put channel [] s = gives [] s
-put channel (b ∷ bs) s = ask (write_to channel (b ∷ bs)) s (written (gives []))
 
 -- a text and its newline (puts(n))
 abbrev pub line_of : List ℕ → List ℕ
@@ -52,7 +35,3 @@ puts (w ∷ t ∷ []) s =
 puts (w ∷ c ∷ t ∷ []) s =
     if bytes_eq w (codes "-nonewline") then put_on (channel_of c) c t s else bad_word w s
 puts _ s = raises (flaw.WrongArgs (codes "puts")) s
-
--- what follows the answer to its write (puts(n))
-abbrev pub next_of : Waits → Deed → Status → Reply → Course
-next_of waits deed = written (gives [])

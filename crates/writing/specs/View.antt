@@ -1,9 +1,11 @@
 -- How the code's words stand to those of the definition.
 use Rattle.std.specs.Prelude.{ℕ, List, Bool, true, false}
-use Rattle.writing.specs.Puts.{Channel, Output, Errors, line_of}
-use Rattle.writing.specs.declared.puts.Channel as named
-use Rattle.writing.specs.declared.puts.Channel.TheVariants as channel
+use Rattle.writing.specs.Channel.{Channel, Output, Errors}
+use Rattle.writing.specs.Puts.{line_of}
+use Rattle.writing.specs.declared.channel.Channel as named
+use Rattle.writing.specs.declared.channel.Channel.TheVariants as channel
 
+-- the channel that one of the code's stands for
 abbrev pub channel_seen : named.Channel → Channel
 channel_seen channel.Output = Output
 channel_seen channel.Errors = Errors

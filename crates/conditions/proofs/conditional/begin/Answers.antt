@@ -1,11 +1,12 @@
 use Rattle.std.proofs.Common.{◌≡◌, ◌∙◌, None, Some, option_map, sym, ap}
+use Rattle.std.proofs.lemmas.Result.{IfOk-weaker}
 use Rattle.std.specs.Prelude.{codes}
 use Rattle.acts.specs.Flaw as flaw
 use Rattle.acts.specs.Flaw.{text_of}
 use Rattle.conditions.specs.Branches.{branches}
 use Rattle.conditions.specs.Choosing.{branches_of, next_of}
 use Rattle.conditions.specs.Conditional.{on_branches}
-use Rattle.evaluation.proofs.Steps.{on_ok}
+use Rattle.state.proofs.Fits.{kept_fits}
 use Rattle.state.proofs.Nestings.{over}
 use Rattle.state.proofs.Reaches.{same_reaches, then_reaches}
 use Rattle.state.specs.Outcome.{Leaves, Error}
@@ -16,10 +17,10 @@ returns-in-Some-clause-nests g c = λ s fits.
     let levels = c.args.levels in
     let words : Some (branches_of c.in-Some.branches) ≡ branches c.args.args.now =
     ap (option_map (λ b. branches_of b)) (sym c.in-Some.is) ∙ c.in_ok-branches.ensures in
-    on_ok c.choose.result _ _
+    IfOk-weaker c.choose.result _ _
     (λ nesting reaches. record {
       status = s;
-      fits = fits;
+      fits = kept_fits c.args.state.now s fits c.choose.new.kept;
       reaches = then_reaches
           (same_reaches (ap (λ found. on_branches levels found s) (sym words))) reaches;
     })

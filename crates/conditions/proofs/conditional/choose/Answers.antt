@@ -1,11 +1,11 @@
 use Rattle.std.proofs.Common.{◌≡◌, ◌∙◌, ◌∷◌, map, refl, sym, ap, subst, rules, arith}
+use Rattle.std.proofs.lemmas.Result.{IfOk-weaker}
 use Rattle.conditions.proofs.Tested.{fewer_left, next_branch, no_more_left, test_fails, test_holds, test_met, test_raised}
 use Rattle.conditions.specs.Choosing.{branch_of, scripts_in_tests}
 use Rattle.conditions.specs.Conditional.{chooses, chosen, last, passes}
 use Rattle.conditions.specs.Test.{HasFewer, on_tested}
 use Rattle.conditions.specs.Weight.{scripts_in_text}
 use Rattle.conditions.specs.declared.test.Test.TheVariants as test
-use Rattle.evaluation.proofs.Steps.{on_ok}
 use Rattle.evaluation.specs.Scripts.{scripts_behind}
 use Rattle.evaluation.specs.View.{resumed}
 use Rattle.plan.specs.Plan.{Ends}
@@ -38,7 +38,7 @@ returns-in-Holds-true-clause-reaches g c = λ s same.
     (c.in_ok-of_text.ensures.reaches levels s next same) in
     let holds = c.in-Holds-true.is ∙ ap (λ b. test.Holds b) c.in-Holds-true.field-0-test in
     let text = c.as_slice-in-Holds-true.result.now in
-    on_ok c.run.result _ _
+    IfOk-weaker c.run.result _ _
     (λ nesting runs.
     then_reaches came
     (then_reaches
@@ -67,7 +67,7 @@ returns-in-Script-clause-reaches g c = λ s same.
     (c.in_ok-of_text.ensures.reaches levels s next same) in
     let commands = c.in-Script.commands in
     let place = c.in-Script.formula in
-    on_ok c.run_in_test.result _ _
+    IfOk-weaker c.run_in_test.result _ _
     (λ nesting runs.
     then_reaches came
     (same_reaches
@@ -165,7 +165,7 @@ returns-in-Some-otherwise-clause-reaches g c = λ s same.
     let otherwise = c.args.branches.otherwise in
     let none = none_left c.branches.tests.items c.pop_front.new.self.items
     c.in_default.ensures.items c.in_default.ensures.rest in
-    on_ok c.run-in-Some-otherwise.result _ _
+    IfOk-weaker c.run-in-Some-otherwise.result _ _
     (λ nesting runs.
     then_reaches (c.branches.invariant.reaches s same)
     (then_reaches

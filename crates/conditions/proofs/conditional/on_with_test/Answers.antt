@@ -1,11 +1,11 @@
 use Rattle.std.proofs.Common.{◌∙◌, ◌+◌, ◌<◌, ◌≤◌, map, sym, ap, subst, arith}
+use Rattle.std.proofs.lemmas.Result.{IfOk-weaker}
 use Rattle.conditions.proofs.Advancing.{advances_more}
 use Rattle.conditions.proofs.Tested.{test_fails, test_holds, test_met, test_raised}
 use Rattle.conditions.specs.Choosing.{branch_of, scripts_held, scripts_in_tests, scripts_tested}
 use Rattle.conditions.specs.Conditional.{chosen}
 use Rattle.conditions.specs.Test.{HasFewer, on_tested}
 use Rattle.conditions.specs.declared.test.Test.TheVariants as test
-use Rattle.evaluation.proofs.Steps.{on_ok}
 use Rattle.evaluation.specs.Scripts.{scripts_behind}
 use Rattle.plan.specs.Plan.{Ends}
 use Rattle.state.proofs.Reaches.{same_reaches, then_reaches}
@@ -24,7 +24,7 @@ returns-in-Holds-true-clause-reaches g c = λ s same.
     let came = then_reaches (c.in_ok-evaluated.ensures.reaches levels s (on_tested next) same)
     (same_reaches (c.in_ok-of_evaluated.ensures.comes levels s next)) in
     let holds = c.in-Holds-true.is ∙ ap (λ b. test.Holds b) c.in-Holds-true.field-0-test in
-    on_ok c.run.result _ _
+    IfOk-weaker c.run.result _ _
     (λ nesting runs.
     then_reaches came
     (then_reaches
@@ -48,7 +48,7 @@ returns-in-Holds-false-clause-reaches g c = λ s same.
     let came = then_reaches (c.in_ok-evaluated.ensures.reaches levels s (on_tested next) same)
     (same_reaches (c.in_ok-of_evaluated.ensures.comes levels s next)) in
     let fails = c.in-Holds-false.is ∙ ap (λ b. test.Holds b) c.in-Holds-false.field-0-test in
-    on_ok c.choose.result _ _
+    IfOk-weaker c.choose.result _ _
     (λ nesting chooses.
     then_reaches came
     (then_reaches (same_reaches (test_fails levels it body more otherwise s fails)) chooses))
@@ -58,7 +58,7 @@ pub returns-in-Holds-false-clause-advances : goal.returns-in-Holds-false-clause-
 returns-in-Holds-false-clause-advances g c = λ new old.
     let own = c.args.own in
     let least : 1 + scripts_in_tests own.branches ≤ scripts_tested own = omega arith in
-    on_ok c.choose.result _ _
+    IfOk-weaker c.choose.result _ _
     (λ nesting advances. advances_more scripts_held nesting new old _ _ least advances)
     (c.choose.ensures.advances new old)
 
@@ -72,7 +72,7 @@ returns-in-Script-clause-reaches g c = λ s same.
     let it = c.in_ok-of_evaluated.field-0 in
     let came = then_reaches (c.in_ok-evaluated.ensures.reaches levels s (on_tested next) same)
     (same_reaches (c.in_ok-of_evaluated.ensures.comes levels s next)) in
-    on_ok c.run_in_test.result _ _
+    IfOk-weaker c.run_in_test.result _ _
     (λ nesting runs.
     then_reaches came
     (same_reaches

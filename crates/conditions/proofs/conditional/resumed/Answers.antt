@@ -1,10 +1,11 @@
 use Rattle.std.proofs.Common.{◌∙◌, Err, IfOk, refl, sym, ap, subst}
+use Rattle.std.proofs.lemmas.Result.{IfOk-weaker}
 use Rattle.conditions.proofs.Passing.{value_passes}
 use Rattle.conditions.specs.Choosing.{behind_test, branches_of, next_of, scripts_held, scripts_tested}
 use Rattle.conditions.specs.Conditional.{chosen}
 use Rattle.conditions.specs.Test.{on_tested}
-use Rattle.evaluation.proofs.Steps.{on_ok}
 use Rattle.evaluation.specs.View.{resumed}
+use Rattle.state.proofs.Fits.{kept_fits}
 use Rattle.state.proofs.Nestings.{over}
 use Rattle.state.proofs.Reaches.{same_reaches, then_reaches}
 use Rattle.state.specs.Nesting.{Advances}
@@ -22,10 +23,10 @@ pub returns-in-Ok-clause-nests : goal.returns-in-Ok-clause-nests
 returns-in-Ok-clause-nests g c = λ s fits.
     let o = outcome_of c.args.outcome in
     let own = c.in-Test.own.value in
-    on_ok c.on_with_test.result _ _
+    IfOk-weaker c.on_with_test.result _ _
     (λ nesting reaches. record {
       status = s;
-      fits = fits;
+      fits = kept_fits c.args.state.now s fits c.on_with_test.new.kept;
       reaches = then_reaches
           (same_reaches
           (ap (λ h. next_of h s o) c.in-Test.is

@@ -1,6 +1,6 @@
 use Rattle.std.proofs.Common.{refl}
+use Rattle.std.proofs.lemmas.Result.{IfOk-weaker}
 use Rattle.conditions.specs.Choosing.{next_of}
-use Rattle.evaluation.proofs.Steps.{on_ok}
 use Rattle.state.proofs.Reaches.{same_reaches}
 use Rattle.state.specs.Nesting.{tree_of}
 use Rattle.state.specs.Piece.{ScriptText}
@@ -9,8 +9,9 @@ use Rattle.conditions.proofs.conditional.run.Goals as goal
 
 pub returns-clause-reaches : goal.returns-clause-reaches
 returns-clause-reaches g c = λ s.
-    on_ok c.deeper.result _ _
+    IfOk-weaker c.deeper.result _ _
     (λ nesting runs.
-    reads {text = ScriptText c.args.text.now} (tree_of c.in_ok-body.body) c.in_ok-body.ensures.tree
+    reads {text = ScriptText c.args.text.now} (tree_of c.in_ok-body.body)
+    c.in_ok-body.ensures.tree.tree
     (same_reaches runs))
     (c.deeper.ensures.runs next_of s (λ t text. refl))

@@ -1,6 +1,6 @@
 use Rattle.std.proofs.Common.{◌∙◌, ◌<◌, None, refl, sym, ap, subst}
+use Rattle.std.proofs.lemmas.Result.{IfOk-weaker}
 use Rattle.conditions.specs.Choosing.{behind_test, next_of, scripts_held, scripts_tested}
-use Rattle.evaluation.proofs.Steps.{on_ok}
 use Rattle.state.specs.Dialogue.{inside}
 use Rattle.state.specs.Piece.{ScriptTree}
 use Rattle.tclparse.specs.View.{commands_of}
@@ -10,7 +10,7 @@ pub returns-clause-same : goal.returns-clause-same
 returns-clause-same g c = λ s.
     let levels = c.args.own.levels in
     let script : ScriptTree = record { commands = commands_of c.args.commands; fault = None } in
-    on_ok c.nested.result _ _
+    IfOk-weaker c.nested.result _ _
     (λ nesting runs.
     ap (λ own. inside levels script s (behind_test own))
     (sym c.in_ok-own.ensures.ok)

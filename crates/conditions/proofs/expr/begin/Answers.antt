@@ -1,14 +1,14 @@
 use Rattle.std.proofs.Common.{◌∙◌, refl, sym}
+use Rattle.std.proofs.lemmas.Result.{IfOk-weaker}
 use Rattle.std.specs.Prelude.{codes}
 use Rattle.acts.specs.Flaw as flaw
 use Rattle.acts.specs.Flaw.{text_of}
 use Rattle.conditions.proofs.Evaluating.{expr_none, expr_some}
 use Rattle.conditions.specs.Expr.{next_of, told}
-use Rattle.evaluation.proofs.Steps.{on_ok}
 use Rattle.evaluation.specs.Evaluated.{evaluated}
 use Rattle.state.proofs.Nestings.{nests_after, over}
 use Rattle.state.proofs.Reaches.{same_reaches, then_reaches}
-use Rattle.state.specs.Leaf.{raised}
+use Rattle.state.specs.View.{raised}
 use Rattle.state.specs.Outcome.{Leaves, Error}
 use Rattle.conditions.proofs.expr.begin.Goals as goal
 
@@ -22,7 +22,7 @@ pub returns-in-Ok-clause-nests : goal.returns-in-Ok-clause-nests
 returns-in-Ok-clause-nests g c = λ s fits.
     let levels = c.args.levels in
     let read = rw c.in-Ok.is at c.in_ok-formula.ensures.reaches in
-    on_ok c.give.result _ _
+    IfOk-weaker c.give.result _ _
     (λ nesting same. record {
       status = s;
       fits = fits;

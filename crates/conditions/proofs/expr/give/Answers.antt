@@ -1,6 +1,6 @@
 use Rattle.std.proofs.Common.{◌∙◌, refl, sym, ap}
+use Rattle.std.proofs.lemmas.Result.{IfOk-weaker}
 use Rattle.conditions.specs.Expr.{next_of, told}
-use Rattle.evaluation.proofs.Steps.{on_ok}
 use Rattle.evaluation.specs.View.{course_of, resumed}
 use Rattle.tclparse.specs.View.{commands_of}
 use Rattle.words.specs.Words.{nested}
@@ -10,7 +10,7 @@ pub returns-in_ok-formula-in-Script-clause-same : goal.returns-in_ok-formula-in-
 returns-in_ok-formula-in-Script-clause-same g c = λ s.
     let levels = c.args.levels in
     let commands = commands_of c.in-Script.commands in
-    on_ok c.nested.result _ _
+    IfOk-weaker c.nested.result _ _
     (λ nesting runs.
     ap (λ it. course_of levels it told s) c.in-Script.is
     ∙ ap (λ place. nested levels commands s (resumed levels place told))

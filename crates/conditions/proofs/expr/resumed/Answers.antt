@@ -1,7 +1,7 @@
 use Rattle.std.proofs.Common.{◌∙◌, Err, refl, sym, ap}
+use Rattle.std.proofs.lemmas.Result.{IfOk-weaker}
 use Rattle.conditions.proofs.Passing.{value_passes}
 use Rattle.conditions.specs.Expr.{next_of, told}
-use Rattle.evaluation.proofs.Steps.{on_ok}
 use Rattle.evaluation.specs.View.{resumed}
 use Rattle.state.proofs.Nestings.{over}
 use Rattle.state.proofs.Reaches.{same_reaches, then_reaches}
@@ -13,7 +13,7 @@ returns-in_ok-evaluated-in-Ok-clause-nests g c = λ s fits.
     let held = c.args.held in
     let levels = held.levels in
     let next = next_of held in
-    on_ok c.give.result _ _
+    IfOk-weaker c.give.result _ _
     (λ nesting same. record {
       status = s;
       fits = fits;

@@ -1,4 +1,5 @@
 use Rattle.std.proofs.Common.{◌≡◌, ◌∙◌, ℕ, List, length, refl, sym, ap, rules, arith}
+use Rattle.std.proofs.lemmas.Result.{IfOk-weaker}
 use Rattle.std.specs.Prelude.{codes}
 use Rattle.acts.specs.Flaw as flaw
 use Rattle.acts.specs.Flaw.{text_of}
@@ -7,7 +8,7 @@ use Rattle.conditions.proofs.Comings.{comes_over, same_goes, then_goes}
 use Rattle.conditions.specs.ForLoop.{started}
 use Rattle.conditions.specs.GoesOn.{reads}
 use Rattle.conditions.specs.Starting.{next_of}
-use Rattle.evaluation.proofs.Steps.{on_ok}
+use Rattle.state.proofs.Fits.{kept_fits}
 use Rattle.state.specs.Dialogue.{inside, on_value}
 use Rattle.state.specs.Nesting.{tree_of}
 use Rattle.state.specs.Outcome.{Leaves, Error}
@@ -34,14 +35,14 @@ returns-clause-comes g c = λ s fits.
     let text = c.as_slice.result.now in
     let tree = tree_of c.in_ok-script.script in
     let by_words = λ (x y z : List ℕ). inside levels tree s (on_value (started levels x y z)) in
-    on_ok c.deeper.result _ _
+    IfOk-weaker c.deeper.result _ _
     (λ nesting runs. record {
       status = s;
-      fits = fits;
+      fits = kept_fits c.args.state.now s fits c.get.new.self;
       goes = then_goes
           (same_goes (for_four levels s words start test step body text four c.start-item.is
           c.test-item.is c.step-item.is c.body-item.is c.as_slice.ensures))
-          (reads {text = ScriptText text} tree c.in_ok-script.ensures.tree
+          (reads {text = ScriptText text} tree c.in_ok-script.ensures.tree.tree
           (same_goes
           (ap (λ x. by_words x step body) (sym c.in_ok-test.ensures)
           ∙ ap (λ y. by_words c.in_ok-test.test y body) (sym c.in_ok-step.ensures)

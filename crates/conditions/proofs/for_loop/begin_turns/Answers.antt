@@ -1,4 +1,5 @@
 use Rattle.std.proofs.Common.{◌≡◌, ◌∙◌, IfOk, refl, sym, ap, subst}
+use Rattle.std.proofs.lemmas.Result.{IfOk-weaker}
 use Rattle.std.specs.Prelude.{[]}
 use Rattle.conditions.proofs.Comings.{comes_after, comes_over, reaches_goes, same_goes, then_goes}
 use Rattle.conditions.specs.ForLoop.{looped, started}
@@ -6,8 +7,8 @@ use Rattle.conditions.specs.GoesOn.{reads}
 use Rattle.conditions.specs.Loop.{again}
 use Rattle.conditions.specs.Turning.{loop_of, next_of, scripts_held, scripts_tested}
 use Rattle.conditions.specs.Weight.{scripts_in_text}
-use Rattle.evaluation.proofs.Steps.{on_ok}
-use Rattle.state.specs.Leaf.{raised}
+use Rattle.state.proofs.Fits.{kept_fits}
+use Rattle.state.specs.View.{raised}
 use Rattle.state.specs.Nesting.{Advances, tree_of}
 use Rattle.state.specs.Piece.{ScriptText}
 use Rattle.conditions.proofs.for_loop.begin_turns.Goals as goal
@@ -20,7 +21,7 @@ returns-in-Ok-clause-comes g c = λ s fits.
     let step = c.as_slice-in-Ok.result.now in
     let body = c.as_slice-in-Ok-2.result.now in
     let read = rw c.in-Ok.is at c.in_ok-test.ensures.reaches in
-    on_ok c.turn.result _ _
+    IfOk-weaker c.turn.result _ _
     (λ nesting comes.
     comes_after next_of c.turn.new.state nesting _ _
     (then_goes
@@ -29,13 +30,13 @@ returns-in-Ok-clause-comes g c = λ s fits.
     ∙ ap (λ x. started levels test step x s []) (sym c.as_slice-in-Ok-2.ensures)))
     (then_goes (reaches_goes (read s (looped levels step body s)))
     (reads {text = ScriptText step} (tree_of c.in_ok-behind-in-Ok.behind)
-    c.in_ok-behind-in-Ok.ensures.tree
+    c.in_ok-behind-in-Ok.ensures.tree.tree
     (reads {text = ScriptText body} (tree_of c.in_ok-body-in-Ok.body)
-    c.in_ok-body-in-Ok.ensures.tree
+    c.in_ok-body-in-Ok.ensures.tree.tree
     (same_goes (ap (λ own. again (loop_of own) own.levels s)
     (sym c.in_ok-new-in-Ok.ensures.ok)))))))
     comes)
-    (c.turn.ensures.comes s fits)
+    (c.turn.ensures.comes s (kept_fits c.args.state.now s fits c.get-in-Ok.new.self))
 
 pub returns-in-Ok-clause-advances : goal.returns-in-Ok-clause-advances
 returns-in-Ok-clause-advances g c =

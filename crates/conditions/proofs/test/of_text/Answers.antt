@@ -1,4 +1,4 @@
-use Rattle.evaluation.proofs.Steps.{on_ok}
+use Rattle.std.proofs.lemmas.Result.{IfOk-weaker}
 use Rattle.evaluation.specs.Evaluated.{tested}
 use Rattle.conditions.specs.Test.{on_tested}
 use Rattle.state.proofs.Reaches.{same_reaches, then_reaches}
@@ -7,7 +7,7 @@ use Rattle.conditions.proofs.test.of_text.Goals as goal
 pub returns-in_ok-evaluated-in-Ok-clause-reaches : goal.returns-in_ok-evaluated-in-Ok-clause-reaches
 returns-in_ok-evaluated-in-Ok-clause-reaches g c = λ levels s next same.
     let read = rw c.in-Ok.is at c.in_ok-formula.ensures.reaches in
-    on_ok c.of_evaluated.result _ _
+    IfOk-weaker c.of_evaluated.result _ _
     (λ test comes.
     then_reaches (read s (λ formula. tested levels formula s next))
     (then_reaches (c.in_ok-evaluated-in-Ok.ensures.reaches levels s (on_tested next) same)

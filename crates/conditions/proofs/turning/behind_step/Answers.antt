@@ -1,8 +1,8 @@
 use Rattle.std.proofs.Common.{refl}
+use Rattle.std.proofs.lemmas.Result.{IfOk-weaker}
 use Rattle.conditions.proofs.Comings.{comes_from, comes_over}
 use Rattle.conditions.specs.Loop.{again}
 use Rattle.conditions.specs.Turning.{loop_of, next_of}
-use Rattle.evaluation.proofs.Steps.{on_ok}
 use Rattle.state.specs.View.{outcome_of}
 use Rattle.conditions.proofs.turning.behind_step.Goals as goal
 
@@ -15,7 +15,7 @@ returns-in-Some-clause-comes g c = λ s fits.
 pub returns-in-None-clause-comes : goal.returns-in-None-clause-comes
 returns-in-None-clause-comes g c = λ s fits.
     let next = again (loop_of c.args.turns.value) c.args.turns.value.levels in
-    on_ok c.turn.result _ _
+    IfOk-weaker c.turn.result _ _
     (λ nesting comes.
     comes_from next_of c.turn.new.state nesting _ _ (c.in-None.ensures next s) comes)
     (c.turn.ensures.comes s fits)

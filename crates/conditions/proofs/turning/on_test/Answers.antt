@@ -1,14 +1,14 @@
 use Rattle.std.proofs.Common.{◌∙◌, ◌<◌, Ok, refl, sym, ap, subst}
+use Rattle.std.proofs.lemmas.Result.{IfOk-weaker}
 use Rattle.std.specs.Prelude.{[]}
 use Rattle.conditions.proofs.Comings.{comes_over, same_goes}
 use Rattle.conditions.specs.Loop.{turned}
 use Rattle.conditions.specs.Test.{HasFewer, course_of_test, on_tested}
 use Rattle.conditions.specs.Turning.{loop_of, next_of, scripts_held}
 use Rattle.conditions.specs.declared.test.Test.TheVariants as test
-use Rattle.evaluation.proofs.Steps.{on_ok}
 use Rattle.evaluation.specs.Scripts.{scripts_behind}
 use Rattle.evaluation.specs.View.{resumed}
-use Rattle.state.specs.Leaf.{raised}
+use Rattle.state.specs.View.{raised}
 use Rattle.state.specs.Outcome.{Gives}
 use Rattle.tclparse.specs.View.{commands_of}
 use Rattle.words.specs.Words.{nested}
@@ -39,7 +39,7 @@ returns-in_ok-formula-in-Script-clause-comes g c = λ s fits.
     let levels = turns.value.levels in
     let next = turned (loop_of turns.value) levels in
     let commands = commands_of c.in-Script.commands in
-    on_ok c.nested.result _ _
+    IfOk-weaker c.nested.result _ _
     (λ nesting runs. record {
       status = s;
       fits = fits;

@@ -1,10 +1,10 @@
 use Rattle.std.proofs.Common.{◌∙◌, Err, refl, sym, ap, subst}
+use Rattle.std.proofs.lemmas.Result.{IfOk-weaker}
 use Rattle.conditions.proofs.Comings.{comes_after, comes_over, reaches_goes, same_goes, then_goes}
 use Rattle.conditions.proofs.Passing.{value_passes}
 use Rattle.conditions.specs.Loop.{turned}
 use Rattle.conditions.specs.Test.{on_tested}
 use Rattle.conditions.specs.Turning.{loop_of, next_of}
-use Rattle.evaluation.proofs.Steps.{on_ok}
 use Rattle.evaluation.specs.Scripts.{MeetsFewer, scripts_behind}
 use Rattle.evaluation.specs.View.{resumed}
 use Rattle.state.specs.Dialogue.{on_value}
@@ -17,7 +17,7 @@ returns-in_ok-test-in-Ok-clause-comes g c = λ s fits.
     let levels = turns.value.levels in
     let next = turned (loop_of turns.value) levels in
     let behind = on_value (resumed levels c.args.formula.value (on_tested next)) in
-    on_ok c.on_test.result _ _
+    IfOk-weaker c.on_test.result _ _
     (λ nesting comes.
     comes_after next_of c.on_test.new.state nesting _ _
     (then_goes

@@ -1,10 +1,10 @@
 use Rattle.std.proofs.Common.{◌≡◌, ◌∙◌, ◌-◌, suc, Err, refl, sym, ap, arith}
+use Rattle.std.proofs.lemmas.Result.{IfOk-weaker}
 use Rattle.conditions.proofs.Comings.{comes_over, same_goes}
-use Rattle.conditions.proofs.Turns.{tick_refused, tick_taken}
 use Rattle.conditions.specs.Loop.{behind_body}
 use Rattle.conditions.specs.Turning.{loop_of, next_of}
-use Rattle.evaluation.proofs.Steps.{on_ok}
 use Rattle.state.proofs.Fits.{left_fits}
+use Rattle.state.proofs.Ticks.{tick_refused, tick_taken}
 use Rattle.state.specs.Dialogue.{inside}
 use Rattle.state.specs.Nesting.{tree_of}
 use Rattle.state.specs.Outcome.{Stops}
@@ -27,7 +27,7 @@ returns-clause-comes g c = λ s fits.
     let some : s.left ≡ suc left = omega (arith, fits.left, c.if-state-eq0.false) in
     let after = record s { left = left } in
     let body = c.in_ok-body.ensures ∙ ap (λ own. tree_of own.body) c.deref.ensures in
-    on_ok c.deeper.result _ _
+    IfOk-weaker c.deeper.result _ _
     (λ nesting runs. record {
       status = after;
       fits = left_fits c.args.state.now s fits left;

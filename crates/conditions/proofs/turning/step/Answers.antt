@@ -1,10 +1,10 @@
 use Rattle.std.proofs.Common.{◌∙◌, refl, sym, ap}
+use Rattle.std.proofs.lemmas.Result.{IfOk-weaker}
 use Rattle.std.specs.Prelude.{option_map}
 use Rattle.conditions.proofs.Comings.{comes_from, same_goes}
 use Rattle.conditions.proofs.Turns.{steps_none, steps_some}
 use Rattle.conditions.specs.Loop.{again, on_step}
 use Rattle.conditions.specs.Turning.{loop_of, next_of}
-use Rattle.evaluation.proofs.Steps.{on_ok}
 use Rattle.state.specs.Dialogue.{inside}
 use Rattle.state.specs.Nesting.{tree_of}
 use Rattle.conditions.proofs.turning.step.Goals as goal
@@ -14,7 +14,7 @@ returns-in_default-clause-comes g c = λ s fits.
     let turns = c.args.turns in
     let loop = loop_of turns.value in
     let levels = turns.value.levels in
-    on_ok c.turn.result _ _
+    IfOk-weaker c.turn.result _ _
     (λ nesting comes.
     comes_from next_of c.turn.new.state nesting _ _
     (steps_none loop.step levels (again loop levels) s
@@ -30,7 +30,7 @@ returns-clause-comes g c = λ s fits.
     let levels = turns.value.levels in
     let next = again loop levels in
     let tree = tree_of c.in-Some.script in
-    on_ok c.deeper.result _ _
+    IfOk-weaker c.deeper.result _ _
     (λ nesting runs. record {
       status = s;
       fits = fits;

@@ -1,10 +1,10 @@
 use Rattle.std.proofs.Common.{sym, ap}
+use Rattle.std.proofs.lemmas.Result.{IfOk-weaker}
 use Rattle.conditions.proofs.Comings.{comes_after, reaches_goes, same_goes, then_goes}
 use Rattle.conditions.specs.GoesOn.{turning}
 use Rattle.conditions.specs.Loop.{turned}
 use Rattle.conditions.specs.Test.{on_tested}
 use Rattle.conditions.specs.Turning.{loop_of, next_of}
-use Rattle.evaluation.proofs.Steps.{on_ok}
 use Rattle.evaluation.specs.Evaluated.{evaluated}
 use Rattle.formulas.specs.View.{formula_of}
 use Rattle.conditions.proofs.turning.turn.Goals as goal
@@ -14,7 +14,7 @@ returns-clause-comes g c = λ s fits.
     let turns = c.args.turns in
     let levels = turns.value.levels in
     let next = turned (loop_of turns.value) levels in
-    on_ok c.on_test.result _ _
+    IfOk-weaker c.on_test.result _ _
     (λ nesting comes.
     comes_after next_of c.on_test.new.state nesting _ _
     (turning

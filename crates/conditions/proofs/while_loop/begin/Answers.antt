@@ -1,4 +1,5 @@
 use Rattle.std.proofs.Common.{◌≡◌, length, refl, sym, ap, rules, arith}
+use Rattle.std.proofs.lemmas.Result.{IfOk-weaker}
 use Rattle.std.specs.Prelude.{codes}
 use Rattle.acts.specs.Flaw as flaw
 use Rattle.acts.specs.Flaw.{text_of}
@@ -8,8 +9,8 @@ use Rattle.conditions.specs.GoesOn.{reads}
 use Rattle.conditions.specs.Loop.{again}
 use Rattle.conditions.specs.Turning.{loop_of, next_of}
 use Rattle.conditions.specs.WhileLoop.{looped}
-use Rattle.evaluation.proofs.Steps.{on_ok}
-use Rattle.state.specs.Leaf.{raised}
+use Rattle.state.proofs.Fits.{kept_fits}
+use Rattle.state.specs.View.{raised}
 use Rattle.state.specs.Nesting.{tree_of}
 use Rattle.state.specs.Outcome.{Leaves, Error}
 use Rattle.state.specs.Piece.{ScriptText}
@@ -31,7 +32,7 @@ returns-in_ok-new-in-Ok-clause-comes g c = λ s fits.
     let test = c.as_slice.result.now in
     let body = c.as_slice-in-Ok.result.now in
     let read = rw c.in-Ok.is at c.in_ok-test.ensures.reaches in
-    on_ok c.turn.result _ _
+    IfOk-weaker c.turn.result _ _
     (λ nesting comes.
     comes_after next_of c.turn.new.state nesting _ _
     (then_goes
@@ -39,11 +40,11 @@ returns-in_ok-new-in-Ok-clause-comes g c = λ s fits.
     c.test-item.is c.body-item.is c.as_slice.ensures c.as_slice-in-Ok.ensures))
     (then_goes (reaches_goes (read s (looped levels body s)))
     (reads {text = ScriptText body} (tree_of c.in_ok-body-in-Ok.body)
-    c.in_ok-body-in-Ok.ensures.tree
+    c.in_ok-body-in-Ok.ensures.tree.tree
     (same_goes (ap (λ own. again (loop_of own) own.levels s)
     (sym c.in_ok-new-in-Ok.ensures.ok))))))
     comes)
-    (c.turn.ensures.comes s fits)
+    (c.turn.ensures.comes s (kept_fits c.args.state.now s fits c.get.new.self))
 
 pub returns-in_ok-raised-in-Err-clause-comes : goal.returns-in_ok-raised-in-Err-clause-comes
 returns-in_ok-raised-in-Err-clause-comes g c = λ s fits.

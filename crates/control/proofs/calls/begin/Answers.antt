@@ -3,6 +3,7 @@ use Rattle.acts.specs.Flaw as flaw
 use Rattle.acts.specs.Flaw.{text_of}
 use Rattle.control.proofs.Calling.{call_refused, call_runs}
 use Rattle.control.specs.Calls as definition
+use Rattle.state.proofs.Fits.{kept_fits}
 use Rattle.state.proofs.Nestings.{nests_after, nests_from, over, text_reaches}
 use Rattle.state.specs.Outcome.{Leaves, Error}
 use Rattle.state.specs.Status.{Status}
@@ -45,7 +46,7 @@ returns-clause-called g c = λ s fits.
     c.as_slice.ensures ∙ ap (λ p. p.body) c.procedure.view_is in
     let is : IsScript (commands_of body.commands) (option_map fault_of body.fault) procedure.body =
     subst (λ t. IsScript (commands_of body.commands) (option_map fault_of body.fault) t) text
-    c.in_ok-body.ensures.tree in
+    c.in_ok-body.ensures.tree.tree in
     record {
       procedure = procedure;
       found = ap (λ procs. found procs name) fits.procedures ∙ sym c.in-Some.ensures;
@@ -53,5 +54,6 @@ returns-clause-called g c = λ s fits.
           (call_runs levels name procedure words s frame some)
           (nests_after definition.next_of c.run.new.state c.in_ok-run.field-0 _ _
           (text_reaches body levels procedure.body there definition.returned is)
-          (c.in_ok-run.ensures.nests s fits));
+          (c.in_ok-run.ensures.nests s
+          (kept_fits c.args.state.now s fits c.get-2.new.self)));
     }

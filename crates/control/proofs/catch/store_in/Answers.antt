@@ -6,7 +6,7 @@ use Rattle.control.specs.Catch as definition
 use Rattle.control.proofs.Catching.{stores_named, stores_none, stores_unnamed}
 use Rattle.state.proofs.Nestings.{over}
 use Rattle.state.specs.Dialogue.{gives}
-use Rattle.state.specs.Leaf.{raised}
+use Rattle.state.specs.View.{raised}
 use Rattle.state.specs.Outcome.{Gives, Leaves, Error}
 use Rattle.tclparse.specs.Variable.{named}
 use Rattle.control.proofs.catch.store_in.Goals as goal

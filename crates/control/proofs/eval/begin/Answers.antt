@@ -18,8 +18,8 @@ returns-then-is_empty-clause-nests g c = λ s fits.
 pub returns-clause-nests : goal.returns-clause-nests
 returns-clause-nests g c = λ s fits.
     on_ok c.run.result (λ n nests.
-    nests_from next_of c.args.state.now n _ _
+    nests_from next_of c.run.new.state n _ _
     (eval_some c.args.levels s c.args.args.now c.deref.result.now (sym c.if-is_empty.ensures)
     (c.deref.ensures.value ∙ c.in_ok-text.ensures))
     nests)
-    (c.run.ensures s fits)
+    (c.run.ensures.nests s fits)

@@ -7,9 +7,10 @@ use Rattle.control.proofs.Catching.{on_ok}
 use Rattle.control.proofs.Pairing.{greater, most_behind, pairs_begin, pairs_body, pairs_wrong}
 use Rattle.control.specs.Foreach.{begins, most_asked, rows, turns, with_pairs}
 use Rattle.control.specs.Looping.{next_of, pair_of}
+use Rattle.state.proofs.Fits.{kept_fits}
 use Rattle.state.proofs.Nestings.{nests_after, over}
 use Rattle.state.proofs.Reaches.{same_reaches, then_reaches}
-use Rattle.state.specs.Leaf.{raised}
+use Rattle.state.specs.View.{raised}
 use Rattle.state.specs.Nesting.{tree_of}
 use Rattle.state.specs.Outcome.{Leaves, Error}
 use Rattle.state.specs.Piece.{ScriptText}
@@ -96,8 +97,8 @@ returns-clause-nests g c = λ s fits.
     c.as_slice-2.result.now one c.body-item.is c.as_slice-2.ensures))
     (then_reaches
     (reads {text = ScriptText c.as_slice-2.result.now} (tree_of body)
-    c.in_ok-body.ensures.tree here)
+    c.in_ok-body.ensures.tree.tree here)
     (same_reaches (ap (λ n. turns levels (tree_of body) (rows n pairs) s)
     (sym c.pairs.invariant.turns))))))
     nests)
-    (c.turn.ensures.nests s fits)
+    (c.turn.ensures.nests s (kept_fits c.args.state.now s fits c.get.new.self))

@@ -1,14 +1,15 @@
 use Rattle.std.proofs.Common.{◌≡◌, ◌∙◌, ◌-◌, suc, [], map, Ok, Err, refl, sym, ap, rules, arith}
 use Rattle.control.proofs.Catching.{on_ok}
-use Rattle.control.proofs.Turning.{tick_refused, tick_taken, turns_next, turns_over}
+use Rattle.control.proofs.Turning.{turns_next, turns_over}
 use Rattle.control.specs.Foreach.{rows, turns}
 use Rattle.control.specs.Looping.{next_of, pair_of}
 use Rattle.state.specs.Turn.{on_turn}
 use Rattle.state.proofs.Fits.{left_fits}
 use Rattle.state.proofs.Nestings.{over}
 use Rattle.state.proofs.Reaches.{same_reaches}
+use Rattle.state.proofs.Ticks.{tick_refused, tick_taken}
 use Rattle.state.specs.Dialogue.{inside}
-use Rattle.state.specs.Leaf.{raised}
+use Rattle.state.specs.View.{raised}
 use Rattle.state.specs.Nesting.{tree_of}
 use Rattle.state.specs.Outcome.{Gives, Stops}
 use Rattle.state.specs.Outcome as stop

@@ -10,16 +10,16 @@ use Rattle.state.proofs.Nestings.{over}
 use Rattle.state.specs.Outcome.{Leaves, Error}
 use Rattle.control.proofs.switch.behind_flag.Goals as goal
 
-pub returns-in_default : goal.returns-in_default
-returns-in_default g c = λ s fits.
+pub returns-in_default-clause-nests : goal.returns-in_default-clause-nests
+returns-in_default-clause-nests g c = λ s fits.
     let words = c.args.words.now in
     let none : length words ≡ 0 = omega (arith, c.in_default.len_below) in
     over next_of c.args.state.now c.in_ok-wrong_args.field-0
     (Leaves Error (text_of (flaw.WrongArgs (codes "switch")))) s _ fits c.in_ok-wrong_args.ensures
     (behind_none c.args.levels (mode_of c.args.mode) words s none)
 
-pub returns-in_ok-bad_argument : goal.returns-in_ok-bad_argument
-returns-in_ok-bad_argument g c = λ s fits.
+pub returns-in_ok-bad_argument-clause-nests : goal.returns-in_ok-bad_argument-clause-nests
+returns-in_ok-bad_argument-clause-nests g c = λ s fits.
     let word = c.as_slice-word.result.now in
     over next_of c.args.state.now c.in_ok-bad_argument.field-0
     (Leaves Error (text_of (flaw.BadArgument word (codes "switch")))) s _ fits

@@ -8,8 +8,8 @@ use Rattle.state.proofs.Nestings.{over}
 use Rattle.state.specs.Outcome.{Leaves, Error}
 use Rattle.control.proofs.switch.on_flags.Goals as goal
 
-pub returns-in_default : goal.returns-in_default
-returns-in_default g c = λ s fits.
+pub returns-in_default-clause-nests : goal.returns-in_default-clause-nests
+returns-in_default-clause-nests g c = λ s fits.
     let words = c.args.words.now in
     let none : length words ≡ 0 = omega (arith, c.in_default.len_below) in
     over next_of c.args.state.now c.in_ok-wrong_args.field-0

@@ -1,6 +1,6 @@
 use Rattle.std.proofs.Common.{◌≡◌, ◌∙◌, sym, ap, arith}
 use Rattle.leaving.specs.ExpContinue.{by_word, exp_continue}
-use Rattle.leaving.specs.Waits.{next_of}
+use Rattle.state.specs.NoWaits.{next_of}
 use Rattle.state.proofs.Lists.{single}
 use Rattle.state.proofs.Shown.{shows_ok}
 use Rattle.leaving.proofs.exp_continue.begin.Goals as goal

@@ -1,6 +1,6 @@
-use Rattle.logs.specs.SendError.{next_of}
 use Rattle.logs.proofs.Named.{error-more}
 use Rattle.state.proofs.Shown.{over_ok}
+use Rattle.writing.specs.Channel.{next_of}
 use Rattle.logs.proofs.send_error.begin.Goals as goal
 
 pub returns-in-len3-up-clause-shows : goal.returns-in-len3-up-clause-shows

@@ -1,7 +1,7 @@
 use Rattle.std.proofs.Common.{◌≡◌, ◌∙◌, length, sym, rules, arith}
 use Rattle.procedures.proofs.Named.{proc_three}
 use Rattle.procedures.specs.Proc.{defines_named}
-use Rattle.procedures.specs.Waits.{next_of}
+use Rattle.state.specs.NoWaits.{next_of}
 use Rattle.state.proofs.Shown.{shows_ok}
 use Rattle.procedures.proofs.proc.begin.Goals as goal
 

@@ -1,5 +1,5 @@
 use Rattle.std.proofs.Common.{◌∙◌, [], sym, ap}
-use Rattle.procedures.specs.Waits.{next_of}
+use Rattle.state.specs.NoWaits.{next_of}
 use Rattle.state.proofs.Fits.{procedures_fit}
 use Rattle.state.proofs.Shown.{over}
 use Rattle.state.specs.Dialogue.{gives}

@@ -7,7 +7,9 @@ returns-in-Some c =
     let digits : c.as_bytes.result.now ≡ decimal c.args.id.0 =
     c.as_bytes.ensures.value ∙ c.format.ensures.text in
     let cases = c.in-Some.ensures.cases in
-    rw (c.eq.ensures, digits, cases.1) (rest_decides c.args.text.now (decimal c.args.id.0) cases.0)
+    rw (c.eq.ensures, digits, cases.1)
+    (rest_decides c.args.prefix.now c.args.text.now (decimal c.args.id.0) cases.0)
 
 pub returns-in-None : goal.returns-in-None
-returns-in-None c = no_prefix c.args.text.now (decimal c.args.id.0) c.in-None.ensures.cases
+returns-in-None c =
+    no_prefix c.args.prefix.now c.args.text.now (decimal c.args.id.0) c.in-None.ensures.cases

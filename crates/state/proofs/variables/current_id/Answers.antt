@@ -1,4 +1,4 @@
-use Rattle.std.proofs.Common.{◌≡◌, List, Option, Some, None, refl, sym, ap, ◌∙◌, option_copied, codes}
+use Rattle.std.proofs.Common.{◌≡◌, Some, None, refl, sym, ap, ◌∙◌, option_copied, codes}
 use Rattle.acts.specs.Flaw as flaw
 use Rattle.state.specs.Status.{opened}
 use Rattle.state.specs.Variables.{consulted, named}

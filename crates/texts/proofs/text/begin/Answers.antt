@@ -1,6 +1,6 @@
 use Rattle.pure.specs.Pure.{says}
 use Rattle.state.proofs.Meant.{meant_shows_ok}
-use Rattle.texts.specs.Text.{next_of}
+use Rattle.state.specs.NoWaits.{next_of}
 use Rattle.texts.proofs.text.begin.Goals as goal
 
 pub returns-clause-shows : goal.returns-clause-shows

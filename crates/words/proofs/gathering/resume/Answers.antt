@@ -1,10 +1,11 @@
 use Rattle.std.proofs.Common.{◌∙◌, ap, subst, arith}
+use Rattle.std.proofs.lemmas.Result.{IfOk-weaker}
 use Rattle.words.specs.Gathering.{course_of_gathered, gathering_on, taken}
 use Rattle.state.specs.Reaches.{Reaches}
 use Rattle.words.specs.Scripts.{HasFewer, MeetsFewer, scripts_behind, scripts_left, scripts_of}
 use Rattle.words.specs.View.{course_of_met}
 use Rattle.words.specs.Words.{words}
-use Rattle.words.proofs.Command.{left, added, on_ok}
+use Rattle.words.proofs.Command.{left, added}
 use Rattle.state.proofs.Reaches.{same_reaches, then_reaches}
 use Rattle.words.proofs.Scripts.{has_more}
 use Rattle.words.proofs.gathering.resume.Goals as goal
@@ -16,7 +17,7 @@ returns-in-Value-clause-reaches g c = λ levels s call same.
     let old = gathering.values.items in
     let new = c.add_words.new.values.items in
     let on = taken levels gathering.expands ws old call in
-    on_ok c.gather.result
+    IfOk-weaker c.gather.result
     (λ gathered. Reaches (words levels ws new s call) (course_of_gathered levels gathered call s))
     (λ gathered. Reaches (gathering_on levels gathering call s c.args.value)
     (course_of_gathered levels gathered call s))
@@ -49,7 +50,7 @@ pub returns-in-Value-clause-fewer : goal.returns-in-Value-clause-fewer
 returns-in-Value-clause-fewer g c =
     let gathering = c.args.gathering in
     let behind = scripts_of (left gathering.words.value.items gathering.next) in
-    on_ok c.gather.result (λ gathered. HasFewer gathered behind)
+    IfOk-weaker c.gather.result (λ gathered. HasFewer gathered behind)
     (λ gathered. HasFewer gathered (scripts_left gathering))
     (λ gathered fewer. has_more gathered behind (scripts_left gathering) fewer (omega arith))
     c.gather.ensures.fewer

@@ -1,4 +1,5 @@
 use Rattle.std.proofs.Common.{◌≡◌, ◌∙◌, ℕ, ◌+◌, ◌<◌, ◌≤◌, List, ◌++◌, length, None, IfSome, sym, ap, subst, arith, rules}
+use Rattle.std.proofs.lemmas.Result.{IfOk-weaker}
 use Rattle.std.specs.Prelude.{MatchOption}
 use Rattle.tclparse.specs.Tree.{no_commands}
 use Rattle.tclparse.specs.View.{part_view, commands_of, commands_then, parts_of}
@@ -6,7 +7,6 @@ use Rattle.state.specs.Variables.{reads}
 use Rattle.words.specs.Words.{parts}
 use Rattle.words.specs.Scripts.{scripts_in, scripts_around, MeetsFewer}
 use Rattle.words.specs.View.{course_of_met, course_of_part, rest_of}
-use Rattle.words.proofs.Command.{on_ok}
 use Rattle.words.proofs.Levels.{reading, same_script}
 use Rattle.words.proofs.Scripts.{in_bytes, meets_more, part_more}
 use Rattle.words.proofs.Steps.{left, next_part, as_literal, as_variable, as_element, as_script, literal, appended, not_appended}
@@ -72,7 +72,7 @@ append_part-returns-in_ok-index-in-Element-clause-goes_on g t c = λ levels s k 
     ∙ ap (λ b. parts levels (parts_of index) b s on) (sym c.new.ensures)
     ∙ c.in_ok-index-in-Element.ensures.goes_on levels s on same in
     let behind = parts levels rest c.append_element.new.bytes s k in
-    on_ok c.append_element.result
+    IfOk-weaker c.append_element.result
     (λ stop. course_of_met levels c.in_ok-index-in-Element.index on s
     ≡ course_of_part levels stop behind k s)
     (λ stop. whole ≡ course_of_part levels stop behind k s)
@@ -86,7 +86,7 @@ append_part-returns-in_ok-index-in-Element-clause-fewer g t c =
     let all = scripts_in (part_view c.args.part.now rest) in
     let sum : all ≡ inside + scripts_in rest = ap scripts_in
     (as_element c.args.part.now rest c.in-Element.array c.in-Element.index c.in-Element.is) in
-    on_ok c.append_element.result
+    IfOk-weaker c.append_element.result
     (λ stop. IfSome stop (λ it. MeetsFewer it (inside + scripts_in rest)))
     (λ stop. MatchOption stop (scripts_in rest ≤ all) (λ it. MeetsFewer it all))
     (λ stop fewer. part_more stop inside (scripts_in rest) all sum fewer)

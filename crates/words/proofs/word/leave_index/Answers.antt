@@ -1,8 +1,8 @@
 use Rattle.std.proofs.Common.{◌≡◌, ◌∙◌, List, ℕ, ◌++◌, Some, sym, ap}
+use Rattle.std.proofs.lemmas.Result.{IfOk-weaker}
 use Rattle.state.specs.Variables.{reads}
 use Rattle.words.specs.Words.{parts}
 use Rattle.words.specs.View.{rest_of, course_of_met}
-use Rattle.words.proofs.Command.{on_ok}
 use Rattle.words.proofs.Steps.{appended, not_appended}
 use Rattle.words.proofs.word.leave_index.Goals as goal
 
@@ -29,6 +29,6 @@ returns-clause-goes_on g c = λ levels s k same.
     ∙ appended c.in_ok-fault.field-0 outer.rest.bytes c.append_variable.new.bytes
     c.as_slice-2.result.now (Some c.as_slice.result.now) s c.in_default.is
     (c.in_ok-fault.ensures s same) on in
-    on_ok c.run.result (λ met. on c.append_variable.new.bytes ≡ course_of_met levels met k s)
+    IfOk-weaker c.run.result (λ met. on c.append_variable.new.bytes ≡ course_of_met levels met k s)
     (λ met. reads outer.array (Some c.args.index.now) s more ≡ course_of_met levels met k s)
     (λ met ran. read ∙ ran) (c.run.ensures.goes_on levels s k same)

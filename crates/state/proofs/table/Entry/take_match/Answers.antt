@@ -1,4 +1,4 @@
-use Rattle.std.proofs.Common.{◌≡◌, Some, None, sym, ap, ◌∙◌, take}
+use Rattle.std.proofs.Common.{◌≡◌, Some, None, sym, ◌∙◌}
 use Rattle.matchbuf.specs.Journal.{window}
 use Rattle.state.proofs.Places.{first_found}
 use Rattle.state.proofs.Refused.{on_err}

@@ -1,4 +1,4 @@
-use Rattle.std.proofs.Common.{◌≡◌, ◌∙◌, sym}
+use Rattle.std.proofs.Common.{◌≡◌, ◌∙◌, refl, sym}
 use Rattle.matchbuf.specs.Journal.{Arrived}
 use Rattle.state.specs.Rows.{without_nulls}
 use Rattle.state.specs.Status.{opened}
@@ -14,8 +14,8 @@ returns-in-Some g c = λ ps fits.
     let bytes : c.deref.result.now ≡ without_nulls c.args.bytes.items =
     c.deref.ensures.value ∙ c.remove_nulls.ensures in
     rw (opened-recorded (Arrived (without_nulls c.args.bytes.items)) c.args.id ps)
-    (put c.args.id c.args.self.now.entries.items (opened ps) c.in-Some.place _ _ old.journal found
-    fits old.opened old.id (rw bytes at (c.arrive.ensures.fits old.journal old.fits)))
+    (put c.args.id c.args.self.now.entries.items (opened ps) c.in-Some.place _ _ _ old.journal found
+    (record { has = c.index_mut-entry.ensures.value; kind = refl }) fits old.opened old.id (rw bytes at (c.arrive.ensures.fits old.journal old.fits)))
 
 pub returns : goal.returns
 returns g c = λ ps fits.

@@ -1,6 +1,5 @@
-use Rattle.std.proofs.Common.{◌≡◌, ◌+◌, ◌∷◌, List, drop, ◌∙◌}
+use Rattle.std.proofs.Common.{◌≡◌, ◌+◌, ◌∷◌, drop, ◌∙◌}
 use Rattle.state.proofs.Lists.{split_at}
-use Rattle.state.specs.Tables.{FitsAll}
 use Rattle.state.proofs.Tables.{named_next, named_here}
 use Rattle.state.proofs.table.Table.named.Goals as goal
 

@@ -1,4 +1,4 @@
-use Rattle.std.proofs.Common.{◌≡◌, ◌≢◌, ◌∙◌, Ok, Some, None, sym}
+use Rattle.std.proofs.Common.{◌≡◌, ◌≢◌, ◌∙◌, Some, None, sym}
 use Rattle.matchbuf.specs.Journal.{window}
 use Rattle.state.specs.Rows.{first_place}
 use Rattle.state.specs.Status.{opened}
@@ -31,7 +31,9 @@ returns-in-Some-found-clause-selects g c = λ ps fits.
       found = taken.found;
       taken = taken.taken;
       fits = rw (opened-recorded _ c.args.id ps)
-          (put c.args.id es (opened ps) c.in-Some.place _ _ old.journal place fits old.opened
+          (put c.args.id es (opened ps) c.in-Some.place _ _ _ old.journal place
+          (record { has = c.index_mut-entry.ensures.value; kind = c.take_match.ensures.same_kind })
+          fits old.opened
           (c.take_match.ensures.same_id ∙ old.id) taken.fits);
     }
 
@@ -49,8 +51,9 @@ returns-in-None-clause-selects g c = λ ps fits.
       has = old.opened;
       none = missed.none;
       told = rw id at (c.row.ensures old.journal missed.fits);
-      fits = keep c.args.id es (opened ps) c.in-Some.place _ old.journal place fits old.opened id
-          missed.fits;
+      fits = keep c.args.id es (opened ps) c.in-Some.place _ _ old.journal place
+          (record { has = c.index_mut-entry.ensures.value; kind = c.take_match.ensures.same_kind })
+          fits old.opened id missed.fits;
     }
 
 pub returns-in_err-found-clause-fails : goal.returns-in_err-found-clause-fails

@@ -1,7 +1,7 @@
 use Rattle.std.proofs.Common.{◌≡◌, drop, is_some}
 use Rattle.std.specs.List.{list_all}
 use Rattle.tclparse.specs.Variable.{named}
-use Rattle.control.proofs.pair.all_named.Given as goal
+use Rattle.state.proofs.variables.all_named.Given as goal
 
 abbrev pub invariant-loop-word : goal.invariant-loop-word
 invariant-loop-word g l =

@@ -1,0 +1,73 @@
+//! The channels that texts are written to.
+#![tactic(auto, using(state::proofs::Reaches::same_reaches))]
+
+ghost use Rattle.std.specs.Prelude.{◌≡◌, ◌≤◌, IfOk};
+ghost use Rattle.acts.specs.Deed.{deed_of, reply_of};
+ghost use Rattle.state.specs.Leaf.{Shows};
+ghost use Rattle.state.specs.Status.{Status};
+ghost use Rattle.state.specs.View.{FitsState};
+ghost use Rattle.writing.specs.Channel as definition;
+ghost use Rattle.writing.specs.Channel.{next_of};
+ghost use Rattle.writing.specs.View.{channel_seen};
+
+use acts::{Act, Answer, NoMemory};
+use state::leaf::{empty, stops};
+use state::{Leaf, State, Stop};
+use std::alloc::Allocator;
+
+/// What waits for the answer to an act.
+#[derive(Clone, Copy, Debug, PartialEq, Eq)]
+pub enum Waits {
+    /// The text is written, and the command is over.
+    Written,
+}
+
+/// Where a text is written to.
+#[derive(Clone, Copy, Debug, PartialEq, Eq)]
+pub enum Channel {
+    Output,
+    Errors,
+}
+
+/// Begins to write bytes to a channel; where there are none, nothing is written.
+pub fn write<A: Allocator + Copy>(
+    state: &State<A>,
+    channel: Channel,
+    bytes: Vec<u8, A>,
+) -> Leaf<A, Waits>
+    ensures { (s : Status) → FitsState state.now s →
+        Shows next_of result state.now (definition.put (channel_seen channel) bytes.items s) }
+{
+    if bytes.is_empty() {
+        return empty();
+    }
+    Leaf::Asks(write_to(channel, bytes), Waits::Written)
+}
+
+/// Goes on with the answer to the write.
+pub fn answered<A: Allocator + Copy>(
+    _alloc: A,
+    state: &mut State<A>,
+    act: Act<A>,
+    waits: Waits,
+    answer: Answer<A>,
+) -> Result<Leaf<A, Waits>, NoMemory>
+    ensures shows { (s : Status) → FitsState state.old s → IfOk result (λ leaf.
+        Shows next_of leaf state.new (next_of waits (deed_of act) s (reply_of answer))) }
+    ensures left { state.new.left ≤ state.old.left }
+{
+    match answer {
+        Answer::Failed(_) => Ok(stops(Stop::WriterFailed)),
+        _ => Ok(empty()),
+    }
+}
+
+/// The write of bytes to a channel.
+fn write_to<A: Allocator>(channel: Channel, bytes: Vec<u8, A>) -> Act<A>
+    ensures { deed_of result ≡ definition.write_to (channel_seen channel) bytes.items }
+{
+    match channel {
+        Channel::Output => Act::Out(bytes),
+        Channel::Errors => Act::Err(bytes),
+    }
+}
