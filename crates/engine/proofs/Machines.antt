@@ -1,5 +1,5 @@
 -- What the parts of the machine come to.
-use Rattle.std.proofs.Common.{◌≡◌, ◌∙◌, ℕ, zero, suc, ◌+◌, ◌<◌, List, [], ◌∷◌, length, drop, Box, Option, None, option_map, Result, Ok, Err, IfOk, refl, sym, ap, subst, arith}
+use Rattle.std.proofs.Common.{◌≡◌, ◌∙◌, ℕ, zero, suc, ◌+◌, ◌<◌, ◌≤◌, List, [], ◌∷◌, length, drop, Box, Option, None, option_map, Result, Ok, Err, IfOk, refl, sym, ap, subst, arith}
 use Rattle.std.specs.declared.rc.Rc.{Rc}
 use Rattle.std.specs.declared.vec.Vec.{Vec}
 use Rattle.tclparse.specs.declared.tree.Command.{Command}
@@ -7,7 +7,8 @@ use Rattle.acts.specs.Flaw as flaw
 use Rattle.runs.specs.Commands.{command}
 use Rattle.commands.specs.View as table
 use Rattle.commands.specs.declared.waits.Waits.{Waits}
-use Rattle.engine.specs.Frames.{IsWhole, next_of, onward_of, left_of}
+use Rattle.control.specs.declared.held.Held.{Held}
+use Rattle.engine.specs.Frames.{IsWhole, next_of, onward_of, left_of, weight, weight_of, words_in, words_of_frame}
 use Rattle.engine.specs.Goes.{Goes, here, calls, reads}
 use Rattle.engine.specs.Phases.{Leads, Begins, Unwinds, Stands}
 use Rattle.engine.specs.declared.frame.Frame.{Frame}
@@ -26,6 +27,7 @@ use Rattle.state.specs.Dialogue.{Course, Dialogue, gives, raises}
 use Rattle.state.specs.Leaf.{HasOutcome, Shows, course_of}
 use Rattle.state.specs.Outcome.{Outcome, Gives}
 use Rattle.state.specs.Piece.{ScriptText, ScriptTree}
+use Rattle.state.specs.Reaches.{Reaches}
 use Rattle.state.specs.Status.{Status}
 use Rattle.state.specs.View.{FitsState, outcome_of}
 use Rattle.state.specs.declared.leaf.Leaf.{Leaf}
@@ -35,8 +37,9 @@ use Rattle.state.specs.declared.outcome.Leave.TheVariants as leave
 use Rattle.state.specs.declared.state.State.{State}
 use Rattle.tclparse.specs.View.{commands_of}
 use Rattle.tclparse.specs.Tree.{Commands}
-use Rattle.words.specs.Gathering.{gathering_on}
+use Rattle.words.specs.Gathering.{course_of_gathered, gathering_on}
 use Rattle.words.specs.Words.{nested}
+use Rattle.words.specs.declared.gathering.Gathered.{Gathered}
 use Rattle.words.specs.declared.gathering.Gathering.{Gathering}
 
 -- what holds of a value holds of another where the one gives the other
@@ -101,6 +104,14 @@ module _ {A : Type 0} (fs : List (Frame A)) where
   over_leads l o s state fits is =
       record { status = s; fits = fits; goes = over_goes l o s is }
 
+  -- what the words of a command came to, where it is known what that is
+  pub gathered_goes : (levels : ℕ) (s : Status) {found known : Gathered A} {p : Course} →
+      Reaches p (course_of_gathered levels found (command levels) s) → found ≡ known →
+      Goes (left_of p fs) (left_of (course_of_gathered levels known (command levels) s) fs)
+  gathered_goes levels s first is =
+      then_goes (reaches_goes fs first)
+      (same_left fs (ap (λ found. course_of_gathered levels found (command levels) s) is))
+
   -- a script in a word is put on the stack above the words behind it
   pub nest_goes : (levels inner : ℕ) (cs : Rc (Vec (Command A) A) A) (box : Box (Gathering A) A)
       (s : Status) → levels ≡ suc inner →
@@ -153,6 +164,27 @@ pub words_passes : {A : Type 0} (box : Box (Gathering A) A) (levels : ℕ) (s : 
     next_of (frame.Words box levels) s (outcome_of (Err l)) ≡ Ends (s, outcome_of (Err l))
 words_passes box levels s (leave.Coded code value) = refl
 words_passes box levels s (leave.Stopped stop) = refl
+
+-- and so through every frame but that of a command
+pub passed_on : {A : Type 0} (f : Frame A) (s : Status) (l : Leave A) →
+    ((held : Held A) → f ≡ frame.Held held → ⊥) →
+    next_of f s (outcome_of (Err l)) ≡ Ends (s, outcome_of (Err l))
+passed_on (frame.Script own) s l not = script_passes own s l
+passed_on (frame.Words box levels) s l not = words_passes box levels s l
+passed_on (frame.Held held) s l not = absurd (not held refl)
+
+-- a frame that goes lightens the others
+pub lighter_without : {A : Type 0} (f : Frame A) (fs : List (Frame A)) →
+    weight fs < weight_of f + weight fs
+lighter_without (frame.Script own) fs = omega arith
+lighter_without (frame.Words box levels) fs = omega arith
+lighter_without (frame.Held held) fs = omega arith
+
+pub fewer_without : {A : Type 0} (f : Frame A) (fs : List (Frame A)) →
+    words_in fs ≤ words_of_frame f + words_in fs
+fewer_without (frame.Script own) fs = omega arith
+fewer_without (frame.Words box levels) fs = omega arith
+fewer_without (frame.Held held) fs = omega arith
 
 -- a value goes into the word in which its script stood
 pub words_at : {A : Type 0} (f : Frame A) (o : Result (List ℕ) (Leave A))

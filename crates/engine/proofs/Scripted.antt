@@ -11,7 +11,8 @@ use Rattle.plan.specs.Plan.{Ends, and_then, onward}
 use Rattle.runs.specs.Ending.{Over}
 use Rattle.runs.specs.Scripts.{behind, script, one}
 use Rattle.engine.proofs.Silent.{same_goes, then_goes}
-use Rattle.state.specs.Dialogue.{Course, Dialogue, tick, stops, on_value}
+use Rattle.state.proofs.Ticks.{tick_refused}
+use Rattle.state.specs.Dialogue.{Course, Dialogue, stops, on_value}
 use Rattle.state.specs.Outcome.{Outcome, Gives}
 use Rattle.state.specs.Outcome as stop
 use Rattle.state.specs.Status.{Status}
@@ -45,15 +46,6 @@ module _ {A : Type 0} where
       commands_from cs i ≡ no_commands
   commands_over cs i le = ap (λ l. commands_then l no_commands) (drop_all i cs le)
 
--- a tick is taken where one is left, and the run stops where none is
-pub tick_taken : (s : Status) (left : ℕ) (next : Status → Course) → s.left ≡ suc left →
-    tick s next ≡ next (record s { left = left })
-tick_taken s left next is = rw is refl
-
-pub tick_refused : (s : Status) (next : Status → Course) → s.left ≡ 0 →
-    tick s next ≡ stops stop.Limit s
-tick_refused s next is = rw is refl
-
 module _ {A : Type 0} (frames : List (Frame A)) where
   -- what is left of a script begins with the next command, and the rest is put on the stack
   pub script_goes : (own rest : Script A) (ws : Words) (s : Status) (value : List ℕ) →
@@ -69,7 +61,7 @@ module _ {A : Type 0} (frames : List (Frame A)) where
       (calls (same_goes (rw (levels, fault) refl)))
 
   -- there is a command at a place before the end
-  some_at : (cs : List (Command A)) (i : ℕ) → i < length cs →
+  pub some_at : (cs : List (Command A)) (i : ℕ) → i < length cs →
       (ws : Words) × (rest : Commands) × (commands_from cs i ≡ tree.command ws rest)
   some_at [] i lt = absurd (omega arith)
   some_at (c ∷ cs) zero lt = (command_view c, commands_then cs no_commands, refl)

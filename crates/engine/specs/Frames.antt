@@ -28,13 +28,16 @@ use Rattle.words.specs.Scripts.{scripts_left}
 abbrev pub stack : {A : Type 0} → Vec (Frame A) A → List (Frame A)
 stack frames = reverse frames.items
 
+-- the commands of a script that are left
+abbrev pub commands_left : {A : Type 0} → Script A → Commands
+commands_left s = commands_then (drop s.next s.commands.value.items) no_commands
+
 -- a frame is what is done next with how the part within it ended: the commands of a script that are
 -- left, the words of a command behind a script in one of them, or a command behind a script that it
 -- ran
 abbrev pub next_of : {A : Type 0} → Frame A → Status → Outcome → Course
 next_of (frame.Script s) =
-    on_value (script s.levels (commands_then (drop s.next s.commands.value.items) no_commands)
-    (option_map fault_of s.fault))
+    on_value (script s.levels (commands_left s) (option_map fault_of s.fault))
 next_of (frame.Words gathering levels) =
     on_value (gathering_on levels gathering.value (command levels))
 next_of (frame.Held held) = control.next_of held

@@ -10,6 +10,7 @@ ghost use Rattle.tclstate.specs.Scopes.{Text, scopes as scopes_of};
 
 use acts::{Limits, NoMemory};
 use itoa::Buffer;
+use kept::Kept;
 use state::{State, Table};
 use std::alloc::Allocator;
 use tclstate::{Procs, ScopeError, Scopes};
@@ -33,6 +34,7 @@ pub fn beginning<A: Allocator + Copy>(
         table: Table::new(alloc),
         next: Some(FIRST_NUMBER),
         left: limits.ticks,
+        kept: Kept::new(alloc),
     })
 }
 

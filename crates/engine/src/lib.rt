@@ -10,6 +10,7 @@ mod machine;
 mod phase;
 mod running;
 mod session;
+mod taken;
 
 pub use end::End;
 pub use running::run;

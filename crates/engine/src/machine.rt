@@ -1,12 +1,13 @@
 //! The steps of a session between two acts.
 
-ghost use Rattle.std.specs.Prelude.{◌≡◌, ℕ, ◌+◌, ◌*◌, ◌<◌, ◌≤◌, [], ◌∷◌, option_map, IfOk};
+ghost use Rattle.std.specs.Prelude.{◌≡◌, ℕ, ◌+◌, ◌*◌, ◌<◌, ◌≤◌, [], ◌∷◌, option_map, Err, IfOk, IfErr};
 ghost use Rattle.commands.specs.View as table;
 ghost use Rattle.control.specs.View as control;
 ghost use Rattle.control.specs.View.{scripts_held};
 ghost use Rattle.engine.specs.Frames.{begun, left_of, load, next_of, onward_of, stack, weight, weight_of, words_in, words_of_frame};
 ghost use Rattle.engine.specs.Goes.{Goes};
 ghost use Rattle.engine.specs.Phases.{IsEmptied, IsTold, Leads, Lightens, Stands, Unwinds, course_of_next, more_of};
+ghost use Rattle.engine.specs.Taken.{course_of_taken, tick_of, weight_taken, words_taken};
 ghost use Rattle.engine.specs.declared.frame.Frame.TheVariants as frames_are;
 ghost use Rattle.runs.specs.Commands.{command};
 ghost use Rattle.runs.specs.Scripts.{behind as meant_behind};
@@ -25,13 +26,14 @@ ghost use Rattle.words.specs.Words.{nested};
 use crate::closing::close_run;
 use crate::frame::{Frame, Script};
 use crate::phase::Phase;
+use crate::taken::{Taken, take_top};
 use acts::{Act, Fault, NoMemory};
 use commands::Waits;
 use control::{Control, Held};
 use state::faults::no_script;
 use state::leaf::{empty, raises};
-use state::nesting::raised;
-use state::{Code, Leaf, Leave, Nesting, Outcome, State, Stop};
+use state::outcome::raised;
+use state::{Leaf, Leave, Nesting, Outcome, State, Stop};
 use std::alloc::Allocator;
 use std::rc::Rc;
 use tclparse::{Command, Word};
@@ -85,7 +87,7 @@ pub fn advance<A: Allocator + Copy>(
     }
 }
 
-/// Takes frames off, from the top down, up to where something begins.
+/// Goes on with the frames, from the top down, up to where something begins.
 fn unwind<A: Allocator + Copy>(
     alloc: A,
     frames: &mut Vec<Frame<A>, A>,
@@ -101,85 +103,90 @@ fn unwind<A: Allocator + Copy>(
         (words_in (stack frames.old)) state.old.left) }
 {
     'frames: loop {
-        let Some(frame) = Frame::pop(frames) else {
-            return Ok(Unwound::Has(outcome));
-        };
-        match resume(alloc, frames, state, frame, outcome)? {
-            Unwound::Has(next) => outcome = next,
-            Unwound::Begins(next) => return Ok(Unwound::Begins(next)),
+        match resume(alloc, frames, state, outcome)? {
+            Err(last) => return Ok(Unwound::Has(last)),
+            Ok(Unwound::Has(next)) => outcome = next,
+            Ok(Unwound::Begins(next)) => return Ok(Unwound::Begins(next)),
         }
     }
 }
 
-/// Hands a frame how the part within it ended.
+/// Hands the frame on top how the part within it ended; `Err` with that where there is no frame.
 fn resume<A: Allocator + Copy>(
     alloc: A,
     frames: &mut Vec<Frame<A>, A>,
     state: &mut State<A>,
-    frame: Frame<A>,
     outcome: Outcome<A>,
+) -> Result<Result<Unwound<A>, Outcome<A>>, NoMemory>
+    ensures unwinds { (s : Status) → FitsState state.old s →
+        IfOk result (λ r. IfOk r (λ unwound. Unwinds unwound (stack frames.new) state.new
+        (onward_of (stack frames.old) s (outcome_of outcome)))) }
+    ensures lightens { IfOk result (λ r. IfOk r (λ unwound.
+        Lightens unwound (stack frames.new) state.new (weight (stack frames.old))
+        (words_in (stack frames.old)) state.old.left)) }
+    ensures over { IfOk result (λ r. IfErr r (λ last. (last ≡ outcome)
+        × (stack frames.old ≡ []) × (stack frames.new ≡ []) × (state.new ≡ state.old))) }
+{
+    match outcome {
+        Ok(value) => match take_top(frames, &mut state.left)? {
+            Some(taken) => Ok(Ok(value_on(alloc, frames, state, taken, value)?)),
+            None => Ok(Err(Ok(value))),
+        },
+        Err(leave) => match Frame::pop(frames) {
+            Some(frame) => Ok(Ok(leave_on(alloc, frames, state, frame, leave)?)),
+            None => Ok(Err(Err(leave))),
+        },
+    }
+}
+
+/// Hands a value to what was taken.
+fn value_on<A: Allocator + Copy>(
+    alloc: A,
+    frames: &mut Vec<Frame<A>, A>,
+    state: &mut State<A>,
+    taken: Taken<A>,
+    value: Value<A>,
 ) -> Result<Unwound<A>, NoMemory>
     ensures unwinds { (s : Status) → FitsState state.old s →
         IfOk result (λ unwound. Unwinds unwound (stack frames.new) state.new
-        (left_of (next_of frame s (outcome_of outcome)) (stack frames.old))) }
+        (left_of (course_of_taken taken s value) (stack frames.old))) }
+    ensures lightens { IfOk result (λ unwound.
+        Lightens unwound (stack frames.new) state.new
+        (weight_taken taken + weight (stack frames.old))
+        (words_taken taken + words_in (stack frames.old)) (tick_of taken + state.old.left)) }
+{
+    match taken {
+        Taken::Command(words, levels) => Ok(Unwound::Begins(Next::Command(words, levels))),
+        Taken::Limit => Ok(Unwound::Has(Err(Leave::Stopped(Stop::Limit)))),
+        Taken::Behind(fault) => Ok(Unwound::Has(behind(alloc, fault, value)?)),
+        Taken::Words(gathering, levels) => {
+            let gathering = Box::into_inner(gathering);
+            words_on(alloc, frames, state, gathering, levels, value)
+        }
+        Taken::Held(held) => held_on(alloc, frames, state, held, Ok(value)),
+    }
+}
+
+/// Hands another outcome than a value to the frame that was on top: scripts and words pass it on.
+fn leave_on<A: Allocator + Copy>(
+    alloc: A,
+    frames: &mut Vec<Frame<A>, A>,
+    state: &mut State<A>,
+    frame: Frame<A>,
+    leave: Leave<A>,
+) -> Result<Unwound<A>, NoMemory>
+    ensures unwinds { (s : Status) → FitsState state.old s →
+        IfOk result (λ unwound. Unwinds unwound (stack frames.new) state.new
+        (left_of (next_of frame s (outcome_of (Err leave))) (stack frames.old))) }
     ensures lightens { IfOk result (λ unwound.
         Lightens unwound (stack frames.new) state.new
         (weight_of frame + weight (stack frames.old))
         (words_of_frame frame + words_in (stack frames.old)) state.old.left) }
 {
     match frame {
-        Frame::Script(script) => match outcome {
-            Ok(value) => script_on(alloc, frames, state, script, value),
-            Err(leave) => Ok(Unwound::Has(Err(leave))),
-        },
-        Frame::Words(gathering, levels) => match outcome {
-            Ok(value) => {
-                let gathering = Box::into_inner(gathering);
-                words_on(alloc, frames, state, gathering, levels, value)
-            }
-            Err(leave) => Ok(Unwound::Has(Err(leave))),
-        },
-        Frame::Held(held) => held_on(alloc, frames, state, held, outcome),
+        Frame::Held(held) => held_on(alloc, frames, state, held, Err(leave)),
+        _ => Ok(Unwound::Has(Err(leave))),
     }
-}
-
-/// The next command of a script, which takes a tick; or what stands behind the last one.
-fn script_on<A: Allocator + Copy>(
-    alloc: A,
-    frames: &mut Vec<Frame<A>, A>,
-    state: &mut State<A>,
-    script: Script<A>,
-    value: Value<A>,
-) -> Result<Unwound<A>, NoMemory>
-    ensures unwinds { (s : Status) → FitsState state.old s →
-        IfOk result (λ unwound. Unwinds unwound (stack frames.new) state.new
-        (left_of (next_of (frames_are.Script script) s (Gives value)) (stack frames.old))) }
-    ensures lightens { IfOk result (λ unwound.
-        Lightens unwound (stack frames.new) state.new
-        (1 + weight (stack frames.old)) (words_in (stack frames.old)) state.old.left) }
-{
-    if script.next >= script.commands.len() {
-        return Ok(Unwound::Has(behind(alloc, script.fault, value)?));
-    }
-    if state.left == 0 {
-        return Ok(Unwound::Has(Err(Leave::Stopped(Stop::Limit))));
-    }
-    state.left -= 1;
-    let Script {
-        commands,
-        next,
-        levels,
-        fault,
-    } = script;
-    let words = commands[next].words.clone()?;
-    let rest = Frame::Script(Script {
-        commands,
-        next: next + 1,
-        levels,
-        fault,
-    });
-    rest.push(frames)?;
-    Ok(Unwound::Begins(Next::Command(words, levels)))
 }
 
 /// Behind the commands of a script: the value of the last one, or the fault.
@@ -193,10 +200,7 @@ fn behind<A: Allocator + Copy>(
 {
     match fault {
         None => Ok(Ok(value)),
-        Some(fault) => {
-            let text = Value::new(alloc, no_script(fault).text(alloc)?)?;
-            Ok(Err(Leave::Coded(Code::Error, text)))
-        }
+        Some(fault) => raised(alloc, &no_script(fault)),
     }
 }
 

@@ -1,39 +1,36 @@
-use Rattle.std.proofs.Common.{◌∙◌, ap}
-use Rattle.engine.specs.Frames.{next_of, stack}
-use Rattle.engine.specs.declared.frame.Frame.TheVariants as frame
+use Rattle.std.proofs.Common.{MatchOption, Err, ap, subst}
+use Rattle.engine.specs.Frames.{onward_of, stack}
+use Rattle.engine.specs.Taken.{IsOver, IsTaken}
+use Rattle.engine.proofs.Machines.{top_goes, unwinds_from}
+use Rattle.engine.proofs.Silent.{same_goes, then_goes}
+use Rattle.state.proofs.Fits.{left_fits}
+use Rattle.state.specs.Status.{Status}
 use Rattle.state.specs.View.{outcome_of}
-use Rattle.engine.proofs.Machines.{on_ok, script_passes, unwinds_from, words_at, words_passes}
-use Rattle.engine.proofs.Silent.{same_left}
 use Rattle.engine.proofs.machine.resume.Goals as goal
 
-pub returns-in-Err-clause-unwinds : goal.returns-in-Err-clause-unwinds
-returns-in-Err-clause-unwinds g c = λ s fits. record {
-  status = s;
-  fits = fits;
-  goes = same_left (stack c.args.frames.now)
-      (ap (λ f. next_of f s (outcome_of c.args.outcome)) c.in-Script.is
-      ∙ ap (λ o. next_of (frame.Script c.in-Script.script) s (outcome_of o)) c.in-Err.is
-      ∙ script_passes c.in-Script.script s c.in-Err.leave);
-}
+pub returns-in_ok-value_on-in-Some-clause-unwinds :
+    goal.returns-in_ok-value_on-in-Some-clause-unwinds
+returns-in_ok-value_on-in-Some-clause-unwinds g c = λ s fits.
+    let old = stack c.args.frames.now in
+    let below = stack c.take_top.new.frames in
+    let ticks = c.args.state.now.left in
+    let left = c.take_top.new.ticks in
+    let taken = subst (λ found. MatchOption found (IsOver old below ticks left)
+    (λ t. IsTaken t old below ticks left)) c.in-Some.is c.in_ok-taken-in-Ok.ensures in
+    let after : Status = record s { left = left } in
+    unwinds_from (stack c.value_on.new.frames) c.value_on.new.state
+    (then_goes (same_goes (ap (λ o. onward_of old s (outcome_of o)) c.in-Ok.is))
+    (taken.goes s c.in-Ok.value fits.left))
+    c.in_ok-value_on-in-Some.field-0
+    (c.in_ok-value_on-in-Some.ensures.unwinds after (left_fits _ s fits left))
 
-pub returns-in-Ok-outcome-clause-unwinds : goal.returns-in-Ok-outcome-clause-unwinds
-returns-in-Ok-outcome-clause-unwinds g c = λ s fits.
-    let at = words_at c.args.frame c.args.outcome c.in-Words.gathering c.in-Words.levels
-    c.in-Ok-outcome.value c.into_inner-gathering.result s c.in-Words.is c.in-Ok-outcome.is
-    c.into_inner-gathering.ensures in
-    on_ok c.words_on.result
-    (λ unwound unwinds.
-    unwinds_from (stack c.words_on.new.frames) c.words_on.new.state
-    (same_left (stack c.args.frames.now) at) unwound unwinds)
-    (c.words_on.ensures.unwinds s fits)
-
-pub returns-in-Err-outcome-clause-unwinds : goal.returns-in-Err-outcome-clause-unwinds
-returns-in-Err-outcome-clause-unwinds g c = λ s fits. record {
-  status = s;
-  fits = fits;
-  goes = same_left (stack c.args.frames.now)
-      (ap (λ f. next_of f s (outcome_of c.args.outcome)) c.in-Words.is
-      ∙ ap (λ o. next_of (frame.Words c.in-Words.gathering c.in-Words.levels) s (outcome_of o))
-      c.in-Err-outcome.is
-      ∙ words_passes c.in-Words.gathering c.in-Words.levels s c.in-Err-outcome.leave);
-}
+pub returns-in_ok-leave_on-in-Some-pop-clause-unwinds :
+    goal.returns-in_ok-leave_on-in-Some-pop-clause-unwinds
+returns-in_ok-leave_on-in-Some-pop-clause-unwinds g c = λ s fits.
+    let old = stack c.args.frames.now in
+    unwinds_from (stack c.leave_on.new.frames) c.leave_on.new.state
+    (then_goes (same_goes (ap (λ o. onward_of old s (outcome_of o)) c.in-Err.is))
+    (top_goes old (stack c.pop.new.frames) c.in-Some-pop.frame s
+    (outcome_of (Err c.in-Err.leave)) c.in-Some-pop.ensures))
+    c.in_ok-leave_on-in-Some-pop.field-0
+    (c.in_ok-leave_on-in-Some-pop.ensures.unwinds s fits)

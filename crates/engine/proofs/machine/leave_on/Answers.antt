@@ -1,0 +1,20 @@
+use Rattle.std.proofs.Common.{arith}
+use Rattle.engine.specs.Frames.{stack}
+use Rattle.engine.proofs.Silent.{same_left}
+use Rattle.engine.proofs.Machines.{fewer_without, lighter_without, passed_on}
+use Rattle.engine.proofs.machine.leave_on.Goals as goal
+
+pub returns : goal.returns
+returns g c = record {
+  unwinds = λ s fits. record {
+    status = s;
+    fits = fits;
+    goes = same_left (stack c.args.frames.now)
+        (passed_on c.args.frame s c.args.leave c.in_default.not-Held);
+  };
+  lightens = (
+    lighter_without c.args.frame (stack c.args.frames.now),
+    fewer_without c.args.frame (stack c.args.frames.now),
+    omega arith,
+  );
+}
