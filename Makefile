@@ -36,7 +36,8 @@ edits:
 # The program runs no row here: rt builds only what it has proved.
 compare:
 	cd crates/rowtests && rt run -- --scripts /dev/null
-	compare/compare --scripts $(SCRIPTS) --seed $(SEED)
+	compare/compare --scripts $(SCRIPTS) --seed $(SEED) --also expr,if,while,for,switch,array
+	compare/edges
 
 bench: rx
 	bench/bench

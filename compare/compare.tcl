@@ -327,19 +327,74 @@ proc own_string {args} {
 # Those that come later.
 proc own_expr {args} {
     if {![llength $args]} {wrong expr}
-    tailcall tcl expr {*}$args
+    set formula [own_concat {*}$args]
+    tailcall tcl expr $formula
+}
+# Tcl looks at the words of if only as far as it comes.
+proc own_if {args} {
+    set rest $args
+    while 1 {
+        set rest [lrange $rest [expr {1 + ([lindex $rest 1] eq "then")}] end]
+        if {![llength $rest]} {wrong if}
+        set rest [lrange $rest 1 end]
+        if {[lindex $rest 0] ne "elseif"} break
+        set rest [lrange $rest 1 end]
+    }
+    if {[llength $rest] > 1 + ([lindex $rest 0] eq "else")} {wrong if}
+    if {$rest eq "else"} {wrong if}
+    tailcall tcl if {*}$args
+}
+# All words that begin with a dash before the text are flags, but of two words; a last body "-" has none to share.
+proc own_switch {args} {
+    set words $args
+    set flag ""
+    while {[llength $args] > 2 && [string match -* [lindex $words 0]]} {
+        set before $flag
+        set words [lassign $words flag]
+        if {$flag eq "--"} break
+        if {$before ne "" || $flag ni {-exact -glob}} {bad $flag switch}
+    }
+    if {$flag eq "--"} {set flag $before}
+    if {[llength $words] < 2} {wrong switch}
+    set arms [lassign $words text]
+    if {[llength $arms] == 1} {set arms [lindex $arms 0]}
+    if {[llength $arms] % 2 || ([llength $arms] && [lindex $arms end] eq "-")} {bad [lindex $arms end] switch}
+    set left [llength $arms]
+    set taken 0
+    foreach {pattern body} $arms {
+        incr left -2
+        if {!$taken} {set taken [expr {$flag eq "-glob" ? [regexp -- [expression $pattern] $text] : $pattern eq $text}]}
+        if {!$taken && !($left == 0 && $pattern eq "default")} continue
+        set taken 1
+        if {$body eq "-"} continue
+        set code [catch {interp eval child $body} value]
+        return -code $code $value
+    }
+    return
 }
 proc own_array {args} {
     if {![llength $args]} {wrong array}
-    if {[lindex $args 0] ni {exists names get set size unset}} {bad [lindex $args 0] array}
-    if {[llength $args] < 2} {wrong array}
-    refuse [lindex $args 1]
-    tailcall tcl array {*}$args
+    set words [lassign $args name]
+    set wanted [dict create exists 1 size 1 names {1 2} get {1 2} unset {1 2} set 2]
+    if {![dict exists $wanted $name]} {bad $name array}
+    if {[llength $words] ni [dict get $wanted $name]} {wrong array}
+    lassign $words array pattern
+    refuse $array
+    if {$name eq "set" && $array eq ""} {error "bad variable name"}
+    if {$name ni {names get} && ($name ne "unset" || [llength $words] == 1)} {tailcall tcl array {*}$args}
+    set found {}
+    foreach index [tcl array names $array] {
+        if {[llength $words] == 2 && ![regexp -- [expression $pattern] $index]} continue
+        lappend found $index
+        if {$name eq "get"} {lappend found [tcl set ${array}($index)]}
+        if {$name eq "unset"} {tcl unset ${array}($index)}
+    }
+    if {$name ne "unset"} {canonical {*}$found}
 }
 # These stand for themselves, as Tcl has them.
 set Plain {break continue foreach join llength}
 set Later {expr if while for switch array}
-set InPlace {expr array}
+set InPlace {expr if switch array}
 
 proc hex {text} {
     binary scan [encoding convertto iso8859-1 $text] H* digits
@@ -392,6 +447,7 @@ while {[gets $file line] >= 0} {
     set script [encoding convertfrom iso8859-1 [binary format H* $line]]
     interp limit child commands -value [expr {[interp invokehidden child info cmdcount] + 1000000}]
     set code [catch {interp eval child $script} value]
+    interp limit child commands -value {}
     puts "[hex $out] [ended $code $value]"
     foreach name [interp invokehidden child info globals] {
         interp invokehidden child unset -nocomplain $name

@@ -6,7 +6,9 @@ REFUSED = re.compile(
     rb"\\u and \\U are not in this profile|bad variable name|nested too deeply|too many nested evaluations"
     rb"|command limit reached|whole number out of range"
     # A number past 64 bits, one with a fraction or an exponent, and what Tcl reads as such.
-    rb"|expected a whole number but got \"\s*[-+]?(\d{19,}|0x[0-9a-fA-F]{16,}|\d*\.\d*([eE][-+]?\d+)?|\d+[eE][-+]?\d+|(?i:inf|nan|infinity))\s*\"",
+    rb"|expected a whole number but got \"\s*[-+]?(\d{19,}|0x[0-9a-fA-F]{16,}|\d*\.\d*([eE][-+]?\d+)?|\d+[eE][-+]?\d+|(?i:inf|nan|infinity))\s*\""
+    # Words that Tcl takes for truth values: capitals, and beginnings of the six words.
+    rb"|expected a truth value but got \"(?i:t|tr|tru|true|f|fa|fal|fals|false|y|ye|yes|n|no|on|of|off|0?\.\d+|\d+\.\d*)\"",
     re.DOTALL,
 )
 # What may be refused in a script, by its text: a script that differs and catches one of these without a word of it says
@@ -23,10 +25,11 @@ KINDS = [
     (rb"(break|continue) outside of a loop", rb"invoked \"(break|continue)\" outside of a loop"),
     (rb"bad argument \"\s*\" for \"foreach\"", rb"foreach varlist is empty"),
     (rb"bad argument \".*\" for \"proc\"", rb"too many fields in argument specifier .*|argument with no name|formal parameter .*|list element in .*"),
-    (rb"expected a whole number but got \".*\"", rb"can't use .* as operand of .*|expected integer but got .*|argument to math function .*"),
+    (rb"expected a whole number but got \".*\"", rb"can't use .* as operand of .*|expected (integer|number|floating-point number) but got .*|argument to math function .*"),
     (rb"expected a truth value but got \".*\"", rb"expected boolean value but got .*|can't use .* as operand of .*"),
+    (rb"bad argument \".*\" for \"array\"", rb"list must have an even number of elements"),
     (rb"negative shift", rb"negative shift argument"),
-    (rb"syntax error in expression", rb"(missing|invalid|unknown|extra|unbalanced|empty|too (few|many)|not enough|unexpected|premature|syntax).*"),
+    (rb"syntax error in expression", rb"(missing|invalid|incomplete|unknown|extra|unbalanced|empty|too (few|many)|not enough|unexpected|premature|syntax).*"),
     (rb"missing close-brace", rb"missing close-brace.*"),
 ]
 KINDS = [(re.compile(own, re.DOTALL), re.compile(other, re.DOTALL)) for own, other in KINDS]
@@ -72,7 +75,7 @@ def judge_courses(here, there):
     own, others = steps(here), steps(there)
     spelled, kinds = [], None
     for number, (kind, text) in enumerate(own):
-        if kind == b"error" and REFUSED.fullmatch(text):
+        if kind == b"error" and REFUSED.fullmatch(text) and (number >= len(others) or others[number] != own[number]):
             return "refused", text, b""
         if number == len(others):
             return "differs", text, b""

@@ -18,6 +18,8 @@ HEAD = (
 )
 # For commands that come later, behind --also.
 LATER = {"expr", "if", "while", "for", "switch", "array"}
+# Stands behind HEAD where there are formulas: numbers at the edges of 64 bits.
+EDGES = "set least -0x8000000000000000; incr least 0; set most 0x7fffffffffffffff; incr most 0; set half 4294967296; set root -3037000500\n"
 
 INDEXES = ["i", "1", "i", "1", "x y", "$a", "[set a]", "", "{", "i j", "\\)", "x\\ y", "\"q\""]
 LETTERS = list("abcxyzAZ019_.,:-+*/=<>!@%&|~'^?()#")
@@ -38,6 +40,19 @@ STRING = {
     "length": "t", "index": "tp", "range": "tpp", "equal": "tt", "compare": "tt", "first": "tt", "last": "tt",
     "match": "gt", "tolower": "t", "toupper": "t", "trim": "tT", "trimleft": "tT", "trimright": "tT",
 }
+# What elements of a list may look like, right and wrong.
+ELEMENTS = [
+    "a", "b", "1", "2", "{x y}", "{}", '"q r"', "\\{", "#", "x\\ y", "{a}b", '"a"b', "\\x41", "\\}", "{\\}}", '"\\""', "{ {a} b }",
+    "{a\\\nb}", "\\\n", "a{b}", 'a"b', "[a]", "$a", ";", "\\", "\\\\", '""', "{a\\{b}", "\\u0041", "end", "-1", "\\101c", '"{"', '{"}',
+]
+BETWEEN = [" ", " ", " ", "\t", "\n", "  ", "\v", "\f", "\r", "", " \n"]
+NUMERAL_OPERANDS = [
+    "0", "1", "2", "3", "7", "10", "0x1f", "1", "63", "64", "017", "0b11", "0o17", "08", "31", "62", "4294967296", "9223372036854775807",
+    "0xffffffff", "100",
+]
+OPERAND_TEXTS = ['"a"', '"x y"', "{a}", "{7}", '"$a"', "{}", '"08"', '" 5 "', '"0x10"', '"-1"', '"[set n]"', '"\\x37"', "{ }", '"1x"', '"+1"']
+TRUTHS = ["true", "no", "on", "off", "yes", "false"]
+EQUALS = ["==", "!=", "eq", "ne", "in", "ni"]
 BINARY = ["+", "-", "*", "/", "%", "<<", ">>", "<", ">", "<=", ">=", "==", "!=", "eq", "ne", "in", "ni", "&", "^", "|", "&&", "||"]
 
 
@@ -76,6 +91,7 @@ class Scripts:
         }
         self.kinds += [later[it] for it in sorted(also)]
         self.total = sum(weight for weight, _ in self.kinds)
+        self.head = HEAD + EDGES * ("expr" in also)
 
     def one_of(self, items):
         return items[self.random.randrange(len(items))]
@@ -90,7 +106,7 @@ class Scripts:
 
     def whole(self):
         """A script, most often behind variables that it can read."""
-        return SAID + HEAD * (not self.chance(20)) + self.script()
+        return SAID + self.head * (not self.chance(20)) + self.script()
 
     def script(self, depth=0):
         make = self.guarded if depth == 0 else self.command
@@ -233,12 +249,13 @@ class Scripts:
     def make_while(self, depth):
         """A loop that ends by its own counter, whatever its body does to other variables."""
         turns = self.random.randrange(4)
-        return ["set", "w", f"0; while {{[incr w] <= {turns}}}", self.body(depth)]
+        return ["set", f"w{depth}", f"0; while {{[incr w{depth}] <= {turns}}}", self.body(depth)]
 
     def make_for(self, depth):
         turns = self.random.randrange(4)
-        step = self.one_of(["{incr w}", "{incr w; set a $w}", "{incr w; continue}", "{incr w; break}"] if self.chance(4) else ["{incr w}"])
-        return ["for", "{set w 0}", f"{{$w < {turns}}}", step, self.body(depth)]
+        name = f"w{depth}"
+        step = self.one_of(["", "", "", "; set a $" + name, "; continue", "; break", "; error e", "; return x"])
+        return ["for", "{set " + name + " 0}", f"{{${name} < {turns}}}", "{incr " + name + step + "}", self.body(depth)]
 
     def make_switch(self, depth):
         pattern = lambda: self.one_of(["a", "1", "{x y}", "*", "?", "[ab]", "default", "7", "{}", "x*"])
@@ -274,7 +291,8 @@ class Scripts:
         if kind < 3:
             return "$" + self.name(LISTS)
         if kind == 3:
-            return "{" + " ".join(self.some(lambda: self.one_of(["a", "b", "1", "2", "{x y}", "{}", "\"q r\"", "\\{", "#", "x\\ y"]), 0, 5)) + "}"
+            text = "".join(self.some(lambda: self.one_of(ELEMENTS[:10] if self.chance(2) else ELEMENTS) + self.one_of(BETWEEN), 0, 5))
+            return "{" + text + "}" if pairs(text) else "[list " + text.replace("\n", " ").replace("{", "\\{").replace("}", "\\}") + "]"
         if kind == 4:
             return "[list " + " ".join(self.some(lambda: self.word(depth), 0, 3)) + "]"
         return self.word(depth)
@@ -294,27 +312,46 @@ class Scripts:
         return "{" + self.formula(depth) + "}" if not self.chance(8) else self.one_of(["0", "1", "yes", "off", "$a", "x"])
 
     def formula(self, depth, levels=0):
-        kind = self.random.randrange(10)
+        kind = self.random.randrange(12)
         if levels > 3 or kind < 4:
             return self.operand(depth)
+        part = lambda: self.formula(depth, levels + 1)
         if kind < 8:
-            return f"{self.formula(depth, levels + 1)} {self.one_of(BINARY)} {self.formula(depth, levels + 1)}"
+            return self.joined(part(), self.one_of(BINARY), part())
         if kind == 8:
-            return self.one_of(["-", "!", "~", "+"]) + self.formula(depth, levels + 1)
-        tail = f"{self.formula(depth, levels + 1)} : {self.formula(depth, levels + 1)}"
-        return self.one_of([f"({self.formula(depth, levels + 1)} ? {tail})", f"({tail.replace(' : ', ' + ')})", f"max({tail.replace(' : ', ', ')})"])
+            return self.one_of(["-", "!", "~", "+"]) + part()
+        if kind == 9:
+            return f"({part()} ? {part()} : {part()})"
+        if kind == 10:
+            return f"({self.joined(part(), self.one_of(BINARY), part())})"
+        if self.chance(3):
+            return f"abs({part()})"
+        arguments = ", ".join(self.some(part, 1, 3))
+        return self.one_of(["max", "min"]) + f"({arguments})"
+
+    def joined(self, left, operator, right):
+        """Two operands with an operator between them; one that is no word needs no white. Tcl has one level for the
+        operators of EQUALS, against its manual, so these stand in parentheses."""
+        if operator in EQUALS:
+            return f"(({left}) {operator} ({right}))"
+        white = self.one_of([" ", " ", " ", "\t", " \n "] if operator.isalpha() else [" ", " ", "", "\n", "\t"])
+        return left + white + operator + white + right
 
     def operand(self, depth):
-        kind = self.random.randrange(12)
+        kind = self.random.randrange(14)
         if kind < 6:
-            return self.one_of(["0", "1", "2", "3", "7", "10", "0x1f", "1", "63", "64"])
+            return self.one_of(NUMERAL_OPERANDS)
         if kind < 8:
-            return self.one_of(["$n", "$i", "$a", "$b"])
-        if kind == 8:
-            return self.one_of(['"a"', '"x y"', "{a}", "{7}", '"$a"', "{}", '"08"'])
-        if kind == 9:
-            return self.one_of(["true", "no", "on", "off", "yes", "false"])
-        return "[" + self.one_of(["set n", "incr i", "llength $l", "string length $a", "p 1", "error e"]) + "]" if depth < 3 else "4"
+            return self.one_of(["$n", "$i", "$a", "$b", "$k", "$x1(i)", "$A(1)"])
+        if kind < 10:
+            return self.one_of(["$least", "$most", "$half", "$root", "$n"])
+        if kind == 10:
+            return self.one_of(OPERAND_TEXTS)
+        if kind == 11:
+            return self.one_of(TRUTHS)
+        if kind == 12 and depth < 3:
+            return self.nested(depth) if self.chance(3) else "[" + self.one_of(["set n", "incr i", "llength $l", "string length $a", "p 1", "error e", "break", "set q"]) + "]"
+        return self.one_of(["4", "$n"])
 
     def name(self, kind):
         """A name of this kind, but now and then one of the others."""
