@@ -54,10 +54,11 @@ pub(crate) fn literal_parts<A: Allocator + Copy>(
         → parts_then ps.value.items t ≡ bytes_then value t) }
     ensures normal { IfOk result (λ ps. AreNormalParts ps) }
 {
-    let mut parts = Vec::new(alloc);
-    if !value.as_slice().is_empty() {
-        parts.push(Part::Literal(value))?;
+    if value.as_slice().is_empty() {
+        return shared(alloc, Vec::new(alloc));
     }
+    let mut parts = Vec::new(alloc);
+    parts.push(Part::Literal(value))?;
     shared(alloc, parts)
 }
 
