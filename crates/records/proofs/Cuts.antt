@@ -1,11 +1,14 @@
 -- Texts that lack a byte, and where they are cut.
-use Rattle.std.proofs.Common.{◌≡◌, ◌==◌, ◌+◌, ◌-◌, ◌<◌, ◌≤◌, ℕ, zero, suc, Bool, true, false, cond, List, [], ◌∷◌, ◌++◌, length, take, drop, get_or, Some, None, position, refl, sym, ap, ◌∙◌, arith, take-append-drop}
-use Rattle.std.proofs.lemmas.Bool.{eqb-false, eqb-true, ltb-false}
+use Rattle.std.proofs.Common.{◌≡◌, ◌==◌, ◌+◌, ◌-◌, ◌<◌, ◌≤◌, ℕ, zero, suc, Bool, true, false, cond, List, [], ◌∷◌, ◌++◌, length, take, drop, get_or, Option, Some, None, IfSome, position, refl, sym, ap, ◌∙◌, arith, take-append-drop}
+use Rattle.std.specs.Str.{bytes_eq}
+use Rattle.std.proofs.Math.Seq.{take-append_seam}
+use Rattle.std.proofs.lemmas.Slice.Eq.{bytes_eq-Decides}
+use Rattle.std.proofs.lemmas.Bool.{eqb-false, eqb-true, false≢true, ltb-false}
 use Rattle.std.proofs.lemmas.List.{take_all, drop_more, take_rest}
 use Rattle.std.proofs.lemmas.List.Quantifiers.{position-Some}
 use Rattle.std.specs.List.{position_or_len}
 use Rattle.std.proofs.lemmas.List.Sums.{fails_before_first}
-use Rattle.records.specs.Cut.{Lacks}
+use Rattle.records.specs.Cut.{Lacks, StartsAt}
 
 pub head : {a b : ℕ} {x y : List ℕ} → a ∷ x ≡ b ∷ y → a ≡ b
 head e = cc e
@@ -76,3 +79,49 @@ no_cut byte (b ∷ text) (c ∷ a) x lacks e = no_cut byte text a x lacks.1 (tai
 pub Lacks-append : (byte : ℕ) (a b : List ℕ) → Lacks byte a → Lacks byte b → Lacks byte (a ++ b)
 Lacks-append byte [] b la lb = lb
 Lacks-append byte (c ∷ a) b la lb = (la.0, Lacks-append byte a b la.1 lb)
+
+pub some_weaker : {T : Type 0} {P Q : T → Type 0} (o : Option T) → IfSome o P
+    → ((x : T) → P x → Q x) → IfSome o Q
+some_weaker None p more = tt
+some_weaker (Some x) p more = more x p
+
+-- a text whose front is found to be a word
+pub prefix_split : (text word rest : List ℕ) → bytes_eq (take (length word) text) word ≡ true → rest
+    ≡ drop (length word) text → text ≡ word ++ rest
+prefix_split text word rest test is =
+    sym (take-append-drop (length word) text) ∙ ap (λ front. front ++ drop (length word) text)
+    ((bytes_eq-Decides (take (length word) text) word).0 test)
+    ∙ ap (λ tail. word ++ tail) (sym is)
+
+-- a text whose front is found to be another
+pub no_prefix : (text word rest : List ℕ) → bytes_eq (take (length word) text) word ≡ false → text
+    ≡ word ++ rest → ⊥
+no_prefix text word rest differs e =
+    absurd (false≢true (sym differs ∙ (bytes_eq-Decides (take (length word) text) word).1
+    (ap (take (length word)) e ∙ take-append_seam word rest)))
+
+-- what stands before the first byte of a value, and from it on
+pub cut_rest : (byte : ℕ) (text : List ℕ) (place : ℕ) → position (λ b. b == byte) text ≡ Some place
+    → (text ≡ take place text ++ take (length text - place) (drop place text))
+    × Lacks byte (take place text) × StartsAt byte (take (length text - place) (drop place text))
+cut_rest byte text place found =
+    let (below, here, before) = position-Some (λ b. b == byte) text place 0 found in
+    let same : get_or text place 0 ≡ byte = eqb-true (get_or text place 0) byte here in
+    let whole = take_rest text place in
+    let tail = whole ∙ drop_more text place 0 below in (
+      sym (take-append-drop place text) ∙ ap (λ after. take place text ++ after) (sym whole),
+      Lacks-take byte text place before,
+      rw tail same,
+    )
+
+-- two cuts before the first byte of one value give the same parts
+pub same_before : (byte : ℕ) (a b x y : List ℕ) → Lacks byte a → Lacks byte b → StartsAt byte x
+    → StartsAt byte y → a ++ x ≡ b ++ y → (a ≡ b) × (x ≡ y)
+same_before byte [] [] x y la lb sx sy e = (refl, e)
+same_before byte [] (c ∷ b) [] y la lb sx sy e = cc e
+same_before byte [] (c ∷ b) (d ∷ x) y la lb sx sy e = absurd (lb.0 (sym (head e) ∙ sx))
+same_before byte (c ∷ a) [] x [] la lb sx sy e = cc e
+same_before byte (c ∷ a) [] x (d ∷ y) la lb sx sy e = absurd (la.0 (head e ∙ sy))
+same_before byte (c ∷ a) (d ∷ b) x y la lb sx sy e =
+    let (front, rest) = same_before byte a b x y la.1 lb.1 sx sy (tail e) in
+    (cons_same c d a b (head e) front, rest)

@@ -1,7 +1,8 @@
 -- Records: the text of a list of answers (this project's own format).
-use Rattle.std.specs.Prelude.{◌≡◌, ◌≢◌, ◌+◌, ◌^◌, ◌<◌, ◌&&◌, ◌||◌, nat_le, ℕ, Bool, List, [], ◌∷◌, ◌++◌, length, codes, decimal}
+use Rattle.std.specs.Prelude.{◌≡◌, ◌≢◌, ◌+◌, ◌^◌, ◌<◌, ◌≤◌, ◌&&◌, ◌||◌, nat_le, ℕ, Bool, List, [], ◌∷◌, ◌++◌, Some, None, length, codes, decimal}
 use Rattle.acts.specs.Deed.{Reply}
 use Rattle.acts.specs.Deed as said
+use Rattle.acts.specs.Fits.{greatest_status}
 use Rattle.acts.specs.Id.{id_text}
 use Rattle.hex.specs.Hex.{IsBytes, encode_lower}
 
@@ -13,15 +14,30 @@ newline = 10
 abbrev pub header : List ℕ
 header = codes "rx-record 1\n"
 
--- the line of an answer, without its newline; an answer of another kind has none
+-- the line of an answer, without its newline; that there are no more answers has none
 abbrev pub IsLine : Reply → List ℕ → Type 0
 IsLine said.Done line = line ≡ codes "done"
+IsLine (said.Failed sent) line = (sent < 2 ^ 64) × (line ≡ codes "failed " ++ decimal sent)
 IsLine (said.Started pid) line = (pid < 2 ^ 64) × (line ≡ codes "started " ++ decimal pid)
+IsLine said.Refused line = line ≡ codes "refused"
+IsLine (said.Exited None) line = line ≡ codes "exited -"
+IsLine (said.Exited (Some status)) line =
+    (status ≤ greatest_status) × (line ≡ codes "exited " ++ decimal status)
 IsLine (said.Arrive id bytes) line =
     (id.0 < 2 ^ 64) × IsBytes bytes
     × (line ≡ codes "arrive " ++ (id_text id.0 ++ (codes " " ++ encode_lower bytes)))
+IsLine (said.Ended id) line = (id.0 < 2 ^ 64) × (line ≡ codes "ended " ++ id_text id.0)
 IsLine said.TimedOut line = line ≡ codes "timeout"
-IsLine _ line = ⊥
+IsLine said.NoMore line = ⊥
+
+-- the line of an answer, with its newline
+abbrev pub IsWholeLine : Reply → List ℕ → Type 0
+IsWholeLine reply text = (line : List ℕ) × IsLine reply line × (text ≡ line ++ newline ∷ [])
+
+-- an answer that records tell: not that there are no more
+abbrev pub IsTold : Reply → Type 0
+IsTold said.NoMore = ⊥
+IsTold _ = Unit {0}
 
 -- an answer that has a line
 abbrev pub HasLine : Reply → Type 0

@@ -1,7 +1,7 @@
 //! Cutting a text in two.
 
 ghost use Rattle.std.specs.Prelude.{◌≡◌, ◌==◌, ◌∷◌, ◌++◌, IfSome, IfNone, position};
-ghost use Rattle.records.specs.Cut.{Lacks};
+ghost use Rattle.records.specs.Cut.{Lacks, StartsAt};
 
 /// The parts of a text before and after the first byte of this value.
 pub fn cut_at(text: &[u8], byte: u8) -> Option<(&[u8], &[u8])>
@@ -11,6 +11,19 @@ pub fn cut_at(text: &[u8], byte: u8) -> Option<(&[u8], &[u8])>
 {
     let place = place_of(text, byte)?;
     Some((&text[..place], &text[place + 1..]))
+}
+
+/// The parts of a text before the first byte of this value and from it on; all of it and nothing
+/// where there is none.
+pub fn cut_before(text: &[u8], byte: u8) -> (&[u8], &[u8])
+    ensures whole { text.now ≡ result.0.now ++ result.1.now }
+    ensures lacks { Lacks byte result.0.now }
+    ensures rest { StartsAt byte result.1.now }
+{
+    match place_of(text, byte) {
+        Some(place) => (&text[..place], &text[place..]),
+        None => (text, &[]),
+    }
 }
 
 /// Where the first byte of this value is.

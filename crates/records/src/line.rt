@@ -1,8 +1,9 @@
 //! The lines of records.
 
-ghost use Rattle.std.specs.Prelude.{◌≡◌, ◌≢◌, ◌^◌, ◌<◌, ◌∷◌, ◌++◌, ℕ, List, codes, decimal, MatchOption, IfOk, IfSome, IfNone};
+ghost use Rattle.std.specs.Prelude.{◌≡◌, ◌≢◌, ◌^◌, ◌<◌, ◌≤◌, ◌∷◌, ◌++◌, ℕ, List, codes, decimal, MatchOption, IfOk, IfSome, IfNone};
 ghost use Rattle.std.specs.List.{list_all};
 ghost use Rattle.acts.specs.Deed.{Reply, reply_of};
+ghost use Rattle.acts.specs.Fits.{greatest_status};
 ghost use Rattle.acts.specs.Id.{id_text};
 ghost use Rattle.hex.specs.Hex.{IsBytes, encode_lower};
 ghost use Rattle.records.specs.Cut.{Lacks};
@@ -22,16 +23,41 @@ pub fn read_line<A: Allocator>(alloc: A, line: &[u8]) -> Result<Option<Answer<A>
     if line == b"done".as_slice() {
         return Ok(Some(Answer::Done));
     }
+    if line == b"refused".as_slice() {
+        return Ok(Some(Answer::Refused));
+    }
+    if line == b"exited -".as_slice() {
+        return Ok(Some(Answer::Exited(None)));
+    }
     if line == b"timeout".as_slice() {
         return Ok(Some(Answer::TimedOut));
     }
+    if let Some(sent) = read_failed(line) {
+        return Ok(Some(Answer::Failed(sent)));
+    }
     if let Some(pid) = read_started(line) {
         return Ok(Some(Answer::Started(pid)));
+    }
+    if let Some(status) = read_status(line) {
+        return Ok(Some(Answer::Exited(Some(status))));
+    }
+    if let Some(id) = read_end(line) {
+        return Ok(Some(Answer::Ended(id)));
     }
     match read_arrival(alloc, line)? {
         Some((id, bytes)) => Ok(Some(Answer::Arrive(id, bytes))),
         None => Ok(None),
     }
+}
+
+/// The number of bytes in the line of a failure.
+fn read_failed(line: &[u8]) -> Option<u64>
+    ensures sent { IfSome result (λ sent. line.now ≡ codes "failed " ++ decimal sent) }
+    ensures none { IfNone result ((sent : ℕ)
+        → sent < 2 ^ 64 → line.now ≢ codes "failed " ++ decimal sent) }
+{
+    let sent = line.strip_prefix(b"failed ")?;
+    read_decimal(sent)
 }
 
 /// The process number of the line of a program that was started.
@@ -40,8 +66,41 @@ fn read_started(line: &[u8]) -> Option<u64>
     ensures none { IfNone result ((pid : ℕ)
         → pid < 2 ^ 64 → line.now ≢ codes "started " ++ decimal pid) }
 {
-    let digits = line.strip_prefix(b"started ")?;
+    let pid = line.strip_prefix(b"started ")?;
+    read_decimal(pid)
+}
+
+/// The number that stands in a line behind a word.
+fn read_number(line: &[u8], word: &[u8]) -> Option<u64>
+    ensures number { IfSome result (λ number. line.now ≡ word.now ++ decimal number) }
+    ensures none { IfNone result ((number : ℕ)
+        → number < 2 ^ 64 → line.now ≢ word.now ++ decimal number) }
+{
+    let digits = line.strip_prefix(word)?;
     read_decimal(digits)
+}
+
+/// The status in the line of a process that ended with one.
+fn read_status(line: &[u8]) -> Option<u8>
+    ensures status { IfSome result (λ status. line.now ≡ codes "exited " ++ decimal status) }
+    ensures none { IfNone result ((status : ℕ)
+        → status ≤ greatest_status → line.now ≢ codes "exited " ++ decimal status) }
+{
+    let status = read_number(line, b"exited ")?;
+    if status <= u8::MAX as u64 {
+        Some(status as u8)
+    } else {
+        None
+    }
+}
+
+/// The id in the line of an end.
+fn read_end(line: &[u8]) -> Option<Id>
+    ensures id { IfSome result (λ id. line.now ≡ codes "ended " ++ id_text id.0) }
+    ensures none { IfNone result ((n : ℕ) → n < 2 ^ 64 → line.now ≢ codes "ended " ++ id_text n) }
+{
+    let name = line.strip_prefix(b"ended ")?;
+    Id::read(name)
 }
 
 /// The id and the bytes of the line of an arrival.

@@ -6,7 +6,8 @@ use worlds::{RecordFault, read_record};
 
 /// Each line that has an answer, an empty arrival and the greatest numbers among them.
 const RECORD: &str = "rx-record 1\nstarted 100\ndone\narrive exp4 68690a\ntimeout\n\
-    arrive exp18446744073709551615 \nstarted 18446744073709551615\nstarted 0\narrive exp0 00ff\n";
+    arrive exp18446744073709551615 \nstarted 18446744073709551615\nstarted 0\narrive exp0 00ff\n\
+    failed 0\nfailed 18446744073709551615\nrefused\nexited 0\nexited 255\nexited -\nended exp4\n";
 
 #[test]
 fn reads_each_line(rt: HostRuntime) -> Result<(), Fail> {
@@ -16,7 +17,8 @@ fn reads_each_line(rt: HostRuntime) -> Result<(), Fail> {
         shown.as_str(),
         "[Started(100), Done, Arrive(Id(4), [104, 105, 10]), TimedOut, \
         Arrive(Id(18446744073709551615), []), Started(18446744073709551615), Started(0), \
-        Arrive(Id(0), [0, 255])]"
+        Arrive(Id(0), [0, 255]), Failed(0), Failed(18446744073709551615), Refused, \
+        Exited(Some(0)), Exited(Some(255)), Exited(None), Ended(Id(4))]"
     );
     Ok(())
 }
@@ -45,7 +47,14 @@ fn refuses_other_texts(rt: HostRuntime) {
         ("rx-record 1\narrive exp4 6g\n", RecordFault::Line(2)),
         ("rx-record 1\narrive exp4  61\n", RecordFault::Line(2)),
         ("rx-record 1\narrive 4 61\n", RecordFault::Line(2)),
-        ("rx-record 1\nrefused\n", RecordFault::Line(2)),
+        ("rx-record 1\nrefused \n", RecordFault::Line(2)),
+        ("rx-record 1\nfailed\n", RecordFault::Line(2)),
+        ("rx-record 1\nexited\n", RecordFault::Line(2)),
+        ("rx-record 1\nexited 00\n", RecordFault::Line(2)),
+        ("rx-record 1\nexited --\n", RecordFault::Line(2)),
+        ("rx-record 1\nended exp04\n", RecordFault::Line(2)),
+        ("rx-record 1\nended exp4 \n", RecordFault::Line(2)),
+        ("rx-record 1\nwait exp4:0:2000\n", RecordFault::Line(2)),
         ("rx-record 1\nexited 256\n", RecordFault::Line(2)),
         (
             "rx-record 1\nfailed 18446744073709551616\n",
@@ -88,7 +97,7 @@ fn ends_without_memory(rt: HostRuntime) -> Result<(), Fail> {
         heap.refuse_nth(n);
         let read = read_record(&heap, RECORD.as_bytes());
         if heap.refused() == refused {
-            assert!(rt; matches!(&read, Ok(answers) if answers.len() == 8));
+            assert!(rt; matches!(&read, Ok(answers) if answers.len() == 15));
             assert!(rt; 4 < n);
             return Ok(());
         }
