@@ -1,5 +1,7 @@
 pub mod Cut
+pub mod Entry
 pub mod Fault
 pub mod Record
+pub mod Rows
 pub mod Sink
 pub mod Tries

@@ -3,10 +3,17 @@
 
 pub mod counted;
 mod cut;
+pub mod entries;
+pub mod entry;
 mod line;
 pub mod record;
+mod rows;
 pub mod sink;
+pub mod written;
 
 pub use counted::{Counted, Writer};
+pub use entries::{one_list_of_entries, read_entries};
+pub use entry::Entry;
 pub use record::{RecordFault, one_record, read_record};
 pub use sink::{Sink, put_all};
+pub use written::{SinkFailed, write_entries, write_entry, write_line, write_record, write_waited};

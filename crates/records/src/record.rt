@@ -14,7 +14,7 @@ use std::alloc::{AllocFailed, Allocator};
 use thiserror::Error;
 
 /// The first line of a record, with its newline.
-const HEADER: &[u8; 12] = b"rx-record 1\n";
+pub(crate) const HEADER: &[u8; 12] = b"rx-record 1\n";
 
 /// Why a text was not read as a record.
 #[derive(Clone, Copy, Debug, PartialEq, Eq, Error)]
@@ -86,7 +86,10 @@ fn read_lines<A: Allocator + Copy>(alloc: A, lines: &[u8]) -> Result<Vec<Answer<
 }
 
 /// The answer whose line a text begins with, and what follows that line.
-fn read_first<A: Allocator>(alloc: A, text: &[u8]) -> Result<Option<(Answer<A>, &[u8])>, NoMemory>
+pub(crate) fn read_first<A: Allocator>(
+    alloc: A,
+    text: &[u8],
+) -> Result<Option<(Answer<A>, &[u8])>, NoMemory>
     ensures { IfOk result (λ found. MatchOption found
         (¬ BeginsWithLine text.now)
         (λ first. (line : List ℕ) × IsLine (reply_of first.0) line

@@ -1,0 +1,14 @@
+use Rattle.std.proofs.Common.{map}
+use Rattle.records.specs.Entry.{note_of}
+use Rattle.records.proofs.Notes.{bad_entry_found, entries_read}
+use Rattle.records.proofs.entries.read_entries.Goals as goal
+
+pub returns-clause-record : goal.returns-clause-record
+returns-clause-record g c = λ notes are.
+    entries_read (λ entries. map note_of entries.items) c.args.text.now c.read_either.result
+    c.read_either.ensures.read c.read_either.ensures.fault notes are
+
+pub returns-clause-bad_line : goal.returns-clause-bad_line
+returns-clause-bad_line g c = λ n bad.
+    bad_entry_found (λ entries. map note_of entries.items) c.args.text.now c.read_either.result
+    c.read_either.ensures.read c.read_either.ensures.fault n bad

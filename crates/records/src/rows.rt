@@ -1,0 +1,176 @@
+//! The rows of waits, as records spell them.
+
+ghost use Rattle.std.specs.Prelude.{◌≡◌, ◌≢◌, ◌≤◌, ◌∷◌, ◌++◌, ◌↔◌, [], ℕ, List, codes, MatchOption, IfOk, IfSome, IfNone, IsTrue};
+ghost use Rattle.std.specs.List.{AllByRecursion};
+ghost use Rattle.acts.specs.declared.row.Row.{Row as WaitRow};
+ghost use Rattle.records.specs.Cut.{StartsAt};
+ghost use Rattle.records.specs.Rows.{AreRows, BeginsWithWait, IsRow, IsWait, row_text};
+ghost use Rattle.records.specs.Rows as spec;
+ghost use Rattle.records.specs.Record.{newline};
+
+use crate::cut::{cut_at, cut_before};
+use acts::decimal::read_decimal;
+use acts::{Id, NoMemory, Row};
+use std::alloc::Allocator;
+
+/// The greatest size of a match buffer in bytes (expect(1), match_max).
+const GREATEST_SIZE: u64 = 1_000_000;
+
+/// The rows of the wait whose line a text begins with, and what follows that line.
+pub fn read_wait<A: Allocator>(
+    alloc: A,
+    text: &[u8],
+) -> Result<Option<(Vec<Row, A>, &[u8])>, NoMemory>
+    ensures { IfOk result (λ found. MatchOption found
+        (¬ BeginsWithWait text.now)
+        (λ first. (line : List ℕ) × IsWait first.0.items line
+        × (text.now ≡ line ++ newline ∷ first.1.now))) }
+{
+    let Some((line, rest)) = cut_at(text, b'\n') else {
+        return Ok(None);
+    };
+    match read_wait_line(alloc, line)? {
+        Some(rows) => Ok(Some((rows, rest))),
+        None => Ok(None),
+    }
+}
+
+/// The rows of the wait whose line this is.
+fn read_wait_line<A: Allocator>(alloc: A, line: &[u8]) -> Result<Option<Vec<Row, A>>, NoMemory>
+    ensures { IfOk result (λ found. MatchOption found
+        ((rows : List WaitRow) → ¬ IsWait rows line.now)
+        (λ rows. IsWait rows.items line.now)) }
+{
+    let Some(text) = line.strip_prefix(b"wait") else {
+        return Ok(None);
+    };
+    match read_rows(alloc, text)? {
+        Some(rows) => Ok(Some(rows)),
+        None => Ok(None),
+    }
+}
+
+/// The rows whose text this is, each behind a blank.
+fn read_rows<A: Allocator>(alloc: A, text: &[u8]) -> Result<Option<Vec<Row, A>>, NoMemory>
+    ensures { IfOk result (λ found. MatchOption found
+        ((rows : List WaitRow) → ¬ AreRows rows text.now)
+        (λ rows. AreRows rows.items text.now)) }
+{
+    let mut rows = Vec::new(alloc);
+    let mut rest = text;
+    while !rest.is_empty() {
+        let Some((row, after)) = read_first_row(rest) else {
+            return Ok(None);
+        };
+        rows.push(row)?;
+        rest = after;
+    }
+    Ok(Some(rows))
+}
+
+/// The row that a text begins with behind a blank, and what follows: nothing or another blank.
+fn read_first_row(text: &[u8]) -> Option<(Row, &[u8])>
+    ensures row { IfSome result (λ first. IsRow first.0 × StartsAt 32 first.1.now
+        × (text.now ≡ 32 ∷ (row_text first.0 ++ first.1.now))) }
+    ensures none { IfNone result ((row : WaitRow) (rest : List ℕ) → IsRow row → StartsAt 32 rest
+        → text.now ≢ 32 ∷ (row_text row ++ rest)) }
+{
+    let Some(behind) = text.strip_prefix(b" ") else {
+        return None;
+    };
+    let (front, after) = cut_before(behind, b' ');
+    match read_row(front) {
+        Some(row) => Some((row, after)),
+        None => None,
+    }
+}
+
+/// The row whose text this is.
+fn read_row(text: &[u8]) -> Option<Row>
+    ensures row { IfSome result (λ row. IsRow row × (text.now ≡ row_text row)) }
+    ensures none { IfNone result ((row : WaitRow) → IsRow row → text.now ≢ row_text row) }
+{
+    let Some((name, sizes)) = cut_at(text, b':') else {
+        return None;
+    };
+    let Some((held, max)) = cut_at(sizes, b':') else {
+        return None;
+    };
+    let Some(id) = Id::read(name) else {
+        return None;
+    };
+    let Some(held) = read_decimal(held) else {
+        return None;
+    };
+    let Some(max) = read_decimal(max) else {
+        return None;
+    };
+    row_of(id, held, max)
+}
+
+/// The row of an id whose buffer holds so many bytes and may hold so many.
+fn row_of(id: Id, held: u64, max: u64) -> Option<Row>
+    ensures row { IfSome result (λ row. IsRow row
+        × (row.id ≡ id) × (row.held ≡ held) × (row.max ≡ max)) }
+    ensures none { IfNone result (1 ≤ max → max ≤ 1000000 → held ≤ max → ⊥) }
+{
+    if max < 1 || max > GREATEST_SIZE || max < held {
+        return None;
+    }
+    Some(Row {
+        id,
+        held: held as u32,
+        max: max as u32,
+        want: wanted(held as u32, max as u32),
+    })
+}
+
+/// How many bytes are wanted for a buffer that holds so many and may hold so many.
+fn wanted(held: u32, max: u32) -> u32
+    requires held { held ≤ max }
+    requires max { max ≤ 1000000 }
+    ensures { result ≡ spec.wanted held max }
+{
+    if max - held == 0 {
+        (max + 1) / 2
+    } else {
+        max - held
+    }
+}
+
+/// Whether records can tell these rows.
+pub fn are_rows(rows: &[Row]) -> bool
+    ensures { IsTrue result ↔ AllByRecursion IsRow rows.now }
+{
+    let mut rest = rows;
+    while !rest.is_empty() {
+        let Some((row, behind)) = first_row(rest) else {
+            return true;
+        };
+        if !is_row(row) {
+            return false;
+        }
+        rest = behind;
+    }
+    true
+}
+
+/// The first row, and those behind it.
+pub fn first_row(rows: &[Row]) -> Option<(Row, &[Row])>
+    ensures { MatchOption result (rows.now ≡ []) (λ first. rows.now ≡ first.0 ∷ first.1.now) }
+{
+    match rows {
+        [first, behind @ ..] => Some((*first, behind)),
+        [] => None,
+    }
+}
+
+/// Whether a record can tell this row: its sizes are in range, and it wants what they say.
+fn is_row(row: Row) -> bool
+    ensures { IsTrue result ↔ IsRow row }
+{
+    if row.max < 1 || (row.max as u64) > GREATEST_SIZE || row.max < row.held {
+        return false;
+    }
+    row.want == wanted(row.held, row.max)
+}
