@@ -3,7 +3,7 @@
 ghost use Rattle.std.specs.Prelude.{◌≡◌, ◌||◌, ℕ, List, map, false};
 ghost use Rattle.std.specs.Vec.Iter.{into_iter_items};
 ghost use Rattle.acts.specs.Deed.{deed_of, reply_of};
-ghost use Rattle.worlds.specs.Replay.{Replays, gone_out};
+ghost use Rattle.replays.specs.Replay.{Replays, gone_out};
 
 use acts::{Act, Answer, World};
 use records::{Sink, put_all};

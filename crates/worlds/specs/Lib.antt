@@ -1,4 +1,3 @@
 pub mod Arguments
 pub mod Play
-pub mod Replay
 pub mod Status

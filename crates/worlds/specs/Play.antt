@@ -11,7 +11,7 @@ use Rattle.worlds.specs.declared.status.Outcome.{Outcome}
 use Rattle.worlds.specs.declared.status.Outcome.TheVariants.{NoMemory}
 use Rattle.records.specs.Fault.{IsFault}
 use Rattle.records.specs.Record.{IsRecord}
-use Rattle.worlds.specs.Replay.{Replays}
+use Rattle.replays.specs.Replay.{Replays}
 use Rattle.records.specs.Sink.{Takes}
 use Rattle.worlds.specs.Status.{end_outcome, fault_outcome, line_of, status_of}
 

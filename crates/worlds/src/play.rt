@@ -9,11 +9,11 @@ ghost use Rattle.records.specs.Record.{HasHeader, IsFirstBad, IsRecord};
 ghost use Rattle.records.specs.Sink.{Takes};
 ghost use Rattle.worlds.specs.Status.{line_of, status_of};
 
-use crate::replay::LentReplay;
 use crate::status::Outcome;
 use acts::{Answer, Limits, NoMemory};
 use engine::{End, run};
 use records::{Sink, read_record};
+use replays::LentReplay;
 use std::alloc::Allocator;
 use std::vec::IntoIter;
 

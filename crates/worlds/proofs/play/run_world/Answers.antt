@@ -2,7 +2,7 @@ use Rattle.std.proofs.Common.{map}
 use Rattle.std.specs.Vec.Iter.{into_iter_items}
 use Rattle.acts.specs.Deed.{reply_of}
 use Rattle.engine.specs.View.{words_of}
-use Rattle.worlds.specs.Replay.{Replays}
+use Rattle.replays.specs.Replay.{Replays}
 use Rattle.worlds.proofs.Plays.{run_kept, run_seen}
 use Rattle.worlds.proofs.play.run_world.Goals as goal
 
