@@ -325,11 +325,21 @@ proc own_string {args} {
     string {*}$args
 }
 # Those that come later.
+# A number that a formula, abs, min or max comes to is written in decimal.
+proc decimal {value} {
+    if {[string is entier -strict $value]} {return [expr {$value + 0}]}
+    return $value
+}
 proc own_expr {args} {
     if {![llength $args]} {wrong expr}
     set formula [own_concat {*}$args]
-    tailcall tcl expr $formula
+    set code [catch {tcl expr $formula} value]
+    if {$code == 0} {return [decimal $value]}
+    return -code $code $value
 }
+proc absolute {args} {decimal [tcl::mathfunc::abs {*}$args]}
+proc least {args} {decimal [tcl::mathfunc::min {*}$args]}
+proc most {args} {decimal [tcl::mathfunc::max {*}$args]}
 # Tcl looks at the words of if only as far as it comes.
 proc own_if {args} {
     set rest $args
@@ -427,6 +437,9 @@ proc begin {} {
     interp create -safe child
     foreach name [interp eval child {info commands}] {interp hide child $name}
     foreach name $shown {show $name}
+    interp alias child ::tcl::mathfunc::abs {} absolute
+    interp alias child ::tcl::mathfunc::min {} least
+    interp alias child ::tcl::mathfunc::max {} most
     interp alias child __args {} own___args
     interp limit child commands -granularity 100
 }

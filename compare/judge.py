@@ -14,6 +14,14 @@ REFUSED = re.compile(
 # What may be refused in a script, by its text: a script that differs and catches one of these without a word of it says
 # nothing.
 MAY_BE_REFUSED = re.compile(rb"\\[uU]|::|\$\(|\$\{\(|\d{19,}")
+# What is no formula here and may be one in Tcl, which refuses some of it only where it is evaluated: fractions, functions
+# but three, beginnings of the truth values.
+MAY_BE_UNREAD = re.compile(
+    rb"\.\d|\d\.|(?<![\w$])(?!(?:abs|min|max)\()[a-zA-Z_]\w*\("
+    rb"|(?<![\w$])(?i:t|tr|tru|f|fa|fal|fals|y|ye|n|of)(?!\w)|(?<![\w$])(?!true|false|yes|no|on|off)(?i:true|false|yes|no|on|off)(?!\w)"
+)
+# A text that stands against a list of an array's elements, whose order Tcl leaves open.
+BESIDE_ELEMENTS = re.compile(rb"\[\s*array\s+(names|get)[^\]]*\][^\s\];}\"]|[^\s\[{;\"]\[\s*array\s+(names|get)")
 # The kinds of errors: this project's text, and Tcl's. Where a text is the same on both sides no kind is asked for.
 KINDS = [
     (rb"wrong # args for \".*\"", rb"wrong # args: .*"),
@@ -66,7 +74,9 @@ def judge(script, here, there):
     found, own, other = judge_courses(here, there)
     if found in ("differs", "texts") and b"catch" in script and MAY_BE_REFUSED.search(script):
         return "unsaid", own, other
-    if found == "differs" and DROPPED.search(script):
+    if found == "differs" and (DROPPED.search(script) or BESIDE_ELEMENTS.search(script)):
+        return "unsaid", own, other
+    if found == "differs" and own == b"syntax error in expression" and MAY_BE_UNREAD.search(script):
         return "unsaid", own, other
     return found, own, other
 
@@ -82,8 +92,12 @@ def judge_courses(here, there):
         other_kind, other = others[number]
         for one, that in spelled:
             other = other.replace(that, one)
-        if kind == b"text" and text != other and other.startswith(text) and REFUSED.fullmatch(own[number + 1][1]):
-            return "refused", text, other
+        if kind == b"text" and text != other and other.startswith(text):
+            after_kind, after = own[number + 1]
+            if REFUSED.fullmatch(after):
+                return "refused", text, other
+            if after_kind == b"error":
+                return "differs", after, other
         if kind != other_kind or (kind != b"error" and text != other):
             return "differs", text, other
         if kind == b"error" and text != other:
