@@ -1,11 +1,12 @@
 -- What the calls of the table are to the ids of the definition.
 use Rattle.std.proofs.Common.{◌≡◌, ℕ, ◌==◌, ◌&&◌, Bool, true, false, List, [], ◌∷◌, ◌++◌, map, if◌then◌else◌, refl, sym, ap, ◌∙◌}
+use Rattle.std.proofs.lemmas.Bool.{eqb-true}
 use Rattle.acts.specs.declared.id.Id.{Id}
 use Rattle.matchbuf.specs.Held.{held}
-use Rattle.matchbuf.specs.Journal.{IsJournal, window, size_of}
+use Rattle.matchbuf.specs.Journal.{Record, Sized, IsJournal, window, size_of}
 use Rattle.matchbuf.proofs.Windows.{fits_arrived, fits_sized}
 use Rattle.dialog.specs.Lines.{Line, at_line, without, reaching, reached, resized, dropping, fresh_line}
-use Rattle.dialog.specs.Peers.{Kind, Peer, opened, is_open_at, at_peer, fresh, shut, arrived, sized, set_nulls, line, HaveJournals, FitsPeers}
+use Rattle.dialog.specs.Peers.{Kind, Peer, opened, is_open_at, at_peer, fresh, fresh_journal, shut, arrived, sized, set_nulls, line, HaveJournals, FitsPeers}
 use Rattle.dialog.specs.Views.{line_by}
 use Rattle.dialog.proofs.Chosen.{own_fits}
 use Rattle.dialog.proofs.Peers.{Keeps, changes, opened-first, have}
@@ -115,16 +116,43 @@ module _ (i : Id) where
       left.lines ∙ ap (without i) fits.lines ∙ sym is in
       record { journals = left.journals; lines = lines }
 
--- an id opened behind all others
-opened-more : (i : Id) (kind : Kind) (ps : List Peer) →
-    opened (ps ++ fresh i kind ∷ []) ≡ opened ps ++ fresh i kind ∷ []
-opened-more i kind [] = refl
-opened-more i kind (p ∷ ps) = by p.is_open (opened-more i kind ps)
+-- an id just opened has a journal, and that line
+record IsFresh (i : Id) (kind : Kind) (max : ℕ) (drops : Bool) : Type 0 where
+  journal : IsJournal (fresh_journal max)
+  same : line (fresh i kind max drops) ≡ fresh_line i max drops
+
+is-fresh : (i : Id) (kind : Kind) (max : ℕ) (drops : Bool) → IsFresh i kind max drops
+is-fresh i kind max drops = by (max == 2000) refl
   where
-    by : (a : Bool) → opened (ps ++ fresh i kind ∷ []) ≡ opened ps ++ fresh i kind ∷ [] →
-        (if a then p ∷ opened (ps ++ fresh i kind ∷ []) else opened (ps ++ fresh i kind ∷ []))
-        ≡ (if a then p ∷ opened ps else opened ps) ++ fresh i kind ∷ []
-    by true rest = ap (λ qs. p ∷ qs) rest
+    chosen : Bool → List Record
+    chosen b = if b then Sized 2000 ∷ [] else Sized max ∷ Sized 2000 ∷ []
+
+    by : (b : Bool) → (max == 2000) ≡ b → IsFresh i kind max drops
+    by true is =
+        let e : fresh_journal max ≡ Sized 2000 ∷ [] = ap chosen is in
+        let two : max ≡ 2000 = eqb-true max 2000 is in
+        record {
+          journal = rw e tt;
+          same = ap (λ j. line_by i (held (window j) (size_of j)) drops) e
+              ∙ ap (λ m. line_by i (held [] m) drops) (sym two);
+        }
+    by false is =
+        let e : fresh_journal max ≡ Sized max ∷ Sized 2000 ∷ [] = ap chosen is in
+        record {
+          journal = rw e tt;
+          same = ap (λ j. line_by i (held (window j) (size_of j)) drops) e;
+        }
+
+-- an id opened behind all others
+opened-more : (p : Peer) (ps : List Peer) → p.is_open ≡ true →
+    opened (ps ++ p ∷ []) ≡ opened ps ++ p ∷ []
+opened-more p [] is = opened-first p [] true is
+opened-more p (q ∷ ps) is = by q.is_open (opened-more p ps is)
+  where
+    by : (a : Bool) → opened (ps ++ p ∷ []) ≡ opened ps ++ p ∷ [] →
+        (if a then q ∷ opened (ps ++ p ∷ []) else opened (ps ++ p ∷ []))
+        ≡ (if a then q ∷ opened ps else opened ps) ++ p ∷ []
+    by true rest = ap (λ qs. q ∷ qs) rest
     by false rest = rest
 
 have-more : (ps : List Peer) (p : Peer) → HaveJournals ps → IsJournal p.journal →
@@ -136,12 +164,16 @@ map-more : (ps : List Peer) (p : Peer) → map line (ps ++ p ∷ []) ≡ map lin
 map-more [] p = refl
 map-more (q ∷ ps) p = ap (λ ls. line q ∷ ls) (map-more ps p)
 
-pub fits_opened : (i : Id) (ls new : List Line) → new ≡ ls ++ fresh_line i ∷ [] →
-    (ps : List Peer) (kind : Kind) → FitsPeers ls ps →
-    FitsPeers new (ps ++ fresh i kind ∷ [])
-fits_opened i ls new is ps kind fits = record {
-  journals = have _ _ (opened-more i kind ps)
-      (have-more (opened ps) (fresh i kind) fits.journals tt);
-  lines = ap (map line) (opened-more i kind ps) ∙ map-more (opened ps) (fresh i kind)
-      ∙ ap (λ ms. ms ++ fresh_line i ∷ []) fits.lines ∙ sym is;
-}
+pub fits_opened : (i : Id) (max : ℕ) (drops : Bool) (ls new : List Line) →
+    new ≡ ls ++ fresh_line i max drops ∷ [] → (ps : List Peer) (kind : Kind) →
+    FitsPeers ls ps → FitsPeers new (ps ++ fresh i kind max drops ∷ [])
+fits_opened i max drops ls new is ps kind fits =
+    let p = fresh i kind max drops in
+    let fresh = is-fresh i kind max drops in
+    record {
+      journals = have _ _ (opened-more p ps refl)
+          (have-more (opened ps) p fits.journals fresh.journal);
+      lines = ap (map line) (opened-more p ps refl) ∙ map-more (opened ps) p
+          ∙ ap (λ l. map line (opened ps) ++ l ∷ []) fresh.same
+          ∙ ap (λ ms. ms ++ fresh_line i max drops ∷ []) fits.lines ∙ sym is;
+    }

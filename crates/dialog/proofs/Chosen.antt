@@ -79,7 +79,7 @@ fits_after ls t p f inside ps fits =
     let s = share_of t (chosen p f) in
     changes (consumed_to s) (shortened_to s) p.id ps ls
     (λ q is j. shares s q j
-    (has_share (takes t) p.branch.stays f (window q.journal) (inside (line q) is))) fits
+    (has_share (takes t) p.branch.flags.stays f (window q.journal) (inside (line q) is))) fits
 
 -- a choice after a search that left the table as it was
 makes-by : {A : Type 0} (choice : Choice A) (t : Trigger) (pairs : List Pair) (p : Pair)

@@ -3,5 +3,9 @@ pub mod Chosen
 pub mod Finds
 pub mod Firsts
 pub mod Lines
+pub mod Mentions
+pub mod Nulls
+pub mod Others
 pub mod Peers
 pub mod Refused
+pub mod RowsMade

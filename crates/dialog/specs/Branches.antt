@@ -1,6 +1,7 @@
 -- Branches, and the pairs of an id and a branch among which an expect chooses.
-use Rattle.std.specs.Prelude.{ℕ, Bool, List}
+use Rattle.std.specs.Prelude.{ℕ, List, Option, ℤ}
 use Rattle.acts.specs.declared.id.Id.{Id}
+use Rattle.dialog.specs.declared.branch.Flags.{Flags}
 use Rattle.tcltext.specs.Pattern.Item.{Reading}
 
 -- what a branch waits for: a pattern, or what a keyword names (expect(1), expect)
@@ -11,12 +12,12 @@ pub data Awaited : Type 0 where
   Timeout : Awaited
   Default : Awaited
 
--- a branch: what it waits for, whether the bytes that it finds stay in the buffer (-notransfer),
--- whether their places are told (-indices), and its body (expect(1), expect)
+-- a branch: what it waits for, its flags, and its body. By its flags the bytes that it finds stay
+-- in the buffer (-notransfer), their places are told (-indices), and capital letters of the window
+-- count as small ones (-nocase) (expect(1), expect)
 pub record Branch : Type 0 where
   pub awaited : Awaited
-  pub stays : Bool
-  pub tells_places : Bool
+  pub flags : Flags
   pub body : List ℕ
 
 -- a branch for one id (expect(1), expect, -i)
@@ -27,3 +28,15 @@ pub record Pair : Type 0 where
 -- a pair by its parts
 abbrev pub pair : Id → Branch → Pair
 pair id branch = record { id = id; branch = branch }
+
+-- what the words of an expect say: the ids that they name, in the order of their mentions, the
+-- pairs of ids and branches, and the seconds of the last -timeout, if there is one (expect(1),
+-- expect)
+pub record Branches : Type 0 where
+  pub named : List Id
+  pub pairs : List Pair
+  pub timeout : Option ℤ
+
+-- these by their parts
+abbrev pub branches : List Id → List Pair → Option ℤ → Branches
+branches named pairs timeout = record { named = named; pairs = pairs; timeout = timeout }

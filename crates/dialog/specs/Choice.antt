@@ -117,7 +117,7 @@ share_by stays None = Whole
 
 -- how much a chosen pair consumes of its window
 abbrev pub share_at : Chosen → Share
-share_at c = share_by c.pair.branch.stays c.found
+share_at c = share_by c.pair.branch.flags.stays c.found
 
 -- a timeout takes nothing of a window, every other trigger does (expect(1), expect)
 abbrev pub takes : Trigger → Bool
@@ -168,7 +168,7 @@ taken_at c (Some l) = Some (record {
   id = c.pair.id;
   buffer = front_of c.found l.held.bytes;
   found = c.found;
-  tells_places = c.pair.branch.tells_places;
+  tells_places = c.pair.branch.flags.tells_places;
 })
 
 -- what a choice after a trigger has for expect_out

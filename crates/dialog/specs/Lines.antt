@@ -38,10 +38,19 @@ abbrev pub without : Id → List Line → List Line
 without i [] = []
 without i (l ∷ ls) = if l.id.0 == i.0 then ls else l ∷ without i ls
 
--- the id that was opened first
+-- the lesser of two ids
+abbrev pub lesser : Id → Id → Id
+lesser i j = if nat_lt j.0 i.0 then j else i
+
+-- the least of an id and those of lines
+abbrev pub least_of : Id → List Line → Id
+least_of i [] = i
+least_of i (l ∷ ls) = least_of (lesser i l.id) ls
+
+-- the least open id
 abbrev pub first_id : List Line → Option Id
 first_id [] = None
-first_id (l ∷ ls) = Some l.id
+first_id (l ∷ ls) = Some (least_of l.id ls)
 
 -- the id of a number
 abbrev pub id_of : ℕ → Id
@@ -56,9 +65,10 @@ abbrev pub number_after : Option ℕ → Option ℕ
 number_after None = None
 number_after (Some n) = if nat_lt (n + 1) (2 ^ 64) then Some (n + 1) else None
 
--- the line of an id that is just opened (expect(1), spawn, match_max and remove_nulls)
-abbrev pub fresh_line : Id → Line
-fresh_line i = record { id = i; held = held [] 2000; drops_nulls = true }
+-- the line of an id that is just opened, with an empty buffer of that size, and whether nulls are
+-- removed (expect(1), spawn, match_max -d and remove_nulls -d)
+abbrev pub fresh_line : Id → ℕ → Bool → Line
+fresh_line i max drops = record { id = i; held = held [] max; drops_nulls = drops }
 
 -- bytes without their nulls (expect(1), remove_nulls)
 abbrev pub without_nulls : List ℕ → List ℕ

@@ -20,16 +20,21 @@ pub record Peer : Type 0 where
   pub drops_nulls : Bool
   pub journal : List Record
 
--- an id that is just opened, with an empty buffer of 2,000 bytes and without nulls
--- (expect(1), spawn, match_max and remove_nulls)
-abbrev pub fresh : Id → Kind → Peer
-fresh i kind = record {
+-- the journal of an id that is just opened: its size is 2,000 bytes, and then that which was set as
+-- the default, where it is another (expect(1), spawn and match_max -d)
+abbrev pub fresh_journal : ℕ → List Record
+fresh_journal max = if max == 2000 then Sized 2000 ∷ [] else Sized max ∷ Sized 2000 ∷ []
+
+-- an id that is just opened, with an empty buffer of that size, and whether nulls are removed
+-- (expect(1), spawn, match_max -d and remove_nulls -d)
+abbrev pub fresh : Id → Kind → ℕ → Bool → Peer
+fresh i kind max drops = record {
   id = i;
   kind = kind;
   is_open = true;
   is_reaped = false;
-  drops_nulls = true;
-  journal = Sized 2000 ∷ [];
+  drops_nulls = drops;
+  journal = fresh_journal max;
 }
 
 -- the ids that are open

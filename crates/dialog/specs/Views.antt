@@ -6,6 +6,7 @@ use Rattle.dialog.specs.Branches.{Awaited, Branch, Sought, FullBuffer, Eof, Time
 use Rattle.dialog.specs.Lines.{Line}
 use Rattle.dialog.specs.declared.branch.Awaited.{Awaited as Coded}
 use Rattle.dialog.specs.declared.branch.Awaited.TheVariants as coded
+use Rattle.dialog.specs.declared.branch.Flags.{Flags}
 
 -- a line by its parts
 abbrev pub line_by : Id → Held → Bool → Line
@@ -20,10 +21,9 @@ awaited_of coded.Timeout = Timeout
 awaited_of coded.Default = Default
 
 -- a branch of the code by its parts
-abbrev pub branch_of : {A : Type 0} → Coded A → Bool → Bool → List ℕ → Branch
-branch_of awaited stays tells body = record {
+abbrev pub branch_of : {A : Type 0} → Coded A → Flags → List ℕ → Branch
+branch_of awaited flags body = record {
   awaited = awaited_of awaited;
-  stays = stays;
-  tells_places = tells;
+  flags = flags;
   body = body;
 }

@@ -1,10 +1,11 @@
 //! Branches of `expect`, and the pairs of an id and a branch among which it chooses.
 
-ghost use Rattle.std.specs.Prelude.{◌≡◌};
+ghost use Rattle.std.specs.Prelude.{◌≡◌, IfOk};
 ghost use Rattle.dialog.specs.Choice.{takes_full, takes_end, takes_timeout};
-ghost use Rattle.dialog.specs.Views.{awaited_of};
+ghost use Rattle.dialog.specs.Branches.{pair};
+ghost use Rattle.dialog.specs.Views.{awaited_of, branch_of};
 
-use acts::Id;
+use acts::{Id, NoMemory};
 use std::alloc::Allocator;
 use std::marker::Model;
 use std::rc::Rc;
@@ -48,12 +49,22 @@ impl<A: Allocator> Awaited<A> {
     }
 }
 
+/// The flags of a branch (expect(1), expect).
+#[derive(Clone, Copy, Debug, PartialEq, Eq)]
+pub struct Flags {
+    /// The bytes that its pattern finds stay in the buffer (`-notransfer`).
+    pub stays: bool,
+    /// The places of a match are told (`-indices`).
+    pub tells_places: bool,
+    /// Capital letters of the window count as small ones (`-nocase`).
+    pub folds: bool,
+}
+
 /// A branch of `expect`: what it waits for, and the script that runs then (expect(1), expect).
 #[derive(Drop)]
 pub struct Branch<A: Allocator> {
     awaited: Awaited<A>,
-    stays: bool,
-    tells_places: bool,
+    flags: Flags,
     body: Value<A>,
 }
 
@@ -64,7 +75,20 @@ impl<A: Allocator> Model for Branch<A> {
 
     ghost use Rattle.dialog.specs.Views.{branch_of};
 
-    ghost view = { λ b. branch_of b.awaited b.stays b.tells_places b.body };
+    ghost view = { λ b. branch_of b.awaited b.flags b.body };
+}
+
+impl<A: Allocator> Branch<A> {
+    /// A branch that waits for that, with its flags and its body.
+    pub fn new(awaited: Awaited<A>, flags: Flags, body: Value<A>) -> Branch<A>
+        ensures { result ≡ branch_of awaited flags body }
+    {
+        Branch {
+            awaited,
+            flags,
+            body,
+        }
+    }
 }
 
 /// A branch for one id (expect(1), expect, `-i`).
@@ -83,6 +107,24 @@ impl<A: Allocator> Model for Pair<A> {
 }
 
 impl<A: Allocator> Pair<A> {
+    /// A branch for an id.
+    pub fn new(id: Id, branch: Rc<Branch<A>, A>) -> Pair<A>
+        ensures { result ≡ pair id branch.value }
+    {
+        Pair { id, branch }
+    }
+
+    /// The same pair once more; its branch is not copied. Memory is asked for the count alone.
+    pub(crate) fn share(&self) -> Result<Pair<A>, NoMemory>
+        ensures { IfOk result (λ same. same ≡ self.now) }
+    {
+        let branch = self.branch.clone()?;
+        Ok(Pair {
+            id: self.id,
+            branch,
+        })
+    }
+
     /// The id.
     pub fn id(&self) -> Id
         ensures { result ≡ self.now.id }
@@ -99,16 +141,16 @@ impl<A: Allocator> Pair<A> {
 
     /// Whether the bytes that its branch finds stay in the buffer (`-notransfer`).
     pub(crate) fn stays(&self) -> bool
-        ensures { result ≡ self.now.branch.stays }
+        ensures { result ≡ self.now.branch.flags.stays }
     {
-        self.branch.stays
+        self.branch.flags.stays
     }
 
     /// Whether the places of a match are told (`-indices`).
     pub(crate) fn tells_places(&self) -> bool
-        ensures { result ≡ self.now.branch.tells_places }
+        ensures { result ≡ self.now.branch.flags.tells_places }
     {
-        self.branch.tells_places
+        self.branch.flags.tells_places
     }
 
     /// The script of its branch.

@@ -1,13 +1,16 @@
 //! An open id with its match buffer.
-ghost use Rattle.std.specs.Prelude.{◌≡◌, ◌≤◌, ◌==◌, ◌↔◌, length, true, Err, IfOk, OnOk, OnErr, IfSome, MatchOption};
+ghost use Rattle.std.specs.Prelude.{◌≡◌, ◌≤◌, ◌==◌, ◌↔◌, ◌++◌, length, Err, IfOk, OnOk, OnErr, IfSome, MatchOption};
 ghost use Rattle.dialog.specs.Choice.{front_of, share_by, shortened_to};
 ghost use Rattle.dialog.specs.Lines.{reached, resized, dropping, row_of_line, without_nulls};
+ghost use Rattle.circular_buffer.specs.Buffer.{keep_last};
+ghost use Rattle.matchbuf.specs.Held.{held};
 ghost use Rattle.matchbuf.specs.Size.{IsSize};
 ghost use Rattle.dialog.specs.Views.{line_by};
 ghost use Rattle.tcltext.specs.Pattern.Match.{IsFound, SitsNowhere};
 
 use acts::{Id, NoMemory, Row};
 use matchbuf::{MatchBuf, MatchBufError};
+use memchr::memchr;
 use std::alloc::Allocator;
 use std::marker::Model;
 use tcltext::{Found, Pattern, Scratch};
@@ -31,13 +34,13 @@ impl<A: Allocator> Model for Entry<A> {
 
 impl<A: Allocator> Entry<A> {
     /// An id that is just opened.
-    pub(crate) fn new(id: Id, buffer: MatchBuf<A>) -> Entry<A>
-        ensures { result ≡ line_by id buffer true }
+    pub(crate) fn new(id: Id, buffer: MatchBuf<A>, drops_nulls: bool) -> Entry<A>
+        ensures { result ≡ line_by id buffer drops_nulls }
     {
         Entry {
             id,
             buffer,
-            drops_nulls: true,
+            drops_nulls,
         }
     }
 
@@ -59,6 +62,7 @@ impl<A: Allocator> Entry<A> {
     pub(crate) fn len(&self) -> usize
         ensures len { result ≡ length self.now.held.bytes }
         ensures within { result ≤ self.now.held.max }
+        ensures size { self.now.held.max ≤ 1000000 }
     {
         self.buffer.len()
     }
@@ -71,6 +75,13 @@ impl<A: Allocator> Entry<A> {
         self.buffer.max()
     }
 
+    /// Whether nulls are removed.
+    pub(crate) fn drops_nulls(&self) -> bool
+        ensures { result ≡ self.now.drops_nulls }
+    {
+        self.drops_nulls
+    }
+
     /// Sets whether nulls are removed.
     pub(crate) fn set_nulls(&mut self, drops: bool)
         ensures { self.new ≡ dropping drops self.old }
@@ -80,14 +91,13 @@ impl<A: Allocator> Entry<A> {
 
     /// Puts bytes into its buffer, without their nulls where those are removed. No memory is asked
     /// for.
-    pub(crate) fn arrive(&mut self, mut bytes: Vec<u8, A>)
-        ensures { self.new ≡ reached bytes.items self.old }
+    pub(crate) fn arrive(&mut self, bytes: &[u8])
+        ensures { self.new ≡ reached bytes.now self.old }
     {
         if self.drops_nulls {
-            remove_nulls(&mut bytes);
-            self.buffer.arrive(&bytes);
+            arrive_without_nulls(&mut self.buffer, bytes);
         } else {
-            self.buffer.arrive(&bytes);
+            self.buffer.arrive(bytes);
         }
     }
 
@@ -162,9 +172,15 @@ impl<A: Allocator + Copy> Entry<A> {
     }
 }
 
-/// Removes the nulls of an arrival (expect(1), remove_nulls).
-fn remove_nulls<A: Allocator>(bytes: &mut Vec<u8, A>)
-    ensures { bytes.new.items ≡ without_nulls bytes.old.items }
+/// Puts bytes into a buffer without their nulls, piece by piece (expect(1), remove_nulls).
+fn arrive_without_nulls<A: Allocator>(buffer: &mut MatchBuf<A>, bytes: &[u8])
+    ensures { let max = buffer.old.max in buffer.new
+        ≡ held (keep_last max (buffer.old.bytes ++ without_nulls bytes.now)) max }
 {
-    bytes.retain(|b| *b != 0);
+    let mut rest = bytes;
+    while let Some(null) = memchr(0, rest) {
+        buffer.arrive(&rest[..null]);
+        rest = &rest[null + 1..];
+    }
+    buffer.arrive(rest);
 }

@@ -2,12 +2,21 @@
 #![tactic(auto)]
 
 mod branch;
+mod branches;
 mod choice;
+mod effective;
 mod entry;
 mod error;
+mod log_state;
+mod rows;
+mod standing;
 mod table;
 
-pub use branch::{Awaited, Branch, Pair};
+pub use branch::{Awaited, Branch, Flags, Pair};
+pub use branches::Branches;
 pub use choice::{Choice, Taken, Trigger};
+pub use effective::Effective;
 pub use error::OpenError;
-pub use table::{MOST_OPEN, Table};
+pub use log_state::LogState;
+pub use standing::{Side, Standing};
+pub use table::{FIRST_SIZE, MOST_OPEN, Table};

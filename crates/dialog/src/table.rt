@@ -1,6 +1,7 @@
 //! The open ids.
-ghost use Rattle.std.specs.Prelude.{◌≡◌, ◌==◌, ◌<◌, ◌↔◌, ◌++◌, [], ◌∷◌, List, length, position, is_some, Some, None, Err, IfOk, OnOk, OnErr, IsTrue};
-ghost use Rattle.dialog.specs.Lines.{line_of, listing, at_line, without, first_id, next_id, number_after, fresh_line, reached, resized, dropping};
+ghost use Rattle.std.specs.Prelude.{◌≡◌, ◌==◌, ◌<◌, ◌≤◌, ◌↔◌, ◌++◌, [], ◌∷◌, List, length, position, is_some, Some, None, Err, IfOk, OnOk, OnErr, IsTrue};
+ghost use Rattle.std.specs.Option.{option_map};
+ghost use Rattle.dialog.specs.Lines.{line_of, listing, at_line, without, lesser, least_of, first_id, next_id, number_after, fresh_line, reached, resized, dropping, held_by, allowed_to};
 ghost use Rattle.dialog.specs.Peers.{Peer, Kind, FitsPeers, at_peer, fresh, shut, arrived, set_nulls, sized};
 ghost use Rattle.matchbuf.specs.Held.{held};
 ghost use Rattle.matchbuf.specs.Size.{IsSize};
@@ -19,8 +20,9 @@ pub const MOST_OPEN: usize = 64;
 /// (expect(1), spawn).
 const FIRST_NUMBER: u64 = 4;
 
-/// The size of a new match buffer, in bytes (expect(1), match_max).
-const FIRST_SIZE: u32 = 2000;
+/// The size of a new match buffer where no other is set as the default, in bytes (expect(1),
+/// match_max).
+pub const FIRST_SIZE: u32 = 2000;
 
 /// The open ids in the order in which they were opened, each with its match buffer.
 #[derive(Drop)]
@@ -58,6 +60,27 @@ impl<A: Allocator> Table<A> {
         self.entries.iter().position(|entry| entry.id() == id)
     }
 
+    /// How many bytes the buffer of an id may hold, where it is open (expect(1), match_max).
+    pub fn max(&self, id: Id) -> Option<u32>
+        ensures { result ≡ option_map (λ l. l.held.max) (line_of self.now.lines id) }
+    {
+        match self.place(id) {
+            Some(place) => Some(self.entries[place].max()),
+            None => None,
+        }
+    }
+
+    /// Whether nulls are removed from what arrives at an id, where it is open (expect(1),
+    /// remove_nulls).
+    pub fn drops_nulls(&self, id: Id) -> Option<bool>
+        ensures { result ≡ option_map (λ l. l.drops_nulls) (line_of self.now.lines id) }
+    {
+        match self.place(id) {
+            Some(place) => Some(self.entries[place].drops_nulls()),
+            None => None,
+        }
+    }
+
     /// Whether an id is open.
     pub fn is_open(&self, id: Id) -> bool
         ensures { result ≡ is_some (line_of self.now.lines id) }
@@ -65,12 +88,12 @@ impl<A: Allocator> Table<A> {
         self.place(id).is_some()
     }
 
-    /// The open id that was opened first, which is the least one.
+    /// The least open id.
     pub fn first(&self) -> Option<Id>
         ensures { result ≡ first_id self.now.lines }
     {
-        match self.entries.first() {
-            Some(entry) => Some(entry.id()),
+        match self.entries.split_first() {
+            Some((first, rest)) => Some(least(first.id(), rest)),
             None => None,
         }
     }
@@ -89,11 +112,11 @@ impl<A: Allocator> Table<A> {
 
     /// Puts bytes that arrived into the buffer of an id, if it is open, without their nulls where
     /// those are removed (expect(1), remove_nulls). No memory is asked for.
-    pub fn arrive(&mut self, id: Id, bytes: Vec<u8, A>)
-        ensures lines { self.new.lines ≡ at_line (reached bytes.items) id self.old.lines }
+    pub fn arrive(&mut self, id: Id, bytes: &[u8])
+        ensures lines { self.new.lines ≡ at_line (reached bytes.now) id self.old.lines }
         ensures next { self.new.next ≡ self.old.next }
         ensures fits { (ps : List Peer) → FitsPeers self.old.lines ps →
-            FitsPeers self.new.lines (at_peer (arrived bytes.items) id ps) }
+            FitsPeers self.new.lines (at_peer (arrived bytes.now) id ps) }
     {
         if let Some(place) = self.place(id) {
             self.entries[place].arrive(bytes);
@@ -126,6 +149,21 @@ impl<A: Allocator> Table<A> {
         }
     }
 
+    /// How many bytes all buffers hold.
+    pub fn held(&self) -> u64
+        ensures held { result ≡ held_by self.now.lines }
+        ensures within { result ≤ allowed_to self.now.lines }
+    {
+        sum_held(&self.entries)
+    }
+
+    /// How many bytes they may hold (expect(1), match_max).
+    pub fn allowed(&self) -> u64
+        ensures { result ≡ allowed_to self.now.lines }
+    {
+        sum_allowed(&self.entries)
+    }
+
     /// Uses up the next number, where one is left.
     pub fn skip(&mut self)
         ensures lines { self.new.lines ≡ self.old.lines }
@@ -139,27 +177,29 @@ impl<A: Allocator> Table<A> {
 }
 
 impl<A: Allocator + Copy> Table<A> {
-    /// Opens the id of the next number, with an empty buffer of 2,000 bytes and without nulls
-    /// (expect(1), spawn, match_max and remove_nulls).
+    /// Opens the id of the next number, with an empty buffer of the default size, and with the
+    /// default of whether nulls are removed (expect(1), spawn, match_max -d and remove_nulls -d).
     ///
     /// # Errors
     /// `TooMany` exactly where [`MOST_OPEN`] ids are open or no number is left, and `NoMemory`. The
     /// table is then as it was.
-    pub fn open(&mut self, alloc: A) -> Result<Id, OpenError>
+    pub fn open(&mut self, alloc: A, max: u32, drops_nulls: bool) -> Result<Id, OpenError>
+        requires { IsSize max }
         ensures opens { IfOk result (λ id. Some id ≡ next_id self.old) }
         ensures listing { IfOk result (λ id. self.new
-            ≡ listing (self.old.lines ++ fresh_line id ∷ []) (number_after self.old.next)) }
+            ≡ listing (self.old.lines ++ fresh_line id max drops_nulls ∷ [])
+            (number_after self.old.next)) }
         ensures fits { IfOk result (λ id. (ps : List Peer) (kind : Kind) →
             FitsPeers self.old.lines ps →
-            FitsPeers self.new.lines (ps ++ fresh id kind ∷ [])) }
+            FitsPeers self.new.lines (ps ++ fresh id kind max drops_nulls ∷ [])) }
         ensures too_many { (result ≡ Err OpenError.TooMany) ↔ (next_id self.old ≡ None) }
         ensures unchanged { OnErr result (self.new ≡ self.old) }
     {
         let Some(id) = self.next_id() else {
             return Err(OpenError::TooMany);
         };
-        let buffer = first_buffer(alloc)?;
-        self.add(Entry::new(id, buffer))?;
+        let buffer = empty_buffer(alloc, max)?;
+        self.add(Entry::new(id, buffer, drops_nulls))?;
         self.skip();
         Ok(id)
     }
@@ -195,11 +235,55 @@ impl<A: Allocator + Copy> Table<A> {
     }
 }
 
-/// An empty buffer of the first size.
-fn first_buffer<A: Allocator>(alloc: A) -> Result<MatchBuf<A>, NoMemory>
-    ensures { IfOk result (λ buffer. buffer ≡ held [] 2000) }
+/// The least of an id and those of entries.
+fn least<A: Allocator>(first: Id, entries: &[Entry<A>]) -> Id
+    ensures { result ≡ least_of first entries.now }
 {
-    match MatchBuf::new(alloc, FIRST_SIZE) {
+    let mut least = first;
+    for entry in entries {
+        least = lesser(least, entry.id());
+    }
+    least
+}
+
+/// The lesser of two ids.
+fn lesser(id: Id, other: Id) -> Id
+    ensures { result ≡ lesser id other }
+{
+    if other.0 < id.0 { other } else { id }
+}
+
+/// How many bytes these buffers hold.
+fn sum_held<A: Allocator>(entries: &[Entry<A>]) -> u64
+    requires { length entries.now ≤ 64 }
+    ensures held { result ≡ held_by entries.now }
+    ensures within { result ≤ allowed_to entries.now }
+{
+    let mut sum = 0;
+    for entry in entries {
+        sum += entry.len() as u64;
+    }
+    sum
+}
+
+/// How many bytes these buffers may hold.
+fn sum_allowed<A: Allocator>(entries: &[Entry<A>]) -> u64
+    requires { length entries.now ≤ 64 }
+    ensures { result ≡ allowed_to entries.now }
+{
+    let mut sum = 0;
+    for entry in entries {
+        sum += u64::from(entry.max());
+    }
+    sum
+}
+
+/// An empty buffer of a size that it may have.
+fn empty_buffer<A: Allocator>(alloc: A, max: u32) -> Result<MatchBuf<A>, NoMemory>
+    requires { IsSize max }
+    ensures { IfOk result (λ buffer. buffer ≡ held [] max) }
+{
+    match MatchBuf::new(alloc, max) {
         Ok(buffer) => Ok(buffer),
         Err(MatchBufError::NoMemory(refusal)) => Err(refusal),
         Err(MatchBufError::Size) => unreachable!(),

@@ -6,8 +6,9 @@ use Rattle.dialog.proofs.table.Table.open.Goals as goal
 
 pub returns-clause-fits : goal.returns-clause-fits
 returns-clause-fits g c =
-    let entry : c.new.result ≡ fresh_line c.in-Some.id =
-    c.new.ensures ∙ ap (λ h. line_by c.in-Some.id h true) c.in_ok-buffer.ensures in
-    fits_opened c.in-Some.id c.args.self.now.lines c.skip.new.self.lines
+    let entry : c.new.result ≡ fresh_line c.in-Some.id c.args.max c.args.drops_nulls =
+    c.new.ensures ∙ ap (λ h. line_by c.in-Some.id h c.args.drops_nulls) c.in_ok-buffer.ensures in
+    fits_opened c.in-Some.id c.args.max c.args.drops_nulls c.args.self.now.lines
+    c.skip.new.self.lines
     (c.skip.ensures.lines ∙ c.in_ok-add.ensures.lines
     ∙ ap (λ l. c.args.self.now.lines ++ l ∷ []) entry)

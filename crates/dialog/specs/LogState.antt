@@ -1,0 +1,12 @@
+-- Where what arrives is written.
+use Rattle.std.specs.Prelude.{Bool, ◌&&◌, ◌||◌}
+use Rattle.dialog.specs.declared.log_state.LogState.{LogState}
+
+-- an arrival goes to standard output where log_user is 1 (expect(1), log_user)
+abbrev pub goes_out : LogState → Bool
+goes_out s = s.user
+
+-- it goes to the log where one is open, and log_user is 1 or the log has all (expect(1),
+-- log_file -a; that else the log gets nothing is this project's own rule)
+abbrev pub is_logged : LogState → Bool
+is_logged s = s.logging && (s.user || s.all)

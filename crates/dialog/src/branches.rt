@@ -1,0 +1,47 @@
+//! The branches that the words of an `expect` say.
+ghost use Rattle.std.specs.Prelude.{◌≡◌};
+
+use crate::branch::Pair;
+use acts::Id;
+use std::alloc::Allocator;
+use std::marker::Model;
+
+/// What the words of `expect`, `expect_before` or `expect_after` say: the ids that they name, a
+/// pair for each branch and each of its ids, and the seconds of the timer (expect(1), expect).
+#[derive(Drop)]
+pub struct Branches<A: Allocator> {
+    named: Vec<Id, A>,
+    pairs: Vec<Pair<A>, A>,
+    timeout: Option<i64>,
+}
+
+impl<A: Allocator> Model for Branches<A> {
+    ghost use Rattle.dialog.specs.Branches.{Branches as Plain, branches};
+
+    ghost Value = { Plain };
+
+    ghost view = { λ b. branches b.named.items b.pairs.items b.timeout };
+}
+
+impl<A: Allocator> Branches<A> {
+    /// The ids that are named, in the order of their mentions.
+    pub fn named(&self) -> &[Id]
+        ensures { result.now ≡ self.now.named }
+    {
+        &self.named
+    }
+
+    /// The pairs, in order.
+    pub fn pairs(&self) -> &[Pair<A>]
+        ensures { result.now ≡ self.now.pairs }
+    {
+        &self.pairs
+    }
+
+    /// The seconds of the last `-timeout`, if there is one.
+    pub fn timeout(&self) -> Option<i64>
+        ensures { result ≡ self.now.timeout }
+    {
+        self.timeout
+    }
+}

@@ -1,0 +1,133 @@
+//! What an `expect` chooses among, and the ids that it waits for.
+ghost use Rattle.std.specs.Prelude.{◌≡◌, ◌++◌, ◌∷◌, [], filter, IfOk, OnOk};
+ghost use Rattle.dialog.specs.Standing.{effective_of, first_mentions, ids_of, waited, all_of, is_open_in, pruned};
+
+use crate::branch::Pair;
+use crate::branches::Branches;
+use crate::standing::{Standing, is_among, push_pairs};
+use crate::table::Table;
+use acts::{Id, NoMemory};
+use std::alloc::Allocator;
+use std::marker::Model;
+
+/// What an `expect` chooses among: the pairs that stand before, its own, those that stand after;
+/// and the ids that it waits for, each once (expect(1), expect).
+#[derive(Drop)]
+pub struct Effective<A: Allocator> {
+    pairs: Vec<Pair<A>, A>,
+    ids: Vec<Id, A>,
+}
+
+impl<A: Allocator> Model for Effective<A> {
+    ghost use Rattle.dialog.specs.Standing.{Effective as Plain, effective_of};
+
+    ghost Value = { Plain };
+
+    ghost view = { λ e. effective_of e.pairs.items e.ids.items };
+}
+
+impl<A: Allocator + Copy> Effective<A> {
+    /// The pairs that stand before, those of the branches, and those that stand after, with the ids
+    /// that are waited for.
+    pub fn new(
+        alloc: A,
+        standing: &Standing<A>,
+        branches: &Branches<A>,
+    ) -> Result<Effective<A>, NoMemory>
+        ensures { IfOk result (λ effective. effective ≡ all_of standing.now branches.now) }
+    {
+        let mut pairs = Vec::new(alloc);
+        push_pairs(&mut pairs, standing.pairs_before())?;
+        push_pairs(&mut pairs, branches.pairs())?;
+        push_pairs(&mut pairs, standing.pairs_after())?;
+        let ids = waited(alloc, standing, branches)?;
+        Ok(Effective { pairs, ids })
+    }
+}
+
+impl<A: Allocator> Effective<A> {
+    /// The pairs, in order.
+    pub fn pairs(&self) -> &[Pair<A>]
+        ensures { result.now ≡ self.now.pairs }
+    {
+        &self.pairs
+    }
+
+    /// The ids that are waited for, in the order of their first mentions.
+    pub fn ids(&self) -> &[Id]
+        ensures { result.now ≡ self.now.ids }
+    {
+        &self.ids
+    }
+
+    /// Drops ids that are no longer open, with their pairs. No memory is asked for.
+    pub fn prune(&mut self, table: &Table<A>)
+        ensures { self.new ≡ pruned table.now.lines self.old }
+    {
+        keep_open_pairs(&mut self.pairs, table);
+        keep_open(&mut self.ids, table);
+    }
+}
+
+/// The ids that are waited for, each once.
+fn waited<A: Allocator>(
+    alloc: A,
+    standing: &Standing<A>,
+    branches: &Branches<A>,
+) -> Result<Vec<Id, A>, NoMemory>
+    ensures { IfOk result (λ ids. ids.items ≡ waited standing.now branches.now) }
+{
+    let mut ids = Vec::new(alloc);
+    mention_all(&mut ids, standing.pairs_before())?;
+    mention_ids(&mut ids, branches.named())?;
+    mention_all(&mut ids, standing.pairs_after())?;
+    Ok(ids)
+}
+
+/// Puts the ids of pairs behind others, each that is new where it is mentioned first.
+fn mention_all<A: Allocator>(ids: &mut Vec<Id, A>, pairs: &[Pair<A>]) -> Result<(), NoMemory>
+    ensures { OnOk result (ids.new.items
+        ≡ ids.old.items ++ first_mentions ids.old.items (ids_of pairs.now)) }
+{
+    for pair in pairs {
+        mention(ids, pair.id())?;
+    }
+    Ok(())
+}
+
+/// Puts ids behind others, each that is new where it is mentioned first.
+fn mention_ids<A: Allocator>(ids: &mut Vec<Id, A>, more: &[Id]) -> Result<(), NoMemory>
+    ensures { OnOk result (ids.new.items
+        ≡ ids.old.items ++ first_mentions ids.old.items more.now) }
+{
+    for id in more {
+        mention(ids, *id)?;
+    }
+    Ok(())
+}
+
+/// Puts an id behind others, where it is new.
+fn mention<A: Allocator>(ids: &mut Vec<Id, A>, id: Id) -> Result<(), NoMemory>
+    ensures { OnOk result (ids.new.items
+        ≡ ids.old.items ++ first_mentions ids.old.items (id ∷ [])) }
+{
+    if is_among(ids, id) {
+        return Ok(());
+    }
+    ids.push(id)?;
+    Ok(())
+}
+
+/// Keeps the ids that are open.
+fn keep_open<A: Allocator>(ids: &mut Vec<Id, A>, table: &Table<A>)
+    ensures { ids.new.items ≡ filter (is_open_in table.now.lines) ids.old.items }
+{
+    ids.retain(|id| table.is_open(*id));
+}
+
+/// Keeps the pairs whose ids are open.
+fn keep_open_pairs<A: Allocator>(pairs: &mut Vec<Pair<A>, A>, table: &Table<A>)
+    ensures { pairs.new.items ≡ filter (λ p. is_open_in table.now.lines p.id) pairs.old.items }
+{
+    pairs.retain(|pair| table.is_open(pair.id()));
+}
