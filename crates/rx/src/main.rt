@@ -1,4 +1,4 @@
-//! The program `rx`: runs an Expect script against the recorded answers of an earlier run.
+//! The program `rx`: runs an Expect script, live or against the recorded answers of an earlier run.
 #![tactic(auto)]
 
 use std::process::ExitCode;

@@ -1,3 +1,4 @@
 mod Consumed
 mod Limits
 mod Plays
+mod Readings

@@ -18,3 +18,11 @@ no_limits None number limit range spelled below = λ ticks (low, high, is).
     let same = decimal_injective ticks number small below (sym is ∙ spelled) in
     absurd (cc (range.1 (in_range number ticks same low high)))
 no_limits (Some x) number limit range spelled below = tt
+
+-- words say one limit at most
+pub one_limit : (limit : Option (List ℕ)) (a b : ℕ) → AreTicks limit a → AreTicks limit b → a ≡ b
+one_limit None a b e f = e ∙ sym f
+one_limit (Some limit) a b (low, high, is) (low', high', is') =
+    let small : a < 2 ^ 64 = omega arith in
+    let small' : b < 2 ^ 64 = omega arith in
+    decimal_injective a b small small' (sym is ∙ is')

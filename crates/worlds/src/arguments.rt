@@ -1,8 +1,8 @@
 //! The arguments of the program.
 
-ghost use Rattle.std.specs.Prelude.{◌≡◌, ◌≢◌, ◌∷◌, ◌↔◌, [], ℕ, List, Option, IfSome, IfNone, IsTrue};
+ghost use Rattle.std.specs.Prelude.{◌≡◌, ◌≢◌, ◌∷◌, ◌++◌, ◌↔◌, [], ℕ, List, Option, IfSome, IfNone, IsTrue, Bool, Some, None, ◌<◌, length, flat_map};
 ghost use Rattle.std.specs.Option.{option_copied};
-ghost use Rattle.worlds.specs.Arguments.{AreTicks, AreWords, IsCall, IsScript, texts};
+ghost use Rattle.worlds.specs.Arguments.{AreOptions, AreTicks, AreWords, IsCall, IsScript, Setting as Said, setting_of, spelled, texts};
 
 use acts::Limits;
 use acts::decimal::read_decimal;
@@ -11,71 +11,125 @@ use std::alloc::Allocator;
 /// How many ticks a run may take where no argument says so.
 const DEFAULT_TICKS: u64 = 10_000_000;
 
-/// What a call of the program asks for: the record and the script, by the names of their files, and
-/// how long the run may go on.
+/// What a call of the program asks for: the script and, where one is named, the record, by the
+/// names of their files, and how long the run may go on.
 #[derive(Clone, Copy, Debug)]
 pub struct Arguments<'a> {
-    pub replay: &'a [u8],
+    pub replay: Option<&'a [u8]>,
     pub limits: Limits,
     pub script: &'a [u8],
 }
 
-/// The words of a call, each in its place.
+/// An option of a call, with its value.
 #[derive(Clone, Copy)]
-struct Words<'a> {
-    replay: &'a [u8],
+enum Setting<'a> {
+    Replay(&'a [u8]),
+    Limit(&'a [u8]),
+}
+
+/// The values of the options of a call.
+#[derive(Clone, Copy)]
+struct Options<'a> {
+    replay: Option<&'a [u8]>,
     limit: Option<&'a [u8]>,
-    script: &'a [u8],
+}
+
+impl<'a> Options<'a> {
+    /// No option.
+    const NONE: Options<'static> = Options {
+        replay: None,
+        limit: None,
+    };
+
+    /// One option more, which is not there yet.
+    fn with(self, setting: Setting<'a>) -> Option<Options<'a>>
+        ensures more { IfSome result (λ more. (settings : List Said)
+            → AreOptions settings (option_copied self.entry.replay) (option_copied self.entry.limit)
+            → AreOptions (settings ++ setting_of setting.entry ∷ [])
+            (option_copied more.replay) (option_copied more.limit)) }
+        ensures twice { IfNone result ((settings behind : List Said)
+            (replay limit : Option (List ℕ))
+            → AreOptions settings (option_copied self.entry.replay) (option_copied self.entry.limit)
+            → ¬ AreOptions (settings ++ setting_of setting.entry ∷ behind) replay limit) }
+    {
+        match setting {
+            Setting::Replay(name) => match self.replay {
+                Some(_) => None,
+                None => Some(Options {
+                    replay: Some(name),
+                    limit: self.limit,
+                }),
+            },
+            Setting::Limit(number) => match self.limit {
+                Some(_) => None,
+                None => Some(Options {
+                    replay: self.replay,
+                    limit: Some(number),
+                }),
+            },
+        }
+    }
 }
 
 impl<'a> Arguments<'a> {
-    /// Reads the words of a call: `--replay F [--limit N] file`, the options in any order.
+    /// Reads the words of a call: `[--replay F] [--limit N] file`, the options in any order.
     pub fn read<A: Allocator>(words: &'a [Vec<u8, A>]) -> Option<Arguments<'a>>
-        ensures call { IfSome result (λ call.
-            IsCall (texts words.entry.now) call.replay.now call.limits.ticks call.script.now) }
-        ensures none { IfNone result ((replay script : List ℕ) (ticks : ℕ)
+        ensures call { IfSome result (λ call. IsCall (texts words.entry.now)
+            (option_copied call.replay) call.limits.ticks call.script.now) }
+        ensures only { IfSome result (λ call.
+            (replay : Option (List ℕ)) (ticks : ℕ) (script : List ℕ)
+            → IsCall (texts words.entry.now) replay ticks script
+            → (replay ≡ option_copied call.replay) × (ticks ≡ call.limits.ticks)
+            × (script ≡ call.script.now)) }
+        ensures none { IfNone result ((replay : Option (List ℕ)) (ticks : ℕ) (script : List ℕ)
             → ¬ IsCall (texts words.entry.now) replay ticks script) }
     {
-        let words = words_of(words)?;
-        let limits = limits_of(words.limit)?;
-        if !is_script(words.script) {
+        let (options, script) = words_of(words)?;
+        let limits = limits_of(options.limit)?;
+        if !is_script(script) {
             return None;
         }
         Some(Arguments {
-            replay: words.replay,
+            replay: options.replay,
             limits,
-            script: words.script,
+            script,
         })
     }
 }
 
-/// The words of a call, before they are looked into.
-fn words_of<'a, A: Allocator>(words: &'a [Vec<u8, A>]) -> Option<Words<'a>>
+/// The options and the script's file, before the words are looked into.
+fn words_of<'a, A: Allocator>(words: &'a [Vec<u8, A>]) -> Option<(Options<'a>, &'a [u8])>
     ensures words { IfSome result (λ found. AreWords (texts words.entry.now)
-        found.replay.now (option_copied found.limit) found.script.now) }
-    ensures none { IfNone result ((replay script : List ℕ) (limit : Option (List ℕ))
+        (option_copied found.0.replay) (option_copied found.0.limit) found.1.now) }
+    ensures none { IfNone result ((replay limit : Option (List ℕ)) (script : List ℕ)
         → ¬ AreWords (texts words.entry.now) replay limit script) }
+    ensures only { IfSome result (λ found. (replay limit : Option (List ℕ)) (script : List ℕ)
+        → AreWords (texts words.entry.now) replay limit script
+        → (replay ≡ option_copied found.0.replay) × (limit ≡ option_copied found.0.limit)
+        × (script ≡ found.1.now)) }
 {
-    if let Some((replay, rest)) = take_option(words, b"--replay") {
-        let (limit, rest) = match take_option(rest, b"--limit") {
-            Some((limit, rest)) => (Some(limit), rest),
-            None => (None, rest),
-        };
-        let script = only(rest)?;
-        return Some(Words {
-            replay,
-            limit,
-            script,
-        });
+    let mut options = Options::NONE;
+    let mut rest = words;
+    'options: while let Some((setting, behind)) = setting_at(rest) {
+        options = options.with(setting)?;
+        rest = behind;
     }
-    let (limit, rest) = take_option(words, b"--limit")?;
-    let (replay, rest) = take_option(rest, b"--replay")?;
     let script = only(rest)?;
-    Some(Words {
-        replay,
-        limit: Some(limit),
-        script,
-    })
+    Some((options, script))
+}
+
+/// The option at the front, and the words behind it.
+fn setting_at<'a, A: Allocator>(words: &'a [Vec<u8, A>]) -> Option<(Setting<'a>, &'a [Vec<u8, A>])>
+    ensures found { IfSome result (λ found. texts words.entry.now
+        ≡ spelled (setting_of found.0) ++ texts found.1.now) }
+    ensures none { IfNone result ((setting : Said) (behind : List (List ℕ))
+        → texts words.entry.now ≢ spelled setting ++ behind) }
+{
+    if let Some((name, behind)) = take_option(words, b"--replay") {
+        return Some((Setting::Replay(name), behind));
+    }
+    let (number, behind) = take_option(words, b"--limit")?;
+    Some((Setting::Limit(number), behind))
 }
 
 /// The value of the option of this name at the front, and the words after it.

@@ -3,6 +3,7 @@
 
 pub mod arguments;
 pub mod input;
+pub mod lived;
 pub mod play;
 pub mod program;
 pub mod status;

@@ -129,6 +129,9 @@ fn told(rt: &HostRuntime, text: &str) -> Result<String<Global>, Fail> {
 #[test]
 fn tells_files_that_cannot_be_read(rt: HostRuntime) -> Result<(), Fail> {
     for (words, wanted) in [
+        ("missing", "2 rx: cannot open missing\n"),
+        ("--limit 1 .", "2 rx: cannot open .\n"),
+        ("/dev/null", "0 "),
         ("--replay /dev/null missing", "2 rx: cannot open missing\n"),
         ("--replay missing /dev/null", "2 rx: cannot open missing\n"),
         ("--replay missing absent", "2 rx: cannot open absent\n"),

@@ -8,6 +8,8 @@ mod arguments;
 #[cfg(test)]
 mod calls;
 #[cfg(test)]
+mod lived;
+#[cfg(test)]
 mod played;
 #[cfg(test)]
 mod record;
