@@ -2,6 +2,8 @@ pub mod Changes
 pub mod Chosen
 pub mod Finds
 pub mod Firsts
+pub mod Goes
+pub mod IdLists
 pub mod Lines
 pub mod Mentions
 pub mod Nulls

@@ -1,8 +1,13 @@
 pub mod Branches
 pub mod Choice
+pub mod Drafts
 pub mod Lines
 pub mod LogState
+pub mod Misreads
+pub mod Parts
 pub mod Peers
+pub mod Reads
 pub mod Selects
+pub mod Signs
 pub mod Standing
 pub mod Views

@@ -1,5 +1,6 @@
 //! The branches that the words of an `expect` say.
 ghost use Rattle.std.specs.Prelude.{◌≡◌};
+ghost use Rattle.dialog.specs.Branches.{branches};
 
 use crate::branch::Pair;
 use acts::Id;
@@ -24,6 +25,17 @@ impl<A: Allocator> Model for Branches<A> {
 }
 
 impl<A: Allocator> Branches<A> {
+    /// These by their parts.
+    pub(crate) fn of(named: Vec<Id, A>, pairs: Vec<Pair<A>, A>, timeout: Option<i64>) -> Branches<A>
+        ensures { result ≡ branches named.items pairs.items timeout }
+    {
+        Branches {
+            named,
+            pairs,
+            timeout,
+        }
+    }
+
     /// The ids that are named, in the order of their mentions.
     pub fn named(&self) -> &[Id]
         ensures { result.now ≡ self.now.named }

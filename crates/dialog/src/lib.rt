@@ -2,17 +2,23 @@
 #![tactic(auto)]
 
 mod branch;
+mod branch_error;
 mod branches;
 mod choice;
+mod draft;
 mod effective;
 mod entry;
 mod error;
+mod id_list;
 mod log_state;
+mod reading;
 mod rows;
+mod sign;
 mod standing;
 mod table;
 
 pub use branch::{Awaited, Branch, Flags, Pair};
+pub use branch_error::BranchError;
 pub use branches::Branches;
 pub use choice::{Choice, Taken, Trigger};
 pub use effective::Effective;

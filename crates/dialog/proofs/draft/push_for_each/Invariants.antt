@@ -1,0 +1,9 @@
+use Rattle.std.proofs.Common.{◌≡◌, ◌++◌, drop, map}
+use Rattle.dialog.specs.Branches.{pair}
+use Rattle.dialog.proofs.draft.push_for_each.Given as goal
+
+-- what is there and what is left to come
+abbrev pub invariant-loop-id : goal.invariant-loop-id
+invariant-loop-id g l =
+    l.pairs.items ++ map (λ i. pair i l.branch.value) (drop l.id-index l.ids)
+    ≡ l.fn.pairs.items ++ map (λ i. pair i l.branch.value) l.ids
