@@ -7,4 +7,6 @@ pub mod Tests
 pub mod Places
 pub mod Texts
 pub mod Finds
+pub mod Folds
+pub mod Bytes
 pub mod Items

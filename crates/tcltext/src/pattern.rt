@@ -1,7 +1,7 @@
 //! Patterns: read from a text, tested against a whole text, or sought in a window.
 ghost use Rattle.std.specs.Prelude.{◌≡◌, ◌+◌, ◌*◌, ◌<◌, ◌≤◌, ◌↔◌, length, map, IfOk, IsTrue, MatchOption, MatchResult};
 ghost use Rattle.tcltext.specs.Pattern.Item.{literal};
-ghost use Rattle.tcltext.specs.Pattern.Glob.{glob, plain, exact};
+ghost use Rattle.tcltext.specs.Pattern.Glob.{glob, plain, exact, folded};
 ghost use Rattle.tcltext.specs.Pattern.Match.{Whole, SitsNowhere, IsFound};
 ghost use Rattle.tcltext.specs.Pattern.Runs.{items_of_runs};
 
@@ -14,6 +14,8 @@ pub mod search;
 mod set;
 mod text;
 pub mod token;
+mod walk;
+pub mod window;
 
 use error::PatternError;
 use memory::NoMemory;
@@ -23,6 +25,7 @@ use scratch::Scratch;
 use search::{Search, Ties, locate};
 use std::alloc::Allocator;
 use std::marker::Model;
+use window::Window;
 
 /// The most bytes that the text of a pattern may have.
 pub const MOST_BYTES: usize = 1_000_000;
@@ -53,6 +56,7 @@ fn text_alone<A: Allocator + Copy>(alloc: A, text: &[u8]) -> Result<Runs<A>, NoM
 pub struct Pattern<A: Allocator> {
     runs: Runs<A>,
     ties: Ties,
+    folds: bool,
 }
 
 impl<A: Allocator> Model for Pattern<A> {
@@ -62,7 +66,7 @@ impl<A: Allocator> Model for Pattern<A> {
 
     ghost use Rattle.tcltext.specs.Pattern.Runs.{reading_of};
 
-    ghost view = { λ p. reading_of p.runs p.ties };
+    ghost view = { λ p. reading_of p.runs p.ties p.folds };
 }
 
 impl<A: Allocator + Copy> Pattern<A> {
@@ -76,7 +80,8 @@ impl<A: Allocator + Copy> Pattern<A> {
         let (start, body) = split_caret(text);
         let (runs, end) = read_runs(alloc, body, true)?;
         let ties = Ties { start, end };
-        Ok(Pattern { runs, ties })
+        let folds = false;
+        Ok(Pattern { runs, ties, folds })
     }
 
     /// Reads a glob of `string match` (string(n)), which is tied nowhere.
@@ -87,7 +92,8 @@ impl<A: Allocator + Copy> Pattern<A> {
         check_length(text)?;
         let (runs, _) = read_runs(alloc, text, false)?;
         let ties = Ties::NOWHERE;
-        Ok(Pattern { runs, ties })
+        let folds = false;
+        Ok(Pattern { runs, ties, folds })
     }
 
     /// A pattern that takes this text and no other.
@@ -98,23 +104,41 @@ impl<A: Allocator + Copy> Pattern<A> {
         check_length(text)?;
         let runs = text_alone(alloc, text)?;
         let ties = Ties::NOWHERE;
-        Ok(Pattern { runs, ties })
+        let folds = false;
+        Ok(Pattern { runs, ties, folds })
     }
 }
 
 impl<A: Allocator> Pattern<A> {
-    /// Whether the pattern's items take the whole text, whatever it is tied to. Takes no memory.
+    /// The pattern, for which an upper case ASCII letter of a window compares as its lower case one
+    /// (expect(1), `-nocase`).
+    ///
+    /// Its items stay: an upper case letter of the pattern is found nowhere. Takes no memory.
+    pub fn fold(self) -> Pattern<A>
+        ensures { result ≡ folded self }
+    {
+        Pattern {
+            runs: self.runs,
+            ties: self.ties,
+            folds: true,
+        }
+    }
+
+    /// Whether the pattern's items take the whole text, whatever it is tied to. The bytes compare as
+    /// they stand, also where the pattern folds the letters of windows. Takes no memory.
     pub fn whole(&self, text: &[u8]) -> bool
         ensures { IsTrue result ↔ Whole self.now.items text.now }
     {
+        let text = Window::new(text, false);
         let mut steps = 0;
-        locate(&self.runs, Ties::BOTH_ENDS, text, &mut steps).is_some()
+        locate(&self.runs, Ties::BOTH_ENDS, &text, &mut steps).is_some()
     }
 
     /// Finds the pattern in the window, with the least start and, at that start, the greatest end.
     ///
-    /// Takes no memory. A text between two `*` is found in time that is linear in the window; other
-    /// runs are tried at each place. [`Search::steps`] says what counts as a step.
+    /// Takes no memory. A text between two `*` is found in time that is linear in the window, unless
+    /// letters are folded; then, as every other run, it is tried at each place that may begin it.
+    /// [`Search::steps`] says what counts as a step.
     pub fn find(&self, window: &[u8], scratch: &mut Scratch<A>) -> Search
         requires { length window.now ≤ scratch.old }
         ensures found { MatchOption result.found
@@ -124,8 +148,9 @@ impl<A: Allocator> Pattern<A> {
         ensures counted { 1 ≤ result.steps }
         ensures room { scratch.new ≡ scratch.old }
     {
+        let window = Window::new(window, self.folds);
         let mut tests = 0;
-        let found = locate(&self.runs, self.ties, window, &mut tests);
+        let found = locate(&self.runs, self.ties, &window, &mut tests);
         // The end of the items counts as one test.
         let steps = tests.saturating_add(1);
         Search { found, steps }

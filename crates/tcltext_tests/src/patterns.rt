@@ -19,8 +19,7 @@ impl Answers for Patterns {
         };
         let outcome = match numbers {
             [times, most] => count(pattern, window, number(times), number(most), answer),
-            _ if name.as_slice() == b"whole".as_slice() => take(pattern, window, answer),
-            _ => find(name, pattern, window, answer),
+            _ => tell(name, pattern, window, answer),
         };
         told(answer, outcome)
     }
@@ -38,8 +37,36 @@ pub fn told<A: Allocator + Copy>(
     }
 }
 
-/// Reads a pattern of a kind: `exact`, `plain` or another word for a glob.
+/// Writes what a pattern takes or where it is found.
+fn tell<A: Allocator + Copy>(
+    kind: &[u8],
+    text: &[u8],
+    window: &[u8],
+    answer: &mut Vec<u8, A>,
+) -> Result<(), PatternError> {
+    let alloc = *answer.allocator();
+    match kind {
+        b"whole" => take(Pattern::plain(alloc, text)?, window, answer),
+        b"folded whole" => take(Pattern::plain(alloc, text)?.fold(), window, answer),
+        _ => find(kind, text, window, answer),
+    }
+}
+
+/// Reads a pattern of a kind: `exact`, `plain` or another word for a glob, behind `folded` with
+/// letters folded.
 pub fn read<A: Allocator + Copy>(
+    alloc: A,
+    kind: &[u8],
+    text: &[u8],
+) -> Result<Pattern<A>, PatternError> {
+    match kind.strip_prefix(b"folded ") {
+        Some(kind) => Ok(read_plainly(alloc, kind, text)?.fold()),
+        None => read_plainly(alloc, kind, text),
+    }
+}
+
+/// Reads a pattern of a kind that folds no letters.
+fn read_plainly<A: Allocator + Copy>(
     alloc: A,
     kind: &[u8],
     text: &[u8],
@@ -64,13 +91,12 @@ pub fn search_in<A: Allocator>(
     Ok(pattern.find(window, &mut scratch))
 }
 
-/// Writes whether a glob takes a text.
+/// Writes whether a pattern takes a text.
 fn take<A: Allocator + Copy>(
-    glob: &[u8],
+    pattern: Pattern<A>,
     text: &[u8],
     answer: &mut Vec<u8, A>,
 ) -> Result<(), PatternError> {
-    let pattern = Pattern::plain(*answer.allocator(), glob)?;
     Ok(push_whether(answer, pattern.whole(text))?)
 }
 

@@ -14,7 +14,8 @@ pub fn run_starved<R: Print + AllocGlobal>(rt: &R) -> io::Result<bool> {
     Ok(is_well)
 }
 
-/// Whether a pattern is found and not found, and takes a text, while no memory is to be had.
+/// Whether a pattern is found and not found, takes a text, and folds letters, while no memory is to
+/// be had.
 fn search_starved(alloc: Global) -> Result<bool, PatternError> {
     let heap = Refusing::new(alloc);
     let pattern = Pattern::glob(&heap, b"a[b-d]*c")?;
@@ -24,10 +25,12 @@ fn search_starved(alloc: Global) -> Result<bool, PatternError> {
     let found = pattern.find(b"xabccx", &mut scratch).found;
     let missed = pattern.find(b"xxxx", &mut scratch).found;
     let is_taken = pattern.whole(b"adc");
+    let folded = pattern.fold().find(b"xAbCcx", &mut scratch).found;
     Ok(
         found == Some(Found { start: 1, end: 5 })
             && missed.is_none()
             && is_taken
+            && folded == Some(Found { start: 1, end: 5 })
             && heap.requests() == before,
     )
 }

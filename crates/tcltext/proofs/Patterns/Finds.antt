@@ -1,14 +1,19 @@
 -- What the places of the runs say of where the whole pattern sits.
-use Rattle.std.proofs.Common.{◌≡◌, ℕ, ◌+◌, ◌-◌, ◌≤◌, Bool, true, List, [], ◌∷◌, ◌++◌, length, drop, refl, sym, ◌∙◌, ap, subst, arith, IsTrue, Option, Some, None, MatchOption, is_some}
+use Rattle.std.proofs.Common.{◌≡◌, ℕ, ◌+◌, ◌-◌, ◌≤◌, Bool, true, false, List, [], ◌∷◌, ◌++◌, length, drop, refl, sym, ◌∙◌, ap, subst, arith, IsTrue, Option, Some, None, MatchOption, is_some}
 use Rattle.std.proofs.lemmas.List.{append-nil, length-drop, take_all}
 use Rattle.std.specs.Prelude.{slice_range}
 use Rattle.std.proofs.lemmas.Bool.{false≢true}
-use Rattle.tcltext.specs.Pattern.Item.{Item, any_run}
+use Rattle.tcltext.specs.Pattern.Item.{Item, any_run, Reading}
 use Rattle.tcltext.specs.Pattern.Match.{Whole, Sits, SitsNowhere, IsFound}
 use Rattle.tcltext.specs.Pattern.Runs.{IsFixed, Leaves, IsPlace, FitsNowhere, IsFurthest, EndsNowhere}
 use Rattle.tcltext.specs.declared.pattern.search.Found.{Found}
 use Rattle.tcltext.proofs.Patterns.Spans.{Fits-length, Leaves-behind_run, Leaves-join_run, Leaves-from_range, Leaves-range, drop_once}
 use Rattle.tcltext.proofs.Patterns.Stars.{drop_behind, Leaves-star_run, Leaves-earlier, last_place_of, last_joins}
+
+-- a pattern of these items and ties that folds no letters
+abbrev pub with_ties : List Item → Bool → Bool → Reading
+with_ties items at_start at_end =
+    record { items = items; at_start = at_start; at_end = at_end; folds = false }
 
 -- the last run of a pattern has no place: the pattern has no end
 pub none_furthest : (all run : List Item) (w : List ℕ) (place from n : ℕ) (tied : Bool) →
@@ -60,7 +65,7 @@ none_inside all run more w place from tied fixed inside to none e is_end leaves 
 
 -- where a pattern of one run sits, the run has its place
 only_sits : (run : List Item) (at_start at_end : Bool) (w : List ℕ) (s e : ℕ) → IsFixed run →
-    Sits (record { items = run; at_start = at_start; at_end = at_end }) w s e → IsPlace run w s
+    Sits (with_ties run at_start at_end) w s e → IsPlace run w s
     × (s + length run ≡ e)
 only_sits run at_start at_end w s e fixed sits =
     let leaves = Leaves-from_range run w s e sits.ordered sits.whole in
@@ -83,7 +88,7 @@ only_sits run at_start at_end w s e fixed sits =
 only_sits_there : (run : List Item) (at_start at_end : Bool) (w : List ℕ) (s e : ℕ) → IsFixed run →
     IsPlace run w s → s + length run ≡ e →
     (IsTrue at_start → s ≡ 0) → (IsTrue at_end → e ≡ length w) →
-    Sits (record { items = run; at_start = at_start; at_end = at_end }) w s e
+    Sits (with_ties run at_start at_end) w s e
 only_sits_there run at_start at_end w s e fixed place sum start end =
     let behind : drop (length run) (drop s w) ≡ drop e w = drop_behind w s (length run) e sum in
     let joined = Leaves-join_run run [] (drop s w) (drop e w) fixed place.fits behind in
@@ -103,14 +108,9 @@ only_sits_there run at_start at_end w s e fixed place sum start end =
 pub only_nowhere : (items run : List Item) (at_start at_end : Bool) (w : List ℕ) (n : ℕ) → items
     ≡ run → IsFixed run → n ≡ length run →
     ((k : ℕ) → (IsTrue at_start → k ≡ 0) × (IsTrue at_end → k + n ≡ length w) → ¬ IsPlace run w k) →
-    SitsNowhere (record { items = items; at_start = at_start; at_end = at_end }) w
+    SitsNowhere (with_ties items at_start at_end) w
 only_nowhere items run at_start at_end w n same fixed size none =
-    subst (λ (x : List Item). SitsNowhere (record {
-      items = x;
-      at_start = at_start;
-      at_end =
-          at_end;
-    }) w) (sym same)
+    subst (λ (x : List Item). SitsNowhere (with_ties x at_start at_end) w) (sym same)
     (λ s e sits.
     let there = only_sits run at_start at_end w s e fixed sits in
     none s (sits.at_start, λ t. omega (arith, sits.at_end t, there.1, size)) there.0)
@@ -120,10 +120,10 @@ pub only_found : (items run : List Item) (at_start at_end : Bool) (w : List ℕ)
     IsPlace run w k → (IsTrue at_start → k ≡ 0) × (IsTrue at_end → k + n ≡ length w) →
     ((j : ℕ) → (IsTrue at_start → j ≡ 0) × (IsTrue at_end → j + n ≡ length w) → IsPlace run w j →
     k ≤ j) →
-    IsFound (record { items = items; at_start = at_start; at_end = at_end }) w k (k + n)
+    IsFound (with_ties items at_start at_end) w k (k + n)
 only_found items run at_start at_end w n k same fixed size here ties least =
     let sum : k + length run ≡ k + n = omega arith in
-    subst (λ (x : List Item). IsFound (record { items = x; at_start = at_start; at_end = at_end }) w
+    subst (λ (x : List Item). IsFound (with_ties x at_start at_end) w
     k (k + n)) (sym same)
     record {
       sits = only_sits_there run at_start at_end w k (k + n) fixed here sum ties.0 ties.1;
@@ -137,7 +137,7 @@ only_found items run at_start at_end w n k same fixed size here ties least =
 -- where a pattern with a `*` sits, its first run has its place, and the rest ends behind it
 starred_sits : (run more : List Item) (at_start at_end : Bool) (w : List ℕ) (s e : ℕ) →
     IsFixed run →
-    Sits (record { items = run ++ any_run ∷ more; at_start = at_start; at_end = at_end }) w s e →
+    Sits (with_ties (run ++ any_run ∷ more) at_start at_end) w s e →
     IsPlace run w s × Leaves (any_run ∷ more) (drop (s + length run) w) (drop e w)
 starred_sits run more at_start at_end w s e fixed sits =
     let leaves = Leaves-from_range (run ++ any_run ∷ more) w s e sits.ordered sits.whole in
@@ -159,14 +159,9 @@ starred_sits run more at_start at_end w s e fixed sits =
 pub start_nowhere : (items run more : List Item) (at_start at_end : Bool) (w : List ℕ) → items ≡ run
     ++ any_run ∷ more → IsFixed run →
     ((k : ℕ) → (IsTrue at_start → k ≡ 0) → ¬ IsPlace run w k) →
-    SitsNowhere (record { items = items; at_start = at_start; at_end = at_end }) w
+    SitsNowhere (with_ties items at_start at_end) w
 start_nowhere items run more at_start at_end w same fixed none =
-    subst (λ (x : List Item). SitsNowhere (record {
-      items = x;
-      at_start = at_start;
-      at_end =
-          at_end;
-    }) w) (sym same)
+    subst (λ (x : List Item). SitsNowhere (with_ties x at_start at_end) w) (sym same)
     (λ s e sits. none s sits.at_start (starred_sits run more at_start at_end w s e fixed sits).0)
 
 -- behind the first run's first place there is no end: the pattern sits nowhere
@@ -174,14 +169,9 @@ pub end_nowhere : (items run more : List Item) (at_start at_end : Bool) (w : Lis
     items ≡ run ++ any_run ∷ more → IsFixed run → n ≡ length run →
     ((j : ℕ) → (IsTrue at_start → j ≡ 0) → IsPlace run w j → k ≤ j) →
     EndsNowhere (any_run ∷ more) at_end w (k + n) →
-    SitsNowhere (record { items = items; at_start = at_start; at_end = at_end }) w
+    SitsNowhere (with_ties items at_start at_end) w
 end_nowhere items run more at_start at_end w n k same fixed size least none =
-    subst (λ (x : List Item). SitsNowhere (record {
-      items = x;
-      at_start = at_start;
-      at_end =
-          at_end;
-    }) w) (sym same)
+    subst (λ (x : List Item). SitsNowhere (with_ties x at_start at_end) w) (sym same)
     (λ s e sits.
     let parts = starred_sits run more at_start at_end w s e fixed sits in
     let first : k ≤ s = least s sits.at_start parts.0 in
@@ -195,7 +185,7 @@ pub starred_found : (items run more : List Item) (at_start at_end : Bool) (w : L
     IsPlace run w k → (IsTrue at_start → k ≡ 0) →
     ((j : ℕ) → (IsTrue at_start → j ≡ 0) → IsPlace run w j → k ≤ j) →
     IsFurthest (any_run ∷ more) at_end w (k + n) e →
-    IsFound (record { items = items; at_start = at_start; at_end = at_end }) w k e
+    IsFound (with_ties items at_start at_end) w k e
 starred_found items run more at_start at_end w n k e same fixed size here start least furthest =
     let there : k + n ≡ k + length run = omega arith in
     let behind = subst (λ (m : ℕ). Leaves (any_run ∷ more) (drop m w) (drop e w)) there
@@ -206,7 +196,7 @@ starred_found items run more at_start at_end w n k e same fixed size here start 
     in
     let range = Leaves-range (run ++ any_run ∷ more) w k e (omega (arith, here.room))
     furthest.is_end.0 leaves in
-    subst (λ (x : List Item). IsFound (record { items = x; at_start = at_start; at_end = at_end }) w
+    subst (λ (x : List Item). IsFound (with_ties x at_start at_end) w
     k e) (sym same)
     record {
       sits = record {
@@ -229,8 +219,8 @@ starred_found items run more at_start at_end w n k e same fixed size here start 
 -- a pattern that is tied at both ends is found where its items take the whole text
 pub whole_iff_found : (items : List Item) (w : List ℕ) (found : Option Found) →
     MatchOption found
-    (SitsNowhere (record { items = items; at_start = true; at_end = true }) w)
-    (λ f. IsFound (record { items = items; at_start = true; at_end = true }) w f.start f.end) →
+    (SitsNowhere (with_ties items true true) w)
+    (λ f. IsFound (with_ties items true true) w f.start f.end) →
     (IsTrue (is_some found) → Whole items w) × (Whole items w → IsTrue (is_some found))
 whole_iff_found items w None nowhere = (
   λ never. absurd (false≢true never),

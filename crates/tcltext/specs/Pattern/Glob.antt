@@ -1,5 +1,5 @@
 -- How the text of a pattern is read.
-use Rattle.std.specs.Prelude.{ℕ, ◌-◌, ◌==◌, ◌&&◌, nat_le, min, max, Bool, false, List, [], ◌∷◌, ◌++◌, length, map, take, filter, if◌then◌else◌}
+use Rattle.std.specs.Prelude.{ℕ, ◌-◌, ◌==◌, ◌&&◌, nat_le, min, max, Bool, true, false, List, [], ◌∷◌, ◌++◌, length, map, take, filter, if◌then◌else◌}
 use Rattle.std.specs.List.{list_any, range_with_len}
 use Rattle.tcltext.specs.Pattern.Item.{Item, literal, any_byte, one_of, any_run, Reading}
 
@@ -94,13 +94,22 @@ glob text =
       items = map item_of (before_dollar all);
       at_start = begins_in_caret text;
       at_end = ends_in_dollar all;
+      folds = false;
     }
+
+-- The pattern of these items alone (this project's own rule).
+abbrev pub tied_nowhere : List Item → Reading
+tied_nowhere items = record { items = items; at_start = false; at_end = false; folds = false }
 
 -- A glob of string match: it is tied nowhere, and `^` and `$` are bytes as any other (string(n),
 -- match).
 abbrev pub plain : List ℕ → Reading
-plain text = record { items = map item_of (signs text); at_start = false; at_end = false }
+plain text = tied_nowhere (map item_of (signs text))
 
 -- An exact pattern: its items are its bytes (expect(1), expect -ex).
 abbrev pub exact : List ℕ → Reading
-exact text = record { items = map literal text; at_start = false; at_end = false }
+exact text = tied_nowhere (map literal text)
+
+-- The pattern with the window's letters folded; its items stay (expect(1), -nocase).
+abbrev pub folded : Reading → Reading
+folded p = record { items = p.items; at_start = p.at_start; at_end = p.at_end; folds = true }

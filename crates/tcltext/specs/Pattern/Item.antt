@@ -9,9 +9,10 @@ pub data Item : Type 0 where
   one_of : List ℕ → Item
   any_run : Item
 
--- A pattern as read: its items, and whether it is tied to the window's beginning and to its end
--- (expect(1), "^" and "$").
+-- A pattern as read: its items, whether it is tied to the window's beginning and to its end
+-- (expect(1), "^" and "$"), and whether it folds the window's letters (expect(1), -nocase).
 pub record Reading : Type 0 where
   pub items : List Item
   pub at_start : Bool
   pub at_end : Bool
+  pub folds : Bool

@@ -1,5 +1,6 @@
 -- What a pattern takes of a text, and what a search for it finds.
-use Rattle.std.specs.Prelude.{◌≡◌, ℕ, ◌≤◌, IsTrue, List, [], ◌∷◌, ◌++◌, length, Contains, slice_range}
+use Rattle.std.specs.Prelude.{◌≡◌, ℕ, ◌≤◌, Bool, IsTrue, List, [], ◌∷◌, ◌++◌, length, map, Contains, slice_range, if◌then◌else◌}
+use Rattle.std.specs.Char.{to_ascii_lowercase}
 use Rattle.tcltext.specs.Pattern.Item.{Item, literal, any_byte, one_of, any_run, Reading}
 
 -- t is a piece that the item takes (string(n), match).
@@ -15,12 +16,17 @@ Whole [] t = t ≡ []
 Whole (item ∷ items) t =
     (piece rest : List ℕ) × (t ≡ piece ++ rest) × IsPiece item piece × Whole items rest
 
--- The pattern takes the window's bytes from s up to e (expect(1), expect; in detail this project's
--- own rule).
+-- The bytes as they compare: where letters are folded, each upper case ASCII letter as its lower
+-- case one, every other byte as itself (expect(1), -nocase).
+abbrev pub compared : Bool → List ℕ → List ℕ
+compared folds t = if folds then map to_ascii_lowercase t else t
+
+-- The pattern takes the window's bytes from s up to e, as they compare (expect(1), expect; in detail
+-- this project's own rule).
 pub record Sits (p : Reading) (window : List ℕ) (s e : ℕ) : Type 0 where
   pub ordered : s ≤ e
   pub within : e ≤ length window
-  pub whole : Whole p.items (slice_range window s e)
+  pub whole : Whole p.items (compared p.folds (slice_range window s e))
   pub at_start : IsTrue p.at_start → s ≡ 0
   pub at_end : IsTrue p.at_end → e ≡ length window
 

@@ -38,9 +38,13 @@ abbrev pub items_of_runs : {A : Type 0} → Runs A → List Item
 items_of_runs runs = starred_items runs.starred.items (items_of_run runs.last)
 
 -- The pattern of these runs with these ties (this project's own rule).
-abbrev pub reading_of : {A : Type 0} → Runs A → Ties → Reading
-reading_of runs ties =
-    record { items = items_of_runs runs; at_start = ties.start; at_end = ties.end }
+abbrev pub reading_of : {A : Type 0} → Runs A → Ties → Bool → Reading
+reading_of runs ties folds = record {
+  items = items_of_runs runs;
+  at_start = ties.start;
+  at_end = ties.end;
+  folds = folds;
+}
 
 -- The item takes this one byte; a `*` is no such item (string(n), match).
 abbrev pub Takes : Item → ℕ → Type 0
@@ -48,6 +52,11 @@ Takes (literal c) b = b ≡ c
 Takes any_byte b = Unit {0}
 Takes (one_of bytes) b = Contains bytes b
 Takes any_run b = ⊥
+
+-- The first item, if there is one, takes this one byte (string(n), match).
+abbrev pub TakesFirst : List Item → ℕ → Type 0
+TakesFirst [] b = Unit {0}
+TakesFirst (item ∷ items) b = Takes item b
 
 -- The items take a front of t, each of them one byte (string(n), match).
 abbrev pub Fits : List Item → List ℕ → Type 0

@@ -1,10 +1,11 @@
 //! The runs of a pattern: its items between two `*`, each of which takes one byte.
-ghost use Rattle.std.specs.Prelude.{◌≡◌, ◌+◌, ◌*◌, ◌≤◌, ◌↔◌, ◌++◌, ◌∷◌, [], IsTrue, length, map, MatchOption, IfOk};
+ghost use Rattle.std.specs.Prelude.{◌≡◌, ℕ, ◌+◌, ◌*◌, ◌≤◌, ◌↔◌, ◌++◌, ◌∷◌, [], IsTrue, length, map, MatchOption, IfOk, IfSome};
 ghost use Rattle.tcltext.specs.Pattern.Item.{literal};
-ghost use Rattle.tcltext.specs.Pattern.Runs.{items_of, items_of_run, item_of_token, Fits, IsFirstPlace, IsLastPlace, FitsNowhere};
+ghost use Rattle.tcltext.specs.Pattern.Runs.{items_of, items_of_run, item_of_token, TakesFirst, IsPlace, IsFirstPlace, IsLastPlace, FitsNowhere};
 
 use crate::pattern::token::Token;
-use crate::pattern::{items, text};
+use crate::pattern::window::Window;
+use crate::pattern::{items, text, walk};
 use memory::NoMemory;
 use std::alloc::Allocator;
 
@@ -37,19 +38,35 @@ impl<A: Allocator> Run<A> {
         }
     }
 
-    /// Whether the run takes a front of the text. Counts a step for each item that it tests.
-    pub fn fits(&self, bytes: &[u8], steps: &mut u64) -> bool
-        ensures fits { IsTrue result ↔ Fits (items_of_run self.now) bytes.now }
-        ensures steps { steps.new ≤ steps.old + length (items_of_run self.now) }
+    /// The one byte that the first item may take, where it is known.
+    pub fn first_byte(&self) -> Option<u8>
+        ensures { IfSome result (λ byte.
+            (b : ℕ) → TakesFirst (items_of_run self.now) b → b ≡ byte) }
     {
         match self {
-            Run::Text(run) => text::fits(run, bytes, steps),
-            Run::Items(run) => items::fits(run, bytes, steps),
+            Run::Text(bytes) => bytes.first().copied(),
+            Run::Items(tokens) => match tokens.first() {
+                Some(Token::Literal(byte)) => Some(*byte),
+                _ => None,
+            },
+        }
+    }
+
+    /// Whether the run fits at this place of the window. Counts a step for each item that it tests.
+    pub fn fits_at(&self, window: &Window<'_>, place: usize, steps: &mut u64) -> bool
+        requires { place ≤ length window.now }
+        ensures fits { IsTrue result ↔ IsPlace (items_of_run self.now) window.now place }
+        ensures steps { steps.new ≤ steps.old + length (items_of_run self.now) }
+    {
+        let text = window.behind(place);
+        match self {
+            Run::Text(bytes) => text::fits(bytes, text, steps),
+            Run::Items(tokens) => items::fits(tokens, text, steps),
         }
     }
 
     /// The first place of the window, at or behind `from`, at which the run fits.
-    pub fn first_place(&self, window: &[u8], from: usize, steps: &mut u64) -> Option<usize>
+    pub fn first_place(&self, window: &Window<'_>, from: usize, steps: &mut u64) -> Option<usize>
         requires { from ≤ length window.now }
         ensures place { let items = items_of_run self.now in MatchOption result
             (FitsNowhere items window.now from)
@@ -57,14 +74,14 @@ impl<A: Allocator> Run<A> {
         ensures steps { let items = items_of_run self.now in
             steps.new ≤ steps.old + length items * (length window.now + 1) }
     {
-        match self {
-            Run::Text(run) => text::first_place(run, window, from, steps),
-            Run::Items(run) => items::first_place(run, window, from, steps),
+        match (self, window.as_bytes()) {
+            (Run::Text(text), Some(bytes)) => text::first_place(text, bytes, from, steps),
+            _ => walk::first_place(self, window, from, steps),
         }
     }
 
     /// The last place of the window, at or behind `from`, at which the run fits.
-    pub fn last_place(&self, window: &[u8], from: usize, steps: &mut u64) -> Option<usize>
+    pub fn last_place(&self, window: &Window<'_>, from: usize, steps: &mut u64) -> Option<usize>
         requires { from ≤ length window.now }
         ensures place { let items = items_of_run self.now in MatchOption result
             (FitsNowhere items window.now from)
@@ -72,9 +89,9 @@ impl<A: Allocator> Run<A> {
         ensures steps { let items = items_of_run self.now in
             steps.new ≤ steps.old + length items * (length window.now + 1) }
     {
-        match self {
-            Run::Text(run) => text::last_place(run, window, from, steps),
-            Run::Items(run) => items::last_place(run, window, from, steps),
+        match (self, window.as_bytes()) {
+            (Run::Text(text), Some(bytes)) => text::last_place(text, bytes, from, steps),
+            _ => walk::last_place(self, window, from, steps),
         }
     }
 }

@@ -1,10 +1,11 @@
 //! Where a pattern sits in a window: the least start and, at that start, the greatest end.
-ghost use Rattle.std.specs.Prelude.{◌≡◌, ℕ, ◌+◌, ◌*◌, ◌≤◌, ◌∷◌, IsTrue, length, MatchOption};
+ghost use Rattle.std.specs.Prelude.{◌≡◌, ℕ, ◌+◌, ◌*◌, ◌^◌, ◌<◌, ◌≤◌, ◌∷◌, IsTrue, false, length, MatchOption};
 ghost use Rattle.tcltext.specs.Pattern.Item.{any_run};
 ghost use Rattle.tcltext.specs.Pattern.Match.{SitsNowhere, IsFound};
 ghost use Rattle.tcltext.specs.Pattern.Runs.{items_of_run, items_of_runs, starred_items, reading_of, IsPlace, IsFurthest, EndsNowhere};
 
 use crate::pattern::run::{Run, Runs};
+use crate::pattern::window::Window;
 use std::alloc::Allocator;
 
 /// Where a pattern was found: its bytes are those from `start` up to `end`, which is not one of
@@ -47,7 +48,7 @@ impl Ties {
     };
 }
 
-/// Finds the pattern in the window.
+/// Finds the pattern in the window, whose bytes compare as the window says.
 ///
 /// Between its `*` a pattern is runs of items of fixed length. The first run is taken at its first
 /// place: where the pattern sits at a later start, it sits at this one too, since the `*` behind
@@ -56,10 +57,11 @@ impl Ties {
 pub fn locate<A: Allocator>(
     runs: &Runs<A>,
     ties: Ties,
-    window: &[u8],
+    window: &Window<'_>,
     steps: &mut u64,
 ) -> Option<Found>
-    ensures found { let pattern = reading_of runs.now ties in MatchOption result
+    requires { length window.now < 2 ^ 64 }
+    ensures found { let pattern = reading_of runs.now ties false in MatchOption result
         (SitsNowhere pattern window.now)
         (λ found. IsFound pattern window.now found.start found.end) }
     ensures steps { let items = items_of_runs runs.now in
@@ -84,7 +86,7 @@ pub fn locate<A: Allocator>(
 fn start_place<A: Allocator>(
     run: &Run<A>,
     tied: bool,
-    window: &[u8],
+    window: &Window<'_>,
     steps: &mut u64,
 ) -> Option<usize>
     ensures place { let items = items_of_run run.now in
@@ -98,7 +100,7 @@ fn start_place<A: Allocator>(
     if !tied {
         return run.first_place(window, 0, steps);
     }
-    if run.fits(window, steps) {
+    if run.fits_at(window, 0, steps) {
         Some(0)
     } else {
         None
@@ -109,7 +111,7 @@ fn start_place<A: Allocator>(
 fn only_place<A: Allocator>(
     run: &Run<A>,
     ties: Ties,
-    window: &[u8],
+    window: &Window<'_>,
     steps: &mut u64,
 ) -> Option<usize>
     ensures place { let items = items_of_run run.now in
@@ -129,7 +131,7 @@ fn only_place<A: Allocator>(
         return None;
     }
     let start = window.len() - run.len();
-    if run.fits(&window[start..], steps) {
+    if run.fits_at(window, start, steps) {
         Some(start)
     } else {
         None
@@ -142,11 +144,12 @@ fn furthest_end<A: Allocator>(
     inner: &[Run<A>],
     last: &Run<A>,
     tied: bool,
-    window: &[u8],
+    window: &Window<'_>,
     place: usize,
     steps: &mut u64,
 ) -> Option<usize>
-    requires { place ≤ length window.now }
+    requires inside { place ≤ length window.now }
+    requires fits { length window.now < 2 ^ 64 }
     ensures end { let items = any_run ∷ starred_items inner.now (items_of_run last.now) in
         MatchOption result
         (EndsNowhere items tied window.now place)
@@ -169,7 +172,7 @@ fn furthest_end<A: Allocator>(
 fn end_place<A: Allocator>(
     run: &Run<A>,
     tied: bool,
-    window: &[u8],
+    window: &Window<'_>,
     from: usize,
     steps: &mut u64,
 ) -> Option<usize>
@@ -191,7 +194,7 @@ fn end_place<A: Allocator>(
         return None;
     }
     let last = window.len() - run.len();
-    if run.fits(&window[last..], steps) {
+    if run.fits_at(window, last, steps) {
         Some(last)
     } else {
         None

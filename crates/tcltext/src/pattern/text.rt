@@ -3,15 +3,38 @@ ghost use Rattle.std.specs.Prelude.{◌+◌, ◌*◌, ◌≤◌, ◌↔◌, IsTr
 ghost use Rattle.tcltext.specs.Pattern.Item.{literal};
 ghost use Rattle.tcltext.specs.Pattern.Runs.{Fits, IsFirstPlace, IsLastPlace, FitsNowhere};
 
+use crate::pattern::window::Window;
 use memchr::memmem;
 
 /// Whether the bytes are a front of the text. Each of them counts as one step.
-pub fn fits(bytes: &[u8], text: &[u8], steps: &mut u64) -> bool
-    ensures fits { IsTrue result ↔ Fits (map literal bytes.now) text.now }
+pub fn fits(bytes: &[u8], text: Window<'_>, steps: &mut u64) -> bool
+    ensures fits { IsTrue result ↔ Fits (map literal bytes.now) text.entry }
     ensures steps { steps.new ≤ steps.old + length bytes.now }
 {
     *steps = steps.saturating_add(bytes.len() as u64);
-    text.starts_with(bytes)
+    match text.as_bytes() {
+        Some(text) => text.starts_with(bytes),
+        None => begins(text, bytes),
+    }
+}
+
+/// Whether the text begins with the bytes.
+fn begins(text: Window<'_>, bytes: &[u8]) -> bool
+    ensures { IsTrue result ↔ Fits (map literal bytes.now) text.entry }
+{
+    let mut rest = text;
+    let mut wanted = bytes;
+    while let [byte, more @ ..] = wanted {
+        let Some((first, behind)) = rest.split_first() else {
+            return false;
+        };
+        if first != *byte {
+            return false;
+        }
+        wanted = more;
+        rest = behind;
+    }
+    true
 }
 
 /// The first place of the window, at or behind `from`, at which the bytes stand.

@@ -4,6 +4,7 @@ use super::items::{read_glob, read_items};
 use super::pairs::{over_all_pairs, takes};
 use super::table::by_table;
 use crate::patterns::search_in;
+use memory::NoMemory;
 use std::alloc::{AllocError, Global};
 use std::io;
 use tcltext::{Pattern, PatternError};
@@ -49,10 +50,10 @@ pub fn run_random<R: Print + AllocGlobal>(rt: &R) -> io::Result<bool> {
     let mut random = Random(2024);
     let mut agreeing = 0u64;
     for (letters, window_letters) in [
-        ("ab*", "ab"),
-        ("ab?*^$", "ab"),
-        ("ab*[]-", "ab-"),
-        ("ab*?[]-^$\\", "ab-^$\\]"),
+        ("ab*", "abA"),
+        ("abA?*^$", "abAB"),
+        ("ab*[]-", "abA-"),
+        ("abB*?[]-^$\\", "abB-^$\\]"),
     ] {
         for _ in 0..PATTERNS {
             let glob = random.text(rt.alloc(), letters)?;
@@ -83,18 +84,49 @@ fn run_glob<R: Print + AllocGlobal>(
     Ok(agreeing)
 }
 
-/// Whether the search finds what the slow ones find, in no more steps than the table has entries,
-/// and takes a whole text where trying each piece does.
+/// Whether the search finds what the slow ones find, and with letters folded what they find in the
+/// window in lower case, and takes a whole text where trying each piece does.
 fn agrees(alloc: Global, text: &[u8], window: &[u8]) -> Result<bool, PatternError> {
-    let search = search_in(alloc, &Pattern::glob(alloc, text)?, window)?;
+    let pattern = Pattern::glob(alloc, text)?;
+    let is_found = finds(alloc, &pattern, text, window, window)?;
     let is_whole = Pattern::plain(alloc, text)?.whole(window);
+    let lower = in_lower_case(alloc, window)?;
+    Ok(
+        is_found
+            && finds(alloc, &pattern.fold(), text, window, &lower)?
+            && is_whole == takes(&read_items(alloc, text)?, window),
+    )
+}
+
+/// Whether the search in the window finds what the slow ones find in the bytes as they compare, in
+/// no more steps than the table has entries.
+fn finds(
+    alloc: Global,
+    pattern: &Pattern<Global>,
+    text: &[u8],
+    window: &[u8],
+    compared: &[u8],
+) -> Result<bool, PatternError> {
+    let search = search_in(alloc, pattern, window)?;
     let glob = read_glob(alloc, text)?;
     let rows = (glob.items.len() as u64).saturating_add(1);
     let entries = rows.saturating_mul((window.len() as u64).saturating_add(1));
     Ok(
         search.steps <= entries
-            && search.found == over_all_pairs(&glob, window)
-            && search.found == by_table(alloc, &glob, window)?
-            && is_whole == takes(&read_items(alloc, text)?, window),
+            && search.found == over_all_pairs(&glob, compared)
+            && search.found == by_table(alloc, &glob, compared)?,
     )
+}
+
+/// The letters of these windows in lower case.
+fn in_lower_case(alloc: Global, window: &[u8]) -> Result<Vec<u8>, NoMemory> {
+    let mut lower = Vec::new(alloc);
+    for letter in window {
+        lower.push(match letter {
+            b'A' => b'a',
+            b'B' => b'b',
+            other => *other,
+        })?;
+    }
+    Ok(lower)
 }

@@ -5,4 +5,4 @@ use Rattle.tcltext.proofs.pattern.Pattern.whole.Goals as goal
 pub returns : goal.returns
 returns g c = rw (c.is_some.ensures, ← c.self.view_is)
     (whole_iff_found (items_of_runs c.self.inside.runs) c.args.text.now c.locate.result
-    c.locate.ensures.found)
+    (rw c.new-text.ensures.value at c.locate.ensures.found))

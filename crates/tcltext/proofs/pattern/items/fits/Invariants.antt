@@ -5,8 +5,8 @@ use Rattle.tcltext.proofs.pattern.items.fits.Given as goal
 -- what is left of the run fits what is left of the text where the whole run fits the whole text
 abbrev pub invariant-loop-tokens : goal.invariant-loop-tokens
 invariant-loop-tokens g l = record {
-  to : Fits (items_of l.run) l.text → Fits (items_of l.tokens) l.bytes;
-  from : Fits (items_of l.tokens) l.bytes → Fits (items_of l.run) l.text;
+  to : Fits (items_of l.run) l.fn.text → Fits (items_of l.tokens) l.rest;
+  from : Fits (items_of l.tokens) l.rest → Fits (items_of l.run) l.fn.text;
   steps : l.steps + length l.tokens ≤ l.initial.steps + length l.run;
 }
 

@@ -1,4 +1,4 @@
-use Rattle.std.proofs.Common.{◌∙◌, ℕ, ◌+◌, length, refl, sym, ap, subst, arith}
+use Rattle.std.proofs.Common.{◌∙◌, ℕ, ◌+◌, false, length, refl, sym, ap, subst, arith}
 use Rattle.tcltext.specs.Pattern.Match.{IsFound}
 use Rattle.tcltext.specs.Pattern.Runs.{items_of_run, items_of_runs, starred_items, reading_of}
 use Rattle.tcltext.proofs.Patterns.Finds.{only_nowhere, only_found, start_nowhere, end_nowhere, starred_found}
@@ -23,7 +23,7 @@ returns-in_ok-start-in-None-clause-found g c =
     ∙ c.in-None.ensures.cases) in
     let place = c.in_ok-start-in-None.ensures.place in
     let start = c.in_ok-start-in-None.start in
-    subst (λ (n : ℕ). IsFound (reading_of runs c.args.ties) c.args.window.now start (start + n))
+    subst (λ (n : ℕ). IsFound (reading_of runs c.args.ties false) c.args.window.now start (start + n))
     (sym c.len.ensures)
     (only_found (items_of_runs runs) last c.args.ties.start c.args.ties.end c.args.window.now
     (length last) start same (IsFixed-run runs.last) refl place.0 place.1 place.2)

@@ -6,11 +6,12 @@ use Rattle.tcltext.specs.Pattern.Runs.{Fits}
 use Rattle.tcltext.proofs.Patterns.Texts.{fits_front, front_fits}
 use Rattle.tcltext.proofs.pattern.text.fits.Goals as goal
 
-pub returns-clause-fits : goal.returns-clause-fits
-returns-clause-fits c =
+pub returns-in-Some-clause-fits : goal.returns-in-Some-clause-fits
+returns-in-Some-clause-fits c =
     let bytes = c.args.bytes.now in
-    let text = c.args.text.now in
-    let parts = starts_is Decides-eqb text bytes c.starts_with.result c.starts_with.ensures.value in (
+    let text = c.in-Some.text.now in
+    let parts = starts_is Decides-eqb text bytes c.starts_with.result c.starts_with.ensures.value in
+    rw (← c.in-Some.ensures) (
       λ t. subst (λ (x : List ℕ). Fits (map literal bytes) x) (sym (parts.0 t))
           (fits_front bytes (drop (length bytes) text)),
       λ fits. parts.1 (drop (length bytes) text) (front_fits bytes text fits),

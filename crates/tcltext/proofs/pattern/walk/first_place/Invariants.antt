@@ -1,14 +1,14 @@
 use Rattle.std.proofs.Common.{ℕ, ◌+◌, ◌-◌, ◌*◌, ◌<◌, ◌≤◌, length}
-use Rattle.tcltext.specs.Pattern.Runs.{items_of, IsPlace}
-use Rattle.tcltext.proofs.pattern.items.first_place.Given as goal
+use Rattle.tcltext.specs.Pattern.Runs.{items_of_run, IsPlace}
+use Rattle.tcltext.proofs.pattern.walk.first_place.Given as goal
 
 -- the run fits at no place before this one, and each place cost a step an item at most
 abbrev pub invariant-loop-place : goal.invariant-loop-place
 invariant-loop-place g l = record {
   low : l.from ≤ l.place;
   high : l.place ≤ l.end;
-  before : (k : ℕ) → l.from ≤ k → k < l.place → ¬ IsPlace (items_of l.run) l.window k;
-  steps : l.steps ≤ l.initial.steps + length l.run * (l.place - l.from);
+  before : (k : ℕ) → l.from ≤ k → k < l.place → ¬ IsPlace (items_of_run l.run) l.window k;
+  steps : l.steps ≤ l.initial.steps + length (items_of_run l.run) * (l.place - l.from);
 }
 
 abbrev pub decreases-loop-place : goal.decreases-loop-place

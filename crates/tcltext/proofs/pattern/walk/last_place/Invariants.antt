@@ -1,14 +1,14 @@
 use Rattle.std.proofs.Common.{ℕ, ◌+◌, ◌-◌, ◌*◌, ◌≤◌, length}
-use Rattle.tcltext.specs.Pattern.Runs.{items_of, IsPlace}
-use Rattle.tcltext.proofs.pattern.items.last_place.Given as goal
+use Rattle.tcltext.specs.Pattern.Runs.{items_of_run, IsPlace}
+use Rattle.tcltext.proofs.pattern.walk.last_place.Given as goal
 
 -- the run fits at no place from this one on, and each place cost a step an item at most
 abbrev pub invariant-loop-end : goal.invariant-loop-end
 invariant-loop-end g l = record {
   low : l.from ≤ l.end;
   high : l.end ≤ l.initial.end;
-  after : (k : ℕ) → l.end ≤ k → ¬ IsPlace (items_of l.run) l.window k;
-  steps : l.steps ≤ l.initial.steps + length l.run * (l.initial.end - l.end);
+  after : (k : ℕ) → l.end ≤ k → ¬ IsPlace (items_of_run l.run) l.window k;
+  steps : l.steps ≤ l.initial.steps + length (items_of_run l.run) * (l.initial.end - l.end);
 }
 
 abbrev pub decreases-loop-end : goal.decreases-loop-end

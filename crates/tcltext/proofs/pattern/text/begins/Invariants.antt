@@ -1,0 +1,14 @@
+use Rattle.std.proofs.Common.{length, map}
+use Rattle.tcltext.specs.Pattern.Item.{literal}
+use Rattle.tcltext.specs.Pattern.Runs.{Fits}
+use Rattle.tcltext.proofs.pattern.text.begins.Given as goal
+
+-- what is left of the bytes is in front of what is left of the text where all of them are in front
+abbrev pub invariant-loop-wanted : goal.invariant-loop-wanted
+invariant-loop-wanted l = record {
+  to : Fits (map literal l.bytes) l.fn.text → Fits (map literal l.wanted) l.rest;
+  from : Fits (map literal l.wanted) l.rest → Fits (map literal l.bytes) l.fn.text;
+}
+
+abbrev pub decreases-loop-wanted : goal.decreases-loop-wanted
+decreases-loop-wanted l = length l.wanted
