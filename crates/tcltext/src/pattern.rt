@@ -124,8 +124,9 @@ impl<A: Allocator> Pattern<A> {
         }
     }
 
-    /// Whether the pattern's items take the whole text, whatever it is tied to. The bytes compare as
-    /// they stand, also where the pattern folds the letters of windows. Takes no memory.
+    /// Whether the pattern's items take the whole text, whatever it is tied to. Takes no memory.
+    ///
+    /// The bytes compare as they stand, also where the pattern folds the letters of windows.
     pub fn whole(&self, text: &[u8]) -> bool
         ensures { IsTrue result ↔ Whole self.now.items text.now }
     {
@@ -136,8 +137,8 @@ impl<A: Allocator> Pattern<A> {
 
     /// Finds the pattern in the window, with the least start and, at that start, the greatest end.
     ///
-    /// Takes no memory. A text between two `*` is found in time that is linear in the window, unless
-    /// letters are folded; then, as every other run, it is tried at each place that may begin it.
+    /// Takes no memory. A text between two `*` is found in time that is linear in the window; other
+    /// runs, and texts whose letters are folded, are tried at each place that may begin them.
     /// [`Search::steps`] says what counts as a step.
     pub fn find(&self, window: &[u8], scratch: &mut Scratch<A>) -> Search
         requires { length window.now ≤ scratch.old }

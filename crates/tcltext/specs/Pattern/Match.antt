@@ -21,8 +21,8 @@ Whole (item ∷ items) t =
 abbrev pub compared : Bool → List ℕ → List ℕ
 compared folds t = if folds then map to_ascii_lowercase t else t
 
--- The pattern takes the window's bytes from s up to e, as they compare (expect(1), expect; in detail
--- this project's own rule).
+-- The pattern takes the window's bytes from s up to e, as they compare (expect(1), expect; in
+-- detail this project's own rule).
 pub record Sits (p : Reading) (window : List ℕ) (s e : ℕ) : Type 0 where
   pub ordered : s ≤ e
   pub within : e ≤ length window

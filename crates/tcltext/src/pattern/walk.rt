@@ -46,8 +46,9 @@ pub fn first_place<A: Allocator>(
     None
 }
 
-/// The last place of the window, at or behind `from`, at which the run fits. Steps are counted as by
-/// [`first_place`].
+/// The last place of the window, at or behind `from`, at which the run fits.
+///
+/// Steps are counted as by [`first_place`].
 pub fn last_place<A: Allocator>(
     run: &Run<A>,
     window: &Window<'_>,
