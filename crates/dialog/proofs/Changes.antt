@@ -1,12 +1,14 @@
 -- What the calls of the table are to the ids of the definition.
-use Rattle.std.proofs.Common.{◌≡◌, ℕ, ◌==◌, ◌&&◌, Bool, true, false, List, [], ◌∷◌, ◌++◌, map, if◌then◌else◌, refl, sym, ap, ◌∙◌}
+use Rattle.std.proofs.Common.{◌≡◌, ℕ, ◌==◌, ◌&&◌, Bool, true, false, List, [], ◌∷◌, ◌++◌, map, if◌then◌else◌, refl, sym, ap, ◌∙◌, arith}
 use Rattle.std.proofs.lemmas.Bool.{eqb-true}
+use Rattle.std.proofs.lemmas.Bool.Decides.{nat_tests}
 use Rattle.acts.specs.declared.id.Id.{Id}
 use Rattle.matchbuf.specs.Held.{held}
 use Rattle.matchbuf.specs.Journal.{Record, Sized, IsJournal, window, size_of}
 use Rattle.matchbuf.proofs.Windows.{fits_arrived, fits_sized}
-use Rattle.dialog.specs.Lines.{Line, at_line, without, reaching, reached, resized, dropping, fresh_line}
-use Rattle.dialog.specs.Peers.{Kind, Peer, opened, is_open_at, at_peer, fresh, fresh_journal, shut, arrived, sized, set_nulls, line, HaveJournals, FitsPeers}
+use Rattle.dialog.specs.Lines.{Line, at_line, without, reaching, reached, resized, dropping, fresh_line, IsFirstOut}
+use Rattle.dialog.specs.Kinds.{Kind}
+use Rattle.dialog.specs.Peers.{Peer, opened, is_open_at, at_peer, fresh, fresh_journal, shut, arrived, sized, set_nulls, line, HaveJournals, FitsPeers}
 use Rattle.dialog.specs.Views.{line_by}
 use Rattle.dialog.proofs.Chosen.{own_fits}
 use Rattle.dialog.proofs.Peers.{Keeps, changes, opened-first, have}
@@ -18,7 +20,7 @@ arrives bytes p is =
     record {
       as_open = refl;
       journal = fits.is_journal;
-      same = ap (λ (w : List ℕ). line_by p.id (held w (size_of p.journal)) p.drops_nulls)
+      same = ap (λ (w : List ℕ). line_by p.id p.kind (held w (size_of p.journal)) p.drops_nulls)
           fits.bytes;
     }
 
@@ -29,7 +31,7 @@ sizes max p is =
     record {
       as_open = refl;
       journal = fits.is_journal;
-      same = ap (λ (w : List ℕ). line_by p.id (held w max) p.drops_nulls) fits.bytes;
+      same = ap (λ (w : List ℕ). line_by p.id p.kind (held w max) p.drops_nulls) fits.bytes;
     }
 
 -- an arrival, a size, a setting
@@ -116,10 +118,24 @@ module _ (i : Id) where
       left.lines ∙ ap (without i) fits.lines ∙ sym is in
       record { journals = left.journals; lines = lines }
 
+same_number : (n : ℕ) → (n == n) ≡ true
+same_number n = grind (arith, nat_tests)
+
+-- the id that was opened first closed
+out_first : (l : Line) (ls : List Line) → without l.id (l ∷ ls) ≡ ls
+out_first l ls = ap (λ (c : Bool). if c then ls else l ∷ without l.id ls) (same_number l.id.0)
+
+pub fits_first_out : (i : Id) (ls new : List Line) → IsFirstOut i ls new → (ps : List Peer) →
+    FitsPeers ls ps → FitsPeers new (at_peer shut i ps)
+fits_first_out i ls new out =
+    fits_closed i ls new
+    (sym (ap (without i) out.split ∙ ap (λ j. without j (out.line ∷ new)) (sym out.same)
+    ∙ out_first out.line new))
+
 -- an id just opened has a journal, and that line
 record IsFresh (i : Id) (kind : Kind) (max : ℕ) (drops : Bool) : Type 0 where
   journal : IsJournal (fresh_journal max)
-  same : line (fresh i kind max drops) ≡ fresh_line i max drops
+  same : line (fresh i kind max drops) ≡ fresh_line i kind max drops
 
 is-fresh : (i : Id) (kind : Kind) (max : ℕ) (drops : Bool) → IsFresh i kind max drops
 is-fresh i kind max drops = by (max == 2000) refl
@@ -133,14 +149,14 @@ is-fresh i kind max drops = by (max == 2000) refl
         let two : max ≡ 2000 = eqb-true max 2000 is in
         record {
           journal = rw e tt;
-          same = ap (λ j. line_by i (held (window j) (size_of j)) drops) e
-              ∙ ap (λ m. line_by i (held [] m) drops) (sym two);
+          same = ap (λ j. line_by i kind (held (window j) (size_of j)) drops) e
+              ∙ ap (λ m. line_by i kind (held [] m) drops) (sym two);
         }
     by false is =
         let e : fresh_journal max ≡ Sized max ∷ Sized 2000 ∷ [] = ap chosen is in
         record {
           journal = rw e tt;
-          same = ap (λ j. line_by i (held (window j) (size_of j)) drops) e;
+          same = ap (λ j. line_by i kind (held (window j) (size_of j)) drops) e;
         }
 
 -- an id opened behind all others
@@ -164,10 +180,10 @@ map-more : (ps : List Peer) (p : Peer) → map line (ps ++ p ∷ []) ≡ map lin
 map-more [] p = refl
 map-more (q ∷ ps) p = ap (λ ls. line q ∷ ls) (map-more ps p)
 
-pub fits_opened : (i : Id) (max : ℕ) (drops : Bool) (ls new : List Line) →
-    new ≡ ls ++ fresh_line i max drops ∷ [] → (ps : List Peer) (kind : Kind) →
+pub fits_opened : (i : Id) (kind : Kind) (max : ℕ) (drops : Bool) (ls new : List Line) →
+    new ≡ ls ++ fresh_line i kind max drops ∷ [] → (ps : List Peer) →
     FitsPeers ls ps → FitsPeers new (ps ++ fresh i kind max drops ∷ [])
-fits_opened i max drops ls new is ps kind fits =
+fits_opened i kind max drops ls new is ps fits =
     let p = fresh i kind max drops in
     let fresh = is-fresh i kind max drops in
     record {
@@ -175,5 +191,5 @@ fits_opened i max drops ls new is ps kind fits =
           (have-more (opened ps) p fits.journals fresh.journal);
       lines = ap (map line) (opened-more p ps refl) ∙ map-more (opened ps) p
           ∙ ap (λ l. map line (opened ps) ++ l ∷ []) fresh.same
-          ∙ ap (λ ms. ms ++ fresh_line i max drops ∷ []) fits.lines ∙ sym is;
+          ∙ ap (λ ms. ms ++ fresh_line i kind max drops ∷ []) fits.lines ∙ sym is;
     }

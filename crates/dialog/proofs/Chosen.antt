@@ -30,7 +30,7 @@ consumes n p is le =
     record {
       as_open = refl;
       journal = fits.is_journal;
-      same = ap (λ (w : List ℕ). line_by p.id (held w (size_of p.journal)) p.drops_nulls)
+      same = ap (λ (w : List ℕ). line_by p.id p.kind (held w (size_of p.journal)) p.drops_nulls)
           fits.bytes;
     }
 

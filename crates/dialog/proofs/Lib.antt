@@ -7,7 +7,9 @@ pub mod IdLists
 pub mod Lines
 pub mod Mentions
 pub mod Nulls
+pub mod Opened
 pub mod Others
 pub mod Peers
 pub mod Refused
 pub mod RowsMade
+pub mod Spelled

@@ -1,6 +1,8 @@
 pub mod Branches
+pub mod Channels
 pub mod Choice
 pub mod Drafts
+pub mod Kinds
 pub mod Lines
 pub mod LogState
 pub mod Misreads

@@ -1,15 +1,17 @@
 -- What contracts see of the table of open ids.
-use Rattle.std.specs.Prelude.{ℕ, ◌+◌, ◌-◌, ◌/◌, ◌==◌, ◌^◌, not, nat_lt, nat_le, Bool, true, List, [], ◌∷◌, ◌++◌, length, filter, drop, sum_by, Option, Some, None, if◌then◌else◌}
+use Rattle.std.specs.Prelude.{◌≡◌, ℕ, ◌+◌, ◌-◌, ◌/◌, ◌==◌, ◌^◌, not, nat_lt, nat_le, Bool, true, List, [], ◌∷◌, ◌++◌, length, filter, drop, sum_by, Option, Some, None, if◌then◌else◌}
 use Rattle.std.specs.Option.{option_map}
 use Rattle.circular_buffer.specs.Buffer.{keep_last}
 use Rattle.acts.specs.declared.id.Id.{Id}
 use Rattle.acts.specs.declared.row.Row.{Row}
 use Rattle.matchbuf.specs.Held.{Held, held}
+use Rattle.dialog.specs.Kinds.{Kind}
 
--- an open id: what its match buffer holds, and whether nulls are removed from what arrives
--- (expect(1), spawn, match_max and remove_nulls)
+-- an open id: what it was opened for, what its match buffer holds, and whether nulls are removed
+-- from what arrives (expect(1), spawn, match_max and remove_nulls)
 pub record Line : Type 0 where
   pub id : Id
+  pub kind : Kind
   pub held : Held
   pub drops_nulls : Bool
 
@@ -38,6 +40,12 @@ abbrev pub without : Id → List Line → List Line
 without i [] = []
 without i (l ∷ ls) = if l.id.0 == i.0 then ls else l ∷ without i ls
 
+-- the line of the id that was opened first is taken out
+pub record IsFirstOut (id : Id) (old new : List Line) : Type 0 where
+  pub line : Line
+  pub split : old ≡ line ∷ new
+  pub same : line.id ≡ id
+
 -- the lesser of two ids
 abbrev pub lesser : Id → Id → Id
 lesser i j = if nat_lt j.0 i.0 then j else i
@@ -65,10 +73,11 @@ abbrev pub number_after : Option ℕ → Option ℕ
 number_after None = None
 number_after (Some n) = if nat_lt (n + 1) (2 ^ 64) then Some (n + 1) else None
 
--- the line of an id that is just opened, with an empty buffer of that size, and whether nulls are
--- removed (expect(1), spawn, match_max -d and remove_nulls -d)
-abbrev pub fresh_line : Id → ℕ → Bool → Line
-fresh_line i max drops = record { id = i; held = held [] max; drops_nulls = drops }
+-- the line of an id that is just opened for that, with an empty buffer of that size, and whether
+-- nulls are removed (expect(1), spawn, match_max -d and remove_nulls -d)
+abbrev pub fresh_line : Id → Kind → ℕ → Bool → Line
+fresh_line i kind max drops =
+    record { id = i; kind = kind; held = held [] max; drops_nulls = drops }
 
 -- bytes without their nulls (expect(1), remove_nulls)
 abbrev pub without_nulls : List ℕ → List ℕ

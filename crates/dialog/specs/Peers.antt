@@ -3,12 +3,8 @@ use Rattle.std.specs.Prelude.{◌≡◌, ℕ, ◌==◌, ◌&&◌, Bool, true, fa
 use Rattle.acts.specs.declared.id.Id.{Id}
 use Rattle.matchbuf.specs.Held.{held}
 use Rattle.matchbuf.specs.Journal.{Record, Arrived, Consumed, Sized, IsJournal, window, size_of, place_after}
+use Rattle.dialog.specs.Kinds.{Kind}
 use Rattle.dialog.specs.Lines.{Line, reaching}
-
--- what an id was opened for: a process of this number, or a connection (expect(1), spawn)
-pub data Kind : Type 0 where
-  Process : (pid : ℕ) → Kind
-  Socket : Kind
 
 -- a spawn id, open or closed, waited for or not, with whether nulls are removed from what arrives,
 -- and all that ever came to it and was consumed (expect(1), spawn, close, wait and remove_nulls)
@@ -79,6 +75,7 @@ shut p = record p { is_open = false }
 abbrev pub line : Peer → Line
 line p = record {
   id = p.id;
+  kind = p.kind;
   held = held (window p.journal) (size_of p.journal);
   drops_nulls = p.drops_nulls;
 }

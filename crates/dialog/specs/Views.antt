@@ -3,14 +3,22 @@ use Rattle.std.specs.Prelude.{ℕ, Bool, List}
 use Rattle.acts.specs.declared.id.Id.{Id}
 use Rattle.matchbuf.specs.Held.{Held}
 use Rattle.dialog.specs.Branches.{Awaited, Branch, Sought, FullBuffer, Eof, Timeout, Default}
+use Rattle.dialog.specs.Kinds.{Kind, Process, Socket}
 use Rattle.dialog.specs.Lines.{Line}
 use Rattle.dialog.specs.declared.branch.Awaited.{Awaited as Coded}
 use Rattle.dialog.specs.declared.branch.Awaited.TheVariants as coded
 use Rattle.dialog.specs.declared.branch.Flags.{Flags}
+use Rattle.dialog.specs.declared.kind.Kind as kinds
+use Rattle.dialog.specs.declared.kind.Kind.TheVariants as kind
 
 -- a line by its parts
-abbrev pub line_by : Id → Held → Bool → Line
-line_by id h drops = record { id = id; held = h; drops_nulls = drops }
+abbrev pub line_by : Id → Kind → Held → Bool → Line
+line_by id kind h drops = record { id = id; kind = kind; held = h; drops_nulls = drops }
+
+-- what an id of the code was opened for
+abbrev pub kind_of : kinds.Kind → Kind
+kind_of (kind.Process pid) = Process pid
+kind_of kind.Socket = Socket
 
 -- what a branch of the code waits for
 abbrev pub awaited_of : {A : Type 0} → Coded A → Awaited

@@ -5,9 +5,10 @@ ghost use Rattle.dialog.specs.Lines.{reached, resized, dropping, row_of_line, wi
 ghost use Rattle.circular_buffer.specs.Buffer.{keep_last};
 ghost use Rattle.matchbuf.specs.Held.{held};
 ghost use Rattle.matchbuf.specs.Size.{IsSize};
-ghost use Rattle.dialog.specs.Views.{line_by};
+ghost use Rattle.dialog.specs.Views.{line_by, kind_of};
 ghost use Rattle.tcltext.specs.Pattern.Match.{IsFound, SitsNowhere};
 
+use crate::kind::Kind;
 use acts::{Id, NoMemory, Row};
 use matchbuf::{MatchBuf, MatchBufError};
 use memchr::memchr;
@@ -15,30 +16,33 @@ use std::alloc::Allocator;
 use std::marker::Model;
 use tcltext::{Found, Pattern, Scratch};
 
-/// An open id: its match buffer, and whether nulls are removed from what arrives.
+/// An open id: what it was opened for, its match buffer, and whether nulls are removed from what
+/// arrives.
 #[derive(Drop)]
 pub(crate) struct Entry<A: Allocator> {
     id: Id,
+    kind: Kind,
     buffer: MatchBuf<A>,
     drops_nulls: bool,
 }
 
 impl<A: Allocator> Model for Entry<A> {
     ghost use Rattle.dialog.specs.Lines.{Line};
-    ghost use Rattle.dialog.specs.Views.{line_by};
+    ghost use Rattle.dialog.specs.Views.{line_by, kind_of};
 
     ghost Value = { Line };
 
-    ghost view = { λ e. line_by e.id e.buffer e.drops_nulls };
+    ghost view = { λ e. line_by e.id (kind_of e.kind) e.buffer e.drops_nulls };
 }
 
 impl<A: Allocator> Entry<A> {
-    /// An id that is just opened.
-    pub(crate) fn new(id: Id, buffer: MatchBuf<A>, drops_nulls: bool) -> Entry<A>
-        ensures { result ≡ line_by id buffer drops_nulls }
+    /// An id that is just opened for that.
+    pub(crate) fn new(id: Id, kind: Kind, buffer: MatchBuf<A>, drops_nulls: bool) -> Entry<A>
+        ensures { result ≡ line_by id (kind_of kind) buffer drops_nulls }
     {
         Entry {
             id,
+            kind,
             buffer,
             drops_nulls,
         }
@@ -49,6 +53,13 @@ impl<A: Allocator> Entry<A> {
         ensures { result ≡ self.now.id }
     {
         self.id
+    }
+
+    /// What it was opened for.
+    pub(crate) fn kind(&self) -> Kind
+        ensures { kind_of result ≡ self.now.kind }
+    {
+        self.kind
     }
 
     /// Whether its buffer holds as many bytes as it may.

@@ -1,13 +1,15 @@
 //! The open ids.
-ghost use Rattle.std.specs.Prelude.{◌≡◌, ◌==◌, ◌<◌, ◌≤◌, ◌↔◌, ◌++◌, [], ◌∷◌, List, length, position, is_some, Some, None, Err, IfOk, OnOk, OnErr, IsTrue};
+ghost use Rattle.std.specs.Prelude.{◌≡◌, ◌==◌, ◌<◌, ◌≤◌, ◌↔◌, ◌++◌, [], ◌∷◌, List, length, position, is_some, Some, None, Err, IfOk, OnOk, OnErr, IfSome, IsTrue, MatchOption};
 ghost use Rattle.std.specs.Option.{option_map};
-ghost use Rattle.dialog.specs.Lines.{line_of, listing, at_line, without, lesser, least_of, first_id, next_id, number_after, fresh_line, reached, resized, dropping, held_by, allowed_to};
-ghost use Rattle.dialog.specs.Peers.{Peer, Kind, FitsPeers, at_peer, fresh, shut, arrived, set_nulls, sized};
+ghost use Rattle.dialog.specs.Lines.{line_of, listing, at_line, without, lesser, least_of, first_id, next_id, number_after, fresh_line, IsFirstOut, reached, resized, dropping, held_by, allowed_to};
+ghost use Rattle.dialog.specs.Peers.{Peer, FitsPeers, at_peer, fresh, shut, arrived, set_nulls, sized};
+ghost use Rattle.dialog.specs.Views.{kind_of};
 ghost use Rattle.matchbuf.specs.Held.{held};
 ghost use Rattle.matchbuf.specs.Size.{IsSize};
 
 use crate::entry::Entry;
 use crate::error::OpenError;
+use crate::kind::Kind;
 use acts::{Id, NoMemory};
 use matchbuf::{MatchBuf, MatchBufError};
 use std::alloc::Allocator;
@@ -81,6 +83,17 @@ impl<A: Allocator> Table<A> {
         }
     }
 
+    /// What an id was opened for, where it is open (expect(1), spawn).
+    pub fn kind(&self, id: Id) -> Option<Kind>
+        ensures { option_map kind_of result
+            ≡ option_map (λ l. l.kind) (line_of self.now.lines id) }
+    {
+        match self.place(id) {
+            Some(place) => Some(self.entries[place].kind()),
+            None => None,
+        }
+    }
+
     /// Whether an id is open.
     pub fn is_open(&self, id: Id) -> bool
         ensures { result ≡ is_some (line_of self.now.lines id) }
@@ -108,6 +121,21 @@ impl<A: Allocator> Table<A> {
         if let Some(place) = self.place(id) {
             let _ = self.entries.remove(place);
         }
+    }
+
+    /// Closes the id that was opened first, if one is open.
+    pub fn close_oldest(&mut self) -> Option<Id>
+        ensures closes { MatchOption result ((self.old.lines ≡ []) × (self.new ≡ self.old))
+            (λ id. IsFirstOut id self.old.lines self.new.lines) }
+        ensures next { self.new.next ≡ self.old.next }
+        ensures fits { IfSome result (λ id. (ps : List Peer) → FitsPeers self.old.lines ps →
+            FitsPeers self.new.lines (at_peer shut id ps)) }
+    {
+        if self.entries.is_empty() {
+            return None;
+        }
+        let entry = self.entries.remove(0);
+        Some(entry.id())
     }
 
     /// Puts bytes that arrived into the buffer of an id, if it is open, without their nulls where
@@ -177,21 +205,27 @@ impl<A: Allocator> Table<A> {
 }
 
 impl<A: Allocator + Copy> Table<A> {
-    /// Opens the id of the next number, with an empty buffer of the default size, and with the
-    /// default of whether nulls are removed (expect(1), spawn, match_max -d and remove_nulls -d).
+    /// Opens the id of the next number for that, with an empty buffer of the default size, and with
+    /// the default of whether nulls are removed (expect(1), spawn, match_max -d and remove_nulls
+    /// -d).
     ///
     /// # Errors
     /// `TooMany` exactly where [`MOST_OPEN`] ids are open or no number is left, and `NoMemory`. The
     /// table is then as it was.
-    pub fn open(&mut self, alloc: A, max: u32, drops_nulls: bool) -> Result<Id, OpenError>
+    pub fn open(
+        &mut self,
+        alloc: A,
+        kind: Kind,
+        max: u32,
+        drops_nulls: bool,
+    ) -> Result<Id, OpenError>
         requires { IsSize max }
         ensures opens { IfOk result (λ id. Some id ≡ next_id self.old) }
         ensures listing { IfOk result (λ id. self.new
-            ≡ listing (self.old.lines ++ fresh_line id max drops_nulls ∷ [])
+            ≡ listing (self.old.lines ++ fresh_line id (kind_of kind) max drops_nulls ∷ [])
             (number_after self.old.next)) }
-        ensures fits { IfOk result (λ id. (ps : List Peer) (kind : Kind) →
-            FitsPeers self.old.lines ps →
-            FitsPeers self.new.lines (ps ++ fresh id kind max drops_nulls ∷ [])) }
+        ensures fits { IfOk result (λ id. (ps : List Peer) → FitsPeers self.old.lines ps →
+            FitsPeers self.new.lines (ps ++ fresh id (kind_of kind) max drops_nulls ∷ [])) }
         ensures too_many { (result ≡ Err OpenError.TooMany) ↔ (next_id self.old ≡ None) }
         ensures unchanged { OnErr result (self.new ≡ self.old) }
     {
@@ -199,7 +233,7 @@ impl<A: Allocator + Copy> Table<A> {
             return Err(OpenError::TooMany);
         };
         let buffer = empty_buffer(alloc, max)?;
-        self.add(Entry::new(id, buffer, drops_nulls))?;
+        self.add(Entry::new(id, kind, buffer, drops_nulls))?;
         self.skip();
         Ok(id)
     }

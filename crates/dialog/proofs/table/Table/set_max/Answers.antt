@@ -1,4 +1,4 @@
-use Rattle.std.proofs.Common.{◌≡◌, ◌∙◌, ap, sym, true, false}
+use Rattle.std.proofs.Common.{◌≡◌, ◌∙◌, ap, true, false}
 use Rattle.dialog.specs.Lines.{listing, resized}
 use Rattle.dialog.proofs.Changes.{fits_size}
 use Rattle.dialog.proofs.Lines.{put_in, put_back, absent_in}

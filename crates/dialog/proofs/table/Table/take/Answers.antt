@@ -1,4 +1,4 @@
-use Rattle.std.proofs.Common.{◌≡◌, ◌∙◌, ap, sym, refl}
+use Rattle.std.proofs.Common.{◌∙◌, ap, sym, refl}
 use Rattle.dialog.specs.Choice.{chosen, share_at, shortened_to, taken_at}
 use Rattle.dialog.specs.Lines.{listing}
 use Rattle.dialog.proofs.Lines.{at_in, put_in, absent_in, put_back}

@@ -1,0 +1,7 @@
+use Rattle.std.proofs.Common.{◌≡◌, drop}
+use Rattle.dialog.specs.Channels.{named}
+use Rattle.dialog.proofs.names.first_named.Given as goal
+
+-- none so far is it
+abbrev pub invariant-loop-entry : goal.invariant-loop-entry
+invariant-loop-entry g l = named (drop l.entry-index l.entries) l.text ≡ named l.entries l.text
