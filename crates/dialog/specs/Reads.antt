@@ -5,7 +5,8 @@ use Rattle.acts.specs.Id.{id_text}
 use Rattle.acts.specs.declared.id.Id.{Id}
 use Rattle.tcltext.specs.Elements.{IsList}
 use Rattle.tcltext.specs.Numeral.{IsNumeral, IsInRange}
-use Rattle.tcltext.specs.Pattern.Glob.{glob, exact}
+use Rattle.tcltext.specs.Pattern.Glob.{glob, exact, folded}
+use Rattle.tcltext.specs.Pattern.Item.{Reading}
 use Rattle.dialog.specs.Branches.{Awaited, Sought, Branch, Pair, pair, Branches, branches}
 use Rattle.dialog.specs.Lines.{Line}
 use Rattle.dialog.specs.Parts.{Style, Glob, Exact, Wanted, Seeks, Names, Part, Ids, Seconds, Stays, TellsPlaces, Folds, Awaits, Lacks, Regex, Bad, parts}
@@ -119,16 +120,22 @@ abbrev pub is_too_long : Wanted → Bool
 is_too_long (Seeks style text) = nat_lt 1000000 (length text)
 is_too_long (Names keyword) = false
 
--- what a branch waits for (expect(1), -gl and -ex)
-abbrev pub awaited_by : Wanted → Awaited
-awaited_by (Seeks Glob text) = Sought (glob text)
-awaited_by (Seeks Exact text) = Sought (exact text)
-awaited_by (Names keyword) = keyword
+-- a pattern, for which the letters of a window are folded where the branch asks for it; the pattern
+-- itself stays (expect(1), -nocase)
+abbrev pub sought_by : Bool → Reading → Reading
+sought_by folds pattern = if folds then folded pattern else pattern
+
+-- what a branch waits for; a keyword is the same where letters are folded (expect(1), -gl, -ex and
+-- -nocase)
+abbrev pub awaited_by : Bool → Wanted → Awaited
+awaited_by folds (Seeks Glob text) = Sought (sought_by folds (glob text))
+awaited_by folds (Seeks Exact text) = Sought (sought_by folds (exact text))
+awaited_by folds (Names keyword) = keyword
 
 -- the branch of these flags and this body
 abbrev pub branch_by : Flags → Wanted → List ℕ → Branch
 branch_by flags wanted body =
-    record { awaited = awaited_by wanted; flags = flags; body = body }
+    record { awaited = awaited_by flags.folds wanted; flags = flags; body = body }
 
 -- the one id, if there is one
 abbrev pub alone : Option Id → Option (List Id)

@@ -1,10 +1,10 @@
 //! What the words of an `expect` have said so far.
 ghost use Rattle.std.specs.Prelude.{◌≡◌, ◌↔◌, ◌++◌, map, true, false, None, Some, Ok, Err, IfOk, OnOk, IfErr, IfSome};
-ghost use Rattle.dialog.specs.Branches.{pair};
+ghost use Rattle.dialog.specs.Branches.{pair, Sought};
 ghost use Rattle.dialog.specs.Drafts.{blank, with_ids, with_seconds, with_flag, with_branch, wanted_of};
 ghost use Rattle.dialog.specs.Misreads.{flaw_of};
 ghost use Rattle.dialog.specs.Reads as reads;
-ghost use Rattle.dialog.specs.Reads.{alone, at_end, awaited_by, branch_by, branch_flaw, ids_for, in_front, is_too_long, named_at};
+ghost use Rattle.dialog.specs.Reads.{alone, at_end, awaited_by, branch_by, branch_flaw, ids_for, in_front, is_too_long, named_at, sought_by};
 ghost use Rattle.dialog.specs.Views.{awaited_of};
 
 use crate::branch::{Awaited, Branch, Flags, Pair};
@@ -176,7 +176,7 @@ fn shared_branch<'a, A: Allocator + Copy>(
     ensures flaw { IfErr result (λ e. IfSome (flaw_of e) (λ flaw.
         (flaw ≡ reads.TooLong) × (is_too_long (wanted_of wanted.entry) ≡ true))) }
 {
-    let awaited = awaited_by(alloc, wanted)?;
+    let awaited = awaited_by(alloc, flags.folds, wanted)?;
     let branch = shared(alloc, Branch::new(awaited, flags, body))?;
     Ok(branch)
 }
@@ -188,19 +188,35 @@ fn shared<A: Allocator>(alloc: A, branch: Branch<A>) -> Result<Rc<Branch<A>, A>,
     Ok(Rc::new(alloc, branch)?)
 }
 
-/// What a branch waits for.
-fn awaited_by<A: Allocator + Copy>(alloc: A, wanted: Wanted<'_>) -> Result<Awaited<A>, PatternError>
-    ensures awaited { IfOk result (λ a. awaited_of a ≡ awaited_by (wanted_of wanted.entry)) }
+/// What a branch waits for; where it seeks a text, the letters of the window are folded or not.
+fn awaited_by<A: Allocator + Copy>(
+    alloc: A,
+    folds: bool,
+    wanted: Wanted<'_>,
+) -> Result<Awaited<A>, PatternError>
+    ensures awaited { IfOk result
+        (λ a. awaited_of a ≡ awaited_by folds (wanted_of wanted.entry)) }
     ensures too_long { (result ≡ Err PatternError.TooLong)
         ↔ (is_too_long (wanted_of wanted.entry) ≡ true) }
 {
     match wanted {
-        Wanted::Seeks(Style::Glob, text) => Ok(Awaited::Sought(Pattern::glob(alloc, text)?)),
-        Wanted::Seeks(Style::Exact, text) => Ok(Awaited::Sought(Pattern::exact(alloc, text)?)),
+        Wanted::Seeks(Style::Glob, text) => Ok(sought_by(folds, Pattern::glob(alloc, text)?)),
+        Wanted::Seeks(Style::Exact, text) => Ok(sought_by(folds, Pattern::exact(alloc, text)?)),
         Wanted::Names(Keyword::FullBuffer) => Ok(Awaited::FullBuffer),
         Wanted::Names(Keyword::Eof) => Ok(Awaited::Eof),
         Wanted::Names(Keyword::Timeout) => Ok(Awaited::Timeout),
         Wanted::Names(Keyword::Default) => Ok(Awaited::Default),
+    }
+}
+
+/// A pattern that is sought, with the letters of the window folded or not (expect(1), `-nocase`).
+fn sought_by<A: Allocator>(folds: bool, pattern: Pattern<A>) -> Awaited<A>
+    ensures { awaited_of result ≡ Sought (sought_by folds pattern) }
+{
+    if folds {
+        Awaited::Sought(pattern.fold())
+    } else {
+        Awaited::Sought(pattern)
     }
 }
 
