@@ -12,3 +12,5 @@ pub mod Range
 pub mod Within
 pub mod Spellings
 pub mod Patterns
+pub mod Sought
+pub mod Tests
