@@ -8,7 +8,7 @@ use Rattle.matchbuf.specs.Journal.{Record, Sized, IsJournal, window, size_of}
 use Rattle.matchbuf.proofs.Windows.{fits_arrived, fits_sized}
 use Rattle.dialog.specs.Lines.{Line, at_line, without, reaching, reached, resized, dropping, fresh_line, IsFirstOut}
 use Rattle.dialog.specs.Kinds.{Kind}
-use Rattle.dialog.specs.Peers.{Peer, opened, is_open_at, at_peer, fresh, fresh_journal, shut, arrived, sized, set_nulls, line, HaveJournals, FitsPeers}
+use Rattle.dialog.specs.Peers.{Peer, opened, at_peer, fresh, fresh_journal, shut, arrived, sized, set_nulls, line, HaveJournals, FitsPeers}
 use Rattle.dialog.specs.Views.{line_by}
 use Rattle.dialog.proofs.Chosen.{own_fits}
 use Rattle.dialog.proofs.Peers.{Keeps, changes, opened-first, have}

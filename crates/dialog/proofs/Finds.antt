@@ -1,5 +1,5 @@
 -- What a search in the window of an id finds for a pair.
-use Rattle.std.proofs.Common.{◌≡◌, IsTrue, List, sym, Option, Some, None, MatchOption, true, false, Bool}
+use Rattle.std.proofs.Common.{◌≡◌, IsTrue, List, sym, Option, Some, None, MatchOption}
 use Rattle.tcltext.specs.Pattern.Item.{Reading}
 use Rattle.tcltext.specs.Pattern.Match.{IsFound, SitsNowhere}
 use Rattle.tcltext.specs.declared.pattern.search.Found.{Found}

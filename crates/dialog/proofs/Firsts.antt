@@ -1,5 +1,5 @@
 -- The first of the pairs that has a property, and the pairs behind those that have not.
-use Rattle.std.proofs.Common.{◌≡◌, ◌⊎◌, List, [], ◌∷◌, refl}
+use Rattle.std.proofs.Common.{List, ◌∷◌, refl}
 use mathlib.Core.Logic.{inl, inr}
 use Rattle.dialog.specs.Branches.{Pair}
 use Rattle.dialog.specs.Choice.{IsFirst, IsNone}

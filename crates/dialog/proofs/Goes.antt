@@ -1,13 +1,13 @@
 -- How reading goes on from part to part.
-use Rattle.std.proofs.Common.{◌≡◌, ◌≢◌, ◌⊎◌, ℕ, Bool, true, false, List, [], ◌∷◌, ◌++◌, ℤ, Option, Some, None, Result, Ok, Err, refl, sym, ap, ◌∙◌, append_assoc, append-nil, subst, arith}
+use Rattle.std.proofs.Common.{◌≡◌, ◌≢◌, ℕ, List, [], ◌∷◌, ◌++◌, ℤ, Option, Some, None, Result, Ok, Err, refl, sym, ap, ◌∙◌, append_assoc, append-nil, subst, arith}
 use mathlib.Core.Logic.{inl, inr}
 use Rattle.std.proofs.lemmas.Result.{err_from_is_err_and}
 use Rattle.std.specs.Prelude.{IfOk, IfErr, IfSome, IsErrAnd, length}
 use Rattle.acts.specs.declared.id.Id.{Id}
 use Rattle.dialog.specs.Branches.{Branches, branches}
 use Rattle.dialog.specs.Drafts.{Draft, blank, with_ids, with_seconds, with_flag, with_branch, GoesOn, Fails}
-use Rattle.dialog.specs.Parts.{Part, Wanted, Ids, Seconds, Stays, TellsPlaces, Folds, Awaits, AnyWord, Sign, Alone, alone_part, expected_by, sign, AList, ANumber, ABody, parts, parts_from}
-use Rattle.dialog.specs.Reads.{Place, Outcome, Flaw, HasIds, MissesIds, IsSeconds, Reads, later, beside, branch_at, branch_flaw, ids_for, in_front, at_end, named_at, named_or, no_flags, IsRead}
+use Rattle.dialog.specs.Parts.{Part, Wanted, Ids, Seconds, Awaits, Sign, Alone, alone_part, expected_by, sign, AList, ANumber, ABody, parts, parts_from}
+use Rattle.dialog.specs.Reads.{Place, Outcome, Flaw, HasIds, MissesIds, IsSeconds, later, beside, branch_at, branch_flaw, ids_for, in_front, at_end, named_at, named_or, IsRead}
 use Rattle.dialog.specs.Signs.{part_of}
 use Rattle.dialog.specs.declared.sign.Mark as marks
 use Rattle.dialog.specs.declared.sign.Mark.TheVariants as mark

@@ -1,5 +1,5 @@
 -- The pairs of ids that are not among some, one by one.
-use Rattle.std.proofs.Common.{◌≡◌, Bool, true, false, cond, not, List, [], ◌∷◌, ◌++◌, filter, refl, sym, ap, ◌∙◌, append_assoc}
+use Rattle.std.proofs.Common.{◌≡◌, Bool, true, false, cond, not, List, [], ◌∷◌, ◌++◌, refl, sym, ap, ◌∙◌, append_assoc}
 use Rattle.acts.specs.declared.id.Id.{Id}
 use Rattle.dialog.specs.Branches.{Pair}
 use Rattle.dialog.specs.Standing.{is_among, others}

@@ -1,9 +1,9 @@
 -- What a change of an open id of the definition is to its line.
-use Rattle.std.proofs.Common.{◌≡◌, ℕ, ◌==◌, ◌&&◌, Bool, true, false, List, [], ◌∷◌, ◌++◌, map, Option, Some, None, if◌then◌else◌, refl, sym, ap, ◌∙◌}
+use Rattle.std.proofs.Common.{◌≡◌, ◌==◌, ◌&&◌, Bool, true, false, List, [], ◌∷◌, map, Option, Some, if◌then◌else◌, refl, sym, ap, ◌∙◌}
 use Rattle.acts.specs.declared.id.Id.{Id}
 use Rattle.matchbuf.specs.Journal.{IsJournal}
-use Rattle.dialog.specs.Lines.{Line, line_of, at_line, without}
-use Rattle.dialog.specs.Peers.{Peer, opened, is_open_at, at_peer, shut, line, HaveJournals, FitsPeers}
+use Rattle.dialog.specs.Lines.{Line, line_of, at_line}
+use Rattle.dialog.specs.Peers.{Peer, opened, at_peer, line, HaveJournals, FitsPeers}
 
 -- a change leaves an id as open as it was, and with a journal, and is that change of its line
 pub record Keeps (g : Peer → Peer) (f : Line → Line) (p : Peer) : Type 0 where

@@ -1,5 +1,5 @@
 -- What the words of an expect have said so far.
-use Rattle.std.specs.Prelude.{◌≡◌, ℕ, true, List, [], ◌∷◌, ◌++◌, ℤ, Option, Some, None, Err, Vec}
+use Rattle.std.specs.Prelude.{◌≡◌, ℕ, true, List, [], ℤ, Option, Some, None, Err, Vec}
 use Rattle.acts.specs.declared.id.Id.{Id}
 use Rattle.dialog.specs.Branches.{Branches, branches}
 use Rattle.dialog.specs.Parts.{Part, Wanted, Seeks, Names}

@@ -1,5 +1,5 @@
 -- What contracts see of the table of open ids.
-use Rattle.std.specs.Prelude.{◌≡◌, ℕ, ◌+◌, ◌-◌, ◌/◌, ◌==◌, ◌^◌, not, nat_lt, nat_le, Bool, true, List, [], ◌∷◌, ◌++◌, length, filter, drop, sum_by, Option, Some, None, if◌then◌else◌}
+use Rattle.std.specs.Prelude.{◌≡◌, ℕ, ◌+◌, ◌-◌, ◌/◌, ◌==◌, ◌^◌, not, nat_lt, nat_le, Bool, List, [], ◌∷◌, ◌++◌, length, filter, drop, sum_by, Option, Some, None, if◌then◌else◌}
 use Rattle.std.specs.Option.{option_map}
 use Rattle.circular_buffer.specs.Buffer.{keep_last}
 use Rattle.acts.specs.declared.id.Id.{Id}

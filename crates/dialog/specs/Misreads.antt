@@ -1,5 +1,5 @@
 -- What the errors of the code stand for.
-use Rattle.std.specs.Prelude.{ℕ, List, Option, Some, None}
+use Rattle.std.specs.Prelude.{Option, Some, None}
 use Rattle.tcltext.specs.declared.pattern.error.PatternError.{PatternError}
 use Rattle.tcltext.specs.declared.pattern.error.PatternError.TheVariants as pattern
 use Rattle.dialog.specs.Reads as flaw

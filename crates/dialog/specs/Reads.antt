@@ -1,5 +1,5 @@
 -- Which branches the words of an expect say, or which error comes first in them.
-use Rattle.std.specs.Prelude.{◌≡◌, ◌≢◌, ◌⊎◌, ℕ, ◌<◌, ◌^◌, ◌||◌, nat_lt, Bool, true, false, IsTrue, List, [], ◌∷◌, ◌++◌, length, map, codes, ℤ, Option, Some, None, Result, Ok, Err, not, if◌then◌else◌}
+use Rattle.std.specs.Prelude.{◌≡◌, ◌≢◌, ◌⊎◌, ℕ, ◌<◌, ◌^◌, ◌||◌, nat_lt, Bool, true, false, IsTrue, List, [], ◌∷◌, ◌++◌, length, map, codes, ℤ, Option, Some, None, Result, Ok, Err, if◌then◌else◌}
 use Rattle.std.specs.List.{list_all}
 use Rattle.acts.specs.Id.{id_text}
 use Rattle.acts.specs.declared.id.Id.{Id}
@@ -9,7 +9,7 @@ use Rattle.tcltext.specs.Pattern.Glob.{glob, exact, folded}
 use Rattle.tcltext.specs.Pattern.Item.{Reading}
 use Rattle.dialog.specs.Branches.{Awaited, Sought, Branch, Pair, pair, Branches, branches}
 use Rattle.dialog.specs.Lines.{Line}
-use Rattle.dialog.specs.Parts.{Style, Glob, Exact, Wanted, Seeks, Names, Part, Ids, Seconds, Stays, TellsPlaces, Folds, Awaits, Lacks, Regex, Bad, parts}
+use Rattle.dialog.specs.Parts.{Glob, Exact, Wanted, Seeks, Names, Part, Ids, Seconds, Stays, TellsPlaces, Folds, Awaits, Lacks, Regex, Bad, parts}
 use Rattle.dialog.specs.Standing.{is_open_in}
 use Rattle.dialog.specs.declared.branch.Flags.{Flags}
 

@@ -1,6 +1,5 @@
 -- What a choice of the code is.
-use Rattle.std.specs.Prelude.{◌≡◌, ℕ, Bool, List, Option, Some, None}
-use Rattle.tcltext.specs.declared.pattern.search.Found.{Found}
+use Rattle.std.specs.Prelude.{◌≡◌, List, Option, Some, None}
 use Rattle.dialog.specs.Branches.{Pair}
 use Rattle.dialog.specs.Choice.{Chosen, Chooses, Taken, lines_after, peers_after, taken_of}
 use Rattle.dialog.specs.Lines.{Line}

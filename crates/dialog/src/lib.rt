@@ -11,6 +11,7 @@ mod entry;
 mod error;
 mod id_list;
 mod kind;
+pub mod laws;
 mod log_state;
 mod names;
 mod reading;
