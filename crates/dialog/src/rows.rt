@@ -1,5 +1,5 @@
 //! What a wait tells of the ids that it waits for.
-ghost use Rattle.std.specs.Prelude.{◌≡◌, ◌++◌, ◌∷◌, [], IfOk, OnOk};
+ghost use Rattle.std.specs.Prelude.{◌≡◌, ◌+◌, ◌<◌, ◌≤◌, ◌++◌, ◌∷◌, [], length, IfOk, OnOk, OnErr, vec_capacity};
 ghost use Rattle.std.specs.Option.{option_map};
 ghost use Rattle.dialog.specs.Lines.{line_of, row_of_line, row_anew, rows_of, rows_anew};
 
@@ -13,10 +13,24 @@ impl<A: Allocator> Table<A> {
         ensures { IfOk result (λ rows. rows.items ≡ rows_of self.now.lines ids.now) }
     {
         let mut rows = Vec::new(alloc);
-        for id in ids {
-            self.push_row(&mut rows, *id)?;
-        }
+        self.fill(&mut rows, ids)?;
         Ok(rows)
+    }
+
+    /// Puts what a wait tells of ids into a vector in place of what it holds, whose room is used
+    /// again.
+    ///
+    /// # Errors
+    /// `NoMemory`, only where the room was smaller than there are ids.
+    pub fn fill(&self, rows: &mut Vec<Row, A>, ids: &[Id]) -> Result<(), NoMemory>
+        ensures rows { OnOk result (rows.new.items ≡ rows_of self.now.lines ids.now) }
+        ensures refused { OnErr result (vec_capacity rows.old < length ids.now) }
+    {
+        rows.clear();
+        for id in ids {
+            self.push_row(rows, *id)?;
+        }
+        Ok(())
     }
 
     /// Writes rows anew, as the buffers are now; that of an id which is not open stays. No memory
@@ -31,8 +45,11 @@ impl<A: Allocator> Table<A> {
 
     /// Puts the row of an id behind others, where it is open.
     fn push_row(&self, rows: &mut Vec<Row, A>, id: Id) -> Result<(), NoMemory>
-        ensures { OnOk result (rows.new.items
+        ensures rows { OnOk result (rows.new.items
             ≡ rows.old.items ++ rows_of self.now.lines (id ∷ [])) }
+        ensures longer { OnOk result (length rows.new.items ≤ length rows.old.items + 1) }
+        ensures room { vec_capacity rows.old ≤ vec_capacity rows.new }
+        ensures refused { OnErr result (vec_capacity rows.old ≤ length rows.old.items) }
     {
         let Some(row) = self.row(id) else {
             return Ok(());

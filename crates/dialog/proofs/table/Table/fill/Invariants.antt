@@ -1,0 +1,9 @@
+use Rattle.std.proofs.Common.{◌≡◌, ◌≤◌, ◌++◌, drop, length, vec_capacity}
+use Rattle.dialog.specs.Lines.{rows_of}
+use Rattle.dialog.proofs.table.Table.fill.Given as goal
+
+-- the rows so far and those of the ids that are left; not more than the ids so far, in no less room
+abbrev pub invariant-loop-id : goal.invariant-loop-id
+invariant-loop-id g l =
+    (l.rows.items ++ rows_of l.self.lines (drop l.id-index l.ids) ≡ rows_of l.self.lines l.ids)
+    × (length l.rows.items ≤ l.id-index) × (vec_capacity l.fn.rows ≤ vec_capacity l.rows)
