@@ -14,7 +14,7 @@ use Rattle.state.specs.Dialogue.{Course, ask, is_no_more, stopping, written as a
 use Rattle.state.specs.Listed.{with_list}
 use Rattle.state.specs.Meant.{meant}
 use Rattle.state.specs.Outcome as stop
-use Rattle.state.specs.Outcome.{Stop}
+use Rattle.state.specs.Outcome.{Outcome, Stop}
 use Rattle.state.specs.Piece.{Piece, IsTree}
 use Rattle.state.specs.Rows.{Holds}
 use Rattle.state.specs.Status.{Status}
@@ -131,15 +131,18 @@ module _ (t had : ℕ) (s : Status) (le : s.left ≤ t) (paid : worth s ≤ had)
       Behaves t had (with_current s next)
   current_behaves next each = named_behaves _ next each
 
--- a course that behaves falls
-pub behaves_falls : (rank : Piece → ℕ) (last : Reply) (t r had : ℕ) (c : Course) →
-    Behaves t had c → Falls IsTree (λ (u : Status). u.left) rank last t r c
-behaves_falls rank last t r had (Ends left) behaves = behaves.0
-behaves_falls rank last t r had (Asks deed next) behaves =
-    behaves_falls rank last t r (had - 1) (next last) (behaves.2 last)
-behaves_falls rank last t r had (Reads text next) behaves =
-    λ tree is. behaves_falls rank last t r had (next tree) (behaves tree is)
-behaves_falls rank last t r had (Calls piece state next) behaves = absurd behaves
+-- a course that behaves falls, where the ticks that are left bound what remains behind it
+module _ (budget : Piece → Status → ℕ) (remains : Status → Outcome → ℕ) (rank : Piece → ℕ)
+    (last : Reply) (t most r : ℕ)
+    (within : (left : Status) (o : Outcome) → left.left ≤ t → remains left o ≤ most) where
+  pub behaves_falls : (had : ℕ) (c : Course) → Behaves t had c →
+      Falls IsTree budget remains rank last most r c
+  behaves_falls had (Ends left) behaves = within left.0 left.1 behaves.0
+  behaves_falls had (Asks deed next) behaves =
+      behaves_falls (had - 1) (next last) (behaves.2 last)
+  behaves_falls had (Reads text next) behaves =
+      λ tree is. behaves_falls had (next tree) (behaves tree is)
+  behaves_falls had (Calls piece state next) behaves = absurd behaves
 
 -- it pays for its acts
 pub behaves_pays : (price : Piece → Status → ℕ) (t had : ℕ) (c : Course) →

@@ -8,7 +8,8 @@ use Rattle.state.specs.Dialogue.{Course, inside, on_value, raises, tick, tick_of
 use Rattle.state.specs.Listed.{on_list, with_list}
 use Rattle.state.specs.Outcome.{Outcome, Gives, Leaves, Stops, Error, Return, Break, Continue, Again, AgainRunning}
 use Rattle.state.specs.Outcome as stop
-use Rattle.state.specs.Piece.{Script, Loop, ListText, LoopTree, ScriptTree, ScriptText, Text, Tree}
+use Rattle.dialog.specs.Standing.{Standing}
+use Rattle.state.specs.Piece.{Script, Loop, Turn, ListText, LoopTree, TurnTree, ScriptTree, ScriptText, Text, Tree}
 use Rattle.state.specs.Status.{Status}
 use Rattle.state.specs.Turn.{on_turn}
 use Rattle.state.specs.Variables.{reads, writes, found, stored, spelled, flaw_of_trouble, on_name, with_name}
@@ -17,7 +18,7 @@ use Rattle.tclstate.specs.Scopes.{Scopes, Trouble, read, written}
 use Rattle.tcltext.specs.Flaw as list
 
 -- P says from which states which courses are so: ends are, and so is what begins with a script, a
--- text that is read or a variable that is written, where all that may follow is
+-- text that is read, a variable that is written or pairs that stand, where all that may follow is
 pub record Closed (P : Status → Course → Type 0) : Type 0 where
   pub over : (s : Status) (o : Outcome) → P s (Ends (s, o))
   pub runs : (levels : ℕ) (tree : ScriptTree) (s : Status) (next : Status → Outcome → Course) →
@@ -26,6 +27,8 @@ pub record Closed (P : Status → Course → Type 0) : Type 0 where
       ((tree : Tree text) → P s (next tree)) → P s (Reads text next)
   pub writing : (scopes : Scopes) (s : Status) (course : Course) →
       P (record s { scopes = scopes }) course → P s course
+  pub standing : (standing : Standing) (s : Status) (course : Course) →
+      P (record s { ids = record s.ids { standing = standing } }) course → P s course
 
 -- what is Q behind a tick is P before it
 abbrev pub Ticks : (Status → Course → Type 0) → (Status → Course → Type 0) → Type 0
@@ -36,6 +39,10 @@ Ticks P Q =
 -- each loop is so
 abbrev pub Loops : (Status → Course → Type 0) → Type 0
 Loops P = (loop : LoopTree) (levels : ℕ) (s : Status) → P s (goes (Loop loop levels) s)
+
+-- each turn of expect is so
+abbrev pub Turns : (Status → Course → Type 0) → Type 0
+Turns P = (turn : TurnTree) (levels : ℕ) (s : Status) → P s (goes (Turn turn levels) s)
 
 module _ (P Q : Status → Course → Type 0) (over : (s : Status) (o : Outcome) → P s (Ends (s, o)))
     (ticks : Ticks P Q) where

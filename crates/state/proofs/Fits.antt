@@ -1,12 +1,11 @@
 -- The two states fit again where one part of both has changed.
-use Rattle.std.proofs.Common.{ℕ, List, Option, refl, ap}
-use Rattle.acts.specs.declared.id.Id.{Id}
-use Rattle.state.specs.Standing.{unpaired}
-use Rattle.state.specs.Status.{Peer, Status, closed, opened, shut}
-use Rattle.state.specs.Tables.{FitsAll}
-use Rattle.state.specs.View.{FitsState, IsNext}
+use Rattle.std.proofs.Common.{◌≡◌, ℕ, List, refl}
+use Rattle.dialog.specs.declared.log_state.LogState.{LogState}
+use Rattle.state.specs.Ids as definition
+use Rattle.state.specs.Status.{Status}
+use Rattle.state.specs.View.{FitsIds, FitsState}
+use Rattle.state.specs.declared.ids.Ids.{Ids}
 use Rattle.state.specs.declared.state.State.{State}
-use Rattle.state.specs.declared.table.Table.{Table}
 use Rattle.tclstate.specs.Procs.{Procs}
 use Rattle.tclstate.specs.Scopes.{Scopes}
 
@@ -17,11 +16,8 @@ module _ {A : Type 0} (state : State A) (s : Status) (fits : FitsState state s) 
   scopes_fit scopes = record {
     scopes = refl;
     procedures = fits.procedures;
-    peers = fits.peers;
-    standing = fits.standing;
-    logging = fits.logging;
-    size = fits.size;
-    next = fits.next;
+    ids = fits.ids;
+    log = fits.log;
     left = fits.left;
   }
 
@@ -31,55 +27,30 @@ module _ {A : Type 0} (state : State A) (s : Status) (fits : FitsState state s) 
   procedures_fit procs = record {
     scopes = fits.scopes;
     procedures = refl;
-    peers = fits.peers;
-    standing = fits.standing;
-    logging = fits.logging;
-    size = fits.size;
-    next = fits.next;
+    ids = fits.ids;
+    log = fits.log;
     left = fits.left;
   }
 
   -- the ids
-  pub peers_fit : (table : Table A) (peers : List Peer) →
-      FitsAll table.entries.items (opened peers) →
-      FitsState (record state { table = table }) (record s { peers = peers })
-  peers_fit table peers all = record {
+  pub ids_fit : (new : Ids A) (ids : definition.Ids) → FitsIds new ids →
+      FitsState (record state { ids = new }) (record s { ids = ids })
+  ids_fit new ids fit = record {
     scopes = fits.scopes;
     procedures = fits.procedures;
-    peers = all;
-    standing = fits.standing;
-    logging = fits.logging;
-    size = fits.size;
-    next = fits.next;
+    ids = fit;
+    log = fits.log;
     left = fits.left;
   }
 
-  -- the ids, of which one is closed
-  pub shut_fits : (table : Table A) (i : Id) →
-      FitsAll table.entries.items (opened (closed i s.peers)) →
-      FitsState (record state { table = table }) (shut i s)
-  shut_fits table i all = record {
+  -- where arrivals are written
+  pub log_fits : (log : LogState) →
+      FitsState (record state { log = log }) (record s { log = log })
+  log_fits log = record {
     scopes = fits.scopes;
     procedures = fits.procedures;
-    peers = all;
-    standing = ap (λ pairs. unpaired i pairs) fits.standing;
-    logging = fits.logging;
-    size = fits.size;
-    next = fits.next;
-    left = fits.left;
-  }
-
-  -- the number of the next id
-  pub next_fits : (next : Option ℕ) (m : ℕ) → IsNext next m →
-      FitsState (record state { next = next }) (record s { next = m })
-  next_fits next m is = record {
-    scopes = fits.scopes;
-    procedures = fits.procedures;
-    peers = fits.peers;
-    standing = fits.standing;
-    logging = fits.logging;
-    size = fits.size;
-    next = is;
+    ids = fits.ids;
+    log = refl;
     left = fits.left;
   }
 
@@ -88,11 +59,8 @@ module _ {A : Type 0} (state : State A) (s : Status) (fits : FitsState state s) 
   left_fits left = record {
     scopes = fits.scopes;
     procedures = fits.procedures;
-    peers = fits.peers;
-    standing = fits.standing;
-    logging = fits.logging;
-    size = fits.size;
-    next = fits.next;
+    ids = fits.ids;
+    log = fits.log;
     left = refl;
   }
 
@@ -101,10 +69,7 @@ module _ {A : Type 0} (state : State A) (s : Status) (fits : FitsState state s) 
   kept_fits kept = record {
     scopes = fits.scopes;
     procedures = fits.procedures;
-    peers = fits.peers;
-    standing = fits.standing;
-    logging = fits.logging;
-    size = fits.size;
-    next = fits.next;
+    ids = fits.ids;
+    log = fits.log;
     left = fits.left;
   }

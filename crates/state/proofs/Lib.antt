@@ -1,9 +1,8 @@
 pub mod Lists
-pub mod Tables
-pub mod Places
-pub mod Spelled
 pub mod Stored
 pub mod Behaves
+pub mod Proceeding
+pub mod FitIds
 pub mod Fits
 pub mod Reaches
 pub mod Closed

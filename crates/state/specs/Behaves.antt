@@ -5,17 +5,19 @@ use Rattle.plan.specs.Plan.{Ends, Asks, Reads, Calls}
 use Rattle.state.specs.Dialogue.{Course}
 use Rattle.state.specs.Piece.{Tree, IsTree}
 use Rattle.state.specs.Rows.{Holds}
-use Rattle.state.specs.Status.{Status, opened}
+use Rattle.dialog.specs.Peers.{opened}
+use Rattle.state.specs.Status.{Status}
 
 -- an open log is closed by one act
 abbrev pub closing_of_log : Bool → ℕ
 closing_of_log true = 1
 closing_of_log false = 0
 
--- the acts that a state can still pay for: three for each tick, and one to close each id and the
--- log
+-- the acts that a state can still pay for: four for each tick, which are those of a program that is
+-- started (its echo on standard output and in the log, the start, the close), and one to close each
+-- id and the log
 abbrev pub worth : Status → ℕ
-worth s = 3 * s.left + length (opened s.peers) + closing_of_log s.logging.is_open
+worth s = 4 * s.left + length (opened s.ids.peers) + closing_of_log s.log.logging
 
 -- it runs no script, leaves so many ticks at most, pays for its acts out of what it had and leaves
 -- a state that is worth no more than the rest, and each of its waits holds

@@ -1,5 +1,5 @@
 pub mod Outcome
-pub mod Standing
+pub mod Ids
 pub mod Status
 pub mod Piece
 pub mod Dialogue
@@ -9,12 +9,14 @@ pub mod Meant
 pub mod Variables
 pub mod Channels
 pub mod Rows
-pub mod Tables
+pub mod Placed
 pub mod View
 pub mod Leaf
 pub mod NoWaits
 pub mod Nesting
 pub mod Behaves
+pub mod Budget
+pub mod Proceeds
 pub mod Arguments
 pub mod Stores
 pub mod Faults

@@ -1,15 +1,14 @@
 -- The variables of a script, as commands read and write them.
 use Rattle.std.specs.Prelude.{ℕ, ℤ, List, [], ◌∷◌, ◌++◌, codes, Option, Some, None, Result, Ok, Err, if◌then◌else◌}
-use Rattle.std.specs.Str.{bytes_eq}
 use Rattle.acts.specs.declared.id.Id.{Id}
 use Rattle.acts.specs.Flaw.{Flaw}
 use Rattle.acts.specs.Flaw as flaw
-use Rattle.acts.specs.Id.{id_text}
+use Rattle.dialog.specs.Channels.{named}
 use Rattle.tcltext.specs.Numbers.{numeral, is_in_range}
 use Rattle.tclparse.specs.Variable as variable
 use Rattle.tclstate.specs.Scopes.{Scopes, Trouble, NoVariable, IsArray, NotArray, NoElement, read, read_global, written}
 use Rattle.state.specs.Dialogue.{Course, raises}
-use Rattle.state.specs.Status.{Peer, Status, opened}
+use Rattle.state.specs.Status.{Status, lines}
 
 -- a name as a script asks for it: `a`, or `a(i)` (Tcl(n), rule 8)
 abbrev pub spelled : List ℕ → Option (List ℕ) → List ℕ
@@ -63,11 +62,6 @@ first_of (Err trouble) (Err other) = None
 abbrev pub consulted : Scopes → List ℕ → Option (List ℕ)
 consulted scopes name = first_of (read scopes name None) (read_global scopes name None)
 
--- the open id that a text spells (expect(1), spawn)
-abbrev pub named : List Peer → List ℕ → Option Id
-named [] text = None
-named (p ∷ ps) text = if bytes_eq text (id_text p.id.0) then Some p.id else named ps text
-
 -- on with the open id that the text spells; an id that is not open is named as it stands
 abbrev pub on_open : Option Id → List ℕ → Status → (Id → Course) → Course
 on_open None text s next = raises (flaw.NotOpen (Some text)) s
@@ -76,7 +70,7 @@ on_open (Some id) text s next = next id
 -- on with the open id that a variable names, where it is set (expect(1), spawn)
 abbrev pub on_named : Option (List ℕ) → Status → (Id → Course) → Course
 on_named None s next = raises (flaw.NotOpen None) s
-on_named (Some text) s next = on_open (named (opened s.peers) text) text s next
+on_named (Some text) s next = on_open (named (lines s) text) text s next
 
 -- on with the id in force, which the variable spawn_id names (expect(1), spawn)
 abbrev pub with_current : Status → (Id → Course) → Course

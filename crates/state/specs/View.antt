@@ -1,8 +1,13 @@
 -- How the state of the code stands to that of the definition.
-use Rattle.std.specs.Prelude.{◌≡◌, ℕ, ◌≤◌, ◌<◌, ◌^◌, List, Option, Some, None, Result, Ok, Err, true, false}
+use Rattle.std.specs.Prelude.{◌≡◌, ℕ, ◌≤◌, ◌<◌, ◌^◌, List, [], ◌∷◌, map, Option, Some, None, Result, Ok, Err, true}
 use Rattle.acts.specs.declared.fault.Fault.{Fault}
+use Rattle.acts.specs.declared.id.Id.{Id}
 use Rattle.acts.specs.Flaw.{flaw_of, text_of}
-use Rattle.state.specs.declared.outcome.Code as coded
+use Rattle.dialog.specs.Peers.{Peer, FitsPeers, opened}
+use Rattle.dialog.specs.Standing.{standing}
+use Rattle.dialog.specs.Views.{kind_of}
+use Rattle.dialog.specs.declared.kind.Kind as kinds
+use Rattle.state.specs.declared.outcome.Code as codes
 use Rattle.state.specs.declared.outcome.Code.TheVariants as code
 use Rattle.state.specs.declared.outcome.Stop as halted
 use Rattle.state.specs.declared.outcome.Stop.TheVariants as halt
@@ -11,12 +16,13 @@ use Rattle.state.specs.declared.outcome.Leave.TheVariants as leave
 use Rattle.state.specs.declared.state.State.{State}
 use Rattle.state.specs.Outcome.{Code, Error, Return, Break, Continue, Again, AgainRunning, Stop, Outcome, Gives, Leaves, Stops}
 use Rattle.state.specs.Outcome as stop
-use Rattle.state.specs.Standing.{no_standing}
-use Rattle.state.specs.Status.{Logging, Status, opened}
-use Rattle.state.specs.Tables.{FitsAll}
+use Rattle.state.specs.Ids.{Ids, Unreaped, unreaped, without_id}
+use Rattle.state.specs.Status.{Status}
+use Rattle.state.specs.declared.ids.Ids as coded
+use Rattle.state.specs.declared.ids.Unreaped as reapable
 
 -- the code that one of the code's stands for (Tcl(n), return codes)
-abbrev pub code_of : coded.Code → Code
+abbrev pub code_of : codes.Code → Code
 code_of code.Error = Error
 code_of code.Return = Return
 code_of code.Break = Break
@@ -42,23 +48,52 @@ outcome_of (Err (leave.Stopped stop)) = Stops (stop_of stop)
 abbrev pub raised : {A : Type 0} → Fault A → Outcome
 raised fault = Leaves Error (text_of (flaw_of fault))
 
+-- an id that may be waited for by its parts
+abbrev pub unreaped_by : Id → kinds.Kind → reapable.Unreaped
+unreaped_by i kind = record { id = i; kind = kind }
+
+-- an id that may be waited for, as the code says it
+abbrev pub unreaped_of : reapable.Unreaped → Unreaped
+unreaped_of u = record { id = u.id; kind = kind_of u.kind }
+
 -- the next number, where one below 2^64 is left
 abbrev pub IsNext : Option ℕ → ℕ → Type 0
 IsNext (Some n) m = (n ≡ m) × (n < 2 ^ 64)
 IsNext None m = 2 ^ 64 ≤ m
 
--- arrivals are shown, and no log is open (expect(1), log_user)
-abbrev pub plain_logging : Logging
-plain_logging = record { shows = true; is_open = false; takes_all = false }
+-- the ids of the code are those of the definition, with what is set for later ones
+pub record FitsIds {A : Type 0} (code : coded.Ids A) (ids : Ids) : Type 0 where
+  pub peers : FitsPeers code.table.lines ids.peers
+  pub unreaped : map unreaped_of code.unreaped.items ≡ unreaped ids.peers
+  pub standing : ids.standing ≡ code.standing
+  pub size : ids.size ≡ code.size.bytes
+  pub drops_nulls : ids.drops_nulls ≡ code.drops_nulls
+  pub next : IsNext code.table.next ids.next
 
--- the state of the code holds what that of the definition says; no pairs stand, and the log
--- settings and the size of later buffers are those of the start
+-- no id is there, and nothing is set: buffers hold 2,000 bytes, nulls are removed, and the first
+-- number is 4 (expect(1), spawn, match_max and remove_nulls)
+abbrev pub no_ids : Ids
+no_ids = record {
+  peers = [];
+  standing = standing [] [];
+  size = 2000;
+  drops_nulls = true;
+  next = 4;
+}
+
+-- the id that was opened first is closed
+pub record FirstCloses {A : Type 0} (id : Id) (code : coded.Ids A) (ids : Ids) : Type 0 where
+  pub peer : Peer
+  pub others : List Peer
+  pub split : opened ids.peers ≡ peer ∷ others
+  pub same : peer.id ≡ id
+  pub rest : opened (without_id id ids).peers ≡ others
+  pub fits : FitsIds code (without_id id ids)
+
+-- the state of the code holds what that of the definition says
 pub record FitsState {A : Type 0} (state : State A) (s : Status) : Type 0 where
   pub scopes : s.scopes ≡ state.scopes
   pub procedures : s.procedures ≡ state.procs
-  pub peers : FitsAll state.table.entries.items (opened s.peers)
-  pub standing : s.standing ≡ no_standing
-  pub logging : s.logging ≡ plain_logging
-  pub size : s.size ≡ 2000
-  pub next : IsNext state.next s.next
+  pub ids : FitsIds state.ids s.ids
+  pub log : s.log ≡ state.log
   pub left : s.left ≡ state.left

@@ -3,15 +3,17 @@
 
 pub mod arguments;
 pub mod faults;
+pub mod ids;
 pub mod leaf;
 pub mod nesting;
 pub mod outcome;
+pub mod size;
 pub mod state;
-pub mod table;
 pub mod variables;
 
+pub use ids::{Ids, Unreaped};
 pub use leaf::{Leaf, NoWaits};
 pub use nesting::Nesting;
 pub use outcome::{Code, Leave, Outcome, Stop};
+pub use size::Size;
 pub use state::State;
-pub use table::{Kind, Selection, Table};

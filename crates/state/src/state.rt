@@ -1,6 +1,7 @@
 //! What a run keeps between acts.
 
-use crate::table::Table;
+use crate::ids::Ids;
+use dialog::LogState;
 use kept::Kept;
 use std::alloc::Allocator;
 use tclstate::{Procs, Scopes};
@@ -12,10 +13,10 @@ pub struct State<A: Allocator> {
     pub scopes: Scopes<A>,
     /// The procedures.
     pub procs: Procs<A>,
-    /// The open ids with their match buffers.
-    pub table: Table<A>,
-    /// The number of the next id, where one is left.
-    pub next: Option<u64>,
+    /// The spawn ids.
+    pub ids: Ids<A>,
+    /// Where arrivals are written.
+    pub log: LogState,
     /// The ticks that are left.
     pub left: u64,
     /// The trees of the scripts that ran last within others, which say nothing that their texts do

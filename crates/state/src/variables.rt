@@ -110,7 +110,7 @@ pub fn current_id<A: Allocator + Copy, W: Drop>(
     let Some(text) = consulted(state, SPAWN_ID) else {
         return Ok(Err(raises(alloc, &Fault::NotOpen(None))?));
     };
-    if let Some(id) = state.table.named(text.as_slice()) {
+    if let Some(id) = state.ids.table.named(text.as_slice()) {
         return Ok(Ok(id));
     }
     let name = Vec::from_slice(alloc, text.as_slice())?;

@@ -28,11 +28,8 @@ module _ {A : Type 0} (state : State A) (s : Status) (fits : FitsState state s) 
   still_fits new same = record {
     scopes = fits.scopes ∙ sym same;
     procedures = fits.procedures;
-    peers = fits.peers;
-    standing = fits.standing;
-    logging = fits.logging;
-    size = fits.size;
-    next = fits.next;
+    ids = fits.ids;
+    log = fits.log;
     left = fits.left;
   }
 

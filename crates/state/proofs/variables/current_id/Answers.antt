@@ -1,7 +1,8 @@
 use Rattle.std.proofs.Common.{◌≡◌, Some, None, refl, sym, ap, ◌∙◌, option_copied, codes}
 use Rattle.acts.specs.Flaw as flaw
-use Rattle.state.specs.Status.{opened}
-use Rattle.state.specs.Variables.{consulted, named}
+use Rattle.dialog.specs.Channels.{named}
+use Rattle.state.specs.Status.{lines}
+use Rattle.state.specs.Variables.{consulted}
 use Rattle.state.proofs.variables.current_id.Goals as goal
 
 pub returns-in_default : goal.returns-in_default
@@ -17,8 +18,8 @@ returns g c = λ s fits.
     ap (λ scopes. consulted scopes (codes "spawn_id")) fits.scopes ∙ sym c.consulted.ensures
     ∙ ap option_copied c.in-Some.is in
     let text : c.as_slice.result.now ≡ c.in-Some.text.now = c.as_slice.ensures in
-    let shut : named (opened s.peers) c.in-Some.text.now ≡ None =
-    rw text at (sym (c.named.ensures (opened s.peers) fits.peers) ∙ c.in_default-named.is) in
+    let shut : named (lines s) c.in-Some.text.now ≡ None =
+    rw (text, ← fits.ids.peers.lines) at (sym c.named.ensures ∙ c.in_default-named.is) in
     let bytes : c.in_ok-name.name.items ≡ c.in-Some.text.now =
     c.in_ok-name.ensures.items ∙ c.as_slice-2.ensures in (
       flaw.NotOpen (Some c.in-Some.text.now),
