@@ -1,2 +1,6 @@
 pub mod Text
+pub mod SendUser
+pub mod SendLog
 pub mod SendError
+pub mod LogUser
+pub mod LogFile

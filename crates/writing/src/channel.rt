@@ -20,6 +20,8 @@ use std::alloc::Allocator;
 pub enum Waits {
     /// The text is written, and the command is over.
     Written,
+    /// The text is written to standard output, and goes to the log where one is open.
+    Told,
 }
 
 /// Where a text is written to.
@@ -27,6 +29,7 @@ pub enum Waits {
 pub enum Channel {
     Output,
     Errors,
+    Log,
 }
 
 /// Begins to write bytes to a channel; where there are none, nothing is written.
@@ -44,9 +47,32 @@ pub fn write<A: Allocator + Copy>(
     Leaf::Asks(write_to(channel, bytes), Waits::Written)
 }
 
+/// Begins to write bytes to the log, where one is open.
+pub fn note<A: Allocator + Copy>(state: &State<A>, bytes: Vec<u8, A>) -> Leaf<A, Waits>
+    ensures { (s : Status) → FitsState state.now s →
+        Shows next_of result state.now (definition.note bytes.items s) }
+{
+    if state.log.logging {
+        write(state, Channel::Log, bytes)
+    } else {
+        empty()
+    }
+}
+
+/// Begins to write bytes to standard output, and then to the log where one is open.
+pub fn tell<A: Allocator + Copy>(state: &State<A>, bytes: Vec<u8, A>) -> Leaf<A, Waits>
+    ensures { (s : Status) → FitsState state.now s →
+        Shows next_of result state.now (definition.tell bytes.items s) }
+{
+    if bytes.is_empty() {
+        return empty();
+    }
+    Leaf::Asks(Act::Out(bytes), Waits::Told)
+}
+
 /// Goes on with the answer to the write.
 pub fn answered<A: Allocator + Copy>(
-    _alloc: A,
+    alloc: A,
     state: &mut State<A>,
     act: Act<A>,
     waits: Waits,
@@ -58,7 +84,33 @@ pub fn answered<A: Allocator + Copy>(
 {
     match answer {
         Answer::Failed(_) => Ok(stops(Stop::WriterFailed)),
-        _ => Ok(empty()),
+        _ => Ok(after_write(alloc, state, act, waits)),
+    }
+}
+
+/// Goes on after a write.
+fn after_write<A: Allocator + Copy>(
+    alloc: A,
+    state: &State<A>,
+    act: Act<A>,
+    waits: Waits,
+) -> Leaf<A, Waits>
+    ensures { (s : Status) → FitsState state.now s → Shows next_of result state.now
+        (definition.after_write waits (deed_of act) s) }
+{
+    match waits {
+        Waits::Written => empty(),
+        Waits::Told => note(state, bytes_told(alloc, act)),
+    }
+}
+
+/// The bytes that an act writes to standard output.
+fn bytes_told<A: Allocator>(alloc: A, act: Act<A>) -> Vec<u8, A>
+    ensures { result.items ≡ definition.bytes_told (deed_of act) }
+{
+    match act {
+        Act::Out(bytes) => bytes,
+        _ => Vec::new(alloc),
     }
 }
 
@@ -69,5 +121,6 @@ fn write_to<A: Allocator>(channel: Channel, bytes: Vec<u8, A>) -> Act<A>
     match channel {
         Channel::Output => Act::Out(bytes),
         Channel::Errors => Act::Err(bytes),
+        Channel::Log => Act::Log(bytes),
     }
 }

@@ -5,8 +5,8 @@ ghost use Rattle.writing.specs.Puts.{puts};
 ghost use Rattle.state.specs.Behaves.{Behaves, worth};
 ghost use Rattle.state.specs.Status.{Status};
 
-/// `puts` runs no script, uses up no tick, and makes its act out of three.
+/// `puts` runs no script, uses up no tick, and makes its act out of four.
 #[tactic(auto, using(crate::proofs::Behaves::puts_behaves))]
 pub fn puts_behaves()
-    ensures { (args : List (List ℕ)) (s : Status) → Behaves s.left (worth s + 3) (puts args s) }
+    ensures { (args : List (List ℕ)) (s : Status) → Behaves s.left (worth s + 4) (puts args s) }
 {}
