@@ -1,8 +1,9 @@
-pub mod Taken
 pub mod Ports
+pub mod Opened
+pub mod Words
+pub mod Answered
 pub mod Behaves
 pub mod SpawnBehaves
 pub mod SendBehaves
-pub mod Launches
 pub mod SleepBehaves
 pub mod SocketBehaves

@@ -1,6 +1,8 @@
 pub mod View
 pub mod Numbers
 pub mod Socket
+pub mod Launch
 pub mod Spawn
 pub mod Send
+pub mod Targets
 pub mod Sleep

@@ -1,13 +1,15 @@
 -- What send does.
-use Rattle.std.specs.Prelude.{ℕ, List, [], ◌∷◌, codes, if◌then◌else◌}
+use Rattle.std.specs.Prelude.{ℕ, Bool, List, [], ◌∷◌, codes, Option, Some, None, if◌then◌else◌}
+use Rattle.std.specs.Str.{bytes_eq}
 use Rattle.acts.specs.declared.id.Id.{Id}
 use Rattle.acts.specs.Deed.{Deed, Reply}
 use Rattle.acts.specs.Deed as said
 use Rattle.acts.specs.Flaw as flaw
+use Rattle.dialog.specs.Channels.{named}
 use Rattle.state.specs.Arguments.{begins_with_dash}
 use Rattle.state.specs.Dialogue.{Course, gives, raises, ask}
-use Rattle.state.specs.Status.{Status}
-use Rattle.state.specs.Variables.{with_current}
+use Rattle.state.specs.Status.{Status, lines}
+use Rattle.state.specs.Variables.{on_open, with_current}
 use Rattle.processes.specs.declared.send.Waits.{Waits}
 use Rattle.processes.specs.declared.send.Waits.TheVariants as waits
 
@@ -25,16 +27,40 @@ sends (b ∷ bs) s i = ask (said.Send i (b ∷ bs)) s (sent i)
 abbrev pub wrong_words : Status → Course
 wrong_words s = raises (flaw.WrongArgs (codes "send")) s
 
--- a text that stands alone is sent to the id in force (expect(1), send)
-abbrev pub sends_alone : List ℕ → List (List ℕ) → Status → Course
-sends_alone t [] s = with_current s (sends t s)
-sends_alone t (w ∷ ws) s = wrong_words s
+-- on with the open id of a name, or where there is none with the id in force (expect(1), send)
+abbrev pub with_target : Option (List ℕ) → Status → (Id → Course) → Course
+with_target None s next = with_current s next
+with_target (Some name) s next = on_open (named (lines s) name) name s next
 
--- send t; a text that begins with a dash would be a flag (expect(1), send)
+-- a text that stands alone is sent (expect(1), send)
+abbrev pub sends_alone : Option (List ℕ) → List (List ℕ) → Status → Course
+sends_alone to (t ∷ []) s = with_target to s (sends t s)
+sends_alone to _ s = wrong_words s
+
+-- the flag behind which an id stands (expect(1), send)
+abbrev pub is_id_flag : List ℕ → Bool
+is_id_flag w = bytes_eq w (codes "-i")
+
+-- the flag behind which the text stands, though it begin with a dash (expect(1), send)
+abbrev pub ends_flags : List ℕ → Bool
+ends_flags w = bytes_eq w (codes "--")
+
+-- the text, behind the flag that ends the flags where it is there; else no text begins with a dash,
+-- and no second id is named (expect(1), send)
+abbrev pub sends_text : Option (List ℕ) → List (List ℕ) → Status → Course
+sends_text to [] s = wrong_words s
+sends_text to (w ∷ ws) s =
+    if ends_flags w then sends_alone to ws s
+    else if is_id_flag w then wrong_words s
+    else if begins_with_dash w then raises (flaw.BadFlag w) s
+    else sends_alone to (w ∷ ws) s
+
+-- send ?-i id? ?--? t (expect(1), send)
 abbrev pub send : List (List ℕ) → Status → Course
 send [] s = wrong_words s
-send (t ∷ ts) s =
-    if begins_with_dash t then raises (flaw.BadFlag t) s else sends_alone t ts s
+send (w ∷ []) s = sends_text None (w ∷ []) s
+send (w ∷ v ∷ vs) s =
+    if is_id_flag w then sends_text (Some v) vs s else sends_text None (w ∷ v ∷ vs) s
 
 -- what follows the answer to its act (expect(1), send)
 abbrev pub next_of : Waits → Deed → Status → Reply → Course

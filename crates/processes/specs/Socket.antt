@@ -5,23 +5,24 @@ use Rattle.acts.specs.Deed.{Deed, Reply}
 use Rattle.acts.specs.Deed as said
 use Rattle.acts.specs.Flaw.{Flaw}
 use Rattle.acts.specs.Flaw as flaw
-use Rattle.state.specs.Channels.{channel_text}
+use Rattle.dialog.specs.Channels.{channel_text}
+use Rattle.dialog.specs.Kinds.{Socket}
 use Rattle.state.specs.Dialogue.{Course, gives, raises, ask}
-use Rattle.state.specs.Status.{Socket, Status}
+use Rattle.state.specs.Status.{Status}
 use Rattle.state.specs.Variables.{whole_of}
-use Rattle.processes.specs.Numbers.{with_next, opens}
+use Rattle.processes.specs.Numbers.{with_next, opens, refused}
 use Rattle.processes.specs.declared.socket.Waits.{Waits}
 
 -- what an answer to a call of a server comes to: the connection is open, and its channel is given
 -- (socket(n))
-abbrev pub connected : Id → Flaw → Status → Reply → Course
-connected i refused s said.Done = gives (channel_text i.0) (opens i Socket s)
-connected i refused s _ = raises refused s
+abbrev pub connected : Flaw → Status → Reply → Course
+connected why s said.Done = opens Socket s (λ i. gives (channel_text i.0))
+connected why s _ = raises why (refused s)
 
 -- a server is called under the next number (socket(n))
-abbrev pub connects : List ℕ → ℕ → Id → Status → Course
-connects host port i s =
-    ask (said.Connect i host port) s (connected i (flaw.CannotConnect host port))
+abbrev pub connects : List ℕ → ℕ → Status → Id → Course
+connects host port s i =
+    ask (said.Connect i host port) s (connected (flaw.CannotConnect host port))
 
 -- a number is that of a port (socket(n))
 abbrev pub is_port : ℕ → Bool
@@ -34,7 +35,7 @@ wrong_port word s = raises (flaw.BadArgument word (codes "socket")) s
 -- a server is called at the port of a number (socket(n))
 abbrev pub at_port : ℤ → List ℕ → List ℕ → Status → Course
 at_port (pos port) host word s =
-    if is_port port then with_next s (connects host port) else wrong_port word s
+    if is_port port then with_next s (connects host port s) else wrong_port word s
 at_port (negsuc n) host word s = wrong_port word s
 
 -- a server is called at the port that a word says, where it is a number (socket(n))
@@ -54,4 +55,4 @@ refusal_of _ = flaw.CannotConnect [] 0
 
 -- what follows the answer to its act (socket(n))
 abbrev pub next_of : Waits → Deed → Status → Reply → Course
-next_of waits deed = connected waits.id (refusal_of deed)
+next_of waits deed = connected (refusal_of deed)

@@ -1,6 +1,7 @@
 //! The commands that start programs and call servers, write to them, and let time pass.
 #![tactic(auto)]
 
+mod launch;
 pub mod laws;
 mod numbers;
 pub mod send;

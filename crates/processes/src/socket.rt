@@ -4,30 +4,32 @@
 ghost use Rattle.std.specs.Prelude.{◌≡◌, ◌≤◌, pos, IfOk};
 ghost use Rattle.acts.specs.Deed.{deed_of, reply_of};
 ghost use Rattle.acts.specs.Flaw.{text_of};
+ghost use Rattle.dialog.specs.Channels.{channel_text};
+ghost use Rattle.dialog.specs.Kinds as kind;
 ghost use Rattle.processes.specs.Numbers as numbers;
 ghost use Rattle.processes.specs.Socket as definition;
-ghost use Rattle.state.specs.Channels.{channel_text};
 ghost use Rattle.state.specs.Dialogue.{gives};
 ghost use Rattle.state.specs.Leaf.{HasOutcome, Shows};
 ghost use Rattle.state.specs.Outcome.{Leaves, Error};
-ghost use Rattle.state.specs.Status as kind;
 ghost use Rattle.state.specs.Status.{Status};
 ghost use Rattle.state.specs.Variables.{whole_of};
 ghost use Rattle.state.specs.View.{FitsState};
 
-use crate::numbers::take_number;
+use crate::numbers::{next_id, open_next};
 use acts::decimal::push_decimal;
-use acts::{Act, Answer, Fault, Id, NoMemory};
+use acts::{Act, Answer, Fault, NoMemory};
+use dialog::Kind;
 use state::arguments::{bad_argument, whole_number, wrong_args};
 use state::leaf::{gives, raises};
-use state::{Kind, Leaf, State};
+use state::{Leaf, State};
 use std::alloc::Allocator;
 use tcltext::Value;
 
-/// What waits for the answer to the call of a server: the id that is open then.
+/// What waits for the answer to an act.
 #[derive(Clone, Copy, Debug, PartialEq, Eq)]
-pub struct Waits {
-    pub id: Id,
+pub enum Waits {
+    /// The server is reached, and the id of the connection is opened.
+    Connected,
 }
 
 /// Begins to call a server.
@@ -60,22 +62,24 @@ pub fn answered<A: Allocator + Copy>(
     ensures left { state.new.left ≤ state.old.left }
 {
     match answer {
-        Answer::Done => connected(alloc, state, waits.id),
-        _ => cannot_connect(alloc, act),
+        Answer::Done => connected(alloc, state),
+        _ => {
+            state.ids.skip();
+            cannot_connect(alloc, act)
+        }
     }
 }
 
 /// Calls a server at the port that a word says.
 fn call_by<A: Allocator + Copy>(
     alloc: A,
-    state: &mut State<A>,
+    state: &State<A>,
     host: &[u8],
     word: &[u8],
 ) -> Result<Leaf<A, Waits>, NoMemory>
-    ensures shows { (s : Status) → FitsState state.old s → IfOk result (λ leaf.
-        Shows definition.next_of leaf state.new
+    ensures { (s : Status) → FitsState state.now s → IfOk result (λ leaf.
+        Shows definition.next_of leaf state.now
         (definition.on_port (whole_of word.now) host.now word.now s)) }
-    ensures left { state.new.left ≡ state.old.left }
 {
     match whole_number(word) {
         Some(number) => call_at(alloc, state, host, number, word),
@@ -86,15 +90,14 @@ fn call_by<A: Allocator + Copy>(
 /// Calls a server at the port of a number, where it is from 1 to 65,535.
 fn call_at<A: Allocator + Copy>(
     alloc: A,
-    state: &mut State<A>,
+    state: &State<A>,
     host: &[u8],
     number: i64,
     word: &[u8],
 ) -> Result<Leaf<A, Waits>, NoMemory>
-    ensures shows { (s : Status) → FitsState state.old s → IfOk result (λ leaf.
-        Shows definition.next_of leaf state.new
+    ensures { (s : Status) → FitsState state.now s → IfOk result (λ leaf.
+        Shows definition.next_of leaf state.now
         (definition.at_port number host.now word.now s)) }
-    ensures left { state.new.left ≡ state.old.left }
 {
     match u16::try_from(number) {
         Ok(port) => call_port(alloc, state, host, port, word),
@@ -105,15 +108,14 @@ fn call_at<A: Allocator + Copy>(
 /// Calls a server at a number of 16 bits, which is a port unless it is 0.
 fn call_port<A: Allocator + Copy>(
     alloc: A,
-    state: &mut State<A>,
+    state: &State<A>,
     host: &[u8],
     port: u16,
     word: &[u8],
 ) -> Result<Leaf<A, Waits>, NoMemory>
-    ensures shows { (s : Status) → FitsState state.old s → IfOk result (λ leaf.
-        Shows definition.next_of leaf state.new
+    ensures { (s : Status) → FitsState state.now s → IfOk result (λ leaf.
+        Shows definition.next_of leaf state.now
         (definition.at_port (pos port) host.now word.now s)) }
-    ensures left { state.new.left ≡ state.old.left }
 {
     if port == 0 {
         return bad_argument(alloc, word, b"socket");
@@ -124,40 +126,39 @@ fn call_port<A: Allocator + Copy>(
 /// Calls a server under the next number, where one is left and not too many ids are open.
 fn call<A: Allocator + Copy>(
     alloc: A,
-    state: &mut State<A>,
+    state: &State<A>,
     host: &[u8],
     port: u16,
 ) -> Result<Leaf<A, Waits>, NoMemory>
-    ensures shows { (s : Status) → FitsState state.old s → IfOk result (λ leaf.
-        Shows definition.next_of leaf state.new
-        (numbers.with_next s (definition.connects host.now port))) }
-    ensures left { state.new.left ≡ state.old.left }
+    ensures { (s : Status) → FitsState state.now s → IfOk result (λ leaf.
+        Shows definition.next_of leaf state.now
+        (numbers.with_next s (definition.connects host.now port s))) }
 {
-    match take_number(alloc, state)? {
-        Ok(id) => {
-            let name = Vec::from_slice(alloc, host)?;
-            Ok(Leaf::Asks(Act::Connect(id, name, port), Waits { id }))
-        }
-        Err(leaf) => Ok(leaf),
-    }
+    let id = match next_id(alloc, state)? {
+        Ok(id) => id,
+        Err(leaf) => return Ok(leaf),
+    };
+    let name = Vec::from_slice(alloc, host)?;
+    Ok(Leaf::Asks(Act::Connect(id, name, port), Waits::Connected))
 }
 
 /// Opens the id of a connection, and gives its channel.
 fn connected<A: Allocator + Copy>(
     alloc: A,
     state: &mut State<A>,
-    id: Id,
 ) -> Result<Leaf<A, Waits>, NoMemory>
     ensures shows { (s : Status) → FitsState state.old s → IfOk result (λ leaf.
         Shows definition.next_of leaf state.new
-        (gives (channel_text id.0) (numbers.opens id kind.Socket s))) }
+        (numbers.opens kind.Socket s (λ i. gives (channel_text i.0)))) }
     ensures left { state.new.left ≡ state.old.left }
 {
+    let id = match open_next(alloc, state, Kind::Socket)? {
+        Ok(id) => id,
+        Err(leaf) => return Ok(leaf),
+    };
     let mut text = Vec::from_slice(alloc, b"sock")?;
     push_decimal(&mut text, id.0)?;
-    let channel = Value::new(alloc, text)?;
-    state.table.open(alloc, id, Kind::Socket)?;
-    Ok(gives(channel))
+    Ok(gives(Value::new(alloc, text)?))
 }
 
 /// The error of a server that could not be reached.

@@ -1,39 +1,39 @@
-//! `spawn ?-noecho? word ..` (expect(1), spawn).
+//! `spawn ?-noecho? word ..`, `spawn ?-noecho? -open channel` (expect(1), spawn).
 #![tactic(auto, using(state::proofs::Reaches::same_reaches))]
 
-ghost use Rattle.std.specs.Prelude.{◌≡◌, ◌∷◌, ◌≤◌, ℕ, List, IfOk};
+ghost use Rattle.std.specs.Prelude.{◌≡◌, ◌≤◌, IfOk, codes};
 ghost use Rattle.acts.specs.Deed.{deed_of, reply_of};
-ghost use Rattle.acts.specs.Flaw as flaw;
-ghost use Rattle.acts.specs.Flaw.{text_of};
-ghost use Rattle.processes.specs.Numbers as numbers;
+ghost use Rattle.processes.specs.Launch.{enters, notes, starts};
 ghost use Rattle.processes.specs.Spawn as definition;
-ghost use Rattle.processes.specs.View.{words_of, words_spawned};
+ghost use Rattle.processes.specs.View.{words_of};
+ghost use Rattle.state.specs.Channels.{with_connection};
 ghost use Rattle.state.specs.Dialogue.{written};
-ghost use Rattle.state.specs.Leaf.{HasOutcome, Shows};
-ghost use Rattle.state.specs.Outcome.{Leaves, Error};
+ghost use Rattle.state.specs.Leaf.{Shows};
 ghost use Rattle.state.specs.Status.{Status};
 ghost use Rattle.state.specs.View.{FitsState};
 
-use crate::numbers::take_number;
-use acts::decimal::push_decimal;
+use crate::launch::{enter, launch, note, started};
 use acts::{Act, Answer, Fault, Id, NoMemory};
 use state::arguments::{bad_argument, is_flag, wrong_args};
-use state::leaf::{gives, raises, stops};
-use state::variables::{SPAWN_ID, store};
-use state::{Kind, Leaf, State, Stop};
+use state::leaf::{raises, stops};
+use state::{Leaf, State, Stop};
 use std::alloc::Allocator;
 use tcltext::Value;
 
 /// What waits for the answer to an act.
 #[derive(Debug, Drop)]
 pub enum Waits<A: Allocator> {
-    /// The echo is written, and a program of these words is started under this id.
-    Echoed(Id, Vec<Vec<u8, A>, A>),
-    /// The program is started, and this id is opened.
-    Started(Id),
+    /// The echo is on standard output, goes to the log where what arrives does, and a program of
+    /// these words is started under this id.
+    Shown(Id, Vec<Vec<u8, A>, A>),
+    /// The echo is in the log, and a program of these words is started under this id.
+    Noted(Id, Vec<Vec<u8, A>, A>),
+    /// The program is started, and its id is opened.
+    Started,
 }
 
-/// Begins to start a program, and echoes the command first unless `-noecho` stands before it.
+/// Begins to start a program, and echoes the command first unless `-noecho` stands before it, or
+/// puts the id of an open channel in force.
 pub fn begin<A: Allocator + Copy>(
     alloc: A,
     state: &mut State<A>,
@@ -49,7 +49,7 @@ pub fn begin<A: Allocator + Copy>(
     }
 }
 
-/// Goes on with the answer to the echo or to the start of the program.
+/// Goes on with the answer to a write of the echo or to the start of the program.
 pub fn answered<A: Allocator + Copy>(
     alloc: A,
     state: &mut State<A>,
@@ -63,8 +63,9 @@ pub fn answered<A: Allocator + Copy>(
     ensures left { state.new.left ≤ state.old.left }
 {
     match waits {
-        Waits::Echoed(id, words) => Ok(echoed(state, id, words, &answer)),
-        Waits::Started(id) => started(alloc, state, id, &act, &answer),
+        Waits::Shown(id, words) => shown(alloc, state, id, words, &answer),
+        Waits::Noted(id, words) => Ok(noted(state, id, words, &answer)),
+        Waits::Started => started(alloc, state, &act, &answer),
     }
 }
 
@@ -75,7 +76,14 @@ fn is_noecho(word: &[u8]) -> bool
     word == b"-noecho".as_slice()
 }
 
-/// Starts a program by the words behind the flag.
+/// Whether a word is the flag behind which an open channel stands.
+fn is_open_flag(word: &[u8]) -> bool
+    ensures { result ≡ definition.is_open_flag word.now }
+{
+    word == b"-open".as_slice()
+}
+
+/// Puts the id of a channel in force, or starts a program, by the words behind the first flag.
 fn spawn<A: Allocator + Copy>(
     alloc: A,
     state: &mut State<A>,
@@ -84,86 +92,96 @@ fn spawn<A: Allocator + Copy>(
 ) -> Result<Leaf<A, Waits<A>>, NoMemory>
     ensures shows { (s : Status) → FitsState state.old s → IfOk result (λ leaf.
         Shows definition.next_of leaf state.new (definition.spawns echo words.now s)) }
-    ensures left { state.new.left ≤ state.old.left }
+    ensures left { state.new.left ≡ state.old.left }
 {
-    let [name, ..] = words else {
+    let [first, more @ ..] = words else {
         return wrong_args(alloc, b"spawn");
     };
-    if is_noecho(name.as_slice()) {
-        return wrong_args(alloc, b"spawn");
+    if is_open_flag(first.as_slice()) {
+        return spawn_channel(alloc, state, more);
     }
-    if is_flag(name.as_slice()) {
-        return bad_argument(alloc, name.as_slice(), b"spawn");
+    if is_flag(first.as_slice()) {
+        return misplaced(alloc, state, first.as_slice());
     }
     launch(alloc, state, echo, words)
 }
 
-/// Starts a program under the next number, where one is left and not too many ids are open.
-fn launch<A: Allocator + Copy>(
+/// Puts the id of an open channel in force, which stands alone behind its flag.
+fn spawn_channel<A: Allocator + Copy>(
     alloc: A,
     state: &mut State<A>,
-    echo: bool,
     words: &[Value<A>],
 ) -> Result<Leaf<A, Waits<A>>, NoMemory>
     ensures shows { (s : Status) → FitsState state.old s → IfOk result (λ leaf.
-        Shows definition.next_of leaf state.new
-        (numbers.with_next s (definition.echoes echo words.now))) }
+        Shows definition.next_of leaf state.new (definition.by_channel words.now s)) }
     ensures left { state.new.left ≡ state.old.left }
 {
-    match take_number(alloc, state)? {
-        Ok(id) => start(alloc, state, id, echo, words),
-        Err(leaf) => Ok(leaf),
+    match words {
+        [] => wrong_args(alloc, b"spawn"),
+        [channel] => enter_channel(alloc, state, channel.as_slice()),
+        [_, word, ..] => misplaced(alloc, state, word.as_slice()),
     }
 }
 
-/// Starts a program, or echoes the command first.
-fn start<A: Allocator + Copy>(
+/// Puts the id of an open channel in force, and gives 0, as no process is started.
+fn enter_channel<A: Allocator + Copy>(
+    alloc: A,
+    state: &mut State<A>,
+    channel: &[u8],
+) -> Result<Leaf<A, Waits<A>>, NoMemory>
+    ensures shows { (s : Status) → FitsState state.old s → IfOk result (λ leaf.
+        Shows definition.next_of leaf state.new
+        (with_connection channel.now s (λ i. enters (codes "0") i s))) }
+    ensures left { state.new.left ≡ state.old.left }
+{
+    match state.ids.table.connection(channel) {
+        Some(id) => {
+            let value = Value::new(alloc, Vec::from_slice(alloc, b"0")?)?;
+            enter(alloc, state, id, value)
+        }
+        None => raises(alloc, &Fault::NoChannel(Vec::from_slice(alloc, channel)?)),
+    }
+}
+
+/// Refuses a word for which there is no room: where it would be a flag and is none, it is told for
+/// itself.
+fn misplaced<A: Allocator + Copy>(
+    alloc: A,
+    state: &State<A>,
+    word: &[u8],
+) -> Result<Leaf<A, Waits<A>>, NoMemory>
+    ensures { (s : Status) → FitsState state.now s → IfOk result (λ leaf.
+        Shows definition.next_of leaf state.now (definition.misplaced word.now s)) }
+{
+    if is_noecho(word) || is_open_flag(word) {
+        return wrong_args(alloc, b"spawn");
+    }
+    if is_flag(word) {
+        return bad_argument(alloc, word, b"spawn");
+    }
+    wrong_args(alloc, b"spawn")
+}
+
+/// After the echo is on standard output, it goes to the log where what arrives does.
+fn shown<A: Allocator + Copy>(
     alloc: A,
     state: &State<A>,
     id: Id,
-    echo: bool,
-    words: &[Value<A>],
+    words: Vec<Vec<u8, A>, A>,
+    answer: &Answer<A>,
 ) -> Result<Leaf<A, Waits<A>>, NoMemory>
     ensures { (s : Status) → FitsState state.now s → IfOk result (λ leaf.
-        Shows definition.next_of leaf state.now (definition.echoes echo words.now id s)) }
+        Shows definition.next_of leaf state.now
+        (written (notes id (words_of words.items)) s (reply_of answer.now))) }
 {
-    let copies = copies_of(alloc, words)?;
-    if !echo {
-        return Ok(Leaf::Asks(Act::Spawn(id, copies), Waits::Started(id)));
+    match answer {
+        Answer::Failed(_) => Ok(stops(Stop::WriterFailed)),
+        _ => note(alloc, state, id, words),
     }
-    let line = echo_of(alloc, words)?;
-    Ok(Leaf::Asks(Act::Out(line), Waits::Echoed(id, copies)))
 }
 
-/// The command as it is echoed.
-fn echo_of<A: Allocator>(alloc: A, words: &[Value<A>]) -> Result<Vec<u8, A>, NoMemory>
-    ensures { IfOk result (λ line. line.items ≡ definition.echo_of words.now) }
-{
-    let mut line = Vec::from_slice(alloc, b"spawn")?;
-    for word in words {
-        line.push(b' ')?;
-        line.extend_from_slice(word.as_slice())?;
-    }
-    line.push(b'\n')?;
-    Ok(line)
-}
-
-/// A copy of each word.
-fn copies_of<A: Allocator + Copy>(
-    alloc: A,
-    words: &[Value<A>],
-) -> Result<Vec<Vec<u8, A>, A>, NoMemory>
-    ensures { IfOk result (λ copies. words_of copies.items ≡ words.now) }
-{
-    let mut copies = Vec::with_capacity(alloc, words.len())?;
-    for word in words {
-        copies.push(Vec::from_slice(alloc, word.as_slice())?)?;
-    }
-    Ok(copies)
-}
-
-/// After the echo the program is started.
-fn echoed<A: Allocator>(
+/// After the echo is in the log, the program is started.
+fn noted<A: Allocator>(
     state: &State<A>,
     id: Id,
     words: Vec<Vec<u8, A>, A>,
@@ -171,76 +189,10 @@ fn echoed<A: Allocator>(
 ) -> Leaf<A, Waits<A>>
     ensures { (s : Status) → FitsState state.now s →
         Shows definition.next_of result state.now
-        (written (definition.starts id (words_of words.items)) s (reply_of answer.now)) }
+        (written (starts id (words_of words.items)) s (reply_of answer.now)) }
 {
     match answer {
         Answer::Failed(_) => stops(Stop::WriterFailed),
-        _ => Leaf::Asks(Act::Spawn(id, words), Waits::Started(id)),
-    }
-}
-
-/// After the start of a program its id is open and in force, or the program could not be started.
-fn started<A: Allocator + Copy>(
-    alloc: A,
-    state: &mut State<A>,
-    id: Id,
-    act: &Act<A>,
-    answer: &Answer<A>,
-) -> Result<Leaf<A, Waits<A>>, NoMemory>
-    ensures shows { (s : Status) → FitsState state.old s → IfOk result (λ leaf.
-        Shows definition.next_of leaf state.new
-        (definition.started id (words_spawned (deed_of act.now)) s (reply_of answer.now))) }
-    ensures left { state.new.left ≡ state.old.left }
-{
-    match answer {
-        Answer::Started(pid) => run(alloc, state, id, *pid),
-        _ => cannot_execute(alloc, act),
-    }
-}
-
-/// Opens the id of a process, puts it in force, and gives the number of the process.
-fn run<A: Allocator + Copy>(
-    alloc: A,
-    state: &mut State<A>,
-    id: Id,
-    pid: u64,
-) -> Result<Leaf<A, Waits<A>>, NoMemory>
-    ensures shows { (s : Status) → FitsState state.old s → IfOk result (λ leaf.
-        Shows definition.next_of leaf state.new (definition.runs id pid s)) }
-    ensures left { state.new.left ≡ state.old.left }
-{
-    let mut digits = Vec::new(alloc);
-    push_decimal(&mut digits, pid)?;
-    let value = Value::new(alloc, digits)?;
-    let name = Value::new(alloc, id.text(alloc)?)?;
-    state.table.open(alloc, id, Kind::Process(pid))?;
-    match store(alloc, state, SPAWN_ID, None, name)? {
-        Ok(()) => Ok(gives(value)),
-        Err(fault) => raises(alloc, &fault),
-    }
-}
-
-/// The error of a program that could not be started.
-fn cannot_execute<A: Allocator + Copy>(
-    alloc: A,
-    act: &Act<A>,
-) -> Result<Leaf<A, Waits<A>>, NoMemory>
-    ensures { IfOk result (λ leaf. HasOutcome leaf (Leaves Error (text_of
-        (flaw.CannotExecute (definition.name_of (words_spawned (deed_of act.now))))))) }
-{
-    let name = match act {
-        Act::Spawn(_, words) => name_of(alloc, words)?,
-        _ => Vec::new(alloc),
-    };
-    raises(alloc, &Fault::CannotExecute(name))
-}
-
-/// The name of a program, which is its first word.
-fn name_of<A: Allocator + Copy>(alloc: A, words: &[Vec<u8, A>]) -> Result<Vec<u8, A>, NoMemory>
-    ensures { IfOk result (λ name. name.items ≡ definition.name_of (words_of words.now)) }
-{
-    match words {
-        [name, ..] => Ok(Vec::from_slice(alloc, name)?),
-        [] => Ok(Vec::new(alloc)),
+        _ => Leaf::Asks(Act::Spawn(id, words), Waits::Started),
     }
 }

@@ -6,8 +6,8 @@ use Rattle.processes.proofs.Ports.{no_port}
 use Rattle.state.proofs.Shown.{over_ok}
 use Rattle.processes.proofs.socket.call_at.Goals as goal
 
-pub returns-in-Err-clause-shows : goal.returns-in-Err-clause-shows
-returns-in-Err-clause-shows g c = λ s fits.
+pub returns-in-Err : goal.returns-in-Err
+returns-in-Err g c = λ s fits.
     let n = c.args.number in
     let same : to_z w64 (of_z w64 n) ≡ n = to_z-of_z c.ranges.number in
     let off = subst (λ z. FitsUnsignedBits 16 z → ⊥) same (rw c.in-Err.is at c.try_from.ensures) in

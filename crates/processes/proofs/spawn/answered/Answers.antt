@@ -1,4 +1,4 @@
 use Rattle.processes.proofs.spawn.answered.Goals as goal
 
-pub returns-in-Echoed-clause-shows : goal.returns-in-Echoed-clause-shows
-returns-in-Echoed-clause-shows g c = λ s fits. rw c.in-Echoed.is (c.echoed.ensures s fits)
+pub returns-in-Shown-clause-shows : goal.returns-in-Shown-clause-shows
+returns-in-Shown-clause-shows g c = λ s fits. rw c.in-Shown.is (c.shown.ensures s fits)

@@ -1,17 +1,32 @@
 use Rattle.std.proofs.Common.{◌≡◌, ◌∙◌, false, true, sym, ap}
-use Rattle.processes.specs.Spawn.{is_noecho, next_of}
-use Rattle.processes.proofs.Launches.{spawns-flag}
-use Rattle.state.proofs.Shown.{over_ok}
+use Rattle.processes.specs.Spawn.{is_open_flag, next_of}
+use Rattle.processes.proofs.Words.{spawns-flag, spawns-program}
+use Rattle.state.proofs.Shown.{shows_ok}
 use Rattle.state.specs.Arguments.{is_flag}
 use Rattle.processes.proofs.spawn.spawn.Goals as goal
 
 pub returns-then-is_flag-clause-shows : goal.returns-then-is_flag-clause-shows
 returns-then-is_flag-clause-shows g c = λ s fits.
-    let name = c.name-item.result in
-    let bare : is_noecho name ≡ false =
-    ap is_noecho (sym c.as_slice.ensures) ∙ sym c.is_noecho.ensures ∙ c.if-is_noecho.false in
-    let flag : is_flag name ≡ true =
+    let first = c.first-item.result in
+    let other : is_open_flag first ≡ false =
+    ap is_open_flag (sym c.as_slice.ensures) ∙ sym c.is_open_flag.ensures
+    ∙ c.if-is_open_flag.false in
+    let flag : is_flag first ≡ true =
     ap is_flag (sym c.as_slice-2.ensures) ∙ sym c.is_flag.ensures ∙ c.if-is_flag.true in
-    over_ok next_of c.bad_argument.result c.bad_argument.ensures fits
-    (spawns-flag c.args.echo c.args.words.now name c.as_slice-then-is_flag.result.now s
-    c.in-len1-up.len_at_least c.name-item.is c.as_slice-then-is_flag.ensures bare flag)
+    shows_ok next_of _ c.misplaced.result
+    (spawns-flag s c.args.echo c.args.words.now first c.as_slice-then-is_flag.result.now
+    c.in-len1-up.len_at_least c.first-item.is c.as_slice-then-is_flag.ensures other flag)
+    (c.misplaced.ensures s fits)
+
+pub returns-clause-shows : goal.returns-clause-shows
+returns-clause-shows g c = λ s fits.
+    let first = c.first-item.result in
+    let other : is_open_flag first ≡ false =
+    ap is_open_flag (sym c.as_slice.ensures) ∙ sym c.is_open_flag.ensures
+    ∙ c.if-is_open_flag.false in
+    let plain : is_flag first ≡ false =
+    ap is_flag (sym c.as_slice-2.ensures) ∙ sym c.is_flag.ensures ∙ c.if-is_flag.false in
+    shows_ok next_of _ c.launch.result
+    (spawns-program s c.args.echo c.args.words.now first c.in-len1-up.len_at_least
+    c.first-item.is other plain)
+    (c.launch.ensures s fits)
