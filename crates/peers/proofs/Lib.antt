@@ -1,2 +1,4 @@
-pub mod Behaves
 pub mod Named
+pub mod Reaped
+pub mod Changed
+pub mod Behaves

@@ -5,12 +5,12 @@ use Rattle.acts.specs.Deed.{Deed, Reply}
 use Rattle.acts.specs.Deed as said
 use Rattle.acts.specs.Flaw as flaw
 use Rattle.peers.specs.declared.close.Waits.{Waits}
-use Rattle.peers.specs.Words.{is_id_flag, misplaced, surplus}
+use Rattle.peers.specs.Words.{is_id_flag, misplaced, surplus, with_named}
 use Rattle.state.specs.Arguments.{is_flag}
 use Rattle.state.specs.Channels.{with_connection}
 use Rattle.state.specs.Dialogue.{Course, gives, raises, ask}
-use Rattle.state.specs.Status.{Status, opened, shut}
-use Rattle.state.specs.Variables.{named, on_open, with_current}
+use Rattle.state.specs.Status.{Status, shut}
+use Rattle.state.specs.Variables.{with_current}
 
 -- the id is closed, and its standing pairs are gone (expect(1), close)
 abbrev pub over : Id → Status → Reply → Course
@@ -19,10 +19,6 @@ over i s reply = gives [] (shut i s)
 -- an open id is closed (expect(1), close)
 abbrev pub closes : Status → Id → Course
 closes s i = ask (said.Close i) s (over i)
-
--- the id of a name is closed, where it is open (expect(1), close)
-abbrev pub closes_named : List ℕ → Status → Course
-closes_named name s = on_open (named (opened s.peers) name) name s (closes s)
 
 -- a word alone is a channel, whose connection is closed (close(n))
 abbrev pub by_word : List ℕ → Status → Course
@@ -34,7 +30,7 @@ by_word w s =
 -- the flag, and the id that stands behind it (expect(1), close)
 abbrev pub by_flag : List ℕ → List ℕ → Status → Course
 by_flag w name s =
-    if is_id_flag w then closes_named name s else raises (misplaced w (codes "close")) s
+    if is_id_flag w then with_named name s (closes s) else raises (misplaced w (codes "close")) s
 
 -- close ?-i id?, close channel (expect(1), close; close(n))
 abbrev pub close : List (List ℕ) → Status → Course

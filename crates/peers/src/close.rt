@@ -4,6 +4,7 @@
 ghost use Rattle.std.specs.Prelude.{◌≡◌, ◌≤◌, IfOk};
 ghost use Rattle.acts.specs.Deed.{Reply, deed_of, reply_of};
 ghost use Rattle.peers.specs.Close as definition;
+ghost use Rattle.peers.specs.Words.{with_named};
 ghost use Rattle.state.specs.Channels.{with_connection};
 ghost use Rattle.state.specs.Leaf.{Shows};
 ghost use Rattle.state.specs.Status.{Status};
@@ -40,7 +41,10 @@ pub fn begin<A: Allocator + Copy>(
         [] => close_current(alloc, state),
         [word] => close_by_word(alloc, state, word.as_slice()),
         [flag, name] => close_by_flag(alloc, state, flag.as_slice(), name.as_slice()),
-        [flag, _, word, ..] => surplus(alloc, flag.as_slice(), word.as_slice(), b"close"),
+        [flag, _, word, ..] => {
+            let fault = surplus(alloc, flag.as_slice(), word.as_slice(), b"close")?;
+            raises(alloc, &fault)
+        }
     }
 }
 
@@ -66,7 +70,7 @@ fn close_id<A: Allocator + Copy>(state: &mut State<A>, id: Id) -> Leaf<A, Waits>
         Shows definition.next_of result state.new (definition.over id s reply) }
     ensures left { state.new.left ≡ state.old.left }
 {
-    state.table.close(id);
+    state.ids.close(id);
     empty()
 }
 
@@ -97,7 +101,7 @@ fn close_by_flag<A: Allocator + Copy>(
     if is_id_flag(flag) {
         close_named(alloc, state, name)
     } else {
-        misplaced(alloc, flag, b"close")
+        raises(alloc, &misplaced(alloc, flag, b"close")?)
     }
 }
 
@@ -108,9 +112,9 @@ fn close_named<A: Allocator + Copy>(
     name: &[u8],
 ) -> Result<Leaf<A, Waits>, NoMemory>
     ensures { (s : Status) → FitsState state.now s → IfOk result (λ leaf.
-        Shows definition.next_of leaf state.now (definition.closes_named name.now s)) }
+        Shows definition.next_of leaf state.now (with_named name.now s (definition.closes s))) }
 {
-    match state.table.named(name) {
+    match state.ids.table.named(name) {
         Some(id) => Ok(Leaf::Asks(Act::Close(id), Waits { id })),
         None => raises(alloc, &Fault::NotOpen(Some(Vec::from_slice(alloc, name)?))),
     }
@@ -144,7 +148,7 @@ fn close_channel<A: Allocator + Copy>(
         Shows definition.next_of leaf state.now
         (with_connection word.now s (definition.closes s))) }
 {
-    match state.table.connection(word) {
+    match state.ids.table.connection(word) {
         Some(id) => Ok(Leaf::Asks(Act::Close(id), Waits { id })),
         None => raises(alloc, &Fault::NoChannel(Vec::from_slice(alloc, word)?)),
     }

@@ -1,6 +1,12 @@
-//! The commands that close ids and wait for processes.
+//! The commands that close ids, wait for processes, and read and set what is kept of ids.
 #![tactic(auto)]
 
 pub mod close;
+mod ids;
 pub mod laws;
+pub mod match_max;
+pub mod remove_nulls;
+pub mod requests;
+pub mod settings;
+pub mod wait;
 mod words;

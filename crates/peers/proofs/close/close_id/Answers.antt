@@ -1,6 +1,6 @@
 use Rattle.std.proofs.Common.{refl}
 use Rattle.state.specs.Status.{shut}
-use Rattle.state.proofs.Fits.{shut_fits}
+use Rattle.state.proofs.Fits.{ids_fit}
 use Rattle.peers.specs.Close.{next_of}
 use Rattle.state.proofs.Shown.{over}
 use Rattle.peers.proofs.close.close_id.Goals as goal
@@ -8,5 +8,4 @@ use Rattle.peers.proofs.close.close_id.Goals as goal
 pub returns-clause-shows : goal.returns-clause-shows
 returns-clause-shows g c = λ s reply fits.
     over next_of {s = shut c.args.id s} c.empty.result c.empty.ensures
-    (shut_fits _ s fits _ c.args.id (c.close.ensures s.peers fits.peers))
-    refl
+    (ids_fit _ s fits _ _ (c.close.ensures s.ids fits.ids)) refl
