@@ -1,3 +1,6 @@
-pub mod Opened
-pub mod Behaves
-pub mod Turns
+pub mod Proceeding
+pub mod Closed
+pub mod Comings
+pub mod Selecting
+pub mod Reporting
+pub mod Answering

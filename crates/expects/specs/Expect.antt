@@ -1,43 +1,91 @@
--- What expect does.
-use Rattle.std.specs.Prelude.{ℕ, nat_lt, List, [], ◌∷◌, codes, length, if◌then◌else◌}
-use Rattle.std.specs.Str.{bytes_eq}
+-- What expect, expect_before and expect_after do.
+use Rattle.std.specs.Prelude.{ℕ, List, [], ◌∷◌, codes, Option, Some, None, Ok, Err, if◌then◌else◌}
 use Rattle.acts.specs.declared.id.Id.{Id}
-use Rattle.acts.specs.Deed.{Deed, Reply}
-use Rattle.acts.specs.Deed as said
 use Rattle.acts.specs.Flaw as flaw
-use Rattle.expects.specs.declared.turn.Waits.{Waits}
-use Rattle.expects.specs.declared.turn.Waits.TheVariants as waiting
-use Rattle.expects.specs.Turn.{arrived, first_wait, tested, turn, waited}
-use Rattle.state.specs.Dialogue.{Course, gives, raises, written}
-use Rattle.state.specs.Status.{Status, shut}
-use Rattle.state.specs.Variables.{with_current}
+use Rattle.acts.specs.Id.{id_text}
+use Rattle.dialog.specs.Branches.{Branches}
+use Rattle.dialog.specs.Channels.{named}
+use Rattle.dialog.specs.Reads as misread
+use Rattle.dialog.specs.Reads.{Place, Outcome, place}
+use Rattle.dialog.specs.Standing.{all_of, put_at}
+use Rattle.dialog.specs.declared.choice.Trigger.TheVariants as after
+use Rattle.dialog.specs.declared.standing.Side.{Side}
+use Rattle.expects.specs.Words.{Form, Waits, Stands, stands, is_braced}
+use Rattle.plan.specs.Plan.{Reads, goes}
+use Rattle.state.specs.Dialogue.{Course, gives, raises}
+use Rattle.state.specs.Faults.{flaw_of_fault}
+use Rattle.state.specs.Piece.{ArgumentText, ArgumentTree, BranchText, Turn, TurnTree}
+use Rattle.state.specs.Status.{Status, lines}
+use Rattle.state.specs.Variables.{consulted}
+use Rattle.tclparse.specs.Fault.{Fault}
+use Rattle.tclparse.specs.Tree as tree
+use Rattle.words.specs.Words.{words}
 
--- the test of a pattern, which has at most 1,000,000 bytes, and the first wait (expect(1), expect)
-abbrev pub expects : List ℕ → Status → Id → Course
-expects p s i =
-    if nat_lt 1000000 (length p) then raises flaw.PatternTooLong s
-    else tested p i s (first_wait p i s)
+-- the open id that a variable names, where it is set
+abbrev pub open_by : Option (List ℕ) → Status → Option Id
+open_by None s = None
+open_by (Some text) s = named (lines s) text
 
--- a pattern behind its flag, for the id in force (expect(1), expect)
-abbrev pub flagged : List ℕ → List ℕ → Status → Course
-flagged f p s =
-    if bytes_eq f (codes "-ex") then with_current s (expects p s)
-    else raises (flaw.BadArgument f (codes "expect")) s
+-- what the variable spawn_id holds (expect(1), spawn)
+abbrev pub id_named : Status → Option (List ℕ)
+id_named s = consulted s.scopes (codes "spawn_id")
 
--- expect -ex p (expect(1), expect)
-abbrev pub expect : List (List ℕ) → Status → Course
-expect (f ∷ p ∷ []) s = flagged f p s
-expect _ s = raises (flaw.WrongArgs (codes "expect")) s
+-- where the words of one of the commands are read
+abbrev pub place_in : Form → Status → Place
+place_in form s = place (lines s) (open_by (id_named s) s) (stands form)
 
--- the bytes of a write to standard output
-abbrev pub out_bytes : Deed → List ℕ
-out_bytes (said.Out bytes) = bytes
-out_bytes _ = []
+-- why words say no branches, as the script's error (expect(1), expect)
+abbrev pub told : misread.Flaw → Status → flaw.Flaw
+told (misread.NotIds text) s = flaw.NotOpen (Some text)
+told (misread.NotOpen id) s = flaw.NotOpen (Some (id_text id.0))
+told misread.NoneInForce s = flaw.NotOpen (id_named s)
+told misread.NoPattern s = flaw.MissingWord
+told misread.RegexNotHere s = flaw.RegexNotHere
+told (misread.BadFlag word) s = flaw.BadFlag word
+told misread.TooLong s = flaw.PatternTooLong
 
--- what follows the answer to one of its acts (expect(1), expect)
-abbrev pub next_of : {A : Type 0} → Waits A → Deed → Status → Reply → Course
-next_of (waiting.Awaited id pattern clock) deed =
-    λ s reply. waited (turn s.left pattern id clock) s reply
-next_of (waiting.Logged from t) deed =
-    written (λ s. turn s.left t.pattern t.id t.clock (arrived from (out_bytes deed) s))
-next_of (waiting.Closed id) deed = λ s reply. gives [] (shut id s)
+-- the first turn of an expect: its own branches among those that stand (expect(1), expect)
+abbrev pub first_turn : Branches → Status → TurnTree
+first_turn b s = record {
+  effective = all_of s.ids.standing b;
+  seconds = b.timeout;
+  trigger = after.Entry;
+  clock = None;
+}
+
+-- branches stand from now on (expect(1), expect_before and expect_after)
+abbrev pub put : Side → Branches → Status → Status
+put side b s = record s { ids = record s.ids { standing = put_at side b s.ids.standing } }
+
+-- expect begins its first turn, the others are over at once (expect(1), expect and expect_before)
+abbrev pub on_branches : Form → Branches → ℕ → Status → Course
+on_branches Waits b levels s = goes (Turn (first_turn b s) levels) s
+on_branches (Stands side) b levels s = gives [] (put side b s)
+
+-- what words come to: branches, or the error that comes first in them (expect(1), expect)
+abbrev pub on_read : Form → ℕ → Status → Outcome → Course
+on_read form levels s (Ok b) = on_branches form b levels s
+on_read form levels s (Err why) = raises (told why s) s
+
+-- the words of one of the commands (expect(1), expect)
+abbrev pub by_words : Form → ℕ → Status → List (List ℕ) → Course
+by_words form levels s ws = Reads (BranchText (place_in form s) ws) (on_read form levels s)
+
+-- the words of an argument in braces are substituted as those of a command, unless its text has a
+-- fault (expect(1), expect)
+abbrev pub on_words : Form → ℕ → Status → tree.Words → Option Fault → Course
+on_words form levels s ws None = words levels ws [] s (by_words form levels)
+on_words form levels s ws (Some fault) = raises (flaw_of_fault fault) s
+
+-- an argument in braces (expect(1), expect)
+abbrev pub by_argument : Form → ℕ → List ℕ → Status → Course
+by_argument form levels text s =
+    Reads (ArgumentText text) (λ (t : ArgumentTree). on_words form levels s t.words t.fault)
+
+-- one of the three commands; a single argument that begins with a newline is one in braces
+-- (expect(1), expect)
+abbrev pub expect : Form → ℕ → List (List ℕ) → Status → Course
+expect form levels (text ∷ []) s =
+    if is_braced text then by_argument form levels text s
+    else by_words form levels s (text ∷ [])
+expect form levels args s = by_words form levels s args

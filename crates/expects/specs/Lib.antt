@@ -1,3 +1,7 @@
+pub mod Report
+pub mod Clock
 pub mod Turn
+pub mod Words
 pub mod Expect
 pub mod View
+pub mod Parts

@@ -1,109 +1,155 @@
--- The turn of expect: what is waited for, and what an answer leads to (expect(1), expect).
-use Rattle.std.specs.Prelude.{ℕ, zero, suc, ◌+◌, ℤ, pos, negsuc, List, [], ◌∷◌, codes, length, take, Option, Some, None}
-use Rattle.acts.specs.declared.id.Id.{Id}
+-- The turn of expect: a test, the wait behind it, what an answer leads to, and the body of what is
+-- chosen (expect(1), expect).
+use Rattle.std.specs.Prelude.{ℕ, List, [], ◌∷◌, Option, Some, None}
 use Rattle.acts.specs.declared.act.Timer.{Timer}
-use Rattle.acts.specs.declared.act.Timer.TheVariants as timer
+use Rattle.acts.specs.declared.id.Id.{Id}
 use Rattle.acts.specs.Deed.{Reply}
 use Rattle.acts.specs.Deed as said
 use Rattle.acts.specs.Flaw as flaw
 use Rattle.acts.specs.Id.{id_text}
-use Rattle.matchbuf.specs.Journal.{Record, Arrived, Consumed, window, place_after}
-use Rattle.state.specs.Dialogue.{Course, gives, raises, stops, ask, written}
-use Rattle.state.specs.Outcome as stop
-use Rattle.state.specs.Rows.{first_place, row_of, without_nulls}
-use Rattle.state.specs.Status.{Status, journal_of, recorded, shut}
-use Rattle.state.specs.Variables.{consulted, whole_of, writes}
+use Rattle.dialog.specs.Choice.{Chosen, Taken, peers_after, taken_of}
+use Rattle.dialog.specs.Lines.{rows_of}
+use Rattle.dialog.specs.Peers.{arrived}
+use Rattle.dialog.specs.Standing.{Effective, pruned}
+use Rattle.dialog.specs.declared.choice.Trigger.{Trigger}
+use Rattle.dialog.specs.declared.choice.Trigger.TheVariants as after
+use Rattle.expects.specs.Clock.{later, on_clock}
+use Rattle.expects.specs.Report.{reports}
+use Rattle.plan.specs.Plan.{Reads, goes}
+use Rattle.state.specs.Dialogue.{Course, gives, leaves, raises, stops, ask, tick, within}
+use Rattle.state.specs.Outcome.{Outcome, Gives, Leaves, Stops, Again, AgainRunning}
+use Rattle.state.specs.Piece.{ChoiceText, Turn, TurnTree}
+use Rattle.state.specs.Placed.{placed}
+use Rattle.state.specs.Status.{Status, at_id, lines, shut}
 
--- bytes came for an id (expect(1), remove_nulls)
-abbrev pub arrived : Id → List ℕ → Status → Status
-arrived i bytes s = record s { peers = recorded (Arrived (without_nulls bytes)) i s.peers }
+-- what a choice consumes is consumed (expect(1), expect)
+abbrev pub consumed : Trigger → Chosen → Status → Status
+consumed t c s = record s { ids = record s.ids { peers = peers_after t c s.ids.peers } }
 
--- the first bytes of a window are consumed (expect(1), expect_out(buffer))
-abbrev pub consumed : Id → List Record → ℕ → Status → Status
-consumed i j n s = record s { peers = recorded (Consumed (place_after j n)) i s.peers }
+-- the same, where there is a choice
+abbrev pub consumed_by : Trigger → Option Chosen → Status → Status
+consumed_by t None s = s
+consumed_by t (Some c) s = consumed t c s
 
--- an element of expect_out is written, and on where it could be (expect(1), expect)
-abbrev pub sets : List ℕ → List ℕ → Status → (Status → Course) → Course
-sets index value s next = writes (codes "expect_out") (Some index) value s next
+-- what a choice has for expect_out, where there is a choice
+abbrev pub taken_by : Trigger → Option Chosen → Status → Option Taken
+taken_by t None s = None
+taken_by t (Some c) s = taken_of (lines s) t c
 
--- what a match sets: its bytes, its id, and the buffer up to its end (expect(1), expect)
-abbrev pub reported : List ℕ → Id → List ℕ → Status → Course
-reported p i buffer s =
-    sets (codes "0,string") p s (λ t.
-    sets (codes "spawn_id") (id_text i.0) t (λ u.
-    sets (codes "buffer") buffer u (gives [])))
+-- a turn after another trigger
+abbrev pub begun_by : Trigger → TurnTree → TurnTree
+begun_by t turn = record turn { trigger = t }
 
--- where the pattern has a place in the window, the match and all before it are consumed
--- (expect(1), expect_out(buffer)); else there is a wait
-abbrev pub on_place : List ℕ → Id → Status → (List Record → Course) → List Record → Option ℕ →
+-- a turn whose next wait has this timer
+abbrev pub timed : Timer → TurnTree → TurnTree
+timed clock turn = record turn { clock = Some clock }
+
+-- a turn that begins again, whose next wait has this timer, if there is one
+abbrev pub renewed : Option Timer → TurnTree → TurnTree
+renewed clock turn = record turn { trigger = after.Entry; clock = clock }
+
+-- a turn with what is left of its pairs and ids
+abbrev pub leaving : Effective → TurnTree → TurnTree
+leaving left turn = record turn { effective = left }
+
+-- the first of ids, where there is one
+abbrev pub first_of : List Id → Option Id
+first_of [] = None
+first_of (i ∷ is) = Some i
+
+-- an id as it is spelled
+abbrev pub named_by : Option Id → Option (List ℕ)
+named_by None = None
+named_by (Some i) = Some (id_text i.0)
+
+-- a turn begins again with what is left of it; with no id left it is over with the error that the
+-- first of its ids is not open (expect(1), exp_continue)
+abbrev pub begins_again : List Id → Effective → Option Timer → TurnTree → ℕ → Status → Course
+begins_again [] left clock turn levels s =
+    raises (flaw.NotOpen (named_by (first_of turn.effective.ids))) s
+begins_again (i ∷ is) left clock turn levels s =
+    goes (Turn (renewed clock (leaving left turn)) levels) s
+
+-- it goes on with the ids that are still open and their pairs, and with this timer, if there is one
+-- (expect(1), exp_continue)
+abbrev pub again : Option Timer → TurnTree → ℕ → Status → Course
+again clock turn levels s =
+    let left = pruned (lines s) turn.effective in
+    begins_again left.ids left clock turn levels s
+
+-- after the body: by exp_continue the turn goes on, and its timer starts anew or runs on; else the
+-- body's outcome is that of expect (expect(1), expect and exp_continue)
+abbrev pub behind : TurnTree → ℕ → Status → Outcome → Course
+behind turn levels s (Gives value) = gives value s
+behind turn levels s (Leaves Again value) = again None turn levels s
+behind turn levels s (Leaves AgainRunning value) = again turn.clock turn levels s
+behind turn levels s (Leaves code value) = leaves code value s
+behind turn levels s (Stops stop) = stops stop s
+
+-- a body runs once expect_out is set (expect(1), expect)
+abbrev pub does : TurnTree → ℕ → Option Taken → List ℕ → Status → Course
+does turn levels taken body s =
+    reports taken s (λ t. within levels body t (behind turn levels))
+
+-- the body of what is chosen runs, or else what follows where nothing is (expect(1), expect)
+abbrev pub settled : TurnTree → ℕ → Option Taken → Status → (Status → Course) → Option Chosen →
     Course
-on_place p i s wait j (Some start) =
-    let end = start + length p in reported p i (take end (window j)) (consumed i j end s)
-on_place p i s wait j None = wait j
+settled turn levels taken s otherwise None = otherwise s
+settled turn levels taken s otherwise (Some c) =
+    does turn levels taken c.pair.branch.body s
 
--- the window of an id that is open is looked at; one that is not is the script's error
-abbrev pub on_journal : List ℕ → Id → Status → (List Record → Course) → Option (List Record) →
-    Course
-on_journal p i s wait (Some j) = on_place p i s wait j (first_place p (window j))
-on_journal p i s wait None = raises (flaw.NotOpen (Some (id_text i.0))) s
+-- on with what is chosen after a trigger, if anything is (expect(1), expect)
+abbrev pub chooses : Trigger → TurnTree → Status → (Option Chosen → Course) → Course
+chooses t turn s next = Reads (ChoiceText (lines s) t turn.effective.pairs) next
 
--- where the pattern is found in the id's window the command is over; else it waits
--- (expect(1), expect)
-abbrev pub tested : List ℕ → Id → Status → (List Record → Course) → Course
-tested p i s wait = on_journal p i s wait (journal_of s.peers i)
+-- a choice after a trigger is made and done (expect(1), expect)
+abbrev pub selects : Trigger → TurnTree → ℕ → Status → (Status → Course) → Course
+selects t turn levels s otherwise =
+    chooses t turn s
+    (λ c. settled turn levels (taken_by t c s) (consumed_by t c s) otherwise c)
 
--- bytes that came go to standard output (expect(1), log_user); where there are none, nothing is
--- written
-abbrev pub logged : List ℕ → Status → (Status → Course) → Course
-logged [] s next = next s
-logged (b ∷ bs) s next = ask (said.Out (b ∷ bs)) s (written next)
+-- an id that ended is closed before what is chosen is done (expect(1), expect, eof; the order is
+-- this project's own rule)
+abbrev pub closes : Id → TurnTree → ℕ → Status → Option Chosen → Course
+closes i turn levels s c =
+    ask (said.Close i) (consumed_by (after.End i) c s) (λ t reply.
+    settled turn levels (taken_by (after.End i) c s) (shut i t) (gives []) c)
 
--- what the answer to a wait leads to: bytes are logged, put into the buffer and looked at again; an
--- end closes the id; at an end or a timeout the command is over with the empty value
--- (expect(1), expect)
-abbrev pub waited : (Status → Course) → Status → Reply → Course
-waited again s (said.Arrive i bytes) = logged bytes s (λ t. again (arrived i bytes t))
-waited again s (said.Ended i) = ask (said.Close i) s (λ t reply. gives [] (shut i t))
-waited again s _ = gives [] s
+-- bytes are put into the buffer of their id, and its window is looked at (expect(1), expect)
+abbrev pub arrives : Id → List ℕ → TurnTree → ℕ → Status → Course
+arrives i bytes turn levels s =
+    goes (Turn (begun_by (after.Arrival i) turn) levels) (at_id (arrived bytes) i s)
 
--- a timer that was started runs on, and where there is none there stays none (expect(1), timeout)
-abbrev pub later : Timer → Timer
-later (timer.Start seconds) = timer.Running
-later timer.Running = timer.Running
-later timer.Endless = timer.Endless
+-- what came is written before that (expect(1), expect, log_user and log_file)
+abbrev pub comes : Id → List ℕ → TurnTree → ℕ → Status → Course
+comes i bytes turn levels s = placed bytes s (arrives i bytes turn levels)
 
--- a wait, and the test again after what it leads to, with so many ticks left, which are those of
--- the state: each wait takes one before it happens (expect(1), expect)
-abbrev pub waits : ℕ → List ℕ → Id → Timer → Status → List Record → Course
-waits zero p i clock s j = stops stop.Limit s
-waits (suc left) p i clock s j =
-    ask (said.Wait (row_of i j ∷ []) clock) (record s { left = left })
-    (waited (λ t. tested p i t (waits left p i (later clock) t)))
+-- after an end with no branch for it the value is empty (expect(1), expect)
+abbrev pub ends : Id → TurnTree → ℕ → Status → Course
+ends i turn levels s = chooses (after.End i) turn s (closes i turn levels s)
 
--- the test, and a wait with this timer where the pattern is not found (expect(1), expect)
-abbrev pub turn : ℕ → List ℕ → Id → Timer → Status → Course
-turn left p i clock s = tested p i s (waits left p i clock s)
+-- after a timeout with no branch for it the value is empty (expect(1), expect)
+abbrev pub times_out : TurnTree → ℕ → Status → Course
+times_out turn levels s = selects after.TimedOut turn levels s (gives [])
 
--- the timer of so many seconds; fewer than none are no timer (expect(1), timeout)
-abbrev pub timer_of : ℤ → Timer
-timer_of (pos seconds) = timer.Start seconds
-timer_of (negsuc n) = timer.Endless
+-- what the answer to a wait leads to (expect(1), expect)
+abbrev pub waited : TurnTree → ℕ → Status → Reply → Course
+waited turn levels s (said.Arrive i bytes) = comes i bytes turn levels s
+waited turn levels s (said.Ended i) = ends i turn levels s
+waited turn levels s _ = times_out turn levels s
 
--- on with the timer that a text asks for, where it is a whole number (expect(1), timeout)
-abbrev pub on_seconds : Option ℤ → List ℕ → Status → (Timer → Course) → Course
-on_seconds None text s next = raises (flaw.NotANumber text) s
-on_seconds (Some seconds) text s next = next (timer_of seconds)
+-- a wait with that timer takes a tick, and tells of each id that is waited for (expect(1), expect;
+-- ticks are this project's own rule)
+abbrev pub waits_by : Timer → TurnTree → ℕ → Status → Course
+waits_by clock turn levels s =
+    tick s (λ t. ask (said.Wait (rows_of (lines t) turn.effective.ids) clock) t
+    (waited (timed (later clock) turn) levels))
 
--- on with the timer that a variable asks for, which is one of 10 seconds where it is not set
--- (expect(1), timeout)
-abbrev pub on_timeout : Option (List ℕ) → Status → (Timer → Course) → Course
-on_timeout None s next = next (timer.Start 10)
-on_timeout (Some text) s next = on_seconds (whole_of text) text s next
+-- a wait, once its timer is known (expect(1), expect and timeout)
+abbrev pub waits : TurnTree → ℕ → Status → Course
+waits turn levels s =
+    on_clock turn.clock turn.seconds s (λ clock. waits_by clock turn levels s)
 
--- on with the timer that the variable timeout asks for (expect(1), timeout)
-abbrev pub with_timer : Status → (Timer → Course) → Course
-with_timer s next = on_timeout (consulted s.scopes (codes "timeout")) s next
-
--- the first wait, before which the variable timeout is read (expect(1), timeout)
-abbrev pub first_wait : List ℕ → Id → Status → List Record → Course
-first_wait p i s j = with_timer s (λ clock. waits s.left p i clock s j)
+-- a turn: where nothing is chosen there is a wait (expect(1), expect)
+abbrev pub turns : TurnTree → ℕ → Status → Course
+turns turn levels s = selects turn.trigger turn levels s (waits turn levels)

@@ -1,56 +1,180 @@
--- What the code's part of a turn comes to.
-use Rattle.std.specs.Prelude.{◌≡◌, ℕ, List, [], codes, Some, None, Result, Ok, Err}
-use Rattle.acts.specs.declared.act.Timer.{Timer}
+-- How what the code holds stands to the definition.
+use Rattle.std.specs.Prelude.{◌≡◌, ℕ, List, [], Option, Some, None, Err}
+use Rattle.acts.specs.Deed.{Deed, Reply, deed_of}
+use Rattle.acts.specs.Deed as said
 use Rattle.acts.specs.declared.id.Id.{Id}
 use Rattle.acts.specs.declared.row.Row.{Row}
-use Rattle.acts.specs.Deed.{Deed}
-use Rattle.acts.specs.Deed as said
-use Rattle.acts.specs.Flaw.{Flaw, text_of}
-use Rattle.expects.specs.declared.turn.Waits.{Waits}
-use Rattle.expects.specs.Expect.{next_of}
-use Rattle.expects.specs.Turn.{sets, tested, with_timer}
-use Rattle.matchbuf.specs.Journal.{Record, window}
-use Rattle.state.specs.declared.leaf.Leaf.{Leaf}
+use Rattle.dialog.specs.Branches.{Pair}
+use Rattle.dialog.specs.Choice.{Chosen, Chooses, Taken}
+use Rattle.dialog.specs.Selects.{taken_by as taken_of_code}
+use Rattle.dialog.specs.declared.choice.Choice.{Choice}
+use Rattle.dialog.specs.declared.choice.Trigger.{Trigger}
+use Rattle.expects.specs.declared.form.Form as coded
+use Rattle.expects.specs.declared.form.Form.TheVariants as form
+use Rattle.expects.specs.declared.turn.Begun.{Begun}
+use Rattle.expects.specs.declared.turn.Begun.TheVariants as begun
+use Rattle.expects.specs.declared.turn.Opening.{Opening}
+use Rattle.expects.specs.declared.turn.Opening.TheVariants as opens
+use Rattle.expects.specs.declared.turn.Talk.{Talk}
+use Rattle.expects.specs.declared.turn.Talk.TheVariants as talk
+use Rattle.expects.specs.declared.turn.Turn as turning
+use Rattle.expects.specs.declared.turn.Turned.{Turned}
+use Rattle.expects.specs.declared.turn.Turned.TheVariants as came
+use Rattle.expects.specs.declared.turn.Waits as waiting
+use Rattle.expects.specs.declared.turn.Waits.TheVariants as waits
+use Rattle.expects.specs.Expect.{by_words}
+use Rattle.expects.specs.Turn.{arrives, behind, consumed_by, does, taken_by, waited}
+use Rattle.expects.specs.Words.{Form, Waits, Stands}
+use Rattle.plan.specs.Plan.{Ends, Asks, Calls, goes}
+use Rattle.dialog.specs.Lines.{Line}
+use Rattle.dialog.specs.LogState.{is_logged}
+use Rattle.state.specs.Budget.{again_of}
+use Rattle.state.specs.Dialogue.{Course, gives, replied, written}
+use Rattle.state.specs.Nesting.{tree_of}
+use Rattle.state.specs.Outcome.{Outcome}
+use Rattle.state.specs.Piece.{Script, Turn, TurnTree}
+use Rattle.state.specs.Placed.{noted}
+use Rattle.state.specs.Reaches.{Reaches}
+use Rattle.state.specs.Status.{Status, lines, shut}
+use Rattle.state.specs.View.{FitsState, outcome_of}
+use Rattle.state.specs.declared.outcome.Leave.TheVariants as leave
+use Rattle.state.specs.declared.outcome.Stop.TheVariants as halt
 use Rattle.state.specs.declared.state.State.{State}
-use Rattle.state.specs.Dialogue.{Course, raises}
-use Rattle.state.specs.Leaf.{HasOutcome, Shows}
-use Rattle.state.specs.Outcome.{Leaves, Error}
-use Rattle.state.specs.Rows.{first_place, row_of}
-use Rattle.state.specs.Status.{Status, journal_of}
-use Rattle.state.specs.Stores.{Written}
-use Rattle.state.specs.View.{FitsState}
+use Rattle.tclparse.specs.View.{words_of}
+use Rattle.words.specs.Words.{words}
+
+-- the command that one of the code's stands for
+abbrev pub form_of : coded.Form → Form
+form_of form.Waits = Waits
+form_of (form.Stands side) = Stands side
+
+-- the turn that one of the code's stands for; its vector of rows says nothing
+abbrev pub turn_of : {A : Type 0} → turning.Turn A → TurnTree
+turn_of t = record {
+  effective = t.effective;
+  seconds = t.seconds;
+  trigger = t.trigger;
+  clock = t.clock;
+}
+
+-- the bytes of a write to standard output or to the log
+abbrev pub bytes_of : Deed → List ℕ
+bytes_of (said.Out bytes) = bytes
+bytes_of (said.Log bytes) = bytes
+bytes_of _ = []
 
 -- the rows of a wait
 abbrev pub rows_waited : Deed → List Row
-rows_waited (said.Wait rows clock) = rows
+rows_waited (said.Wait rows timer) = rows
 rows_waited _ = []
 
--- the pattern is not in the window, and this is what a wait tells of the id
-pub record Misses {A : Type 0} (row : Row) (state : State A) (p : List ℕ) (i : Id)
-    (s : Status) : Type 0 where
-  pub journal : List Record
-  pub told : row ≡ row_of i journal
-  pub fits : FitsState state s
-  pub has : journal_of s.peers i ≡ Some journal
-  pub none : first_place p (window journal) ≡ None
+-- once they are written to standard output they are written to the log, if they are, and arrive
+-- (expect(1), log_user and log_file)
+abbrev pub notes : Id → List ℕ → TurnTree → ℕ → Status → Course
+notes i bytes turn levels s = noted (is_logged s.log) bytes s (arrives i bytes turn levels)
 
--- a look into a window came to a wait, or the command is over
-abbrev pub Looks : {A : Type 0} → Result Row (Leaf A (Waits A)) → State A → List ℕ → Id → Status →
-    Type 0
-Looks (Ok row) state p i s = Misses row state p i s
-Looks (Err leaf) state p i s =
-    (wait : List Record → Course) → Shows next_of leaf state (tested p i s wait)
+-- a write failed, and the run stops
+abbrev pub has_failed : {A : Type 0} → Talk A
+has_failed = talk.Turned (came.Has (Err (leave.Stopped halt.WriterFailed)))
 
--- an element of expect_out is set, or the command is over with the error that it can't be
-abbrev pub IsSet : {A T : Type 0} → Result T (Leaf A (Waits A)) → State A → Status → List ℕ →
-    List ℕ → Type 0
-IsSet (Ok done) state s index value = Written state s (codes "expect_out") (Some index) value
-IsSet (Err leaf) state s index value =
-    (next : Status → Course) → Shows next_of leaf state (sets index value s next)
+-- what was chosen is done (expect(1), expect)
+abbrev pub done : {A : Type 0} → Choice A → TurnTree → ℕ → Status → Course
+done choice turn levels s = does turn levels (taken_of_code choice.taken) choice.body s
 
--- the timer that the variable timeout asks for, or the error that it is no number
-abbrev pub Timed : {A : Type 0} → Result Timer (Leaf A (Waits A)) → Status → Type 0
-Timed (Ok clock) s = (next : Timer → Course) → with_timer s next ≡ next clock
-Timed (Err leaf) s =
-    (flaw : Flaw) × HasOutcome leaf (Leaves Error (text_of flaw)) ×
-    ((next : Timer → Course) → with_timer s next ≡ raises flaw s)
+-- what was chosen is done, if anything was (expect(1), expect)
+abbrev pub settles : {A : Type 0} → Option (Choice A) → TurnTree → ℕ → Status → Course
+settles None turn levels s = gives [] s
+settles (Some choice) turn levels s = done choice turn levels s
+
+-- what follows the answer to an act (expect(1), expect)
+abbrev pub next_of : {A : Type 0} → waiting.Waits A → Deed → Status → Reply → Course
+next_of (waits.Awaited turn) deed = waited (turn_of turn.value) turn.value.levels
+next_of (waits.Shown id turn) deed =
+    written (notes id (bytes_of deed) (turn_of turn.value) turn.value.levels)
+next_of (waits.Noted id turn) deed =
+    written (arrives id (bytes_of deed) (turn_of turn.value) turn.value.levels)
+next_of (waits.Closed id turn choice) deed =
+    λ s reply. settles choice (turn_of turn.value) turn.value.levels (shut id s)
+
+-- the answer brings bytes
+abbrev pub Brings : Reply → Type 0
+Brings (said.Arrive id bytes) = Unit {0}
+Brings _ = ⊥
+
+-- the answer brings bytes, or comes to a write of them
+abbrev pub IsOnTheWay : {A : Type 0} → waiting.Waits A → Reply → Type 0
+IsOnTheWay (waits.Awaited turn) reply = Brings reply
+IsOnTheWay (waits.Shown id turn) reply = Unit {0}
+IsOnTheWay (waits.Noted id turn) reply = Unit {0}
+IsOnTheWay (waits.Closed id turn choice) reply = ⊥
+
+-- what a turn came to: it has ended, a body runs whose outcome goes to the turn, or an act waits
+-- for its answer
+abbrev pub course_of_turned : {A : Type 0} → Turned A → Status → Course
+course_of_turned (came.Has outcome) s = Ends (s, outcome_of outcome)
+course_of_turned (came.Runs script levels turn) s =
+    Calls (Script (tree_of script) levels) s (behind (turn_of turn.value) turn.value.levels)
+course_of_turned (came.Asks act held) s =
+    Asks (deed_of act) (replied (deed_of act) s (next_of held (deed_of act)))
+
+-- the same, or a turn begins
+abbrev pub course_of_talk : {A : Type 0} → Talk A → Status → Course
+course_of_talk (talk.Turned turned) s = course_of_turned turned s
+course_of_talk (talk.Turns turn) s = goes (Turn (turn_of turn.value) turn.value.levels) s
+
+-- a command has ended, or a turn begins
+abbrev pub course_of_opening : {A : Type 0} → Opening A → Status → Course
+course_of_opening (opens.Has outcome) s = Ends (s, outcome_of outcome)
+course_of_opening (opens.Turns turn) s = goes (Turn (turn_of turn.value) turn.value.levels) s
+
+-- the same, or words are substituted for a command
+abbrev pub course_of_begun : {A : Type 0} → ℕ → Begun A → Status → Course
+course_of_begun levels (begun.Opens opening) s = course_of_opening opening s
+course_of_begun levels (begun.Gathers ws form) s =
+    words levels (words_of ws) [] s (by_words (form_of form) levels)
+
+-- for some state that the code's fits, the course comes to what is at hand, once its texts are read
+pub record Comes {A X : Type 0} (course_of : X → Status → Course) (x : X) (state : State A)
+    (course : Course) : Type 0 where
+  pub status : Status
+  pub fits : FitsState state status
+  pub reaches : Reaches course (course_of x status)
+
+-- an outcome of a turn is not one of exp_continue (expect(1), exp_continue)
+abbrev pub IsPlain : {A : Type 0} → Turned A → Type 0
+IsPlain (came.Has outcome) = again_of (outcome_of outcome) ≡ 0
+IsPlain _ = Unit {0}
+
+-- the same of a command (expect(1), exp_continue)
+abbrev pub IsPlainOpening : {A : Type 0} → Opening A → Type 0
+IsPlainOpening (opens.Has outcome) = again_of (outcome_of outcome) ≡ 0
+IsPlainOpening (opens.Turns turn) = Unit {0}
+
+-- the same of what its words came to (expect(1), exp_continue)
+abbrev pub IsPlainBegun : {A : Type 0} → Begun A → Type 0
+IsPlainBegun (begun.Opens opening) = IsPlainOpening opening
+IsPlainBegun (begun.Gathers ws form) = Unit {0}
+
+-- a turn begins only behind exp_continue (expect(1), exp_continue)
+abbrev pub TurnsBehind : {A : Type 0} → Opening A → Outcome → Type 0
+TurnsBehind (opens.Has outcome) o = Unit {0}
+TurnsBehind (opens.Turns turn) o = again_of o ≡ 1
+
+-- what the code chose is what is chosen, with what it has for expect_out
+abbrev pub IsSame : {A : Type 0} → Option (Choice A) → Option Chosen → Option Taken → Type 0
+IsSame None None taken = Unit {0}
+IsSame (Some choice) (Some c) taken =
+    (choice.body ≡ c.pair.branch.body) × (taken_of_code choice.taken ≡ taken)
+IsSame _ _ taken = ⊥
+
+-- there is a choice after a trigger
+abbrev pub HasChoice : List Line → Trigger → List Pair → Type 0
+HasChoice ls t pairs = (c : Chosen) × Chooses ls t pairs (Some c)
+
+-- a choice after a trigger is made, and what it consumes is consumed
+pub record Selected {A : Type 0} (choice : Option (Choice A)) (t : Trigger) (pairs : List Pair)
+    (state : State A) (s : Status) : Type 0 where
+  pub selected : Option Chosen
+  pub chooses : Chooses (lines s) t pairs selected
+  pub same : IsSame choice selected (taken_by t selected s)
+  pub fits : FitsState state (consumed_by t selected s)

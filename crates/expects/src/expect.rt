@@ -1,78 +1,175 @@
-//! `expect -ex p` (expect(1), expect).
-#![tactic(auto, using(state::proofs::Reaches::same_reaches))]
+//! The words of the three commands (expect(1), expect, expect_before and expect_after).
 
-ghost use Rattle.std.specs.Prelude.{◌≤◌, IfOk};
+ghost use Rattle.std.specs.Prelude.{◌≡◌, ◌≤◌, ℕ, IfOk, MatchOption};
+ghost use Rattle.acts.specs.Flaw as flaw;
+ghost use Rattle.acts.specs.Flaw.{flaw_of};
+ghost use Rattle.dialog.specs.Misreads as misread;
 ghost use Rattle.expects.specs.Expect as definition;
-ghost use Rattle.state.specs.Leaf.{Shows};
+ghost use Rattle.expects.specs.Parts.{Tells};
+ghost use Rattle.expects.specs.View.{Comes, IsPlainBegun, IsPlainOpening, course_of_begun, course_of_opening, form_of};
+ghost use Rattle.expects.specs.Words.{Form as Meant};
+ghost use Rattle.state.specs.Reaches.{Reaches};
 ghost use Rattle.state.specs.Status.{Status};
-ghost use Rattle.state.specs.Variables.{with_current};
 ghost use Rattle.state.specs.View.{FitsState};
 
-use crate::turn::first;
-pub use crate::turn::{Waits, answered};
-use acts::{Fault, NoMemory};
-use state::arguments::{bad_argument, wrong_args};
-use state::leaf::raises;
-use state::variables::current_id;
-use state::{Leaf, State};
+use crate::form::{Form, is_braced};
+use crate::turn::{Begun, Opening, Turn};
+use acts::{Fault, Id, NoMemory};
+use dialog::{BranchError, Branches, Effective, Trigger};
+use state::State;
+use state::faults::no_script;
+use state::outcome::raised;
+use state::variables::{SPAWN_ID, consulted};
 use std::alloc::Allocator;
+use tclparse::Words;
 use tcltext::Value;
 
-/// The most bytes that a pattern may have.
-const MOST_PATTERN: usize = 1_000_000;
-
-/// Begins to wait for an exact pattern from the id in force.
+/// Begins one of the commands with its words, in which so many levels may still stand.
 pub fn begin<A: Allocator + Copy>(
     alloc: A,
     state: &mut State<A>,
+    form: Form,
     args: &[Value<A>],
-) -> Result<Leaf<A, Waits<A>>, NoMemory>
-    ensures shows { (s : Status) → FitsState state.old s → IfOk result (λ leaf.
-        Shows definition.next_of leaf state.new (definition.expect args.now s)) }
+    levels: u8,
+) -> Result<Begun<A>, NoMemory>
+    ensures comes { (s : Status) → FitsState state.old s → IfOk result (λ begun.
+        Comes (course_of_begun levels) begun state.new
+        (definition.expect (form_of form) levels args.now s)) }
     ensures left { state.new.left ≤ state.old.left }
+    ensures plain { IfOk result (λ begun. IsPlainBegun begun) }
+{
+    match braced(args) {
+        Some(text) => by_argument(alloc, form, text),
+        None => Ok(Begun::Opens(by_words(alloc, state, form, args, levels)?)),
+    }
+}
+
+/// The single argument of a command, where it is one in braces.
+fn braced<A: Allocator>(args: &[Value<A>]) -> Option<&[u8]>
+    ensures { (form : Meant) (levels : ℕ) (s : Status) →
+        let course = definition.expect form levels args.now s in MatchOption result
+        (course ≡ definition.by_words form levels s args.now)
+        (λ text. course ≡ definition.by_argument form levels text.now s) }
 {
     match args {
-        [flag, pattern] => exact(alloc, state, flag.as_slice(), pattern),
-        _ => wrong_args(alloc, b"expect"),
+        [text] if is_braced(text.as_slice()) => Some(text.as_slice()),
+        _ => None,
     }
 }
 
-/// Waits for a pattern, where the flag says that it is exact.
-fn exact<A: Allocator + Copy>(
-    alloc: A,
-    state: &mut State<A>,
-    flag: &[u8],
-    pattern: &Value<A>,
-) -> Result<Leaf<A, Waits<A>>, NoMemory>
-    ensures shows { (s : Status) → FitsState state.old s → IfOk result (λ leaf.
-        Shows definition.next_of leaf state.new (definition.flagged flag.now pattern.now s)) }
-    ensures left { state.new.left ≤ state.old.left }
+/// Reads the words of an argument in braces.
+fn by_argument<A: Allocator + Copy>(alloc: A, form: Form, text: &[u8]) -> Result<Begun<A>, NoMemory>
+    ensures reaches { (levels : ℕ) (s : Status) → IfOk result (λ begun.
+        Reaches (definition.by_argument (form_of form) levels text.now s)
+        (course_of_begun levels begun s)) }
+    ensures plain { IfOk result (λ begun. IsPlainBegun begun) }
 {
-    if flag == b"-ex".as_slice() {
-        on_current(alloc, state, pattern)
-    } else {
-        bad_argument(alloc, flag, b"expect")
+    let Words { words, fault } = Words::read(alloc, text)?;
+    match fault {
+        None => Ok(Begun::Gathers(words, form)),
+        Some(fault) => Ok(Begun::Opens(Opening::Has(raised(alloc, &no_script(fault))?))),
     }
 }
 
-/// Waits for an exact pattern from the id in force, where one is open and the pattern is not too
-/// long.
-fn on_current<A: Allocator + Copy>(
+/// Goes on with the words of a command that are all there: the branches that they say stand, or are
+/// those of the first turn.
+pub fn by_words<A: Allocator + Copy>(
     alloc: A,
     state: &mut State<A>,
-    pattern: &Value<A>,
-) -> Result<Leaf<A, Waits<A>>, NoMemory>
-    ensures shows { (s : Status) → FitsState state.old s → IfOk result (λ leaf.
-        Shows definition.next_of leaf state.new
-        (with_current s (definition.expects pattern.now s))) }
+    form: Form,
+    words: &[Value<A>],
+    levels: u8,
+) -> Result<Opening<A>, NoMemory>
+    ensures comes { (s : Status) → FitsState state.old s → IfOk result (λ opening.
+        Comes course_of_opening opening state.new
+        (definition.by_words (form_of form) levels s words.now)) }
     ensures left { state.new.left ≤ state.old.left }
+    ensures plain { IfOk result (λ opening. IsPlainOpening opening) }
 {
-    let id = match current_id(alloc, state)? {
-        Ok(id) => id,
-        Err(leaf) => return Ok(leaf),
+    let current = id_in_force(state);
+    match Branches::read(alloc, words, current, form.stands(), &state.ids.table) {
+        Ok(branches) => on_branches(alloc, state, form, &branches, levels),
+        Err(error) => Ok(Opening::Has(raised(alloc, &told(alloc, state, error)?)?)),
+    }
+}
+
+/// The open id that the variable `spawn_id` names, if there is one.
+fn id_in_force<A: Allocator + Copy>(state: &State<A>) -> Option<Id>
+    ensures { (s : Status) → FitsState state.now s →
+        result ≡ definition.open_by (definition.id_named s) s }
+{
+    match consulted(state, SPAWN_ID) {
+        Some(text) => state.ids.table.named(text.as_slice()),
+        None => None,
+    }
+}
+
+/// `expect` begins its first turn, for the others the branches stand.
+fn on_branches<A: Allocator + Copy>(
+    alloc: A,
+    state: &mut State<A>,
+    form: Form,
+    branches: &Branches<A>,
+    levels: u8,
+) -> Result<Opening<A>, NoMemory>
+    ensures comes { (s : Status) → FitsState state.old s → IfOk result (λ opening.
+        Comes course_of_opening opening state.new
+        (definition.on_branches (form_of form) branches.now levels s)) }
+    ensures left { state.new.left ≤ state.old.left }
+    ensures plain { IfOk result (λ opening. IsPlainOpening opening) }
+{
+    match form {
+        Form::Waits => {
+            let effective = Effective::new(alloc, &state.ids.standing, branches)?;
+            let turn = Turn {
+                effective,
+                rows: Vec::new(alloc),
+                seconds: branches.timeout(),
+                trigger: Trigger::Entry,
+                clock: None,
+                levels,
+            };
+            Ok(Opening::Turns(Box::new(alloc, turn)?))
+        }
+        Form::Stands(side) => {
+            state.ids.standing.put(alloc, side, branches)?;
+            Ok(Opening::Has(Ok(Value::empty())))
+        }
+    }
+}
+
+/// Why words say no branches, as the script's error.
+fn told<A: Allocator + Copy>(
+    alloc: A,
+    state: &State<A>,
+    error: BranchError<'_>,
+) -> Result<Fault<A>, NoMemory>
+    ensures { (s : Status) → FitsState state.now s → IfOk result (λ fault.
+        Tells (misread.flaw_of error.entry) fault s) }
+{
+    match error {
+        BranchError::NotIds(text) => {
+            let text = Vec::from_slice(alloc, text)?;
+            Ok(Fault::NotOpen(Some(text)))
+        }
+        BranchError::NotOpen(id) => Ok(Fault::NotOpen(Some(id.text(alloc)?))),
+        BranchError::NoneInForce => not_in_force(alloc, state),
+        BranchError::NoPattern => Ok(Fault::MissingWord),
+        BranchError::RegexNotHere => Ok(Fault::RegexNotHere),
+        BranchError::BadFlag(word) => Ok(Fault::BadFlag(Vec::from_slice(alloc, word)?)),
+        BranchError::TooLong => Ok(Fault::PatternTooLong),
+        BranchError::NoMemory(refusal) => Err(refusal),
+    }
+}
+
+/// The error that what the variable `spawn_id` holds names no open id.
+fn not_in_force<A: Allocator + Copy>(alloc: A, state: &State<A>) -> Result<Fault<A>, NoMemory>
+    ensures { (s : Status) → FitsState state.now s → IfOk result (λ fault.
+        flaw_of fault ≡ flaw.NotOpen (definition.id_named s)) }
+{
+    let Some(text) = consulted(state, SPAWN_ID) else {
+        return Ok(Fault::NotOpen(None));
     };
-    if pattern.as_slice().len() > MOST_PATTERN {
-        return raises(alloc, &Fault::PatternTooLong);
-    }
-    first(alloc, state, id, pattern)
+    let text = Vec::from_slice(alloc, text.as_slice())?;
+    Ok(Fault::NotOpen(Some(text)))
 }

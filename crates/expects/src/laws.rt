@@ -1,14 +1,17 @@
-//! What holds of every `expect`.
+//! What holds of every turn of `expect`.
 
-ghost use Rattle.std.specs.Prelude.{ℕ, ◌+◌, List};
-ghost use Rattle.expects.specs.Expect as definition;
-ghost use Rattle.state.specs.Behaves.{Behaves, worth};
+ghost use Rattle.std.specs.Prelude.{ℕ, ◌+◌, ◌*◌};
+ghost use Rattle.expects.specs.Turn as definition;
+ghost use Rattle.state.specs.Behaves.{worth};
+ghost use Rattle.state.specs.Piece.{TurnTree};
+ghost use Rattle.state.specs.Proceeds.{Proceeds};
 ghost use Rattle.state.specs.Status.{Status};
 
-/// `expect` runs no script, leaves no more ticks than there were, pays for its acts by its ticks,
-/// and each of its waits tells of buffers that hold at most their size.
-#[tactic(auto, using(crate::proofs::Behaves::expect_behaves))]
-pub fn expect_behaves()
-    ensures { (args : List (List ℕ)) (s : Status) →
-        Behaves s.left (worth s + 3) (definition.expect args s) }
+/// A turn leaves no more ticks than there were and comes to less with each script and turn behind
+/// it, pays for its acts by its ticks, and each of its waits tells of buffers that hold at most
+/// their size.
+#[tactic(auto, using(crate::proofs::Proceeding::turns_proceed))]
+pub fn turns_proceed()
+    ensures { (turn : TurnTree) (levels : ℕ) (s : Status) →
+        Proceeds (2 * s.left + 1) (worth s) (definition.turns turn levels s) }
 {}

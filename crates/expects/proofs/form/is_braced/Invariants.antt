@@ -1,0 +1,10 @@
+use Rattle.std.proofs.Common.{◌≡◌, length}
+use Rattle.expects.specs.Words.{is_braced}
+use Rattle.expects.proofs.form.is_braced.Given as goal
+
+-- what is left decides it
+abbrev pub invariant-loop-byte : goal.invariant-loop-byte
+invariant-loop-byte l = is_braced l.rest ≡ is_braced l.fn.text
+
+abbrev pub decreases-loop-byte : goal.decreases-loop-byte
+decreases-loop-byte l = length l.rest

@@ -1,0 +1,33 @@
+-- The three commands that say branches, and the words of an argument in braces (expect(1), expect,
+-- expect_before and expect_after).
+use Rattle.std.specs.Prelude.{ℕ, ◌==◌, ◌||◌, Bool, true, false, List, [], ◌∷◌, codes, Option, Some, None, if◌then◌else◌}
+use Rattle.std.specs.Str.{bytes_eq}
+use Rattle.dialog.specs.declared.standing.Side.{Side}
+use Rattle.dialog.specs.declared.standing.Side.TheVariants.{Before, After}
+
+-- expect, which chooses among its branches, or a command that lets them stand on a side
+pub data Form : Type 0 where
+  Waits : Form
+  Stands : (side : Side) → Form
+
+-- the command of a name
+abbrev pub named : List ℕ → Option Form
+named name =
+    if bytes_eq name (codes "expect") then Some Waits
+    else if bytes_eq name (codes "expect_before") then Some (Stands Before)
+    else if bytes_eq name (codes "expect_after") then Some (Stands After)
+    else None
+
+-- whether its branches stand
+abbrev pub stands : Form → Bool
+stands Waits = false
+stands (Stands side) = true
+
+-- a blank, a tab, a vertical tab, a form feed or a carriage return
+abbrev pub is_white : ℕ → Bool
+is_white b = (b == 32) || ((b == 9) || ((b == 11) || ((b == 12) || (b == 13))))
+
+-- the first byte that is not white is a newline (expect(1), expect)
+abbrev pub is_braced : List ℕ → Bool
+is_braced [] = false
+is_braced (b ∷ bs) = if is_white b then is_braced bs else b == 10

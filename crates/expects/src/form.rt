@@ -1,0 +1,62 @@
+//! The three commands that say branches (expect(1), expect, expect_before and expect_after).
+
+ghost use Rattle.std.specs.Prelude.{◌≡◌, option_map};
+ghost use Rattle.expects.specs.View.{form_of};
+ghost use Rattle.expects.specs.Words as definition;
+
+use dialog::Side;
+
+/// `expect`, which chooses among its branches, or a command that lets them stand on a side.
+#[derive(Clone, Copy, Debug, PartialEq, Eq)]
+pub enum Form {
+    /// `expect`.
+    Waits,
+    /// `expect_before` or `expect_after`.
+    Stands(Side),
+}
+
+impl Form {
+    /// The command of a name.
+    pub fn read(name: &[u8]) -> Option<Form>
+        ensures { option_map form_of result ≡ definition.named name.now }
+    {
+        if name == b"expect".as_slice() {
+            Some(Form::Waits)
+        } else if name == b"expect_before".as_slice() {
+            Some(Form::Stands(Side::Before))
+        } else if name == b"expect_after".as_slice() {
+            Some(Form::Stands(Side::After))
+        } else {
+            None
+        }
+    }
+
+    /// Whether its branches stand.
+    pub(crate) fn stands(self) -> bool
+        ensures { result ≡ definition.stands (form_of self) }
+    {
+        matches!(self, Form::Stands(_))
+    }
+}
+
+/// Whether the first byte of an argument that is not white is a newline, so that the argument is
+/// one in braces (expect(1), expect).
+pub(crate) fn is_braced(text: &[u8]) -> bool
+    ensures { result ≡ definition.is_braced text.now }
+{
+    let mut rest = text;
+    while let Some((byte, behind)) = rest.split_first() {
+        if !is_white(*byte) {
+            return *byte == b'\n';
+        }
+        rest = behind;
+    }
+    false
+}
+
+/// Whether a byte is white and no newline.
+fn is_white(byte: u8) -> bool
+    ensures { result ≡ definition.is_white byte }
+{
+    byte == b' ' || byte == b'\t' || byte == 0x0b || byte == 0x0c || byte == b'\r'
+}
