@@ -26,6 +26,12 @@ pub data Builtin : Type 0 where
   Sleep : Builtin
   Socket : Builtin
   Close : Builtin
+  Wait : Builtin
+  MatchMax : Builtin
+  RemoveNulls : Builtin
+  SendUser : Builtin
   SendError : Builtin
-  Expect : Builtin
+  SendLog : Builtin
+  LogUser : Builtin
+  LogFile : Builtin
   Text : (command : Pure) → Builtin

@@ -7,7 +7,6 @@ use Rattle.commands.specs.Builtin.{Builtin}
 use Rattle.commands.specs.LeftOut.{is_left_out}
 use Rattle.state.specs.Dialogue.{Course, gives, raises}
 use Rattle.state.specs.Status.{Status}
-use Rattle.expects.specs.Expect.{expect}
 use Rattle.leaving.specs.Breaks.{breaks}
 use Rattle.leaving.specs.Continues.{continues}
 use Rattle.leaving.specs.Error.{error}
@@ -15,8 +14,15 @@ use Rattle.leaving.specs.Exit.{exit}
 use Rattle.leaving.specs.ExpContinue.{exp_continue}
 use Rattle.leaving.specs.Returns.{returns}
 use Rattle.lists.specs.List.{list}
+use Rattle.logs.specs.LogFile.{log_file}
+use Rattle.logs.specs.LogUser.{log_user}
 use Rattle.logs.specs.SendError.{send_error}
+use Rattle.logs.specs.SendLog.{send_log}
+use Rattle.logs.specs.SendUser.{send_user}
 use Rattle.peers.specs.Close.{close}
+use Rattle.peers.specs.MatchMax.{match_max}
+use Rattle.peers.specs.RemoveNulls.{remove_nulls}
+use Rattle.peers.specs.Wait.{wait}
 use Rattle.procedures.specs.Proc.{proc}
 use Rattle.processes.specs.Send.{send}
 use Rattle.processes.specs.Sleep.{sleep}
@@ -59,8 +65,14 @@ named name =
     else if bytes_eq name (codes "sleep") then Some builtin.Sleep
     else if bytes_eq name (codes "socket") then Some builtin.Socket
     else if bytes_eq name (codes "close") then Some builtin.Close
+    else if bytes_eq name (codes "wait") then Some builtin.Wait
+    else if bytes_eq name (codes "match_max") then Some builtin.MatchMax
+    else if bytes_eq name (codes "remove_nulls") then Some builtin.RemoveNulls
+    else if bytes_eq name (codes "send_user") then Some builtin.SendUser
     else if bytes_eq name (codes "send_error") then Some builtin.SendError
-    else if bytes_eq name (codes "expect") then Some builtin.Expect
+    else if bytes_eq name (codes "send_log") then Some builtin.SendLog
+    else if bytes_eq name (codes "log_user") then Some builtin.LogUser
+    else if bytes_eq name (codes "log_file") then Some builtin.LogFile
     else option_map builtin.Text (pure.named name)
 
 -- what a command does with the words behind its name
@@ -87,8 +99,14 @@ does builtin.Send args s = send args s
 does builtin.Sleep args s = sleep args s
 does builtin.Socket args s = socket args s
 does builtin.Close args s = close args s
+does builtin.Wait args s = wait args s
+does builtin.MatchMax args s = match_max args s
+does builtin.RemoveNulls args s = remove_nulls args s
+does builtin.SendUser args s = send_user args s
 does builtin.SendError args s = send_error args s
-does builtin.Expect args s = expect args s
+does builtin.SendLog args s = send_log args s
+does builtin.LogUser args s = log_user args s
+does builtin.LogFile args s = log_file args s
 does (builtin.Text command) args s = text command args s
 
 -- a name that no command has is the script's error, which tells the names of commands that this

@@ -11,8 +11,9 @@ use Rattle.state.specs.declared.leaf.Leaf.{Leaf}
 use Rattle.state.specs.Dialogue.{Course}
 use Rattle.state.specs.Leaf.{course_of}
 use Rattle.state.specs.Status.{Status}
-use Rattle.expects.specs.Expect as expect
+use Rattle.logs.specs.LogFile as log_file
 use Rattle.peers.specs.Close as close
+use Rattle.peers.specs.Wait as wait
 use Rattle.processes.specs.Send as send
 use Rattle.processes.specs.Sleep as sleep
 use Rattle.processes.specs.Socket as socket
@@ -43,8 +44,14 @@ builtin_of builtin.Send = meant.Send
 builtin_of builtin.Sleep = meant.Sleep
 builtin_of builtin.Socket = meant.Socket
 builtin_of builtin.Close = meant.Close
+builtin_of builtin.Wait = meant.Wait
+builtin_of builtin.MatchMax = meant.MatchMax
+builtin_of builtin.RemoveNulls = meant.RemoveNulls
+builtin_of builtin.SendUser = meant.SendUser
 builtin_of builtin.SendError = meant.SendError
-builtin_of builtin.Expect = meant.Expect
+builtin_of builtin.SendLog = meant.SendLog
+builtin_of builtin.LogUser = meant.LogUser
+builtin_of builtin.LogFile = meant.LogFile
 builtin_of (builtin.Text command) = meant.Text command
 
 -- what follows the answer to an act of a command
@@ -55,7 +62,8 @@ next_of (waits.Send own) = send.next_of own
 next_of (waits.Sleep own) = sleep.next_of own
 next_of (waits.Socket own) = socket.next_of own
 next_of (waits.Close own) = close.next_of own
-next_of (waits.Expect own) = expect.next_of own
+next_of (waits.Wait own) = wait.next_of own
+next_of (waits.LogFile own) = log_file.next_of own
 
 -- what is at hand of one command is the same course as one of all commands
 abbrev pub IsLifted : {A W : Type 0} →

@@ -5,10 +5,10 @@ ghost use Rattle.commands.specs.Commands.{command};
 ghost use Rattle.state.specs.Behaves.{Behaves, worth};
 ghost use Rattle.state.specs.Status.{Status};
 
-/// Each command runs no script, uses up no more ticks than are left, pays for its acts out of three
+/// Each command runs no script, uses up no more ticks than are left, pays for its acts out of four
 /// and of what its state is worth, and waits for what holds.
 #[tactic(auto, using(crate::proofs::Behaves::command_behaves))]
 pub fn commands_behave()
     ensures { (s : Status) (words : List (List ℕ)) →
-        Behaves s.left (worth s + 3) (command s words) }
+        Behaves s.left (worth s + 4) (command s words) }
 {}

@@ -11,15 +11,14 @@ ghost use Rattle.state.specs.View.{FitsState};
 
 use crate::left_out::is_left_out;
 use crate::waits::{
-    Waits, from_close, from_expect, from_send, from_sleep, from_socket, from_spawn, from_write,
-    without_acts,
+    Waits, from_close, from_log_file, from_send, from_sleep, from_socket, from_spawn, from_wait,
+    from_write, without_acts,
 };
 use acts::{Act, Answer, Fault, NoMemory};
-use expects::expect;
 use leaving::{breaks, continues, error, exit, exp_continue, returns};
 use lists::list;
-use logs::send_error;
-use peers::close;
+use logs::{log_file, log_user, send_error, send_log, send_user};
+use peers::{close, match_max, remove_nulls, wait};
 use procedures::proc;
 use processes::{send, sleep, socket, spawn};
 use pure::Pure;
@@ -56,8 +55,14 @@ enum Builtin {
     Sleep,
     Socket,
     Close,
+    Wait,
+    MatchMax,
+    RemoveNulls,
+    SendUser,
     SendError,
-    Expect,
+    SendLog,
+    LogUser,
+    LogFile,
     Text(Pure),
 }
 
@@ -110,10 +115,22 @@ impl Builtin {
             Some(Builtin::Socket)
         } else if name == b"close".as_slice() {
             Some(Builtin::Close)
+        } else if name == b"wait".as_slice() {
+            Some(Builtin::Wait)
+        } else if name == b"match_max".as_slice() {
+            Some(Builtin::MatchMax)
+        } else if name == b"remove_nulls".as_slice() {
+            Some(Builtin::RemoveNulls)
+        } else if name == b"send_user".as_slice() {
+            Some(Builtin::SendUser)
         } else if name == b"send_error".as_slice() {
             Some(Builtin::SendError)
-        } else if name == b"expect".as_slice() {
-            Some(Builtin::Expect)
+        } else if name == b"send_log".as_slice() {
+            Some(Builtin::SendLog)
+        } else if name == b"log_user".as_slice() {
+            Some(Builtin::LogUser)
+        } else if name == b"log_file".as_slice() {
+            Some(Builtin::LogFile)
         } else {
             match Pure::named(name) {
                 Some(text) => Some(Builtin::Text(text)),
@@ -196,8 +213,14 @@ fn call<A: Allocator + Copy>(
         Builtin::Sleep => Ok(from_sleep(sleep::begin(alloc, state, args)?)),
         Builtin::Socket => Ok(from_socket(socket::begin(alloc, state, args)?)),
         Builtin::Close => Ok(from_close(close::begin(alloc, state, args)?)),
+        Builtin::Wait => Ok(from_wait(wait::begin(alloc, state, args)?)),
+        Builtin::MatchMax => Ok(without_acts(match_max::begin(alloc, state, args)?)),
+        Builtin::RemoveNulls => Ok(without_acts(remove_nulls::begin(alloc, state, args)?)),
+        Builtin::SendUser => Ok(from_write(send_user::begin(alloc, state, args)?)),
         Builtin::SendError => Ok(from_write(send_error::begin(alloc, state, args)?)),
-        Builtin::Expect => Ok(from_expect(expect::begin(alloc, state, args)?)),
+        Builtin::SendLog => Ok(from_write(send_log::begin(alloc, state, args)?)),
+        Builtin::LogUser => Ok(without_acts(log_user::begin(alloc, state, args)?)),
+        Builtin::LogFile => Ok(from_log_file(log_file::begin(alloc, state, args)?)),
         Builtin::Text(own) => Ok(without_acts(text::begin(alloc, state, own, args)?)),
     }
 }
@@ -224,6 +247,9 @@ pub fn answered<A: Allocator + Copy>(
         Waits::Sleep(own) => Ok(from_sleep(sleep::answered(alloc, state, act, own, answer)?)),
         Waits::Socket(own) => Ok(from_socket(socket::answered(alloc, state, act, own, answer)?)),
         Waits::Close(own) => Ok(from_close(close::answered(alloc, state, act, own, answer)?)),
-        Waits::Expect(own) => Ok(from_expect(expect::answered(alloc, state, act, own, answer)?)),
+        Waits::Wait(own) => Ok(from_wait(wait::answered(alloc, state, act, own, answer)?)),
+        Waits::LogFile(own) => {
+            Ok(from_log_file(log_file::answered(alloc, state, act, own, answer)?))
+        }
     }
 }

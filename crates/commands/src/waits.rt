@@ -1,8 +1,9 @@
 //! What waits in a command for the answer to an act.
 
 ghost use Rattle.commands.specs.View.{IsLifted};
-ghost use Rattle.expects.specs.Expect as expects;
+ghost use Rattle.logs.specs.LogFile as log_files;
 ghost use Rattle.peers.specs.Close as closes;
+ghost use Rattle.peers.specs.Wait as awaits;
 ghost use Rattle.processes.specs.Send as sends;
 ghost use Rattle.processes.specs.Sleep as sleeps;
 ghost use Rattle.processes.specs.Socket as sockets;
@@ -10,8 +11,8 @@ ghost use Rattle.processes.specs.Spawn as spawns;
 ghost use Rattle.state.specs.NoWaits as nothing;
 ghost use Rattle.writing.specs.Channel as writes;
 
-use expects::expect;
-use peers::close;
+use logs::log_file;
+use peers::{close, wait};
 use processes::{send, sleep, socket, spawn};
 use state::{Leaf, NoWaits};
 use std::alloc::Allocator;
@@ -26,7 +27,8 @@ pub enum Waits<A: Allocator> {
     Sleep(sleep::Waits),
     Socket(socket::Waits),
     Close(close::Waits),
-    Expect(expect::Waits<A>),
+    Wait(wait::Waits),
+    LogFile(log_file::Waits<A>),
 }
 
 /// How far a command that writes to a channel has come, as a command.
@@ -99,12 +101,22 @@ pub(crate) fn from_close<A: Allocator>(leaf: Leaf<A, close::Waits>) -> Leaf<A, W
     }
 }
 
-/// How far `expect` has come, as a command.
-pub(crate) fn from_expect<A: Allocator>(leaf: Leaf<A, expect::Waits<A>>) -> Leaf<A, Waits<A>>
-    ensures { IsLifted expects.next_of leaf result }
+/// How far `wait` has come, as a command.
+pub(crate) fn from_wait<A: Allocator>(leaf: Leaf<A, wait::Waits>) -> Leaf<A, Waits<A>>
+    ensures { IsLifted awaits.next_of leaf result }
 {
     match leaf {
         Leaf::Has(outcome) => Leaf::Has(outcome),
-        Leaf::Asks(act, waits) => Leaf::Asks(act, Waits::Expect(waits)),
+        Leaf::Asks(act, waits) => Leaf::Asks(act, Waits::Wait(waits)),
+    }
+}
+
+/// How far `log_file` has come, as a command.
+pub(crate) fn from_log_file<A: Allocator>(leaf: Leaf<A, log_file::Waits<A>>) -> Leaf<A, Waits<A>>
+    ensures { IsLifted log_files.next_of leaf result }
+{
+    match leaf {
+        Leaf::Has(outcome) => Leaf::Has(outcome),
+        Leaf::Asks(act, waits) => Leaf::Asks(act, Waits::LogFile(waits)),
     }
 }

@@ -14,12 +14,12 @@ returns-in_ok-begin-in-Spawn-clause-shows g c = λ s fits.
           (then_reaches shown.reaches (same_reaches (c.from_spawn.ensures shown.status)));
     }
 
-pub returns-in_ok-begin-in-Expect-clause-shows : goal.returns-in_ok-begin-in-Expect-clause-shows
-returns-in_ok-begin-in-Expect-clause-shows g c = λ s fits.
-    let shown = c.in_ok-begin-in-Expect.ensures.shows s fits in record {
+pub returns-in_ok-begin-in-LogFile-clause-shows : goal.returns-in_ok-begin-in-LogFile-clause-shows
+returns-in_ok-begin-in-LogFile-clause-shows g c = λ s fits.
+    let shown = c.in_ok-begin-in-LogFile.ensures.shows s fits in record {
       status = shown.status;
       fits = shown.fits;
       reaches = then_reaches
-          (same_reaches (ap (λ builtin. does (builtin_of builtin) c.args.args.now s) c.in-Expect.is))
-          (then_reaches shown.reaches (same_reaches (c.from_expect.ensures shown.status)));
+          (same_reaches (ap (λ builtin. does (builtin_of builtin) c.args.args.now s) c.in-LogFile.is))
+          (then_reaches shown.reaches (same_reaches (c.from_log_file.ensures shown.status)));
     }
