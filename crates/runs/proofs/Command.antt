@@ -5,8 +5,10 @@ use Rattle.commands.specs.Commands as leaf
 use Rattle.control.specs.Commands.{named}
 use Rattle.control.specs.Control.{Control}
 use Rattle.control.proofs.Behaves.{call_closed, does_closed}
-use Rattle.runs.specs.Commands.{called, chosen, command}
-use Rattle.state.proofs.Closed.{Closed, Loops, Ticks}
+use Rattle.expects.proofs.Closed.{expect_closed}
+use Rattle.expects.specs.Words.{Form, named as form_of}
+use Rattle.runs.specs.Commands.{called, chosen, command, formed}
+use Rattle.state.proofs.Closed.{Closed, Loops, Ticks, Turns}
 use Rattle.state.specs.Dialogue.{Course}
 use Rattle.state.specs.Outcome.{Gives}
 use Rattle.state.specs.Status.{Status}
@@ -14,11 +16,17 @@ use Rattle.tclstate.specs.Pairs.{found}
 use Rattle.tclstate.specs.Procs.{Procedure}
 
 module _ (P : Status → Course → Type 0) (closed : Closed P) (ticks : Ticks P P) (loops : Loops P)
-    (plain : (s : Status) (words : List (List ℕ)) → P s (leaf.command s words)) where
+    (turns : Turns P) (plain : (s : Status) (words : List (List ℕ)) → P s (leaf.command s words)) where
+  formed_closed : (f : Option Form) (levels : ℕ) (name : List ℕ) (args : List (List ℕ))
+      (s : Status) → P s (formed f levels name args s)
+  formed_closed (Some form) levels name args s =
+      expect_closed P closed turns form levels args s
+  formed_closed None levels name args s = plain s (name ∷ args)
+
   chosen_closed : (c : Option Control) (levels : ℕ) (name : List ℕ) (args : List (List ℕ))
       (s : Status) → P s (chosen c levels name args s)
   chosen_closed (Some c) levels name args s = does_closed P closed ticks loops c levels args s
-  chosen_closed None levels name args s = plain s (name ∷ args)
+  chosen_closed None levels name args s = formed_closed (form_of name) levels name args s
 
   called_closed : (p : Option Procedure) (levels : ℕ) (name : List ℕ) (args : List (List ℕ))
       (s : Status) → P s (called p levels name args s)

@@ -1,5 +1,5 @@
 -- The rows of each wait hold.
-use Rattle.std.proofs.Common.{ℕ, ◌+◌, List, [], ◌∷◌, ◌++◌, Bool, true, false, if◌then◌else◌}
+use Rattle.std.proofs.Common.{ℕ, ◌+◌, ◌*◌, List, [], ◌∷◌, ◌++◌, Bool, true, false, if◌then◌else◌}
 use Rattle.acts.specs.Deed.{Deed, Reply}
 use Rattle.acts.specs.Deed as said
 use Rattle.acts.specs.Fits.{fits}
@@ -7,6 +7,9 @@ use Rattle.acts.specs.Flaw as flaw
 use Rattle.acts.specs.Flaw.{text_of}
 use Rattle.commands.specs.Commands as leaf
 use Rattle.commands.proofs.Behaves.{command_behaves}
+use Rattle.dialog.specs.Peers.{Peer, opened}
+use Rattle.expects.proofs.Proceeding.{turns_proceed}
+use Rattle.expects.specs.Turn.{turns}
 use Rattle.plan.specs.Kept.{Keeps, EachKeeps}
 use Rattle.plan.specs.Plan.{Ends}
 use Rattle.runs.specs.Closing.{does, closes, closes_log, ends_with, reported, reports, closing}
@@ -14,13 +17,14 @@ use Rattle.runs.specs.Ending.{Ending, Over, stopped}
 use Rattle.runs.specs.Scripts.{plan_of}
 use Rattle.runs.proofs.Pieces.{Inherited, piece_holds, top}
 use Rattle.state.proofs.Behaves.{behaves_keeps}
+use Rattle.state.proofs.Proceeding.{proceeds_keeps}
 use Rattle.state.specs.Behaves.{worth}
 use Rattle.state.specs.Dialogue.{Course, Dialogue, is_no_more}
 use Rattle.state.specs.Outcome.{Outcome, Gives, Leaves, Stops, Error, Return, Break, Continue, Again, AgainRunning}
 use Rattle.state.specs.Outcome as stop
 use Rattle.state.specs.Piece.{IsTree}
 use Rattle.state.specs.Rows.{Holds}
-use Rattle.state.specs.Status.{Status, Peer, opened}
+use Rattle.state.specs.Status.{Status}
 
 -- any state may come
 abbrev pub AnyState : Status → Type 0
@@ -40,15 +44,20 @@ keeps_inherited = record {
   calls = λ r piece s next below each. (tt, λ u o kept. each u o);
   reading = λ r text s next each tree is. each tree;
   writing = λ r scopes s course keeps. keeps;
+  standing = λ r standing s course keeps. keeps;
   ticking = λ r left s course is keeps. keeps;
 }
 
 plain_keeps : (s : Status) (words : List (List ℕ)) → KeepsFrom top s (leaf.command s words)
 plain_keeps s words =
-    behaves_keeps s.left (worth s + 3) (leaf.command s words) (command_behaves s words)
+    behaves_keeps s.left (worth s + 4) (leaf.command s words) (command_behaves s words)
 
 pub each_keeps : EachKeeps IsTree AnyState Holds plan_of
-each_keeps piece s kept = piece_holds KeepsFrom keeps_inherited plain_keeps piece s
+each_keeps piece s kept =
+    piece_holds KeepsFrom keeps_inherited plain_keeps
+    (λ turn levels u.
+    proceeds_keeps (2 * u.left + 1) (worth u) (turns turn levels u) (turns_proceed turn levels u))
+    piece s
 
 -- a dialogue that closes a run waits for nothing
 abbrev ClosingKeeps : Dialogue Over → Type 0
@@ -75,7 +84,7 @@ closes_keeps log [] e = log_keeps log e
 closes_keeps log (p ∷ ps) e = does_keeps (said.Close p.id) _ tt (λ reply. closes_keeps log ps e)
 
 ends_keeps : (e : Ending) (s : Status) → ClosingKeeps (ends_with e s)
-ends_keeps e s = closes_keeps s.logging.is_open (opened s.peers) e
+ends_keeps e s = closes_keeps s.log.logging (opened s.ids.peers) e
 
 reports_keeps : (text : List ℕ) (s : Status) → ClosingKeeps (reports text s)
 reports_keeps text s =

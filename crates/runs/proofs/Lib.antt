@@ -1,4 +1,3 @@
-pub mod Tests
 pub mod Trees
 pub mod Command
 pub mod Pieces

@@ -1,5 +1,5 @@
 -- Each piece pays for its acts out of what its state is worth.
-use Rattle.std.proofs.Common.{◌≡◌, ℕ, suc, ◌+◌, ◌-◌, ◌≤◌, List, [], ◌∷◌, ◌++◌, length, Bool, true, false, if◌then◌else◌, refl, arith}
+use Rattle.std.proofs.Common.{◌≡◌, ℕ, suc, ◌+◌, ◌*◌, ◌-◌, ◌≤◌, List, [], ◌∷◌, ◌++◌, length, Bool, true, false, if◌then◌else◌, refl, arith}
 use Rattle.acts.specs.Deed.{Deed, Reply}
 use Rattle.acts.specs.Deed as said
 use Rattle.acts.specs.Fits.{fits}
@@ -7,6 +7,9 @@ use Rattle.acts.specs.Flaw as flaw
 use Rattle.acts.specs.Flaw.{text_of}
 use Rattle.commands.specs.Commands as leaf
 use Rattle.commands.proofs.Behaves.{command_behaves}
+use Rattle.dialog.specs.Peers.{Peer, opened}
+use Rattle.expects.proofs.Proceeding.{turns_proceed}
+use Rattle.expects.specs.Turn.{turns}
 use Rattle.plan.specs.Paid.{Pays, EachPays}
 use Rattle.plan.specs.Plan.{Ends}
 use Rattle.plan.proofs.Paid.{more_pays}
@@ -15,12 +18,13 @@ use Rattle.runs.specs.Ending.{Ending, Over, stopped}
 use Rattle.runs.specs.Scripts.{plan_of}
 use Rattle.runs.proofs.Pieces.{Inherited, piece_holds, rank, top}
 use Rattle.state.proofs.Behaves.{behaves_pays}
+use Rattle.state.proofs.Proceeding.{proceeds_pays}
 use Rattle.state.specs.Behaves.{worth, closing_of_log}
 use Rattle.state.specs.Dialogue.{Course, Dialogue, is_no_more}
 use Rattle.state.specs.Outcome.{Outcome, Gives, Leaves, Stops, Error, Return, Break, Continue, Again, AgainRunning}
 use Rattle.state.specs.Outcome as stop
-use Rattle.state.specs.Piece.{Piece, Script, One, Loop, IsTree}
-use Rattle.state.specs.Status.{Status, Peer, opened}
+use Rattle.state.specs.Piece.{Piece, Script, One, Loop, Turn, TurnTree, IsTree}
+use Rattle.state.specs.Status.{Status}
 
 -- a piece costs what its state is worth
 abbrev pub price : Piece → Status → ℕ
@@ -30,9 +34,9 @@ price piece s = worth s
 abbrev pub CoursePays : ℕ → Course → Type 0
 CoursePays had c = Pays IsTree price worth (λ left. worth left.0) had c
 
--- what a course has beside what its state is worth: behind a tick, three
+-- what a course has beside what its state is worth: behind a tick, four
 abbrev spare : ℕ → ℕ
-spare (suc (suc (suc r))) = 3
+spare (suc (suc (suc r))) = 4
 spare _ = 0
 
 -- a course pays out of what its state is worth, and of what it has beside that
@@ -50,26 +54,35 @@ pays_inherited = record {
   );
   reading = λ r text s next each tree is. each tree;
   writing = λ r scopes s course pays. pays;
+  standing = λ r standing s course pays. pays;
   ticking = λ r left s course is pays.
       let after : Status = record s { left = left } in
-      more_pays IsTree price worth (λ left. worth left.0) (worth after + 3) (worth s + spare r)
+      more_pays IsTree price worth (λ left. worth left.0) (worth after + 4) (worth s + spare r)
       course (omega (arith, is)) pays;
 }
 
 plain_pays : (s : Status) (words : List (List ℕ)) → PaysFrom top s (leaf.command s words)
 plain_pays s words =
-    behaves_pays price s.left (worth s + 3) (leaf.command s words) (command_behaves s words)
+    behaves_pays price s.left (worth s + 4) (leaf.command s words) (command_behaves s words)
+
+-- a turn of expect
+turns_pay : (turn : TurnTree) (levels : ℕ) (s : Status) → PaysFrom 2 s (turns turn levels s)
+turns_pay turn levels s =
+    more_pays IsTree price worth (λ left. worth left.0) (worth s) (worth s + spare 2)
+    (turns turn levels s) (omega arith)
+    (proceeds_pays (2 * s.left + 1) (worth s) (turns turn levels s) (turns_proceed turn levels s))
 
 none_spare : (piece : Piece) → spare (rank piece) ≡ 0
 none_spare (Script tree levels) = refl
 none_spare (One ws levels) = refl
 none_spare (Loop loop levels) = refl
+none_spare (Turn turn levels) = refl
 
 pub each_pays : EachPays IsTree price worth plan_of
 each_pays piece s =
     let none = none_spare piece in
     more_pays IsTree price worth (λ left. worth left.0) (worth s + spare (rank piece)) (worth s)
-    (plan_of piece s) (omega (arith, none)) (piece_holds PaysFrom pays_inherited plain_pays piece s)
+    (plan_of piece s) (omega (arith, none)) (piece_holds PaysFrom pays_inherited plain_pays turns_pay piece s)
 
 -- a dialogue that closes a run pays so, and keeps nothing
 abbrev ClosingPays : ℕ → Dialogue Over → Type 0
@@ -104,7 +117,7 @@ closes_pays log (p ∷ ps) e had le =
 
 ends_pays : (e : Ending) (s : Status) (had : ℕ) → worth s ≤ had → ClosingPays had (ends_with e s)
 ends_pays e s had le =
-    closes_pays s.logging.is_open (opened s.peers) e had (omega (arith, le))
+    closes_pays s.log.logging (opened s.ids.peers) e had (omega (arith, le))
 
 reports_pays : (text : List ℕ) (s : Status) (had : ℕ) → worth s + 1 ≤ had →
     ClosingPays had (reports text s)

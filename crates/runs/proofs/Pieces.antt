@@ -2,26 +2,30 @@
 use Rattle.std.proofs.Common.{ℕ, ◌<◌, List, [], Option, Some, None, arith}
 use Rattle.commands.specs.Commands as leaf
 use Rattle.conditions.proofs.Closed.{turns_closed}
+use Rattle.conditions.specs.Loop.{turns as loop_turns}
+use Rattle.dialog.specs.Standing.{Standing}
 use Rattle.plan.specs.Plan.{Ends, Reads, Calls}
 use Rattle.runs.specs.Commands.{command}
-use Rattle.runs.specs.Scripts.{behind, script, one, plan_of}
+use Rattle.runs.specs.Scripts.{behind, script, plan_of}
 use Rattle.runs.proofs.Command.{command_closed}
-use Rattle.state.proofs.Closed.{Closed, Loops, Ticks, tick_closed, value_closed}
+use Rattle.state.proofs.Closed.{Closed, Loops, Ticks, Turns, tick_closed, value_closed}
 use Rattle.state.specs.Dialogue.{Course}
 use Rattle.state.specs.Outcome.{Outcome}
-use Rattle.state.specs.Piece.{Piece, Script, One, Loop, Text, Tree}
+use Rattle.state.specs.Piece.{Piece, Script, One, Loop, Turn, LoopTree, TurnTree, Text, Tree}
 use Rattle.state.specs.Status.{Status}
 use Rattle.tclparse.specs.Fault.{Fault}
 use Rattle.tclparse.specs.Tree.{Words, Commands, no_commands}
 use Rattle.tclparse.specs.Tree as tree
 use Rattle.tclstate.specs.Scopes.{Scopes}
 use Rattle.words.proofs.Closed.{words_closed}
+use Rattle.words.specs.Words.{words}
 
--- a script is above its commands, and a loop is above its scripts
+-- a script is above its commands, and loops and turns are above their scripts
 abbrev pub rank : Piece → ℕ
 rank (One _ _) = 0
 rank (Script _ _) = 1
 rank (Loop _ _) = 2
+rank (Turn _ _) = 2
 
 -- above all pieces: behind a tick each may be called
 abbrev pub top : ℕ
@@ -39,6 +43,8 @@ pub record Inherited (P : ℕ → Status → Course → Type 0) : Type 0 where
       ((tree : Tree text) → P r s (next tree)) → P r s (Reads text next)
   pub writing : (r : ℕ) (scopes : Scopes) (s : Status) (course : Course) →
       P r (record s { scopes = scopes }) course → P r s course
+  pub standing : (r : ℕ) (standing : Standing) (s : Status) (course : Course) →
+      P r (record s { ids = record s.ids { standing = standing } }) course → P r s course
   pub ticking : (r : ℕ) → Ticks (P r) (P top)
 
 module _ (P : ℕ → Status → Course → Type 0) (so : Inherited P)
@@ -49,11 +55,16 @@ module _ (P : ℕ → Status → Course → Type 0) (so : Inherited P)
     runs = λ levels tree s next each. so.calls r (Script tree levels) s next above each;
     reading = so.reading r;
     writing = so.writing r;
+    standing = so.standing r;
   }
 
   loops : Loops (P top)
   loops loop levels s =
       so.calls top (Loop loop levels) s _ (omega arith) (λ u o. so.over top u o)
+
+  turns : Turns (P top)
+  turns turn levels s =
+      so.calls top (Turn turn levels) s _ (omega arith) (λ u o. so.over top u o)
 
   behind_holds : (fault : Option Fault) (s : Status) (value : List ℕ) → P 1 s (behind fault s value)
   behind_holds None s value = so.over 1 s _
@@ -67,17 +78,26 @@ module _ (P : ℕ → Status → Course → Type 0) (so : Inherited P)
       (value_closed (P 1) (so.over 1) (script levels cs fault)
       (λ u v. script_holds levels cs fault u v))
 
-  one_holds : (levels : ℕ) (ws : Words) (s : Status) → P 0 s (one levels ws s)
-  one_holds levels ws s =
+  -- one command, behind its tick
+  pub one_holds : (levels : ℕ) (ws : Words) (t : Status) →
+      P top t (words levels ws [] t (command levels))
+  one_holds levels ws t =
       let closed = closed_above top (omega arith) in
-      tick_closed (P 0) (P top) (so.over 0) (so.ticking 0) s _ (λ t.
       words_closed (P top) closed levels ws [] t (command levels)
-      (λ u vs. command_closed (P top) closed (so.ticking top) loops plain levels u vs))
+      (λ u vs. command_closed (P top) closed (so.ticking top) loops turns plain levels u vs)
 
-  -- each piece
-  pub piece_holds : (piece : Piece) (s : Status) → P (rank piece) s (plan_of piece s)
-  piece_holds (Script tree levels) s = script_holds levels tree.commands tree.fault s []
-  piece_holds (One ws levels) s = one_holds levels ws s
-  piece_holds (Loop loop levels) s =
+  -- a loop
+  pub turns_hold : (loop : LoopTree) (levels : ℕ) (s : Status) → P 2 s (loop_turns loop levels s)
+  turns_hold loop levels s =
       turns_closed (P 2) (P top) (closed_above 2 (omega arith)) (so.ticking 2)
       (closed_above top (omega arith)) loops loop levels s
+
+  -- each piece, where turns of expect are so
+  pub piece_holds : ((turn : TurnTree) (levels : ℕ) (s : Status) →
+      P 2 s (plan_of (Turn turn levels) s)) → (piece : Piece) (s : Status) →
+      P (rank piece) s (plan_of piece s)
+  piece_holds each (Script tree levels) s = script_holds levels tree.commands tree.fault s []
+  piece_holds each (One ws levels) s =
+      tick_closed (P 0) (P top) (so.over 0) (so.ticking 0) s _ (one_holds levels ws)
+  piece_holds each (Loop loop levels) s = turns_hold loop levels s
+  piece_holds each (Turn turn levels) s = each turn levels s

@@ -4,9 +4,9 @@ use Rattle.acts.specs.History.{History}
 use Rattle.runs.specs.Ending.{Ending}
 use Rattle.runs.specs.Run.{Run}
 
--- the acts of a run at most: three for each tick, and one that reports an uncaught error
+-- the acts of a run at most: four for each tick, and one that reports an uncaught error
 abbrev pub most_acts : ℕ → ℕ
-most_acts limit = 3 * limit + 1
+most_acts limit = 4 * limit + 1
 
 -- some run begins with these acts and answers
 pub record BeginsRun (text : List ℕ) (args : List (List ℕ)) (limit : ℕ) (h : History) : Type 0 where

@@ -4,13 +4,14 @@ use Rattle.acts.specs.Deed.{Deed, Reply}
 use Rattle.acts.specs.Deed as said
 use Rattle.acts.specs.Flaw as flaw
 use Rattle.acts.specs.Flaw.{text_of}
+use Rattle.dialog.specs.Peers.{Peer, opened}
 use Rattle.plan.specs.Plan.{Ends, Asks}
 use Rattle.runs.specs.Ending.{Ending, Over, With, Unfit, stopped}
 use Rattle.runs.specs.Ending as ending
 use Rattle.state.specs.Dialogue.{Dialogue, judged}
 use Rattle.state.specs.Outcome.{Outcome, Gives, Leaves, Stops, Code, Error, Return, Break, Continue, Again, AgainRunning}
 use Rattle.state.specs.Outcome as stop
-use Rattle.state.specs.Status.{Status, Peer, opened}
+use Rattle.state.specs.Status.{Status}
 
 -- an act that closes a run, and what is done with its answer, where it fits
 abbrev pub does : Deed → (Reply → Dialogue Over) → Dialogue Over
@@ -28,7 +29,7 @@ closes log (p ∷ ps) e = does (said.Close p.id) (λ reply. closes log ps e)
 
 -- all that is open is closed, and the run ends so
 abbrev pub ends_with : Ending → Status → Dialogue Over
-ends_with e s = closes s.logging.is_open (opened s.peers) e
+ends_with e s = closes s.log.logging (opened s.ids.peers) e
 
 -- an error that was written to standard error, or could not be
 abbrev pub reported : List ℕ → Reply → Ending

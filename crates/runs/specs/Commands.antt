@@ -1,18 +1,30 @@
--- What a command does: a procedure, one that runs scripts, or another.
+-- What a command does: a procedure, one that runs scripts, one that says branches, or another.
 use Rattle.std.specs.Prelude.{ℕ, List, [], ◌∷◌, Option, Some, None}
 use Rattle.commands.specs.Commands as leaf
 use Rattle.control.specs.Calls.{call}
 use Rattle.control.specs.Commands.{does, named}
 use Rattle.control.specs.Control.{Control}
+use Rattle.expects.specs.Expect.{expect}
+use Rattle.expects.specs.Words.{Form, named as form_of}
 use Rattle.state.specs.Dialogue.{Course, gives}
 use Rattle.state.specs.Status.{Status}
 use Rattle.tclstate.specs.Pairs.{found}
 use Rattle.tclstate.specs.Procs.{Procedure}
 
+-- a command that says branches (expect(1), expect), or one that runs no script (Tcl(n), rule 2)
+abbrev pub formed : Option Form → ℕ → List ℕ → List (List ℕ) → Status → Course
+formed (Some form) levels name args s = expect form levels args s
+formed None levels name args s = leaf.command s (name ∷ args)
+
+-- one of these by its words; where there are none, nothing is done (Tcl(n), rule 2)
+abbrev pub other_command : ℕ → Status → List (List ℕ) → Course
+other_command levels s [] = gives [] s
+other_command levels s (name ∷ args) = formed (form_of name) levels name args s
+
 -- a command that runs scripts, or another (Tcl(n), rule 2)
 abbrev pub chosen : Option Control → ℕ → List ℕ → List (List ℕ) → Status → Course
 chosen (Some control) levels name args s = does control levels args s
-chosen None levels name args s = leaf.command s (name ∷ args)
+chosen None levels name args s = formed (form_of name) levels name args s
 
 -- a procedure hides a command of its name (proc(n))
 abbrev pub called : Option Procedure → ℕ → List ℕ → List (List ℕ) → Status → Course

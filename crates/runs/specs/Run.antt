@@ -11,8 +11,8 @@ use Rattle.runs.specs.Scripts.{plan_of}
 use Rattle.state.specs.Dialogue.{Dialogue}
 use Rattle.state.specs.Piece.{Script, ScriptText, IsTree}
 use Rattle.state.specs.Rows.{Holds}
-use Rattle.state.specs.Standing.{no_standing}
 use Rattle.state.specs.Status.{Status}
+use Rattle.state.specs.View.{no_ids}
 use Rattle.tclstate.specs.Scopes.{Frame, Text}
 use Rattle.tcltext.specs.Canonical.{canonical}
 
@@ -38,18 +38,14 @@ variables args =
     ∷ (codes "argc", Text (decimal (length (others_of args))))
     ∷ (codes "timeout", Text (codes "10")) ∷ []
 
--- the beginning: the variables, no procedure, no id, no standing pair, arrivals are shown and no
--- log is open, buffers of 2,000 bytes, the first number is 4, and all ticks are left (expect(1),
--- spawn and match_max)
+-- the beginning: the variables, no procedure, no id, arrivals are shown and no log is open, and all
+-- ticks are left (expect(1), spawn, log_user and log_file)
 abbrev pub initial : List (List ℕ) → ℕ → Status
 initial args limit = record {
   scopes = record { locals = []; globals = variables args };
   procedures = [];
-  peers = [];
-  standing = no_standing;
-  logging = record { shows = true; is_open = false; takes_all = false };
-  size = 2000;
-  next = 4;
+  ids = no_ids;
+  log = record { user = true; logging = false; all = false };
   left = limit;
 }
 

@@ -1,11 +1,12 @@
--- What scripts, commands and loops do.
+-- What scripts, commands, loops and turns of expect do.
 use Rattle.std.specs.Prelude.{ℕ, List, [], Option, Some, None}
-use Rattle.conditions.specs.Loop.{turns}
+use Rattle.conditions.specs.Loop as loops
+use Rattle.expects.specs.Turn.{turns}
 use Rattle.plan.specs.Plan.{Calls}
 use Rattle.runs.specs.Commands.{command}
 use Rattle.state.specs.Dialogue.{Course, gives, raises, tick, on_value}
 use Rattle.state.specs.Faults.{flaw_of_fault}
-use Rattle.state.specs.Piece.{Piece, Script, One, Loop}
+use Rattle.state.specs.Piece.{Piece, Script, One, Loop, Turn}
 use Rattle.state.specs.Status.{Status}
 use Rattle.tclparse.specs.Fault.{Fault}
 use Rattle.tclparse.specs.Tree.{Words, Commands, no_commands}
@@ -33,4 +34,5 @@ one levels ws s = tick s (λ t. words levels ws [] t (command levels))
 abbrev pub plan_of : Piece → Status → Course
 plan_of (Script tree levels) s = script levels tree.commands tree.fault s []
 plan_of (One ws levels) s = one levels ws s
-plan_of (Loop loop levels) s = turns loop levels s
+plan_of (Loop loop levels) s = loops.turns loop levels s
+plan_of (Turn turn levels) s = turns turn levels s

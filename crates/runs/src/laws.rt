@@ -10,7 +10,7 @@ pub fn answers_decide()
     ensures whole { AnswersDecide }
 {}
 
-/// A run makes no more acts than three for each tick, and one.
+/// A run makes no more acts than four for each tick, and one.
 pub fn acts_are_bounded()
     ensures { ActsAreBounded }
 {}
