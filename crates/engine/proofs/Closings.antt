@@ -1,30 +1,35 @@
 -- The acts that close a run, one by one.
-use Rattle.std.proofs.Common.{◌≡◌, ℕ, List, [], ◌∷◌, true, false, refl, ap}
+use Rattle.std.proofs.Common.{◌≡◌, ℕ, List, [], ◌∷◌, map, true, false, refl}
 use Rattle.acts.specs.declared.id.Id.{Id}
 use Rattle.acts.specs.Deed.{Deed, Reply}
 use Rattle.acts.specs.Deed as said
 use Rattle.acts.specs.Fits.{fits}
+use Rattle.dialog.specs.Peers.{Peer, opened, line}
 use Rattle.plan.specs.Plan.{Ends}
 use Rattle.runs.specs.Closing.{does, closes, ends_with}
 use Rattle.runs.specs.Ending.{Ending, Over, With, stopped}
 use Rattle.state.specs.Dialogue.{Dialogue, judged, is_no_more}
 use Rattle.state.specs.Outcome.{Stop}
 use Rattle.state.specs.Outcome as stop
-use Rattle.state.specs.Status.{Status, Peer, opened, closed, shut}
-use Rattle.state.specs.View.{plain_logging}
+use Rattle.state.specs.Status.{Status, lines, shut}
 
 -- an open id is closed first
 pub closes_first : (e : Ending) (s : Status) (peer : Peer) (others : List Peer) (i : Id) →
-    s.logging ≡ plain_logging → opened s.peers ≡ peer ∷ others → peer.id ≡ i →
-    opened (closed i s.peers) ≡ others →
+    opened s.ids.peers ≡ peer ∷ others → peer.id ≡ i →
+    opened (shut i s).ids.peers ≡ others →
     ends_with e s
     ≡ does (said.Close i) (λ reply. ends_with e (shut i s))
-closes_first e s peer others i plain split is rest = rw (plain, split, rest, is) refl
+closes_first e s peer others i split is rest = rw (split, rest, is) refl
 
--- where none is open, the run is over
-pub closes_none : (e : Ending) (s : Status) → s.logging ≡ plain_logging → opened s.peers ≡ [] →
+-- where none is open, an open log is closed, and else the run is over
+pub closes_log_last : (e : Ending) (s t : Status) → opened s.ids.peers ≡ [] →
+    s.log.logging ≡ true → opened t.ids.peers ≡ [] → t.log.logging ≡ false →
+    ends_with e s ≡ does said.CloseLog (λ reply. ends_with e t)
+closes_log_last e s t none logs still over = rw (none, logs, still, over) refl
+
+pub closes_none : (e : Ending) (s : Status) → opened s.ids.peers ≡ [] → s.log.logging ≡ false →
     ends_with e s ≡ Ends (With e)
-closes_none e s plain none = rw (plain, none) refl
+closes_none e s none shut = rw (none, shut) refl
 
 module _ {X : Type 0} (stopped : Stop → X) (deed : Deed) (reply : Reply) (next : Dialogue X) where
   pub judged_none : is_no_more reply ≡ true →
@@ -38,3 +43,11 @@ module _ {X : Type 0} (stopped : Stop → X) (deed : Deed) (reply : Reply) (next
   pub judged_fit : is_no_more reply ≡ false → fits deed reply ≡ true →
       judged stopped deed reply next ≡ next
   judged_fit some fit = rw (some, fit) refl
+
+-- with no line no id is open
+none_among : (ps : List Peer) → map line ps ≡ [] → ps ≡ []
+none_among [] is = refl
+none_among (p ∷ ps) is = absurd (cc)
+
+pub none_open : (s : Status) → lines s ≡ [] → opened s.ids.peers ≡ []
+none_open s is = none_among (opened s.ids.peers) is

@@ -15,7 +15,9 @@ use Rattle.engine.specs.declared.machine.Next.TheVariants as next
 use Rattle.engine.specs.declared.frame.Frame.{Frame}
 use Rattle.engine.specs.declared.frame.Frame.TheVariants as frame
 use Rattle.engine.proofs.Silent.{comes_goes, same_goes, then_goes}
-use Rattle.runs.specs.Commands.{command}
+use Rattle.expects.specs.Expect.{expect}
+use Rattle.expects.specs.Words.{Form, named as form_of}
+use Rattle.runs.specs.Commands.{command, other_command}
 use Rattle.state.specs.Dialogue.{Course, gives}
 use Rattle.state.specs.Leaf.{course_of}
 use Rattle.state.specs.Nesting as nests
@@ -89,8 +91,19 @@ module _ (levels : ℕ) (words : List (List ℕ)) (s : Status) where
           command levels s words ≡ does c levels args s
       command_runs c known = rw (is, undefined, known) refl
 
-      pub command_plain : named name ≡ None → command levels s words ≡ leaf.command s words
-      command_plain unknown = rw (is, undefined, unknown) refl
+      pub command_other : named name ≡ None →
+          command levels s words ≡ other_command levels s words
+      command_other unknown = rw (is, undefined, unknown) refl
+
+    pub other_waits : (f : Form) → form_of name ≡ Some f →
+        other_command levels s words ≡ expect f levels args s
+    other_waits f formed = rw (is, formed) refl
+
+    pub other_plain : form_of name ≡ None → other_command levels s words ≡ leaf.command s words
+    other_plain unformed = rw (is, unformed) refl
+
+  pub other_none : words ≡ [] → other_command levels s words ≡ gives [] s
+  other_none is = rw is refl
 
 -- words of which the first is known
 pub first_word : (words : List (List ℕ)) (first : List ℕ) → 1 ≤ length words →

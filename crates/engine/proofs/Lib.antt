@@ -5,6 +5,7 @@ pub mod Scripted
 pub mod Taking
 pub mod Machines
 pub mod Held
+pub mod Waiting
 pub mod Added
 pub mod Sessions
 pub mod Worlds

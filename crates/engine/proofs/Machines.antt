@@ -4,28 +4,30 @@ use Rattle.std.specs.declared.rc.Rc.{Rc}
 use Rattle.std.specs.declared.vec.Vec.{Vec}
 use Rattle.tclparse.specs.declared.tree.Command.{Command}
 use Rattle.acts.specs.Flaw as flaw
-use Rattle.runs.specs.Commands.{command}
-use Rattle.commands.specs.View as table
-use Rattle.commands.specs.declared.waits.Waits.{Waits}
+use Rattle.engine.specs.Waiting as waiting
+use Rattle.engine.specs.declared.waits.Waits.{Waits}
 use Rattle.control.specs.declared.held.Held.{Held}
-use Rattle.engine.specs.Frames.{IsWhole, next_of, onward_of, left_of, weight, weight_of, words_in, words_of_frame}
+use Rattle.engine.specs.Frames.{IsWhole, call_of, next_of, onward_of, left_of, weight, weight_of, words_in, words_of_frame}
 use Rattle.engine.specs.Goes.{Goes, here, calls, reads}
 use Rattle.engine.specs.Phases.{Leads, Begins, Unwinds, Stands}
 use Rattle.engine.specs.declared.frame.Frame.{Frame}
 use Rattle.engine.specs.declared.frame.Frame.TheVariants as frame
 use Rattle.engine.specs.declared.frame.Script.{Script}
+use Rattle.engine.specs.declared.frame.WordsOf.{WordsOf}
 use Rattle.engine.specs.declared.machine.Unwound.{Unwound}
 use Rattle.engine.specs.declared.machine.Unwound.TheVariants as unwound
 use Rattle.engine.specs.declared.phase.Phase.{Phase}
 use Rattle.engine.specs.declared.phase.Phase.TheVariants as phase
 use Rattle.acts.specs.declared.act.Act.{Act}
 use Rattle.engine.proofs.Silent.{reaches_goes, same_goes, then_goes, same_left}
+use Rattle.expects.specs.declared.turn.Turn.{Turn}
 use Rattle.plan.specs.Plan.{Ends}
 use Rattle.runs.specs.Ending.{Over}
 use Rattle.runs.specs.Run.{initial, whole}
+use Rattle.state.specs.Budget.{again_of}
 use Rattle.state.specs.Dialogue.{Course, Dialogue, gives, raises}
 use Rattle.state.specs.Leaf.{HasOutcome, Shows, course_of}
-use Rattle.state.specs.Outcome.{Outcome, Gives}
+use Rattle.state.specs.Outcome.{Outcome, Gives, Leaves, Again, AgainRunning}
 use Rattle.state.specs.Piece.{ScriptText, ScriptTree}
 use Rattle.state.specs.Reaches.{Reaches}
 use Rattle.state.specs.Status.{Status}
@@ -85,7 +87,7 @@ module _ {A : Type 0} (fs : List (Frame A)) (state : State A) {p q : Dialogue Ov
 module _ {A : Type 0} (fs : List (Frame A)) where
   -- a command at hand goes on under the frames
   pub shown_leads : {l : Leaf A (Waits A)} {state : State A} {course : Course} →
-      Shows table.next_of l state course → Leads l fs state (left_of course fs)
+      Shows waiting.next_of l state course → Leads l fs state (left_of course fs)
   shown_leads shown = record {
     status = shown.status;
     fits = shown.fits;
@@ -94,7 +96,7 @@ module _ {A : Type 0} (fs : List (Frame A)) where
 
   -- a command that is over does
   pub over_goes : (l : Leaf A (Waits A)) (o : Outcome) (s : Status) → HasOutcome l o →
-      Goes (left_of (Ends (s, o)) fs) (left_of (course_of table.next_of l s) fs)
+      Goes (left_of (Ends (s, o)) fs) (left_of (course_of waiting.next_of l s) fs)
   over_goes (leaf.Has outcome) o s is =
       same_left fs (ap (λ (x : Outcome). let c : Course = Ends (s, x) in c) (sym is))
   over_goes (leaf.Asks act waits) o s is = absurd is
@@ -104,22 +106,25 @@ module _ {A : Type 0} (fs : List (Frame A)) where
   over_leads l o s state fits is =
       record { status = s; fits = fits; goes = over_goes l o s is }
 
-  -- what the words of a command came to, where it is known what that is
-  pub gathered_goes : (levels : ℕ) (s : Status) {found known : Gathered A} {p : Course} →
-      Reaches p (course_of_gathered levels found (command levels) s) → found ≡ known →
-      Goes (left_of p fs) (left_of (course_of_gathered levels known (command levels) s) fs)
-  gathered_goes levels s first is =
+  -- what words came to, where it is known what that is
+  pub gathered_goes : (levels : ℕ) (call : Status → List (List ℕ) → Course) (s : Status)
+      {found known : Gathered A} {p : Course} →
+      Reaches p (course_of_gathered levels found call s) → found ≡ known →
+      Goes (left_of p fs) (left_of (course_of_gathered levels known call s) fs)
+  gathered_goes levels call s first is =
       then_goes (reaches_goes fs first)
-      (same_left fs (ap (λ found. course_of_gathered levels found (command levels) s) is))
+      (same_left fs (ap (λ found. course_of_gathered levels found call s) is))
 
   -- a script in a word is put on the stack above the words behind it
   pub nest_goes : (levels inner : ℕ) (cs : Rc (Vec (Command A) A) A) (box : Box (Gathering A) A)
-      (s : Status) → levels ≡ suc inner →
-      Goes (left_of (nested levels (commands_of cs) s (gathering_on levels box.value (command levels))) fs)
+      (whose : WordsOf) (s : Status) → levels ≡ suc inner →
+      Goes
+      (left_of (nested levels (commands_of cs) s
+      (gathering_on levels box.value (call_of whose levels))) fs)
       (left_of (Ends (s, Gives [])) (frame.Script
       (record { commands = cs; next = 0; levels = inner; fault = None })
-      ∷ frame.Words box levels ∷ fs))
-  nest_goes levels inner cs box s is = rw is (calls here)
+      ∷ frame.Words box levels whose ∷ fs))
+  nest_goes levels inner cs box whose s is = rw is (calls here)
 
 -- a stack goes on by its top
 pub top_goes : {A : Type 0} (fs rest : List (Frame A)) (f : Frame A) (s : Status) (o : Outcome) →
@@ -142,7 +147,7 @@ module _ {A : Type 0} {fs : List (Frame A)} {state : State A} {p q : Dialogue Ov
   asks_stands act waits answers goes leads = record {
     status = leads.status;
     fits = leads.fits;
-    plan = left_of (course_of table.next_of (leaf.Asks act waits) leads.status) fs;
+    plan = left_of (course_of waiting.next_of (leaf.Asks act waits) leads.status) fs;
     is_plan = refl;
     goes = then_goes goes leads.goes;
   }
@@ -159,39 +164,39 @@ pub script_passes : {A : Type 0} (own : Script A) (s : Status) (l : Leave A) →
 script_passes own s (leave.Coded code value) = refl
 script_passes own s (leave.Stopped stop) = refl
 
-pub words_passes : {A : Type 0} (box : Box (Gathering A) A) (levels : ℕ) (s : Status)
-    (l : Leave A) →
-    next_of (frame.Words box levels) s (outcome_of (Err l)) ≡ Ends (s, outcome_of (Err l))
-words_passes box levels s (leave.Coded code value) = refl
-words_passes box levels s (leave.Stopped stop) = refl
+pub words_passes : {A : Type 0} (box : Box (Gathering A) A) (levels : ℕ) (whose : WordsOf)
+    (s : Status) (l : Leave A) →
+    next_of (frame.Words box levels whose) s (outcome_of (Err l)) ≡ Ends (s, outcome_of (Err l))
+words_passes box levels whose s (leave.Coded code value) = refl
+words_passes box levels whose s (leave.Stopped stop) = refl
 
--- and so through every frame but that of a command
+-- and so through every frame but that of a command or of a turn
 pub passed_on : {A : Type 0} (f : Frame A) (s : Status) (l : Leave A) →
     ((held : Held A) → f ≡ frame.Held held → ⊥) →
+    ((turn : Box (Turn A) A) → f ≡ frame.Turn turn → ⊥) →
     next_of f s (outcome_of (Err l)) ≡ Ends (s, outcome_of (Err l))
-passed_on (frame.Script own) s l not = script_passes own s l
-passed_on (frame.Words box levels) s l not = words_passes box levels s l
-passed_on (frame.Held held) s l not = absurd (not held refl)
+passed_on (frame.Script own) s l not none = script_passes own s l
+passed_on (frame.Words box levels whose) s l not none = words_passes box levels whose s l
+passed_on (frame.Held held) s l not none = absurd (not held refl)
+passed_on (frame.Turn turn) s l not none = absurd (none turn refl)
 
 -- a frame that goes lightens the others
 pub lighter_without : {A : Type 0} (f : Frame A) (fs : List (Frame A)) →
     weight fs < weight_of f + weight fs
 lighter_without (frame.Script own) fs = omega arith
-lighter_without (frame.Words box levels) fs = omega arith
+lighter_without (frame.Words box levels whose) fs = omega arith
 lighter_without (frame.Held held) fs = omega arith
+lighter_without (frame.Turn turn) fs = omega arith
 
-pub fewer_without : {A : Type 0} (f : Frame A) (fs : List (Frame A)) →
-    words_in fs ≤ words_of_frame f + words_in fs
-fewer_without (frame.Script own) fs = omega arith
-fewer_without (frame.Words box levels) fs = omega arith
-fewer_without (frame.Held held) fs = omega arith
+pub fewer_without : {A : Type 0} (f : Frame A) (fs : List (Frame A)) (again : ℕ) →
+    again + words_in fs ≤ again + (words_of_frame f + words_in fs)
+fewer_without f fs again = omega arith
 
--- a value goes into the word in which its script stood
-pub words_at : {A : Type 0} (f : Frame A) (o : Result (List ℕ) (Leave A))
-    (box : Box (Gathering A) A) (levels : ℕ) (value : List ℕ) (g : Gathering A) (s : Status) →
-    f ≡ frame.Words box levels → o ≡ Ok value → g ≡ box.value →
-    next_of f s (outcome_of o) ≡ gathering_on levels g (command levels) s value
-words_at f o box levels value g s f_is o_is g_is = rw (f_is, o_is, g_is) refl
+-- an outcome of exp_continue counts as one, and every other as none
+pub again_at_most : (o : Outcome) → again_of o ≤ 1
+again_at_most (Leaves Again value) = omega arith
+again_at_most (Leaves AgainRunning value) = omega arith
+again_at_most _ = omega arith
 
 -- a whole run begins with the text's script
 pub whole_goes : {A : Type 0} (f : Frame A) (text : List ℕ) (args : List (List ℕ)) (limit : ℕ) →

@@ -8,13 +8,14 @@ use Rattle.acts.specs.declared.answer.Answer.{Answer}
 use Rattle.engine.specs.Frames.{stack}
 use Rattle.engine.specs.Phases.{IsPlan, IsTold, Stands, after_acts, deed_in, paired}
 use Rattle.engine.specs.Session.{IsAt, AsksFirst, EndsSo, Tells}
-use Rattle.commands.specs.declared.waits.Waits.{Waits}
+use Rattle.engine.specs.Step.{AsksFor}
 use Rattle.engine.specs.View.{ending_of}
 use Rattle.engine.specs.declared.closing.Closing.{Closing}
 use Rattle.engine.specs.declared.frame.Frame.{Frame}
 use Rattle.engine.specs.declared.phase.Phase.{Phase}
 use Rattle.engine.specs.declared.phase.Phase.TheVariants as phase
 use Rattle.engine.specs.declared.session.Session.{Session}
+use Rattle.engine.specs.declared.waits.Waits.{Waits}
 use Rattle.engine.specs.declared.end.End.{End}
 use Rattle.engine.proofs.Silent.{goes_exact}
 use Rattle.plan.specs.Exact.{Same, Begins, Rests}
@@ -185,6 +186,12 @@ either_asks at act text args limit past (inl is) told =
     subst (λ p. Tells p text args limit past) is.1 told
 either_asks at act text args limit past (inr is) told =
     subst (λ p. Tells p text args limit past) is.1 told
+
+pub either_given : {A : Type 0} (at : Phase A) (act : Act A) →
+    ((waits : Waits A) × (at ≡ phase.Asks act waits))
+    ⊎ ((c : Closing A) × (at ≡ phase.Closes act c)) → AsksFor at act
+either_given at act (inl is) = subst (λ p. AsksFor p act) (sym is.1) refl
+either_given at act (inr is) = subst (λ p. AsksFor p act) (sym is.1) refl
 
 -- a session that went on is at its next place
 pub went_on : {A : Type 0} (old new : Session A) (text : List ℕ) (args : List (List ℕ)) (limit : ℕ)

@@ -9,10 +9,12 @@ use Rattle.engine.specs.Taken.{CannotMove, HandsOut, HasNoCommand, HasNone, IsTa
 use Rattle.engine.specs.declared.frame.Frame.{Frame}
 use Rattle.engine.specs.declared.frame.Frame.TheVariants as frame
 use Rattle.engine.specs.declared.frame.Script.{Script}
+use Rattle.engine.specs.declared.frame.WordsOf.{WordsOf}
 use Rattle.engine.specs.declared.taken.Taken.{Taken}
 use Rattle.engine.specs.declared.taken.Taken.TheVariants as it
 use Rattle.engine.proofs.Scripted.{commands_from, commands_over, limit_goes, script_goes, some_at}
 use Rattle.engine.proofs.Silent.{same_goes, same_left, then_goes}
+use Rattle.expects.specs.declared.turn.Turn.{Turn}
 use Rattle.runs.specs.Commands.{command}
 use Rattle.runs.specs.Scripts.{script}
 use Rattle.state.proofs.Ticks.{tick_taken}
@@ -32,6 +34,14 @@ kept_ticks : (s : Status) (ticks : ℕ) → s.left ≡ ticks →
 kept_ticks s ticks has = ap (λ n. let t : Status = record s { left = n } in t) has
 
 module _ {A : Type 0} where
+  -- a frame that is no script has no command
+  pub none_but_script : (f : Frame A) (rest : List (Frame A)) →
+      ((own : Script A) → f ≡ frame.Script own → ⊥) → HasNone (f ∷ rest)
+  none_but_script (frame.Script own) rest not = absurd (not own refl)
+  none_but_script (frame.Words box levels whose) rest not = tt
+  none_but_script (frame.Held held) rest not = tt
+  none_but_script (frame.Turn turn) rest not = tt
+
   -- a command of a script takes its tick, and the script stays on top
   pub moves_taken : (ws : Rc (Vec (Word A) A) A) (levels : ℕ) (old new : List (Frame A))
       (ticks left : ℕ) → MovesOn ws levels old new → ticks ≡ suc left →
@@ -96,17 +106,23 @@ module _ {A : Type 0} where
       (commands_over own.commands.value.items own.next le)))
 
   -- words that wait, and a command behind its script
-  pub waiting_taken : (gathering : Box (Gathering A) A) (levels : ℕ) (frames : List (Frame A))
-      (ticks : ℕ) →
-      IsTaken (it.Words gathering levels) (frame.Words gathering levels ∷ frames) frames ticks ticks
-  waiting_taken gathering levels frames ticks =
-      off (frame.Words gathering levels) (it.Words gathering levels) frames ticks refl refl refl
-      (λ s value has. here)
+  pub waiting_taken : (gathering : Box (Gathering A) A) (levels : ℕ) (whose : WordsOf)
+      (frames : List (Frame A)) (ticks : ℕ) →
+      IsTaken (it.Words gathering levels whose) (frame.Words gathering levels whose ∷ frames) frames
+      ticks ticks
+  waiting_taken gathering levels whose frames ticks =
+      off (frame.Words gathering levels whose) (it.Words gathering levels whose) frames ticks refl
+      refl refl (λ s value has. here)
 
   pub held_taken : (held : Held A) (frames : List (Frame A)) (ticks : ℕ) →
       IsTaken (it.Held held) (frame.Held held ∷ frames) frames ticks ticks
   held_taken held frames ticks =
       off (frame.Held held) (it.Held held) frames ticks refl refl refl (λ s value has. here)
+
+  pub turn_taken : (turn : Box (Turn A) A) (frames : List (Frame A)) (ticks : ℕ) →
+      IsTaken (it.Turn turn) (frame.Turn turn ∷ frames) frames ticks ticks
+  turn_taken turn frames ticks =
+      off (frame.Turn turn) (it.Turn turn) frames ticks refl refl refl (λ s value has. here)
 
   -- where no command was handed out, none could be
   pub none_moved : (old new : List (Frame A)) (ticks left : ℕ)

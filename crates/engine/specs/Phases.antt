@@ -5,15 +5,17 @@ use Rattle.acts.specs.Deed.{Deed, Reply, deed_of, reply_of}
 use Rattle.acts.specs.History.{History}
 use Rattle.acts.specs.declared.act.Act.{Act}
 use Rattle.acts.specs.declared.answer.Answer.{Answer}
-use Rattle.commands.specs.View as table
-use Rattle.commands.specs.declared.waits.Waits.{Waits}
-use Rattle.engine.specs.Frames.{load, onward_of, left_of, weight, words_in}
+use Rattle.engine.specs.Waiting.{again_in, next_of}
+use Rattle.engine.specs.declared.waits.Waits.{Waits}
+use Rattle.engine.specs.Frames.{call_of, load, onward_of, left_of, weight, words_in}
 use Rattle.engine.specs.Goes.{Goes}
 use Rattle.engine.specs.View.{ending_of}
 use Rattle.engine.specs.declared.closing.Closing.{Closing}
 use Rattle.engine.specs.declared.closing.Closing.TheVariants as closing
 use Rattle.engine.specs.declared.end.End.{End}
 use Rattle.engine.specs.declared.frame.Frame.{Frame}
+use Rattle.engine.specs.declared.frame.WordsOf.{WordsOf}
+use Rattle.engine.specs.declared.frame.WordsOf.TheVariants as whose
 use Rattle.engine.specs.declared.machine.Next.{Next}
 use Rattle.engine.specs.declared.machine.Next.TheVariants as next
 use Rattle.engine.specs.declared.machine.Unwound.{Unwound}
@@ -25,6 +27,9 @@ use Rattle.plan.specs.Plan.{Ends, Asks}
 use Rattle.runs.specs.Commands.{command}
 use Rattle.runs.specs.Closing.{does, ends_with, reported}
 use Rattle.runs.specs.Ending.{Ending, Over, numbered}
+use Rattle.expects.specs.Turn.{turns}
+use Rattle.expects.specs.View.{turn_of}
+use Rattle.state.specs.Budget.{again_of}
 use Rattle.state.specs.Dialogue.{Dialogue, Course, gives}
 use Rattle.state.specs.Leaf.{course_of}
 use Rattle.state.specs.Outcome.{Outcome}
@@ -42,7 +47,7 @@ pub record Leads {A : Type 0} (l : Leaf A (Waits A)) (frames : List (Frame A)) (
     (p : Dialogue Over) : Type 0 where
   pub status : Status
   pub fits : FitsState state status
-  pub goes : Goes p (left_of (course_of table.next_of l status) frames)
+  pub goes : Goes p (left_of (course_of next_of l status) frames)
 
 -- for some state that the code's fits, it goes on as the words of a command
 pub record Begins {A : Type 0} (course : Status → Course) (frames : List (Frame A))
@@ -54,7 +59,8 @@ pub record Begins {A : Type 0} (course : Status → Course) (frames : List (Fram
 -- what begins, as a course
 abbrev pub course_of_next : {A : Type 0} → Next A → Status → Course
 course_of_next (next.Command ws levels) s = words levels (words_of ws) [] s (command levels)
-course_of_next (next.Call values levels) s = command levels s values.items
+course_of_next (next.Call values levels whose) s = call_of whose levels s values.items
+course_of_next (next.Turn turn) s = turns (turn_of turn.value) turn.value.levels s
 course_of_next next.Again s = gives [] s
 
 -- what a frame came to
@@ -62,18 +68,25 @@ abbrev pub Unwinds : {A : Type 0} → Unwound A → List (Frame A) → State A �
 Unwinds (unwound.Has outcome) frames state p = Leads (leaf.Has outcome) frames state p
 Unwinds (unwound.Begins next) frames state p = Begins (course_of_next next) frames state p
 
--- the words of a command that begins by its tree may wait in a frame
+-- what may come of words that are all there: a command may end by exp_continue
+abbrev pub call_load : WordsOf → ℕ
+call_load whose.Command = 1
+call_load (whose.Argument form) = 0
+
+-- what may come of what begins: the words of a command that begins by its tree may wait in a frame
 abbrev pub more_of : {A : Type 0} → Next A → ℕ
-more_of (next.Command ws levels) = 1
-more_of (next.Call values levels) = 0
+more_of (next.Command ws levels) = 2
+more_of (next.Call values levels whose) = call_load whose
+more_of (next.Turn turn) = 0
 more_of next.Again = 0
 
--- it lightens the frames, or what begins leaves fewer commands that may begin
+-- it lightens the frames, or what begins leaves less that may begin
 abbrev pub Lightens : {A : Type 0} → Unwound A → List (Frame A) → State A → ℕ → ℕ → ℕ → Type 0
 Lightens (unwound.Has outcome) frames state most waiting left =
-    (weight frames < most) × (words_in frames ≤ waiting) × (state.left ≤ left)
+    (weight frames < most) × (again_of (outcome_of outcome) + words_in frames ≤ waiting)
+    × (state.left ≤ left)
 Lightens (unwound.Begins next) frames state most waiting left =
-    more_of next + load frames state < 2 * left + waiting
+    more_of next + load frames state < 3 * left + waiting
 
 -- all frames are gone where there is an outcome
 abbrev pub IsEmptied : {A : Type 0} → Unwound A → List (Frame A) → Type 0
@@ -89,7 +102,7 @@ closing_on (closing.Close end) s reply = ends_with (ending_of end) s
 abbrev pub IsPlan : {A : Type 0} → Phase A → List (Frame A) → Status → ℕ → Dialogue Over → Type 0
 IsPlan (phase.Has outcome) frames s answers p = p ≡ onward_of frames s (outcome_of outcome)
 IsPlan (phase.Asks act waits) frames s answers p =
-    p ≡ left_of (course_of table.next_of (leaf.Asks act waits) s) frames
+    p ≡ left_of (course_of next_of (leaf.Asks act waits) s) frames
 IsPlan (phase.Closes act c) frames s answers p = p ≡ does (deed_of act) (closing_on c s)
 IsPlan (phase.Over end) frames s answers p =
     (over : Over) × (p ≡ Ends over) × (ending_of end ≡ numbered answers over)

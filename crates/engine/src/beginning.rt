@@ -9,15 +9,13 @@ ghost use Rattle.tclstate.specs.Pairs.{found};
 ghost use Rattle.tclstate.specs.Scopes.{Text, scopes as scopes_of};
 
 use acts::{Limits, NoMemory};
+use dialog::LogState;
 use itoa::Buffer;
 use kept::Kept;
-use state::{State, Table};
+use state::{Ids, State};
 use std::alloc::Allocator;
 use tclstate::{Procs, ScopeError, Scopes};
 use tcltext::{Value, join_list};
-
-/// The number of the first id (this project's own rule).
-const FIRST_NUMBER: u64 = 4;
 
 /// The state in which a script with these arguments begins. The first argument is `argv0`, the rest
 /// are `argv`.
@@ -31,8 +29,12 @@ pub fn beginning<A: Allocator + Copy>(
     Ok(State {
         scopes: first_scopes(alloc, args)?,
         procs: Procs::new(alloc),
-        table: Table::new(alloc),
-        next: Some(FIRST_NUMBER),
+        ids: Ids::new(alloc),
+        log: LogState {
+            user: true,
+            logging: false,
+            all: false,
+        },
         left: limits.ticks,
         kept: Kept::new(alloc),
     })

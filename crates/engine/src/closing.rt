@@ -1,7 +1,8 @@
 //! The acts that close a run (this project's own rule).
 
-ghost use Rattle.std.specs.Prelude.{◌≡◌, ℕ, List, IfOk};
+ghost use Rattle.std.specs.Prelude.{◌≡◌, ℕ, List, [], IfOk};
 ghost use Rattle.acts.specs.Deed.{deed_of, reply_of};
+ghost use Rattle.dialog.specs.Peers.{opened};
 ghost use Rattle.engine.specs.Phases.{IsTold, Stands, closing_on};
 ghost use Rattle.engine.specs.View.{ending_of};
 ghost use Rattle.engine.specs.declared.frame.Frame.{Frame};
@@ -24,7 +25,7 @@ use std::alloc::Allocator;
 pub enum Closing<A: Allocator> {
     /// The text of an uncaught error is written; what is open is closed next.
     Report(Vec<u8, A>),
-    /// An id is closed; the others are closed next, and the run ends so.
+    /// An id or the log is closed; what else is open is closed next, and the run ends so.
     Close(End<A>),
 }
 
@@ -97,16 +98,30 @@ fn stop_run<A: Allocator + Copy>(state: &mut State<A>, answers: u64, stop: Stop)
     }
 }
 
-/// Closes the next open id; where there is none, the run is over.
+/// Closes the next open id, or the log where none is left; with nothing open the run is over.
 fn close_next<A: Allocator + Copy>(state: &mut State<A>, end: End<A>) -> Phase<A>
     ensures stands { (frames : List (Frame A)) (s : Status) (answers : ℕ) → FitsState state.old s →
         Stands result frames state.new answers (ends_with (ending_of end) s) }
     ensures told { IsTold result }
 {
-    match state.table.close_first() {
+    match state.ids.close_oldest() {
         Some(id) => Phase::Closes(Act::Close(id), Closing::Close(end)),
-        None => Phase::Over(end),
+        None => close_log(state, end),
     }
+}
+
+/// Closes the log, where one is open; no id is.
+fn close_log<A: Allocator>(state: &mut State<A>, end: End<A>) -> Phase<A>
+    ensures stands { (frames : List (Frame A)) (s : Status) (answers : ℕ) → FitsState state.old s →
+        opened s.ids.peers ≡ [] →
+        Stands result frames state.new answers (ends_with (ending_of end) s) }
+    ensures told { IsTold result }
+{
+    if !state.log.logging {
+        return Phase::Over(end);
+    }
+    state.log.logging = false;
+    Phase::Closes(Act::CloseLog, Closing::Close(end))
 }
 
 /// Goes on with the answer to an act that closes a run, which is the last of so many answers.

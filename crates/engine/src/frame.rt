@@ -7,6 +7,8 @@ ghost use Rattle.tclparse.specs.Tree.{no_commands};
 
 use acts::NoMemory;
 use control::Held;
+use expects::form::Form;
+use expects::turn::Turn;
 use std::alloc::Allocator;
 use std::rc::Rc;
 use tclparse::{Command, Fault, Word};
@@ -23,16 +25,27 @@ pub struct Script<A: Allocator> {
     pub fault: Option<Fault>,
 }
 
+/// Whose words are substituted.
+#[derive(Clone, Copy, Debug, PartialEq, Eq)]
+pub enum WordsOf {
+    /// Those of a command, which they begin.
+    Command,
+    /// Those of an argument in braces, which say branches for this command.
+    Argument(Form),
+}
+
 /// What is done next with how the part within it ends.
 #[derive(Drop)]
 pub enum Frame<A: Allocator> {
     /// The commands of a script that are left.
     Script(Script<A>),
-    /// The words of a command behind a script in one of them, and the levels that may still stand
-    /// in the command.
-    Words(Box<Gathering<A>, A>, u8),
+    /// Words behind a script in one of them, the levels that may still stand in their command, and
+    /// whose words they are.
+    Words(Box<Gathering<A>, A>, u8, WordsOf),
     /// A command behind a script that it ran.
     Held(Held<A>),
+    /// A turn of `expect` behind the body of what it chose.
+    Turn(Box<Turn<A>, A>),
 }
 
 impl<A: Allocator> Script<A> {

@@ -11,6 +11,8 @@ mod phase;
 mod running;
 mod session;
 mod taken;
+mod turns;
+mod waits;
 
 pub use end::End;
 pub use running::run;

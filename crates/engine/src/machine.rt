@@ -1,37 +1,46 @@
 //! The steps of a session between two acts.
 
 ghost use Rattle.std.specs.Prelude.{◌≡◌, ℕ, ◌+◌, ◌*◌, ◌<◌, ◌≤◌, [], ◌∷◌, option_map, Err, IfOk, IfErr};
-ghost use Rattle.commands.specs.View as table;
 ghost use Rattle.control.specs.View as control;
 ghost use Rattle.control.specs.View.{scripts_held};
-ghost use Rattle.engine.specs.Frames.{begun, left_of, load, next_of, onward_of, stack, weight, weight_of, words_in, words_of_frame};
+ghost use Rattle.engine.specs.Frames.{begun, call_of, left_of, load, next_of, onward_of, stack, weight, weight_of, words_in, words_load, words_of_frame};
+ghost use Rattle.engine.specs.Gathers.{Gathers, again_among};
+ghost use Rattle.engine.specs.Waiting as waiting;
+ghost use Rattle.engine.specs.Waiting.{again_in};
+ghost use Rattle.expects.specs.Turn.{behind as behind_body};
+ghost use Rattle.expects.specs.View.{turn_of};
 ghost use Rattle.engine.specs.Goes.{Goes};
-ghost use Rattle.engine.specs.Phases.{IsEmptied, IsTold, Leads, Lightens, Stands, Unwinds, course_of_next, more_of};
+ghost use Rattle.engine.specs.Phases.{call_load, IsEmptied, IsTold, Leads, Lightens, Stands, Unwinds, course_of_next, more_of};
 ghost use Rattle.engine.specs.Taken.{course_of_taken, tick_of, weight_taken, words_taken};
 ghost use Rattle.engine.specs.declared.frame.Frame.TheVariants as frames_are;
-ghost use Rattle.runs.specs.Commands.{command};
+ghost use Rattle.runs.specs.Commands.{command, other_command};
 ghost use Rattle.runs.specs.Scripts.{behind as meant_behind};
 ghost use Rattle.plan.specs.Plan.{Ends};
+ghost use Rattle.state.specs.Budget.{again_of};
 ghost use Rattle.state.specs.Leaf.{course_of};
 ghost use Rattle.state.specs.Nesting.{course_of as course_of_nesting};
 ghost use Rattle.state.specs.Outcome.{Gives};
 ghost use Rattle.state.specs.Status.{Status};
 ghost use Rattle.state.specs.View.{FitsState, outcome_of};
 ghost use Rattle.tclparse.specs.Seen.{fault_of};
-ghost use Rattle.tclparse.specs.View.{commands_of};
-ghost use Rattle.words.specs.Gathering.{course_of_gathered, gathering_on};
+ghost use Rattle.tclparse.specs.View.{commands_of, words_of};
+ghost use Rattle.words.specs.Gathering.{gathering_on};
 ghost use Rattle.words.specs.Scripts.{scripts_left};
-ghost use Rattle.words.specs.Words.{nested};
+ghost use Rattle.words.specs.Words.{nested, words as meant_words};
 
 use crate::closing::close_run;
-use crate::frame::{Frame, Script};
+use crate::frame::{Frame, Script, WordsOf};
 use crate::phase::Phase;
 use crate::taken::{Taken, take_top};
+use crate::turns::{say, take_turn, wait};
+use crate::waits::{Waits, plainly};
 use acts::{Act, Fault, NoMemory};
-use commands::Waits;
 use control::{Control, Held};
+use expects::form::Form;
+use expects::resuming::resumed;
+use expects::turn::{Opening, Turn};
 use state::faults::no_script;
-use state::leaf::{empty, raises};
+use state::leaf::empty;
 use state::outcome::raised;
 use state::{Leaf, Leave, Nesting, Outcome, State, Stop};
 use std::alloc::Allocator;
@@ -54,8 +63,11 @@ pub enum Unwound<A: Allocator> {
 pub enum Next<A: Allocator> {
     /// A command by its tree, which has taken its tick, and the levels that may still stand in it.
     Command(Rc<Vec<Word<A>, A>, A>, u8),
-    /// A command by the values of its words, and the levels that may still stand in it.
-    Call(Vec<Value<A>, A>, u8),
+    /// What words begin that are all there, the levels that may still stand in it, and whose words
+    /// they are.
+    Call(Vec<Value<A>, A>, u8, WordsOf),
+    /// A turn of `expect`.
+    Turn(Box<Turn<A>, A>),
     /// The script on the stack, which a command runs again after a tick.
     Again,
 }
@@ -100,7 +112,7 @@ fn unwind<A: Allocator + Copy>(
     ensures emptied { IfOk result (λ unwound. IsEmptied unwound (stack frames.new)) }
     ensures lightens { IfOk result (λ unwound.
         Lightens unwound (stack frames.new) state.new (1 + weight (stack frames.old))
-        (words_in (stack frames.old)) state.old.left) }
+        (again_of (outcome_of outcome) + words_in (stack frames.old)) state.old.left) }
 {
     'frames: loop {
         match resume(alloc, frames, state, outcome)? {
@@ -123,7 +135,7 @@ fn resume<A: Allocator + Copy>(
         (onward_of (stack frames.old) s (outcome_of outcome)))) }
     ensures lightens { IfOk result (λ r. IfOk r (λ unwound.
         Lightens unwound (stack frames.new) state.new (weight (stack frames.old))
-        (words_in (stack frames.old)) state.old.left)) }
+        (again_of (outcome_of outcome) + words_in (stack frames.old)) state.old.left)) }
     ensures over { IfOk result (λ r. IfErr r (λ last. (last ≡ outcome)
         × (stack frames.old ≡ []) × (stack frames.new ≡ []) × (state.new ≡ state.old))) }
 {
@@ -159,11 +171,12 @@ fn value_on<A: Allocator + Copy>(
         Taken::Command(words, levels) => Ok(Unwound::Begins(Next::Command(words, levels))),
         Taken::Limit => Ok(Unwound::Has(Err(Leave::Stopped(Stop::Limit)))),
         Taken::Behind(fault) => Ok(Unwound::Has(behind(alloc, fault, value)?)),
-        Taken::Words(gathering, levels) => {
+        Taken::Words(gathering, levels, whose) => {
             let gathering = Box::into_inner(gathering);
-            words_on(alloc, frames, state, gathering, levels, value)
+            words_on(alloc, frames, state, gathering, levels, whose, value)
         }
         Taken::Held(held) => held_on(alloc, frames, state, held, Ok(value)),
+        Taken::Turn(turn) => turn_on(alloc, frames, state, turn, Ok(value)),
     }
 }
 
@@ -181,10 +194,12 @@ fn leave_on<A: Allocator + Copy>(
     ensures lightens { IfOk result (λ unwound.
         Lightens unwound (stack frames.new) state.new
         (weight_of frame + weight (stack frames.old))
-        (words_of_frame frame + words_in (stack frames.old)) state.old.left) }
+        (again_of (outcome_of (Err leave)) + (words_of_frame frame + words_in (stack frames.old)))
+        state.old.left) }
 {
     match frame {
         Frame::Held(held) => held_on(alloc, frames, state, held, Err(leave)),
+        Frame::Turn(turn) => turn_on(alloc, frames, state, turn, Err(leave)),
         _ => Ok(Unwound::Has(Err(leave))),
     }
 }
@@ -195,8 +210,9 @@ fn behind<A: Allocator + Copy>(
     fault: Option<tclparse::Fault>,
     value: Value<A>,
 ) -> Result<Outcome<A>, NoMemory>
-    ensures { IfOk result (λ outcome. (s : Status) →
+    ensures ends { IfOk result (λ outcome. (s : Status) →
         meant_behind (option_map fault_of fault) s value ≡ Ends (s, outcome_of outcome)) }
+    ensures plain { IfOk result (λ outcome. again_of (outcome_of outcome) ≡ 0) }
 {
     match fault {
         None => Ok(Ok(value)),
@@ -204,34 +220,58 @@ fn behind<A: Allocator + Copy>(
     }
 }
 
-/// Goes on with the words of a command behind a script in one of them.
+/// Goes on with words behind a script in one of them.
 fn words_on<A: Allocator + Copy>(
     alloc: A,
     frames: &mut Vec<Frame<A>, A>,
     state: &mut State<A>,
     gathering: Gathering<A>,
     levels: u8,
+    whose: WordsOf,
     value: Value<A>,
 ) -> Result<Unwound<A>, NoMemory>
     ensures unwinds { (s : Status) → FitsState state.old s →
         IfOk result (λ unwound. Unwinds unwound (stack frames.new) state.new
-        (left_of (gathering_on levels gathering (command levels) s value) (stack frames.old))) }
+        (left_of (gathering_on levels gathering (call_of whose levels) s value)
+        (stack frames.old))) }
     ensures lightens { IfOk result (λ unwound.
         Lightens unwound (stack frames.new) state.new
         (3 + 2 * scripts_left gathering + weight (stack frames.old))
-        (1 + words_in (stack frames.old)) state.old.left) }
+        (words_load whose + words_in (stack frames.old)) state.old.left) }
 {
     let gathered = words::resume(alloc, &state.scopes, gathering, value)?;
     match gathered {
-        Gathered::Values(values) => Ok(Unwound::Begins(Next::Call(values, levels))),
+        Gathered::Values(values) => Ok(Unwound::Begins(Next::Call(values, levels, whose))),
         Gathered::Script(commands, gathering) => {
-            let outcome = nest(alloc, frames, commands, gathering, levels)?;
+            let outcome = nest(alloc, frames, commands, gathering, levels, whose)?;
             Ok(Unwound::Has(outcome))
         }
         Gathered::Fault(fault) => {
             let outcome = raised(alloc, &fault)?;
             Ok(Unwound::Has(outcome))
         }
+    }
+}
+
+/// Hands the outcome of the body of what was chosen to its turn of `expect`.
+fn turn_on<A: Allocator + Copy>(
+    alloc: A,
+    frames: &mut Vec<Frame<A>, A>,
+    state: &mut State<A>,
+    turn: Box<Turn<A>, A>,
+    outcome: Outcome<A>,
+) -> Result<Unwound<A>, NoMemory>
+    ensures unwinds { (s : Status) → FitsState state.old s →
+        IfOk result (λ unwound. Unwinds unwound (stack frames.new) state.new
+        (left_of (behind_body (turn_of turn.value) turn.value.levels s (outcome_of outcome))
+        (stack frames.old))) }
+    ensures lightens { IfOk result (λ unwound.
+        Lightens unwound (stack frames.new) state.new (1 + weight (stack frames.old))
+        (again_of (outcome_of outcome) + words_in (stack frames.old)) state.old.left) }
+{
+    match resumed(alloc, state, turn, outcome)? {
+        Opening::Has(outcome) => Ok(Unwound::Has(outcome)),
+        Opening::Turns(turn) => Ok(Unwound::Begins(Next::Turn(turn))),
     }
 }
 
@@ -245,40 +285,85 @@ fn start<A: Allocator + Copy>(
     ensures leads { (s : Status) → FitsState state.old s →
         IfOk result (λ leaf. Leads leaf (stack frames.new) state.new
         (left_of (course_of_next next s) (stack frames.old))) }
-    ensures load { IfOk result (λ leaf.
-        load (stack frames.new) state.new ≤ more_of next + load (stack frames.old) state.old) }
+    ensures load { IfOk result (λ leaf. again_in leaf + load (stack frames.new) state.new
+        ≤ more_of next + load (stack frames.old) state.old) }
 {
     match next {
-        Next::Command(words, levels) => {
-            let gathered = words::begin(alloc, &state.scopes, words)?;
-            take(alloc, frames, state, gathered, levels)
-        }
-        Next::Call(values, levels) => call(alloc, frames, state, &values, levels),
+        Next::Command(words, levels) => begin(alloc, frames, state, words, levels),
+        Next::Call(values, levels, whose) => { go_on(alloc, frames, state, &values, levels, whose) }
+        Next::Turn(turn) => take_turn(alloc, frames, state, turn),
         Next::Again => Ok(empty()),
     }
 }
 
-/// Begins a command whose words are gathered, or a script in one of them.
-fn take<A: Allocator + Copy>(
+/// Goes on with words that are all there: they begin a command, or say branches.
+fn go_on<A: Allocator + Copy>(
     alloc: A,
     frames: &mut Vec<Frame<A>, A>,
     state: &mut State<A>,
-    gathered: Gathered<A>,
+    words: &[Value<A>],
+    levels: u8,
+    whose: WordsOf,
+) -> Result<Leaf<A, Waits<A>>, NoMemory>
+    ensures leads { (s : Status) → FitsState state.old s →
+        IfOk result (λ leaf. Leads leaf (stack frames.new) state.new
+        (left_of (call_of whose levels s words.now) (stack frames.old))) }
+    ensures load { IfOk result (λ leaf. again_in leaf + load (stack frames.new) state.new
+        ≤ call_load whose + load (stack frames.old) state.old) }
+{
+    match whose {
+        WordsOf::Command => call(alloc, frames, state, words, levels),
+        WordsOf::Argument(form) => say(alloc, frames, state, form, words, levels),
+    }
+}
+
+/// Begins a command by its tree, or a script in one of its words.
+fn begin<A: Allocator + Copy>(
+    alloc: A,
+    frames: &mut Vec<Frame<A>, A>,
+    state: &mut State<A>,
+    words: Rc<Vec<Word<A>, A>, A>,
     levels: u8,
 ) -> Result<Leaf<A, Waits<A>>, NoMemory>
     ensures leads { (s : Status) → FitsState state.old s →
         IfOk result (λ leaf. Leads leaf (stack frames.new) state.new
-        (left_of (course_of_gathered levels gathered (command levels) s) (stack frames.old))) }
-    ensures load { IfOk result (λ leaf.
-        load (stack frames.new) state.new ≤ 1 + load (stack frames.old) state.old) }
+        (left_of (meant_words levels (words_of words) [] s (command levels))
+        (stack frames.old))) }
+    ensures load { IfOk result (λ leaf. again_in leaf + load (stack frames.new) state.new
+        ≤ 2 + load (stack frames.old) state.old) }
 {
+    match gather(alloc, frames, state, words, levels, WordsOf::Command)? {
+        Ok(values) => call(alloc, frames, state, &values, levels),
+        Err(outcome) => Ok(Leaf::Has(outcome)),
+    }
+}
+
+/// The values of words, or how they end up to where one of them is there: by a script in a word,
+/// which is put on the stack, or by an error.
+pub(crate) fn gather<A: Allocator + Copy>(
+    alloc: A,
+    frames: &mut Vec<Frame<A>, A>,
+    state: &State<A>,
+    words: Rc<Vec<Word<A>, A>, A>,
+    levels: u8,
+    whose: WordsOf,
+) -> Result<Result<Vec<Value<A>, A>, Outcome<A>>, NoMemory>
+    ensures gathers { (s : Status) → FitsState state.now s →
+        IfOk result (λ r. Gathers r (stack frames.new) s
+        (left_of (meant_words levels (words_of words) [] s (call_of whose levels))
+        (stack frames.old)) (call_of whose levels)) }
+    ensures load { IfOk result (λ r. again_among r + words_in (stack frames.new)
+        ≤ words_load whose + words_in (stack frames.old)) }
+    ensures kept { IfOk result (λ r. IfOk r (λ values. stack frames.new ≡ stack frames.old)) }
+{
+    let gathered = words::begin(alloc, &state.scopes, words)?;
     match gathered {
-        Gathered::Values(values) => call(alloc, frames, state, &values, levels),
+        Gathered::Values(values) => Ok(Ok(values)),
         Gathered::Script(commands, gathering) => {
-            let outcome = nest(alloc, frames, commands, gathering, levels)?;
-            Ok(Leaf::Has(outcome))
+            let outcome = nest(alloc, frames, commands, gathering, levels, whose)?;
+            Ok(Err(outcome))
         }
-        Gathered::Fault(fault) => raises(alloc, &fault),
+        Gathered::Fault(fault) => Ok(Err(raised(alloc, &fault)?)),
     }
 }
 
@@ -293,8 +378,8 @@ fn call<A: Allocator + Copy>(
     ensures leads { (s : Status) → FitsState state.old s →
         IfOk result (λ leaf. Leads leaf (stack frames.new) state.new
         (left_of (command levels s words.now) (stack frames.old))) }
-    ensures load { IfOk result (λ leaf.
-        load (stack frames.new) state.new ≤ load (stack frames.old) state.old) }
+    ensures load { IfOk result (λ leaf. again_in leaf + load (stack frames.new) state.new
+        ≤ 1 + load (stack frames.old) state.old) }
 {
     let [name, args @ ..] = words else {
         return Ok(empty());
@@ -307,7 +392,33 @@ fn call<A: Allocator + Copy>(
             let nesting = control::begin(alloc, state, control, args, levels)?;
             hold(frames, nesting)
         }
-        None => commands::begin(alloc, state, words),
+        None => call_other(alloc, frames, state, words, levels),
+    }
+}
+
+/// Begins a command that says branches, or one that runs no script.
+fn call_other<A: Allocator + Copy>(
+    alloc: A,
+    frames: &mut Vec<Frame<A>, A>,
+    state: &mut State<A>,
+    words: &[Value<A>],
+    levels: u8,
+) -> Result<Leaf<A, Waits<A>>, NoMemory>
+    ensures leads { (s : Status) → FitsState state.old s →
+        IfOk result (λ leaf. Leads leaf (stack frames.new) state.new
+        (left_of (other_command levels s words.now) (stack frames.old))) }
+    ensures load { IfOk result (λ leaf. again_in leaf + load (stack frames.new) state.new
+        ≤ 1 + load (stack frames.old) state.old) }
+{
+    let [name, args @ ..] = words else {
+        return Ok(empty());
+    };
+    match Form::read(name.as_slice()) {
+        Some(form) => wait(alloc, frames, state, form, args, levels),
+        None => {
+            let leaf = commands::begin(alloc, state, words)?;
+            Ok(plainly(leaf))
+        }
     }
 }
 
@@ -318,30 +429,30 @@ fn hold<A: Allocator>(
 ) -> Result<Leaf<A, Waits<A>>, NoMemory>
     ensures leads { (s : Status) → IfOk result (λ leaf.
         Goes (left_of (course_of_nesting control.next_of nesting s) (stack frames.old))
-        (left_of (course_of table.next_of leaf s) (stack frames.new))) }
+        (left_of (course_of waiting.next_of leaf s) (stack frames.new))) }
     ensures words { IfOk result (λ leaf.
-        words_in (stack frames.new) ≡ words_in (stack frames.old)) }
+        again_in leaf + words_in (stack frames.new) ≤ 1 + words_in (stack frames.old)) }
 {
     match nesting {
         Nesting::Has(outcome) => Ok(Leaf::Has(outcome)),
         Nesting::Runs(script, levels, held) => {
-            hold_script(frames, script, levels, held)?;
+            put_script(frames, script, levels, Frame::Held(held))?;
             Ok(empty())
         }
     }
 }
 
-/// Puts a script on the stack, above the command that runs it.
-fn hold_script<A: Allocator>(
+/// Puts a script on the stack, above the frame that takes its outcome.
+pub(crate) fn put_script<A: Allocator>(
     frames: &mut Vec<Frame<A>, A>,
     script: tclparse::Script<A>,
     levels: u8,
-    held: Held<A>,
+    under: Frame<A>,
 ) -> Result<(), NoMemory>
     ensures { IfOk result (λ _. stack frames.new ≡ frames_are.Script (begun script levels)
-        ∷ frames_are.Held held ∷ stack frames.old) }
+        ∷ under ∷ stack frames.old) }
 {
-    Frame::Held(held).push(frames)?;
+    under.push(frames)?;
     let tclparse::Script { commands, fault } = script;
     let script = Frame::Script(Script {
         commands,
@@ -367,14 +478,14 @@ fn held_on<A: Allocator + Copy>(
     ensures lightens { IfOk result (λ unwound.
         Lightens unwound (stack frames.new) state.new
         (1 + 2 * scripts_held held + weight (stack frames.old))
-        (words_in (stack frames.old)) state.old.left) }
+        (1 + words_in (stack frames.old)) state.old.left) }
 {
     let left = state.left;
     let nesting = control::resumed(alloc, state, held, outcome)?;
     match nesting {
         Nesting::Has(outcome) => Ok(Unwound::Has(outcome)),
         Nesting::Runs(script, levels, held) => {
-            hold_script(frames, script, levels, held)?;
+            put_script(frames, script, levels, Frame::Held(held))?;
             if state.left < left {
                 Ok(Unwound::Begins(Next::Again))
             } else {
@@ -391,21 +502,23 @@ fn nest<A: Allocator + Copy>(
     commands: Rc<Vec<Command<A>, A>, A>,
     gathering: Gathering<A>,
     levels: u8,
+    whose: WordsOf,
 ) -> Result<Outcome<A>, NoMemory>
     ensures goes { (s : Status) → IfOk result (λ outcome.
         Goes (left_of (nested levels (commands_of commands) s
-        (gathering_on levels gathering (command levels))) (stack frames.old))
+        (gathering_on levels gathering (call_of whose levels))) (stack frames.old))
         (onward_of (stack frames.new) s (outcome_of outcome))) }
     ensures weighs { IfOk result (λ outcome.
         weight (stack frames.new)
         ≤ 4 + 2 * scripts_left gathering + weight (stack frames.old)) }
     ensures words { IfOk result (λ outcome.
-        words_in (stack frames.new) ≤ 1 + words_in (stack frames.old)) }
+        again_of (outcome_of outcome) + words_in (stack frames.new)
+        ≤ words_load whose + words_in (stack frames.old)) }
 {
     let Some(inner) = levels.checked_sub(1) else {
         return raised(alloc, &Fault::TooManyNested);
     };
-    Frame::Words(Box::new(alloc, gathering)?, levels).push(frames)?;
+    Frame::Words(Box::new(alloc, gathering)?, levels, whose).push(frames)?;
     let script = Frame::Script(Script {
         commands,
         next: 0,

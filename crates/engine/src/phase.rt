@@ -2,8 +2,8 @@
 
 use crate::closing::Closing;
 use crate::end::End;
+use crate::waits::Waits;
 use acts::{Act, NoMemory};
-use commands::Waits;
 use state::Outcome;
 use std::alloc::Allocator;
 

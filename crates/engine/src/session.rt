@@ -4,10 +4,10 @@ ghost use Rattle.std.specs.Prelude.{◌≡◌, ◌<◌, ◌+◌, ◌^◌, ℕ, L
 ghost use Rattle.std.specs.Borrow.{sem};
 ghost use Rattle.acts.specs.Deed.{deed_of, reply_of};
 ghost use Rattle.acts.specs.History.{History};
-ghost use Rattle.commands.specs.View as table;
 ghost use Rattle.engine.specs.Frames.{IsWhole, left_of, stack};
-ghost use Rattle.engine.specs.Phases.{GivesAgain, IsPlan, IsTold, MayFail, Stands, after_acts, deed_in, paired};
+ghost use Rattle.engine.specs.Phases.{GivesAgain, IsPlan, IsTold, Leads, MayFail, Stands, after_acts, deed_in, paired};
 ghost use Rattle.engine.specs.View.{words_of};
+ghost use Rattle.engine.specs.Waiting.{next_of};
 ghost use Rattle.runs.specs.Ending.{Over};
 ghost use Rattle.state.specs.Dialogue.{Dialogue, replied};
 ghost use Rattle.state.specs.Status.{Status};
@@ -19,8 +19,9 @@ use crate::end::End;
 use crate::frame::{Frame, Script};
 use crate::machine::advance;
 use crate::phase::Phase;
+use crate::turns::talk;
+use crate::waits::{Waits, plainly};
 use acts::{Act, Answer, Limits, NoMemory, fits};
-use commands::Waits;
 use state::{Leaf, Leave, State, Stop};
 use std::alloc::Allocator;
 use std::mem;
@@ -228,7 +229,7 @@ fn answered<A: Allocator + Copy>(
 ) -> Result<Phase<A>, NoMemory>
     ensures stands { (s : Status) → FitsState state.old s → IfOk result (λ phase.
         Stands phase (stack frames.new) state.new answers
-        (left_of (replied (deed_of act) s (table.next_of waits (deed_of act)) (reply_of answer))
+        (left_of (replied (deed_of act) s (next_of waits (deed_of act)) (reply_of answer))
         (stack frames.old))) }
     ensures told { IfOk result IsTold }
 {
@@ -237,10 +238,35 @@ fn answered<A: Allocator + Copy>(
     } else if !fits(&act, &answer) {
         Stop::BadAnswer
     } else {
-        return match commands::answered(alloc, state, act, waits, answer)? {
+        return match go_on(alloc, frames, state, act, waits, answer)? {
             Leaf::Has(outcome) => advance(alloc, frames, state, answers, outcome),
             Leaf::Asks(act, waits) => Ok(Phase::Asks(act, waits)),
         };
     };
     advance(alloc, frames, state, answers, Err(Leave::Stopped(stop)))
+}
+
+/// Goes on with an answer that fits, up to how what waits for it ends, or to the next act.
+fn go_on<A: Allocator + Copy>(
+    alloc: A,
+    frames: &mut Vec<Frame<A>, A>,
+    state: &mut State<A>,
+    act: Act<A>,
+    waits: Waits<A>,
+    answer: Answer<A>,
+) -> Result<Leaf<A, Waits<A>>, NoMemory>
+    ensures { (s : Status) → FitsState state.old s →
+        IfOk result (λ leaf. Leads leaf (stack frames.new) state.new
+        (left_of (next_of waits (deed_of act) s (reply_of answer)) (stack frames.old))) }
+{
+    match waits {
+        Waits::Command(waits) => {
+            let leaf = commands::answered(alloc, state, act, waits, answer)?;
+            Ok(plainly(leaf))
+        }
+        Waits::Turn(waits) => {
+            let came = expects::waiting::answered(alloc, state, act, waits, answer)?;
+            talk(alloc, frames, state, came)
+        }
+    }
 }

@@ -6,9 +6,10 @@ ghost use Rattle.engine.specs.Taken.{CannotMove, HasNoCommand, IsOver, IsTaken};
 ghost use Rattle.engine.specs.declared.frame.Frame as frames_are;
 ghost use Rattle.engine.specs.declared.taken.Taken.TheVariants as taken;
 
-use crate::frame::Frame;
+use crate::frame::{Frame, WordsOf};
 use acts::NoMemory;
 use control::Held;
+use expects::turn::Turn;
 use std::alloc::Allocator;
 use std::rc::Rc;
 use tclparse::{Fault, Word};
@@ -24,11 +25,13 @@ pub enum Taken<A: Allocator> {
     Limit,
     /// What stands behind the commands of a script.
     Behind(Option<Fault>),
-    /// The words of a command behind a script in one of them, and the levels that may still stand
-    /// in the command.
-    Words(Box<Gathering<A>, A>, u8),
+    /// Words behind a script in one of them, the levels that may still stand in their command, and
+    /// whose words they are.
+    Words(Box<Gathering<A>, A>, u8, WordsOf),
     /// A command behind a script that it ran.
     Held(Held<A>),
+    /// A turn of `expect` behind the body of what it chose.
+    Turn(Box<Turn<A>, A>),
 }
 
 /// Looks at the frame on top: a script that has a command and a tick left moves on in place; every
@@ -88,7 +91,8 @@ fn taken_off<A: Allocator>(frame: Frame<A>) -> Taken<A>
                 Taken::Behind(script.fault)
             }
         }
-        Frame::Words(gathering, levels) => Taken::Words(gathering, levels),
+        Frame::Words(gathering, levels, whose) => Taken::Words(gathering, levels, whose),
         Frame::Held(held) => Taken::Held(held),
+        Frame::Turn(turn) => Taken::Turn(turn),
     }
 }

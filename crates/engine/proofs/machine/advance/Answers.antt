@@ -1,7 +1,9 @@
-use Rattle.std.proofs.Common.{◌+◌, ◌*◌, subst, ap, arith}
+use Rattle.std.proofs.Common.{◌+◌, ◌*◌, ◌≤◌, subst, ap, arith}
 use Rattle.engine.specs.Frames.{left_of, load, onward_of, stack, weight, words_in}
 use Rattle.engine.specs.Goes.{here}
-use Rattle.engine.specs.Phases.{IsEmptied, Leads, Lightens, Unwinds, course_of_next}
+use Rattle.engine.specs.Phases.{IsEmptied, Leads, Lightens, Unwinds, course_of_next, more_of}
+use Rattle.engine.specs.Waiting.{again_in}
+use Rattle.state.specs.Budget.{again_of}
 use Rattle.state.specs.View.{outcome_of}
 use Rattle.engine.proofs.Machines.{asks_stands, on_ok, over_comes, stands_from}
 use Rattle.engine.proofs.Silent.{same_goes, then_goes}
@@ -55,7 +57,10 @@ commands-preserved g c = λ s fits.
 pub commands-smaller : goal.commands-smaller
 commands-smaller g c =
     let light = subst (λ u. Lightens u (stack c.unwind.new.frames) c.unwind.new.state
-    (1 + weight (stack c.commands.frames)) (words_in (stack c.commands.frames))
+    (1 + weight (stack c.commands.frames))
+    (again_of (outcome_of c.commands.outcome) + words_in (stack c.commands.frames))
     c.commands.state.left) c.in-Begins.is c.in_ok-unwound.ensures.lightens in
-    let more = c.in_ok-leaf.ensures.load in
+    let more = subst (λ leaf. again_in leaf + load (stack c.start.new.frames) c.start.new.state
+    ≤ more_of c.in-Begins.next + load (stack c.unwind.new.frames) c.unwind.new.state)
+    c.in-Has-leaf.is c.in_ok-leaf.ensures.load in
     omega (arith, light, more)

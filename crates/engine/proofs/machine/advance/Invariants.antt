@@ -1,5 +1,6 @@
-use Rattle.std.proofs.Common.{◌≤◌}
+use Rattle.std.proofs.Common.{◌+◌, ◌≤◌}
 use Rattle.engine.specs.Frames.{load, onward_of, stack}
+use Rattle.state.specs.Budget.{again_of}
 use Rattle.state.specs.Status.{Status}
 use Rattle.state.specs.View.{FitsState, outcome_of}
 use Rattle.engine.proofs.Machines.{Comes}
@@ -11,6 +12,7 @@ invariant-commands g l =
     Comes (stack l.frames) l.state (outcome_of l.outcome)
     (onward_of (stack l.fn.frames) s (outcome_of l.fn.outcome))
 
--- each tick begins a command once by its tree, and once by the values of its words
+-- each tick begins a command by its tree; its words may wait, it may be called, and it may end by
+-- exp_continue, behind which a turn begins
 abbrev pub decreases-commands : goal.decreases-commands
-decreases-commands g l = load (stack l.frames) l.state
+decreases-commands g l = again_of (outcome_of l.outcome) + load (stack l.frames) l.state

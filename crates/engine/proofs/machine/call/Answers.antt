@@ -3,8 +3,8 @@ use Rattle.control.specs.Commands.{named}
 use Rattle.control.specs.Calls as calls
 use Rattle.control.specs.View.{IsCalled, control_of, next_of}
 use Rattle.engine.specs.Frames.{stack}
-use Rattle.engine.proofs.Held.{command_calls, command_none, command_plain, command_runs, first_word, no_word, rest_words}
-use Rattle.engine.proofs.Machines.{leads_from, on_ok, over_leads, shown_leads}
+use Rattle.engine.proofs.Held.{command_calls, command_none, command_other, command_runs, first_word, no_word, rest_words}
+use Rattle.engine.proofs.Machines.{leads_from, on_ok, over_leads}
 use Rattle.engine.proofs.Silent.{comes_goes, reaches_goes, same_left, then_goes}
 use Rattle.state.specs.Outcome.{Gives}
 use Rattle.tclstate.specs.Pairs.{found}
@@ -59,11 +59,11 @@ returns-in-None-clause-leads g c = λ s fits.
     let undefined : found s.procedures first ≡ None =
     ap (λ name. found s.procedures name) (sym c.as_slice.ensures) ∙ kept.0 in
     let none : named first ≡ None = rw c.as_slice-2.ensures at (sym c.in-None.ensures) in
-    on_ok c.begin-in-None.result (λ leaf shown.
-    leads_from frames c.begin-in-None.new.state
-    (same_left frames (command_plain levels words s first (drop 1 words) split undefined none))
-    (shown_leads frames shown))
-    (c.begin-in-None.ensures.shows s kept.1)
+    on_ok c.call_other.result (λ leaf leads.
+    leads_from (stack c.call_other.new.frames) c.call_other.new.state
+    (same_left frames (command_other levels words s first (drop 1 words) split undefined none))
+    leads)
+    (c.call_other.ensures.leads s kept.1)
 
 pub returns-in_ok-nesting-in-Some-read-clause-leads :
     goal.returns-in_ok-nesting-in-Some-read-clause-leads

@@ -17,8 +17,8 @@ pub returns-then-state-left-clause-unwinds : goal.returns-then-state-left-clause
 returns-then-state-left-clause-unwinds g c = λ s fits.
     let course = control.next_of c.args.held s (outcome_of c.args.outcome) in
     runs_held (stack c.args.frames.now) c.in-Runs.script c.in-Runs.levels c.in-Runs.held
-    (stack c.hold_script.new.frames) c.resumed.new.state course
-    c.in_ok-hold_script-in-Runs.ensures
+    (stack c.put_script.new.frames) c.resumed.new.state course
+    c.in_ok-put_script-in-Runs.ensures
     (subst (λ n. Comes control.next_of n c.resumed.new.state course) c.in-Runs.is
     (c.in_ok-nesting.ensures.comes s fits))
 
@@ -26,7 +26,7 @@ pub returns-else-state-left-clause-unwinds : goal.returns-else-state-left-clause
 returns-else-state-left-clause-unwinds g c = λ s fits.
     let course = control.next_of c.args.held s (outcome_of c.args.outcome) in
     runs_on (stack c.args.frames.now) c.in-Runs.script c.in-Runs.levels c.in-Runs.held
-    (stack c.hold_script.new.frames) c.resumed.new.state course c.empty.result c.empty.ensures
-    c.in_ok-hold_script-in-Runs.ensures
+    (stack c.put_script.new.frames) c.resumed.new.state course c.empty.result c.empty.ensures
+    c.in_ok-put_script-in-Runs.ensures
     (subst (λ n. Comes control.next_of n c.resumed.new.state course) c.in-Runs.is
     (c.in_ok-nesting.ensures.comes s fits))

@@ -1,7 +1,9 @@
-use Rattle.std.proofs.Common.{arith}
+use Rattle.std.proofs.Common.{Err, arith}
 use Rattle.engine.specs.Frames.{stack}
 use Rattle.engine.proofs.Silent.{same_left}
 use Rattle.engine.proofs.Machines.{fewer_without, lighter_without, passed_on}
+use Rattle.state.specs.Budget.{again_of}
+use Rattle.state.specs.View.{outcome_of}
 use Rattle.engine.proofs.machine.leave_on.Goals as goal
 
 pub returns : goal.returns
@@ -10,11 +12,11 @@ returns g c = record {
     status = s;
     fits = fits;
     goes = same_left (stack c.args.frames.now)
-        (passed_on c.args.frame s c.args.leave c.in_default.not-Held);
+        (passed_on c.args.frame s c.args.leave c.in_default.not-Held c.in_default.not-Turn);
   };
   lightens = (
     lighter_without c.args.frame (stack c.args.frames.now),
-    fewer_without c.args.frame (stack c.args.frames.now),
+    fewer_without c.args.frame (stack c.args.frames.now) (again_of (outcome_of (Err c.args.leave))),
     omega arith,
   );
 }

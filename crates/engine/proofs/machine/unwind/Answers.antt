@@ -3,6 +3,7 @@ use Rattle.engine.specs.Frames.{onward_of, stack, weight, words_in}
 use Rattle.engine.specs.Goes.{here}
 use Rattle.engine.specs.Phases.{Lightens, Unwinds}
 use Rattle.engine.specs.declared.machine.Unwound.TheVariants as unwound
+use Rattle.state.specs.Budget.{again_of}
 use Rattle.state.specs.View.{outcome_of}
 use Rattle.engine.proofs.Machines.{over_comes, unwinds_from}
 use Rattle.engine.proofs.machine.unwind.Goals as goal
@@ -24,7 +25,7 @@ frames-preserved g c =
     let is : c.in_ok-last.field-0 ≡ Ok (unwound.Has c.in-Ok-Has.next) =
     c.in-Ok-Has.is ∙ ap Ok c.in-Ok-Has.field-0-is in
     let light = subst (λ r. IfOk r (λ u. Lightens u new c.resume.new.state (weight old)
-    (words_in old) c.frames.state.left)) is c.in_ok-last.ensures.lightens in
+    (again_of o + words_in old) c.frames.state.left)) is c.in_ok-last.ensures.lightens in
     record {
       comes = λ s fits.
           let at = before.comes s fits in

@@ -1,6 +1,7 @@
 use Rattle.std.proofs.Common.{◌≤◌, ◌+◌}
 use Rattle.engine.specs.Frames.{onward_of, stack, weight, words_in}
 use Rattle.engine.specs.Goes.{Goes}
+use Rattle.state.specs.Budget.{again_of}
 use Rattle.state.specs.Status.{Status}
 use Rattle.state.specs.View.{FitsState, outcome_of}
 use Rattle.engine.proofs.Machines.{Comes}
@@ -12,7 +13,8 @@ invariant-frames g l = record {
       Comes (stack l.frames) l.state (outcome_of l.outcome)
       (onward_of (stack l.fn.frames) s (outcome_of l.fn.outcome));
   lighter : weight (stack l.frames) ≤ weight (stack l.fn.frames);
-  waiting : words_in (stack l.frames) ≤ words_in (stack l.fn.frames);
+  waiting : again_of (outcome_of l.outcome) + words_in (stack l.frames)
+      ≤ again_of (outcome_of l.fn.outcome) + words_in (stack l.fn.frames);
   left : l.state.left ≤ l.fn.state.left;
 }
 

@@ -1,9 +1,8 @@
 use Rattle.std.proofs.Common.{◌∙◌, sym, ap}
-use Rattle.engine.specs.Frames.{stack}
+use Rattle.engine.specs.Frames.{call_of, stack}
 use Rattle.engine.specs.Taken.{course_of_taken}
 use Rattle.engine.proofs.Machines.{on_ok, unwinds_from}
 use Rattle.engine.proofs.Silent.{same_left}
-use Rattle.runs.specs.Commands.{command}
 use Rattle.words.specs.Gathering.{gathering_on}
 use Rattle.engine.proofs.machine.value_on.Goals as goal
 
@@ -30,7 +29,7 @@ returns-in_ok-behind-in-Behind-clause-unwinds g c = λ s fits. record {
   fits = fits;
   goes = same_left (stack c.args.frames.now)
       (ap (λ taken. course_of_taken taken s c.args.value) c.in-Behind.is
-      ∙ c.in_ok-behind-in-Behind.ensures s);
+      ∙ c.in_ok-behind-in-Behind.ensures.ends s);
 }
 
 pub returns-in-Words-clause-unwinds : goal.returns-in-Words-clause-unwinds
@@ -41,6 +40,6 @@ returns-in-Words-clause-unwinds g c = λ s fits.
     unwinds_from (stack c.words_on.new.frames) c.words_on.new.state
     (same_left (stack c.args.frames.now)
     (ap (λ taken. course_of_taken taken s c.args.value) c.in-Words.is
-    ∙ ap (λ gathering. gathering_on levels gathering (command levels) s c.args.value)
+    ∙ ap (λ gathering. gathering_on levels gathering (call_of c.in-Words.whose levels) s c.args.value)
     (sym c.into_inner-gathering.ensures))) unwound unwinds)
     (c.words_on.ensures.unwinds s fits)

@@ -1,5 +1,4 @@
-use Rattle.runs.specs.Commands.{command}
-use Rattle.engine.specs.Frames.{stack}
+use Rattle.engine.specs.Frames.{call_of, stack}
 use Rattle.state.specs.View.{raised}
 use Rattle.state.specs.declared.leaf.Leaf.TheVariants as leaf
 use Rattle.engine.proofs.Machines.{gathered_goes, leads_from, over_leads}
@@ -12,8 +11,8 @@ returns-in-Values-clause-unwinds g c = λ s fits.
     record {
       status = s;
       fits = fits;
-      goes = gathered_goes (stack c.args.frames.now) levels s
-          (c.in_ok-gathered.ensures.reaches levels s (command levels) fits.scopes)
+      goes = gathered_goes (stack c.args.frames.now) levels (call_of c.args.whose levels) s
+          (c.in_ok-gathered.ensures.reaches levels s (call_of c.args.whose levels) fits.scopes)
           c.in-Values.is;
     }
 
@@ -24,8 +23,8 @@ returns-in_ok-outcome-in-Script-clause-unwinds g c = λ s fits.
       status = s;
       fits = fits;
       goes = then_goes
-          (gathered_goes (stack c.args.frames.now) levels s
-          (c.in_ok-gathered.ensures.reaches levels s (command levels) fits.scopes)
+          (gathered_goes (stack c.args.frames.now) levels (call_of c.args.whose levels) s
+          (c.in_ok-gathered.ensures.reaches levels s (call_of c.args.whose levels) fits.scopes)
           c.in-Script.is)
           (c.in_ok-outcome-in-Script.ensures.goes s);
     }
@@ -36,7 +35,7 @@ returns-in_ok-outcome-in-Fault-clause-unwinds g c = λ s fits.
     let frames = stack c.args.frames.now in
     let levels = c.args.levels in
     leads_from frames c.args.state.now
-    (gathered_goes frames levels s
-    (c.in_ok-gathered.ensures.reaches levels s (command levels) fits.scopes) c.in-Fault.is)
+    (gathered_goes frames levels (call_of c.args.whose levels) s
+    (c.in_ok-gathered.ensures.reaches levels s (call_of c.args.whose levels) fits.scopes) c.in-Fault.is)
     (over_leads frames (leaf.Has c.in_ok-outcome-in-Fault.outcome) (raised c.in-Fault.fault) s
     c.args.state.now fits c.in_ok-outcome-in-Fault.ensures)

@@ -1,7 +1,7 @@
 use Rattle.std.proofs.Common.{◌<◌, ◌≤◌, ◌∷◌, length, sym, subst, rules, arith}
 use Rattle.engine.specs.Taken.{HasNoCommand, IsTaken}
 use Rattle.engine.specs.declared.taken.Taken.TheVariants as it
-use Rattle.engine.proofs.Taking.{behind_taken, held_taken, limit_taken, waiting_taken}
+use Rattle.engine.proofs.Taking.{behind_taken, held_taken, limit_taken, turn_taken, waiting_taken}
 use Rattle.engine.proofs.taken.taken_off.Goals as goal
 
 pub returns-then-script-len : goal.returns-then-script-len
@@ -21,11 +21,16 @@ returns-in-Script g c = λ frames ticks none.
 
 pub returns-in-Words : goal.returns-in-Words
 returns-in-Words g c = λ frames ticks none.
-    subst (λ f. IsTaken (it.Words c.in-Words.gathering c.in-Words.levels) (f ∷ frames) frames
-    ticks ticks) (sym c.in-Words.is)
-    (waiting_taken c.in-Words.gathering c.in-Words.levels frames ticks)
+    subst (λ f. IsTaken (it.Words c.in-Words.gathering c.in-Words.levels c.in-Words.whose)
+    (f ∷ frames) frames ticks ticks) (sym c.in-Words.is)
+    (waiting_taken c.in-Words.gathering c.in-Words.levels c.in-Words.whose frames ticks)
+
+pub returns-in-Held : goal.returns-in-Held
+returns-in-Held g c = λ frames ticks none.
+    subst (λ f. IsTaken (it.Held c.in-Held.held) (f ∷ frames) frames ticks ticks)
+    (sym c.in-Held.is) (held_taken c.in-Held.held frames ticks)
 
 pub returns : goal.returns
 returns g c = λ frames ticks none.
-    subst (λ f. IsTaken (it.Held c.in-Held.held) (f ∷ frames) frames ticks ticks)
-    (sym c.in-Held.is) (held_taken c.in-Held.held frames ticks)
+    subst (λ f. IsTaken (it.Turn c.in-Turn.turn) (f ∷ frames) frames ticks ticks)
+    (sym c.in-Turn.is) (turn_taken c.in-Turn.turn frames ticks)
