@@ -108,6 +108,12 @@ fn tells_that_memory_was_refused(rt: HostRuntime) -> Result<(), Fail> {
             assert!(rt; 10 < n);
             return Ok(());
         }
+        // A refusal that concerns the keeping of a body alone is no error.
+        if ended == 0 {
+            assert_eq!(rt; printed.as_slice(), b"hiok\n".as_slice(), "{n}");
+            assert!(rt; told.is_empty(), "{n}");
+            continue;
+        }
         assert_eq!(rt; ended, 6, "{n}");
         assert!(rt; b"hiok\n".starts_with(&printed), "{n}");
         assert_eq!(rt; told.as_slice(), b"rx: no memory\n".as_slice(), "{n}");
