@@ -5,9 +5,10 @@
 # make house    rules of this repository that the prover does not know, in a moment
 # make rows     runs the rows, and writes how many there are to the stored output of rowtests
 # make edits    the edits of edits/ that the prover must refuse, for the crates that changed (SINCE=COMMIT)
+# make live     out/rx against programs and servers of the distribution
 # make compare  random scripts against tclsh8.6 (SCRIPTS=N, SEED=S)
 # make bench    times of out/rx beside those of tclsh8.6 and jimsh
-.PHONY: demo rx test house rows edits compare bench clean
+.PHONY: demo rx test house rows edits live compare bench clean
 
 FIRST := $(CURDIR)/examples/hello-cat
 SCRIPTS ?= 100000
@@ -32,6 +33,9 @@ rows:
 
 edits:
 	tools/edits $(SINCE)
+
+live: rx
+	live/live
 
 # The program runs no row here: rt builds only what it has proved.
 compare:
