@@ -7,8 +7,9 @@
 # make edits    the edits of edits/ that the prover must refuse, for the crates that changed (SINCE=COMMIT)
 # make live     out/rx against programs and servers of the distribution
 # make compare  random scripts against tclsh8.6 (SCRIPTS=N, SEED=S)
-# make bench    times of out/rx beside those of tclsh8.6 and jimsh
-.PHONY: demo rx test house rows edits live compare bench clean
+# make bench    times of out/rx beside those of tclsh8.6 and jimsh, and dialogues beside expect
+# make soak     a long dialogue, live: whether something is lost and whether memory grows
+.PHONY: demo rx test house rows edits live compare bench soak clean
 
 FIRST := $(CURDIR)/examples/hello-cat
 SCRIPTS ?= 100000
@@ -45,6 +46,10 @@ compare:
 
 bench: rx
 	bench/bench
+	bench/dialogues
+
+soak: rx
+	bench/soak
 
 clean:
 	rm -rf out crates/*/out
