@@ -6,13 +6,14 @@
 # make rows     runs the rows, and writes how many there are to the stored output of rowtests
 # make edits    the edits of edits/ that the prover must refuse, for the crates that changed (SINCE=COMMIT)
 # make live     out/rx against programs and servers of the distribution
-# make compare  random scripts against tclsh8.6 (SCRIPTS=N, SEED=S)
+# make compare  random scripts against tclsh8.6, dialogues against expect (SCRIPTS=N, DIALOGUES=N, SEED=S)
 # make bench    times of out/rx beside those of tclsh8.6 and jimsh, and dialogues beside expect
 # make soak     a long dialogue, live: whether something is lost and whether memory grows
 .PHONY: demo rx test house rows edits live compare bench soak clean
 
 FIRST := $(CURDIR)/examples/hello-cat
 SCRIPTS ?= 100000
+DIALOGUES ?= 150
 SEED ?= 1
 
 demo:
@@ -39,10 +40,11 @@ live: rx
 	live/live
 
 # The program runs no row here: rt builds only what it has proved.
-compare:
+compare: rx
 	cd crates/rowtests && rt run -- --scripts /dev/null
 	compare/compare --scripts $(SCRIPTS) --seed $(SEED) --also expr,if,while,for,switch,array
 	compare/edges
+	compare/dialogues --random $(DIALOGUES) --seed $(SEED)
 
 bench: rx
 	bench/bench
