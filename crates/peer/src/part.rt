@@ -1,0 +1,51 @@
+//! What is done with a connection.
+
+use std::alloc::Allocator;
+use std::io::{self, Read, Write};
+use std::net::TcpStream;
+
+/// How many bytes are read at a time.
+const CHUNK: usize = 512;
+
+/// What is done with a connection before it is closed.
+#[derive(Clone, Copy, Debug, PartialEq, Eq)]
+pub enum Part<'a> {
+    /// A text is written to it.
+    Say(&'a str),
+    /// Nothing is written to it, until the other side closes.
+    Hush,
+    /// Nothing is done.
+    Shut,
+}
+
+impl<'a> Part<'a> {
+    /// The part that words name: `say T`, `hush` or `shut`.
+    pub fn read<A: Allocator>(words: &'a [String<A>]) -> Option<Part<'a>> {
+        match words {
+            [name, text] if name.as_str() == "say" => Some(Part::Say(text.as_str())),
+            [name] if name.as_str() == "hush" => Some(Part::Hush),
+            [name] if name.as_str() == "shut" => Some(Part::Shut),
+            _ => None,
+        }
+    }
+
+    /// Plays the part on a connection, which is closed behind it.
+    pub fn play(self, mut stream: TcpStream) -> io::Result<()> {
+        match self {
+            Part::Say(text) => stream.write_all(text.as_bytes()),
+            Part::Hush => hear_out(&mut stream),
+            Part::Shut => Ok(()),
+        }
+    }
+}
+
+/// Reads what comes, up to its end.
+fn hear_out<R: Read>(stream: &mut R) -> io::Result<()> {
+    let mut chunk = [0u8; CHUNK];
+    'chunks: for _ in 0..u64::MAX {
+        if stream.read(&mut chunk)? == 0 {
+            break;
+        }
+    }
+    Ok(())
+}
