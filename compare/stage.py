@@ -11,6 +11,8 @@ from dataclasses import dataclass
 HERE = os.path.dirname(os.path.realpath(__file__))
 # A dialogue that takes so many seconds hangs.
 PATIENCE = 60
+# Files of a dialogue that are neither logs nor what peers heard.
+OTHERS = {"peer", "steps", "watched", "script", "over", "done", "shown", "errors"}
 # Expect closes descriptors with small numbers.
 HIGH = 50
 # Stands before each script.
@@ -74,8 +76,10 @@ def started_servers(names, folder):
     """Peers that listen, and the lines that tell a script their ports."""
     servers = [subprocess.Popen(["./peer", it, "serves"], cwd=folder, stdin=subprocess.DEVNULL) for it in names]
     lines = ""
-    for name in names:
+    for name, server in zip(names, servers):
         while not os.path.exists(f"{folder}/port.{name}"):
+            if server.poll() is not None:
+                raise OSError(f"the peer {name} does not listen")
             time.sleep(0.002)
         lines += f"set port({name}) {bytes_of(f'{folder}/port.{name}').decode()}\n"
         os.remove(f"{folder}/port.{name}")
@@ -119,6 +123,8 @@ def perform(dialogue, kind, program, folder):
         shutil.copy(path, folder)
     with open(f"{folder}/steps", "w", encoding="ascii") as it:
         it.writelines(f"{who} {verb} {text.hex()}\n" for who, verb, text in dialogue.steps)
+    with open(f"{folder}/watched", "w", encoding="ascii") as it:
+        it.write(dialogue.watched())
     servers, ports = started_servers(dialogue.servers, folder)
     with open(f"{folder}/script", "w", encoding="latin-1") as it:
         it.write(HEAD_OF_EXPECT * (kind == "expect") + HEAD + ports + dialogue.script)
@@ -129,7 +135,7 @@ def perform(dialogue, kind, program, folder):
 
 
 def course_of(status, folder):
-    left = set(os.listdir(folder)) - {"peer", "steps", "script", "over", "done", "shown", "errors"}
+    left = set(os.listdir(folder)) - OTHERS
     files = {it: without_returns(bytes_of(f"{folder}/{it}")) for it in sorted(left)}
     shown = without_returns(bytes_of(f"{folder}/shown"))
     return Course(shown, bytes_of(f"{folder}/errors"), status, files)

@@ -29,6 +29,10 @@ class Dialogue:
     here: str = ""
     logged: str = None
 
+    def watched(self):
+        """The file that gets all that comes: the log where it is one of everything, or else what is shown."""
+        return "log" if re.search(r"log_file -a( -noappend)? log\b", self.script) else "shown"
+
 
 def bytes_of(text):
     """What a text of a step stands for: \\n, \\t, \\r, \\0, \\\\ and \\xhh are escapes, <<N TEXT>> is N times the text."""
