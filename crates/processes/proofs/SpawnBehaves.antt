@@ -1,6 +1,6 @@
 -- What spawn keeps to.
 use Rattle.std.proofs.Common.{ℕ, ◌+◌, ◌-◌, ◌≤◌, Bool, true, false, List, [], ◌∷◌, Option, Some, None, arith}
-use Rattle.std.specs.Prelude.{◌||◌, codes, decimal}
+use Rattle.std.specs.Prelude.{codes, decimal}
 use Rattle.acts.specs.declared.id.Id.{Id}
 use Rattle.acts.specs.Deed.{Reply}
 use Rattle.acts.specs.Deed as said
@@ -48,11 +48,9 @@ launches_behaves t had false words s i le paid = starts_behaves t had i words s 
 module _ (s : Status) where
   misplaced_behaves : (w : List ℕ) → Behaves s.left (worth s + 4) (misplaced w s)
   misplaced_behaves w =
-      if_behaves s.left (worth s + 4) (is_noecho w || is_open_flag w) (wrong_words s) _
-      (omega arith, omega arith)
-      (if_behaves s.left (worth s + 4) (is_flag w) (raises (flaw.BadArgument w (codes "spawn")) s)
-      (wrong_words s)
-      (omega arith, omega arith) (omega arith, omega arith))
+      if_behaves s.left (worth s + 4) (is_noecho w) (wrong_words s)
+      (raises (flaw.BadArgument w (codes "spawn")) s)
+      (omega arith, omega arith) (omega arith, omega arith)
 
   connection_behaves : (o : Option Id) (w : List ℕ) →
       Behaves s.left (worth s + 4) (on_connection o w s (λ i. enters (codes "0") i s))
@@ -64,7 +62,7 @@ module _ (s : Status) where
       Behaves s.left (worth s + 4) (by_channel words s)
   channel_behaves [] = (omega arith, omega arith)
   channel_behaves (w ∷ []) = connection_behaves (connection (lines s) w) w
-  channel_behaves (w ∷ v ∷ vs) = misplaced_behaves v
+  channel_behaves (w ∷ v ∷ vs) = (omega arith, omega arith)
 
   spawns_behaves : (echo : Bool) (words : List (List ℕ)) →
       Behaves s.left (worth s + 4) (spawns echo words s)

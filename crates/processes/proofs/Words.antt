@@ -4,14 +4,14 @@ use Rattle.state.specs.Arguments.{is_flag}
 use Rattle.state.specs.Status.{Status}
 use Rattle.processes.specs.Launch.{launches}
 use Rattle.processes.specs.Numbers.{with_next}
-use Rattle.processes.specs.Spawn.{by_channel, is_open_flag, misplaced, spawns}
+use Rattle.processes.specs.Spawn.{by_channel, is_open_flag, misplaced, spawns, wrong_words}
 
 -- there are words behind a channel
-pub channel-more : (s : Status) (words : List (List ℕ)) (b v : List ℕ) → 2 ≤ length words →
-    b ≡ get_or words 1 b → v ≡ b → by_channel words s ≡ misplaced v s
-channel-more s [] b v some second same = absurd (omega arith)
-channel-more s (x ∷ []) b v some second same = absurd (omega arith)
-channel-more s (x ∷ y ∷ ys) b v some second same = rw (same, second) refl
+pub channel-more : (s : Status) (words : List (List ℕ)) → 2 ≤ length words →
+    by_channel words s ≡ wrong_words s
+channel-more s [] some = absurd (omega arith)
+channel-more s (x ∷ []) some = absurd (omega arith)
+channel-more s (x ∷ y ∷ ys) some = refl
 
 -- the first word of a program would be a flag, or would be none
 module _ (s : Status) (echo : Bool) where

@@ -1,5 +1,5 @@
 -- What spawn does.
-use Rattle.std.specs.Prelude.{ℕ, ◌||◌, Bool, true, false, List, [], ◌∷◌, codes, if◌then◌else◌}
+use Rattle.std.specs.Prelude.{ℕ, Bool, true, false, List, [], ◌∷◌, codes, if◌then◌else◌}
 use Rattle.std.specs.Str.{bytes_eq}
 use Rattle.acts.specs.Deed.{Deed, Reply}
 use Rattle.acts.specs.Flaw as flaw
@@ -25,20 +25,18 @@ is_open_flag w = bytes_eq w (codes "-open")
 abbrev pub wrong_words : Status → Course
 wrong_words s = raises (flaw.WrongArgs (codes "spawn")) s
 
--- a word for which there is no room: where it would be a flag and is none, it is told for itself,
--- else there are too many words (this project's own rule)
+-- a flag stands where a program is due: -noecho a second time is a word too many, another flag is
+-- told for itself (this project's own rule)
 abbrev pub misplaced : List ℕ → Status → Course
 misplaced w s =
-    if is_noecho w || is_open_flag w then wrong_words s
-    else if is_flag w then raises (flaw.BadArgument w (codes "spawn")) s
-    else wrong_words s
+    if is_noecho w then wrong_words s else raises (flaw.BadArgument w (codes "spawn")) s
 
 -- the id of an open channel is in force, and 0 is given, as no process is started; no word may
 -- stand behind the channel (expect(1), spawn)
 abbrev pub by_channel : List (List ℕ) → Status → Course
 by_channel [] s = wrong_words s
 by_channel (w ∷ []) s = with_connection w s (λ i. enters (codes "0") i s)
-by_channel (w ∷ v ∷ vs) s = misplaced v s
+by_channel (w ∷ v ∷ vs) s = wrong_words s
 
 -- the words behind the first flag: those of a channel, or those of a program, of which the first is
 -- no flag (expect(1), spawn)

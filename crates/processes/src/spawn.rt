@@ -119,7 +119,7 @@ fn spawn_channel<A: Allocator + Copy>(
     match words {
         [] => wrong_args(alloc, b"spawn"),
         [channel] => enter_channel(alloc, state, channel.as_slice()),
-        [_, word, ..] => misplaced(alloc, state, word.as_slice()),
+        [_, _, ..] => wrong_args(alloc, b"spawn"),
     }
 }
 
@@ -143,8 +143,7 @@ fn enter_channel<A: Allocator + Copy>(
     }
 }
 
-/// Refuses a word for which there is no room: where it would be a flag and is none, it is told for
-/// itself.
+/// Refuses a flag where a program is due.
 fn misplaced<A: Allocator + Copy>(
     alloc: A,
     state: &State<A>,
@@ -153,13 +152,10 @@ fn misplaced<A: Allocator + Copy>(
     ensures { (s : Status) → FitsState state.now s → IfOk result (λ leaf.
         Shows definition.next_of leaf state.now (definition.misplaced word.now s)) }
 {
-    if is_noecho(word) || is_open_flag(word) {
+    if is_noecho(word) {
         return wrong_args(alloc, b"spawn");
     }
-    if is_flag(word) {
-        return bad_argument(alloc, word, b"spawn");
-    }
-    wrong_args(alloc, b"spawn")
+    bad_argument(alloc, word, b"spawn")
 }
 
 /// After the echo is on standard output, it goes to the log where what arrives does.
