@@ -209,9 +209,6 @@ proc own_unset {args} {
     }
     if {[lindex $args 0] eq "--"} {
         set args [lrange $args 1 end]
-    } elseif {[string match -* [lindex $args 0]] && [number [lindex $args 0]] eq "" && [llength $args]} {
-        if {[lindex $args 0] eq "-nocomplain"} {wrong unset}
-        bad [lindex $args 0] unset
     }
     if {![llength $args]} {wrong unset}
     foreach name $args {refuse $name}

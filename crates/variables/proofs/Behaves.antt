@@ -5,7 +5,6 @@ use Rattle.std.specs.Str.{bytes_eq}
 use Rattle.std.specs.Fmt.{signed_decimal}
 use Rattle.acts.specs.Flaw.{Flaw}
 use Rattle.state.proofs.Behaves.{reads_behaves, writes_behaves, if_behaves, with_list_behaves}
-use Rattle.state.specs.Arguments.{is_flag}
 use Rattle.state.specs.Behaves.{Behaves, worth}
 use Rattle.state.specs.Dialogue.{Course, gives, raises}
 use Rattle.state.specs.Listed.{with_list}
@@ -170,9 +169,7 @@ behind_flag_behaves : (quiet : Bool) (words : List (List ℕ)) (s : Status) →
 behind_flag_behaves quiet [] s = (omega arith, omega arith)
 behind_flag_behaves quiet (w ∷ ws) s =
     if_behaves s.left (worth s + 3) (bytes_eq w (codes "--")) _ _ (some_words_behave quiet ws s)
-    (if_behaves s.left (worth s + 3) (is_nocomplain w) _ _ (omega arith, omega arith)
-    (if_behaves s.left (worth s + 3) (is_flag w) _ _ (omega arith, omega arith)
-    (removes_named_behaves quiet (w ∷ ws) s)))
+    (removes_named_behaves quiet (w ∷ ws) s)
 
 pub unset_behaves : (args : List (List ℕ)) (s : Status) → Keeps s (unset args s)
 unset_behaves [] s = (omega arith, omega arith)

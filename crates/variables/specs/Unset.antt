@@ -3,7 +3,6 @@ use Rattle.std.specs.Prelude.{ℕ, List, [], ◌∷◌, codes, Bool, true, false
 use Rattle.std.specs.List.{list_all}
 use Rattle.std.specs.Str.{bytes_eq}
 use Rattle.acts.specs.Flaw as flaw
-use Rattle.state.specs.Arguments.{is_flag}
 use Rattle.state.specs.Dialogue.{Course, gives, raises}
 use Rattle.state.specs.Status.{Status}
 use Rattle.state.specs.Variables.{spelled, flaw_of_trouble}
@@ -44,13 +43,11 @@ some_words quiet (w ∷ ws) s = removes_named quiet (w ∷ ws) s
 abbrev pub is_nocomplain : List ℕ → Bool
 is_nocomplain w = bytes_eq w (codes "-nocomplain")
 
--- the words behind that flag: -- may stand first, and no other flag (unset(n))
+-- the words behind that flag: -- may stand first, and every other word is a name (unset(n))
 abbrev pub behind_flag : Bool → List (List ℕ) → Status → Course
 behind_flag quiet [] s = wrong_words s
 behind_flag quiet (w ∷ ws) s =
     if bytes_eq w (codes "--") then some_words quiet ws s
-    else if is_nocomplain w then wrong_words s
-    else if is_flag w then raises (flaw.BadArgument w (codes "unset")) s
     else removes_named quiet (w ∷ ws) s
 
 -- unset ?-nocomplain? ?--? n .. (unset(n))

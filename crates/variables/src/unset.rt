@@ -10,7 +10,7 @@ ghost use Rattle.variables.specs.Unsets.{Clears, IsPassed, is_missing};
 ghost use Rattle.state.specs.NoWaits.{next_of};
 
 use acts::{Fault, NoMemory};
-use state::arguments::{bad_argument, is_flag, wrong_args};
+use state::arguments::wrong_args;
 use state::leaf::{empty, raises};
 use state::variables::{all_named, trouble};
 use state::{Leaf, NoWaits, State};
@@ -42,7 +42,8 @@ pub fn begin<A: Allocator + Copy>(
     }
 }
 
-/// Removes what the words behind the first flag name; `--` may stand before them.
+/// Removes what the words behind the first flag name; `--` may stand before them, and every other
+/// word is a name, whatever it begins with.
 fn behind_flag<A: Allocator + Copy>(
     alloc: A,
     state: &mut State<A>,
@@ -56,13 +57,8 @@ fn behind_flag<A: Allocator + Copy>(
     let [word, rest @ ..] = args else {
         return wrong_args(alloc, b"unset");
     };
-    let word = word.as_slice();
-    if word == b"--".as_slice() {
+    if word.as_slice() == b"--".as_slice() {
         some_words(alloc, state, quiet, rest)
-    } else if word == NOCOMPLAIN {
-        wrong_args(alloc, b"unset")
-    } else if is_flag(word) {
-        bad_argument(alloc, word, b"unset")
     } else {
         remove_named(alloc, state, quiet, args)
     }
