@@ -29,25 +29,19 @@ pub enum Pure {
 
 impl Pure {
     /// The command of a name.
+    #[tactic(auto, using(names::proofs::Compared::compared))]
     pub fn named(name: &[u8]) -> Option<Pure>
         ensures { result ≡ meant.named name.now }
     {
-        if name == b"concat".as_slice() {
-            Some(Pure::Concat)
-        } else if name == b"join".as_slice() {
-            Some(Pure::Join)
-        } else if name == b"lindex".as_slice() {
-            Some(Pure::Lindex)
-        } else if name == b"llength".as_slice() {
-            Some(Pure::Llength)
-        } else if name == b"lrange".as_slice() {
-            Some(Pure::Lrange)
-        } else if name == b"split".as_slice() {
-            Some(Pure::Split)
-        } else if name == b"string".as_slice() {
-            Some(Pure::String)
-        } else {
-            None
+        match name {
+            b"concat" => Some(Pure::Concat),
+            b"join" => Some(Pure::Join),
+            b"lindex" => Some(Pure::Lindex),
+            b"llength" => Some(Pure::Llength),
+            b"lrange" => Some(Pure::Lrange),
+            b"split" => Some(Pure::Split),
+            b"string" => Some(Pure::String),
+            _ => None,
         }
     }
 

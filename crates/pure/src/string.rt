@@ -42,37 +42,25 @@ pub enum Subcommand {
 
 impl Subcommand {
     /// The subcommand of a name.
+    #[tactic(auto, using(names::proofs::Compared::compared))]
     fn named(name: &[u8]) -> Option<Subcommand>
         ensures { result ≡ meant.named name.now }
     {
-        if name == b"length".as_slice() {
-            Some(Subcommand::Length)
-        } else if name == b"index".as_slice() {
-            Some(Subcommand::Index)
-        } else if name == b"range".as_slice() {
-            Some(Subcommand::Range)
-        } else if name == b"equal".as_slice() {
-            Some(Subcommand::Equal)
-        } else if name == b"compare".as_slice() {
-            Some(Subcommand::Compare)
-        } else if name == b"match".as_slice() {
-            Some(Subcommand::Match)
-        } else if name == b"tolower".as_slice() {
-            Some(Subcommand::ToLower)
-        } else if name == b"toupper".as_slice() {
-            Some(Subcommand::ToUpper)
-        } else if name == b"trim".as_slice() {
-            Some(Subcommand::Trim)
-        } else if name == b"trimleft".as_slice() {
-            Some(Subcommand::TrimLeft)
-        } else if name == b"trimright".as_slice() {
-            Some(Subcommand::TrimRight)
-        } else if name == b"first".as_slice() {
-            Some(Subcommand::First)
-        } else if name == b"last".as_slice() {
-            Some(Subcommand::Last)
-        } else {
-            None
+        match name {
+            b"length" => Some(Subcommand::Length),
+            b"index" => Some(Subcommand::Index),
+            b"range" => Some(Subcommand::Range),
+            b"equal" => Some(Subcommand::Equal),
+            b"compare" => Some(Subcommand::Compare),
+            b"match" => Some(Subcommand::Match),
+            b"tolower" => Some(Subcommand::ToLower),
+            b"toupper" => Some(Subcommand::ToUpper),
+            b"trim" => Some(Subcommand::Trim),
+            b"trimleft" => Some(Subcommand::TrimLeft),
+            b"trimright" => Some(Subcommand::TrimRight),
+            b"first" => Some(Subcommand::First),
+            b"last" => Some(Subcommand::Last),
+            _ => None,
         }
     }
 
