@@ -1,6 +1,6 @@
 -- What holds of the commands that evaluate formulas, and of loops, where it holds of all that may
 -- follow them.
-use Rattle.std.proofs.Common.{ℕ, List, [], ◌∷◌, Bool, true, false, Option, Some, None, Result, Ok, Err, if◌then◌else◌}
+use Rattle.std.proofs.Common.{ℕ, List, [], ◌∷◌, Bool, true, false, Option, Some, None, Result, Ok, Err, if◌then◌else◌, refl}
 use Rattle.std.specs.Prelude.{codes}
 use Rattle.acts.specs.Flaw as flaw
 use Rattle.conditions.specs.Branches.{Branch, Branches, branches}
@@ -42,12 +42,12 @@ module _ (P : Status → Course → Type 0) (closed : Closed P) where
   last_closed : (levels : ℕ) (otherwise : Option (List ℕ)) (s : Status) → P s (last levels otherwise s)
   last_closed levels None s = closed.over s (Gives [])
   last_closed levels (Some body) s =
-      within_closed P closed levels body s passes (λ u o. closed.over u o)
+      within_closed P closed levels body s passes (λ u stop. (u, refl)) (λ u o. closed.over u o)
 
   body_closed : (holds : Bool) (levels : ℕ) (body : List ℕ) (s : Status) (other : Course) →
       P s other → P s (if holds then within levels body s passes else other)
   body_closed true levels body s other so =
-      within_closed P closed levels body s passes (λ u o. closed.over u o)
+      within_closed P closed levels body s passes (λ u stop. (u, refl)) (λ u o. closed.over u o)
   body_closed false levels body s other so = so
 
   chooses_closed : (levels : ℕ) (tests : List Branch) (otherwise : Option (List ℕ)) (s : Status) →
@@ -97,7 +97,7 @@ module _ (P : Status → Course → Type 0) (closed : Closed P) where
     for_closed levels (start ∷ test ∷ step ∷ []) s =
         raises_closed P closed (flaw.WrongArgs (codes "for")) s
     for_closed levels (start ∷ test ∷ step ∷ body ∷ []) s =
-        within_closed P closed levels start s _
+        within_closed P closed levels start s _ (λ u stop. (u, refl))
         (value_closed P closed.over (started levels test step body)
         (started_closed levels test step body))
     for_closed levels (start ∷ test ∷ step ∷ body ∷ other ∷ more) s =
@@ -118,12 +118,12 @@ module _ (P Q : Status → Course → Type 0) (before : Closed P) (ticks : Ticks
 
   steps_closed : (step : Option ScriptTree) (s : Status) → Q s (steps step levels (again loop levels) s)
   steps_closed None s = loops loop levels s
-  steps_closed (Some step) s = inside_closed Q behind levels step s _ step_closed
+  steps_closed (Some step) s = inside_closed Q behind levels step s _ (λ u stop. (u, refl)) step_closed
 
   turned_closed : (s : Status) (holds : Bool) → P s (turned loop levels s holds)
   turned_closed s true =
       tick_closed P Q before.over ticks s _ (λ t.
-      inside_closed Q behind levels loop.body t (behind_body loop levels)
+      inside_closed Q behind levels loop.body t (behind_body loop levels) (λ u stop. (u, refl))
       (turn_closed Q behind (steps loop.step levels (again loop levels)) (steps_closed loop.step)))
   turned_closed s false = before.over s (Gives [])
 

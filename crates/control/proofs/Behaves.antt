@@ -1,6 +1,6 @@
 -- What holds of each call and of each command that runs scripts, where it holds of all that is put
 -- together so.
-use Rattle.std.proofs.Common.{ℕ, List, [], ◌∷◌, Option, Some, None}
+use Rattle.std.proofs.Common.{ℕ, List, [], ◌∷◌, Option, Some, None, refl}
 use Rattle.conditions.proofs.Closed.{conditional_closed, expr_closed, for_closed, while_closed}
 use Rattle.control.specs.Calls.{call, ended, frame_of, returned, runs_with}
 use Rattle.control.specs.Catch.{catch, caught, stores_in, number_of}
@@ -31,7 +31,7 @@ module _ (P : Status → Course → Type 0) (closed : Closed P) where
   runs_closed (Some frame) levels name body s =
       closed.writing (entered frame s.scopes) s _
       (within_closed P closed levels body (record s { scopes = entered frame s.scopes }) returned
-      returned_closed)
+      (λ u stop. (record u { scopes = popped u.scopes }, refl)) returned_closed)
 
   -- each call of a procedure
   pub call_closed : (levels : ℕ) (name : List ℕ) (procedure : Procedure) (words : List (List ℕ))
@@ -54,16 +54,18 @@ module _ (P : Status → Course → Type 0) (closed : Closed P) where
   catch_closed : (levels : ℕ) (args : List (List ℕ)) (s : Status) → P s (catch levels args s)
   catch_closed levels [] s = closed.over s _
   catch_closed levels (text ∷ []) s =
-      within_closed P closed levels text s (caught None) (caught_closed None)
+      within_closed P closed levels text s (caught None) (λ u stop. (u, refl)) (caught_closed None)
   catch_closed levels (text ∷ word ∷ []) s =
       named_closed P closed word s _ (λ name index.
-      within_closed P closed levels text s (caught (Some word)) (caught_closed (Some word)))
+      within_closed P closed levels text s (caught (Some word)) (λ u stop. (u, refl))
+      (caught_closed (Some word)))
   catch_closed levels (text ∷ word ∷ other ∷ more) s = closed.over s _
 
   eval_closed : (levels : ℕ) (args : List (List ℕ)) (s : Status) → P s (eval levels args s)
   eval_closed levels [] s = closed.over s _
   eval_closed levels (w ∷ ws) s =
-      within_closed P closed levels (concatenated (w ∷ ws)) s passed (λ u o. closed.over u o)
+      within_closed P closed levels (concatenated (w ∷ ws)) s passed (λ u stop. (u, refl))
+      (λ u o. closed.over u o)
 
   -- each command
   pub does_closed : Ticks P P → Loops P → (c : Control) (levels : ℕ) (args : List (List ℕ))

@@ -1,5 +1,5 @@
 -- What holds of foreach, where it holds of all that is put together so.
-use Rattle.std.proofs.Common.{ℕ, List, [], ◌∷◌, ◌++◌, length, Bool, true, false, is_some}
+use Rattle.std.proofs.Common.{ℕ, List, [], ◌∷◌, ◌++◌, length, Bool, true, false, is_some, refl}
 use Rattle.std.specs.List.{list_all}
 use Rattle.std.specs.Prelude.{codes, if◌then◌else◌}
 use Rattle.acts.specs.Flaw as flaw
@@ -53,7 +53,7 @@ module _ (P : Status → Course → Type 0) (closed : Closed P) (ticks : Ticks P
   turns_closed levels body [] s = closed.over s (Gives [])
   turns_closed levels body (first ∷ more) s =
       assigns_closed first s _ (λ t. tick_closed P P closed.over ticks t _ (λ u.
-      inside_closed P closed levels body u (on_turn (turns levels body more))
+      inside_closed P closed levels body u (on_turn (turns levels body more)) (λ u stop. (u, refl))
       (turn_closed P closed (turns levels body more) (turns_closed levels body more))))
 
   begins_closed : (levels : ℕ) (s : Status) (pairs : List Pair) (body : List ℕ) →

@@ -1,5 +1,5 @@
 -- What holds of switch, where it holds of all that is put together so.
-use Rattle.std.proofs.Common.{ℕ, List, [], ◌∷◌, length, Bool, true, false, Option, Some, None}
+use Rattle.std.proofs.Common.{ℕ, List, [], ◌∷◌, length, Bool, true, false, Option, Some, None, refl}
 use Rattle.std.specs.Prelude.{codes, nat_le, nat_lt, if◌then◌else◌}
 use Rattle.std.specs.Str.{bytes_eq}
 use Rattle.acts.specs.Flaw as flaw
@@ -51,7 +51,7 @@ module _ (P : Status → Course → Type 0) (closed : Closed P) where
   body_closed : (levels : ℕ) (s : Status) (body : Option (List ℕ)) → P s (runs_body levels s body)
   body_closed levels s None = closed.over s (Gives [])
   body_closed levels s (Some body) =
-      within_closed P closed levels body s passed (λ u o. closed.over u o)
+      within_closed P closed levels body s passed (λ u stop. (u, refl)) (λ u o. closed.over u o)
 
   unless_closed : (word : Option (List ℕ)) (s : Status) (next : Course) → P s next →
       P s (unless_left word s next)

@@ -18,6 +18,7 @@ use Rattle.dialog.specs.declared.choice.Trigger.TheVariants as after
 use Rattle.dialog.proofs.Opened.{count_arrived, count_kept, count_shut}
 use Rattle.matchbuf.proofs.Windows.{windows_hold}
 use Rattle.plan.specs.Plan.{Ends, goes}
+use Rattle.state.proofs.Judged.{replied_cut}
 use Rattle.state.specs.Behaves.{worth}
 use Rattle.state.specs.Budget.{budget, left_after}
 use Rattle.state.specs.Dialogue.{Course, ask, gives, inside, is_no_more, stopping, tick_of, within, written}
@@ -76,6 +77,7 @@ goes_proceed most had piece s below paid = (
   below,
   paid,
   λ left outcome. (omega (arith, below), omega arith),
+  λ left stop. (left, refl),
 )
 
 -- an answer that does not fit, or none, ends the run
@@ -97,6 +99,7 @@ ask_proceeds most had deed s next holds le paid each = (
   λ reply.
       judged_proceeds most (had - 1) s (next s reply) (is_no_more reply) (fits deed reply) le
       (omega (arith, paid)) (each reply),
+  replied_cut deed s next,
 )
 
 -- what is done after a write
@@ -170,6 +173,7 @@ module _ (turn : TurnTree) (levels : ℕ) where
     λ left outcome.
         behind_proceeds (most + (left_after left outcome - 2 * s.left))
         (worth left + (had - worth s)) left outcome (omega (arith, below)) (omega arith),
+    λ left stop. (left, refl),
   )
 
   does_proceeds : (most had : ℕ) (taken : Option Taken) (body : List ℕ) (s : Status) →

@@ -52,7 +52,7 @@ ticked_falls t r s course less falls =
 falls_inherited : Inherited FallsFrom
 falls_inherited = record {
   over = λ r s o. let one = again_within o in omega (arith, one);
-  calls = λ r piece s next below each.
+  calls = λ r piece s next below passes each.
       let fits = budget_within piece s in (
         omega (arith, fits),
         λ same. below,

@@ -41,7 +41,7 @@ KeepsFrom r s c = CourseKeeps c
 keeps_inherited : Inherited KeepsFrom
 keeps_inherited = record {
   over = λ r s o. tt;
-  calls = λ r piece s next below each. (tt, λ u o kept. each u o);
+  calls = λ r piece s next below passes each. (tt, λ u o kept. each u o);
   reading = λ r text s next each tree is. each tree;
   writing = λ r scopes s course keeps. keeps;
   standing = λ r standing s course keeps. keeps;

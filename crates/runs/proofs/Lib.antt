@@ -5,5 +5,6 @@ pub mod Paid
 pub mod Kept
 pub mod Finite
 pub mod Whole
+pub mod Cut
 pub mod Numbered
 pub mod AllRuns

@@ -46,7 +46,7 @@ PaysFrom r s c = CoursePays (worth s + spare r) c
 pays_inherited : Inherited PaysFrom
 pays_inherited = record {
   over = λ r s o. omega arith;
-  calls = λ r piece s next below each. (
+  calls = λ r piece s next below passes each. (
     omega arith,
     λ u o less.
         more_pays IsTree price worth (λ left. worth left.0) (worth u + spare r)

@@ -1,5 +1,5 @@
 -- What holds of each piece, by the pieces that it calls.
-use Rattle.std.proofs.Common.{ℕ, ◌<◌, List, [], Option, Some, None, arith}
+use Rattle.std.proofs.Common.{ℕ, ◌<◌, List, [], Option, Some, None, refl, arith}
 use Rattle.commands.specs.Commands as leaf
 use Rattle.conditions.proofs.Closed.{turns_closed}
 use Rattle.conditions.specs.Loop.{turns as loop_turns}
@@ -9,6 +9,7 @@ use Rattle.runs.specs.Commands.{command}
 use Rattle.runs.specs.Scripts.{behind, script, plan_of}
 use Rattle.runs.proofs.Command.{command_closed}
 use Rattle.state.proofs.Closed.{Closed, Loops, Ticks, Turns, tick_closed, value_closed}
+use Rattle.state.specs.Cut.{PassesStops}
 use Rattle.state.specs.Dialogue.{Course}
 use Rattle.state.specs.Outcome.{Outcome}
 use Rattle.state.specs.Piece.{Piece, Script, One, Loop, Turn, LoopTree, TurnTree, Text, Tree}
@@ -32,12 +33,12 @@ abbrev pub top : ℕ
 top = 3
 
 -- P says of each rank which courses are so that call pieces below it, and from which states: ends
--- are, and so is what begins with such a call, a text that is read, a variable that is written or a
--- tick, where all that may follow is
+-- are, and so is what begins with such a call whose stops are passed on, a text that is read, a
+-- variable that is written or a tick, where all that may follow is
 pub record Inherited (P : ℕ → Status → Course → Type 0) : Type 0 where
   pub over : (r : ℕ) (s : Status) (o : Outcome) → P r s (Ends (s, o))
   pub calls : (r : ℕ) (piece : Piece) (s : Status) (next : Status → Outcome → Course) →
-      rank piece < r → ((u : Status) (o : Outcome) → P r u (next u o)) →
+      rank piece < r → PassesStops next → ((u : Status) (o : Outcome) → P r u (next u o)) →
       P r s (Calls piece s next)
   pub reading : (r : ℕ) (text : Text) (s : Status) (next : Tree text → Course) →
       ((tree : Tree text) → P r s (next tree)) → P r s (Reads text next)
@@ -52,7 +53,8 @@ module _ (P : ℕ → Status → Course → Type 0) (so : Inherited P)
   closed_above : (r : ℕ) → 1 < r → Closed (P r)
   closed_above r above = record {
     over = so.over r;
-    runs = λ levels tree s next each. so.calls r (Script tree levels) s next above each;
+    runs = λ levels tree s next passes each.
+        so.calls r (Script tree levels) s next above passes each;
     reading = so.reading r;
     writing = so.writing r;
     standing = so.standing r;
@@ -60,11 +62,13 @@ module _ (P : ℕ → Status → Course → Type 0) (so : Inherited P)
 
   loops : Loops (P top)
   loops loop levels s =
-      so.calls top (Loop loop levels) s _ (omega arith) (λ u o. so.over top u o)
+      so.calls top (Loop loop levels) s _ (omega arith) (λ u stop. (u, refl))
+      (λ u o. so.over top u o)
 
   turns : Turns (P top)
   turns turn levels s =
-      so.calls top (Turn turn levels) s _ (omega arith) (λ u o. so.over top u o)
+      so.calls top (Turn turn levels) s _ (omega arith) (λ u stop. (u, refl))
+      (λ u o. so.over top u o)
 
   behind_holds : (fault : Option Fault) (s : Status) (value : List ℕ) → P 1 s (behind fault s value)
   behind_holds None s value = so.over 1 s _
@@ -74,7 +78,7 @@ module _ (P : ℕ → Status → Course → Type 0) (so : Inherited P)
       (value : List ℕ) → P 1 s (script levels cs fault s value)
   script_holds levels no_commands fault s value = behind_holds fault s value
   script_holds levels (tree.command ws cs) fault s value =
-      so.calls 1 (One ws levels) s _ (omega arith)
+      so.calls 1 (One ws levels) s _ (omega arith) (λ u stop. (u, refl))
       (value_closed (P 1) (so.over 1) (script levels cs fault)
       (λ u v. script_holds levels cs fault u v))
 

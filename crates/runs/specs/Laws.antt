@@ -3,9 +3,11 @@ use Rattle.std.specs.Prelude.{◌≡◌, ℕ, ◌≤◌, List, [], ◌∷◌, �
 use Rattle.acts.specs.Deed.{Deed, Reply}
 use Rattle.acts.specs.History.{History}
 use Rattle.plan.specs.Answers.{GoAlike, answers}
+use Rattle.plan.specs.Last.{ClosesAt}
 use Rattle.runs.specs.Bounds.{BeginsRun, most_acts}
 use Rattle.runs.specs.Ending.{Ending}
 use Rattle.runs.specs.Run.{Run, HoldsThroughout}
+use Rattle.state.specs.Cut.{CutsOff}
 
 -- in all runs of one script, its arguments and a limit each event depends on the answers before it
 -- alone
@@ -32,6 +34,12 @@ abbrev pub WaitsHold : Type 0
 WaitsHold =
     (text : List ℕ) (args : List (List ℕ)) (limit : ℕ) (h : History) (e : Ending) →
     Run text args limit h e → HoldsThroughout h
+
+-- behind an answer that does not fit its act, and where there are no more answers, there is no act
+abbrev pub NothingFollows : Type 0
+NothingFollows =
+    (text : List ℕ) (args : List (List ℕ)) (limit : ℕ) (h : History) (e : Ending) →
+    Run text args limit h e → ClosesAt CutsOff h
 
 -- each script has a run
 abbrev pub EachScriptRuns : Type 0

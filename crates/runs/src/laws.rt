@@ -1,6 +1,6 @@
 //! What holds of all runs.
 
-ghost use Rattle.runs.specs.Laws.{ActsAreBounded, AnswersDecide, AnswersLead, AnyAnswerLeadsOn, EachScriptRuns, WaitsHold};
+ghost use Rattle.runs.specs.Laws.{ActsAreBounded, AnswersDecide, AnswersLead, AnyAnswerLeadsOn, EachScriptRuns, NothingFollows, WaitsHold};
 
 /// In all runs of one script, its arguments and a limit, the first n answers decide the first n + 1
 /// events, an event being an act or the end: the n-th act, and whether there is one, depends on the
@@ -18,6 +18,11 @@ pub fn acts_are_bounded()
 /// At every wait of a run each buffer holds at most its size.
 pub fn waits_hold()
     ensures { WaitsHold }
+{}
+
+/// An answer that does not fit its act is the last one of its run; so is that there are no more.
+pub fn nothing_follows_a_cut()
+    ensures { NothingFollows }
 {}
 
 /// Each script has a run, and at each act of a run any other answer leads on to an end too.

@@ -9,6 +9,7 @@ use Rattle.plan.specs.Finished.{Falls}
 use Rattle.plan.specs.Kept.{Keeps}
 use Rattle.plan.specs.Paid.{Pays}
 use Rattle.plan.specs.Plan.{Ends, Asks, Reads, Calls}
+use Rattle.state.proofs.Judged.{replied_cut}
 use Rattle.state.specs.Behaves.{Behaves, worth}
 use Rattle.state.specs.Dialogue.{Course, ask, is_no_more, stopping, written as after_write}
 use Rattle.state.specs.Listed.{with_list}
@@ -34,6 +35,7 @@ more_behaves t u had more (Asks deed next) le up behaves =
       behaves.1,
       λ reply. more_behaves t u (had - 1) (more - 1) (next reply) le (omega arith)
           (behaves.2 reply),
+      behaves.3,
     )
 more_behaves t u had more (Reads text next) le up behaves =
     λ tree is. more_behaves t u had more (next tree) le up (behaves tree is)
@@ -77,6 +79,7 @@ ask_behaves t had deed s next holds le paid each = (
   λ reply.
       judged_behaves t (had - 1) s (next s reply) (is_no_more reply) (fits deed reply) le
       (omega arith) (each reply),
+  replied_cut deed s next,
 )
 
 -- one of two courses

@@ -4,6 +4,7 @@ use Rattle.acts.specs.Flaw as flaw
 use Rattle.acts.specs.Flaw.{text_of}
 use Rattle.plan.specs.Plan.{Ends, Reads, Calls, goes}
 use Rattle.meanings.specs.Meaning.{flaw_of_list}
+use Rattle.state.specs.Cut.{PassesStops}
 use Rattle.state.specs.Dialogue.{Course, inside, on_value, raises, tick, tick_of, within}
 use Rattle.state.specs.Listed.{on_list, with_list}
 use Rattle.state.specs.Outcome.{Outcome, Gives, Leaves, Stops, Error, Return, Break, Continue, Again, AgainRunning}
@@ -17,12 +18,13 @@ use Rattle.tclparse.specs.Variable.{named}
 use Rattle.tclstate.specs.Scopes.{Scopes, Trouble, read, written}
 use Rattle.tcltext.specs.Flaw as list
 
--- P says from which states which courses are so: ends are, and so is what begins with a script, a
--- text that is read, a variable that is written or pairs that stand, where all that may follow is
+-- P says from which states which courses are so: ends are, and so is what begins with a script whose
+-- stops are passed on, a text that is read, a variable that is written or pairs that stand, where
+-- all that may follow is
 pub record Closed (P : Status → Course → Type 0) : Type 0 where
   pub over : (s : Status) (o : Outcome) → P s (Ends (s, o))
   pub runs : (levels : ℕ) (tree : ScriptTree) (s : Status) (next : Status → Outcome → Course) →
-      ((u : Status) (o : Outcome) → P u (next u o)) → P s (Calls (Script tree levels) s next)
+      PassesStops next → ((u : Status) (o : Outcome) → P u (next u o)) → P s (Calls (Script tree levels) s next)
   pub reading : (text : Text) (s : Status) (next : Tree text → Course) →
       ((tree : Tree text) → P s (next tree)) → P s (Reads text next)
   pub writing : (scopes : Scopes) (s : Status) (course : Course) →
@@ -69,17 +71,17 @@ module _ (P : Status → Course → Type 0) (over : (s : Status) (o : Outcome) �
 module _ (P : Status → Course → Type 0) (closed : Closed P) where
   -- a script one level deeper
   pub inside_closed : (levels : ℕ) (tree : ScriptTree) (s : Status)
-      (next : Status → Outcome → Course) → ((u : Status) (o : Outcome) → P u (next u o)) →
-      P s (inside levels tree s next)
-  inside_closed zero tree s next each = each s (Leaves Error (text_of flaw.TooManyNested))
-  inside_closed (suc levels) tree s next each = closed.runs levels tree s next each
+      (next : Status → Outcome → Course) → PassesStops next →
+      ((u : Status) (o : Outcome) → P u (next u o)) → P s (inside levels tree s next)
+  inside_closed zero tree s next passes each = each s (Leaves Error (text_of flaw.TooManyNested))
+  inside_closed (suc levels) tree s next passes each = closed.runs levels tree s next passes each
 
   pub within_closed : (levels : ℕ) (text : List ℕ) (s : Status)
-      (next : Status → Outcome → Course) → ((u : Status) (o : Outcome) → P u (next u o)) →
-      P s (within levels text s next)
-  within_closed levels text s next each =
+      (next : Status → Outcome → Course) → PassesStops next →
+      ((u : Status) (o : Outcome) → P u (next u o)) → P s (within levels text s next)
+  within_closed levels text s next passes each =
       closed.reading (ScriptText text) s (λ tree. inside levels tree s next)
-      (λ tree. inside_closed levels tree s next each)
+      (λ tree. inside_closed levels tree s next passes each)
 
   found_closed : (r : Result (List ℕ) Trouble) (name : List ℕ) (s : Status)
       (next : List ℕ → Course) → ((v : List ℕ) → P s (next v)) → P s (found r name s next)

@@ -1,5 +1,7 @@
 pub mod Lists
 pub mod Stored
+pub mod Judged
+pub mod Cut
 pub mod Behaves
 pub mod Proceeding
 pub mod FitIds

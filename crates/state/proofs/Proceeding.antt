@@ -26,6 +26,7 @@ more_proceeds most had more higher (Asks deed next) le up proceeds =
       proceeds.1,
       λ reply. more_proceeds most (had - 1) more (higher - 1) (next reply) le (omega arith)
           (proceeds.2 reply),
+      proceeds.3,
     )
 more_proceeds most had more higher (Reads text next) le up proceeds =
     λ tree is. more_proceeds most had more higher (next tree) le up (proceeds tree is)
@@ -39,6 +40,7 @@ more_proceeds most had more higher (Calls piece state next) le up proceeds =
           (worth left + (had - worth state)) (more + (left_after left outcome - budget piece state))
           (worth left + (higher - worth state)) (next left outcome) (omega arith) (omega arith)
           (proceeds.2 left outcome),
+      proceeds.3,
     )
 
 -- its calls fall, whatever their ranks

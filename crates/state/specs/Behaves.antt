@@ -2,6 +2,7 @@
 use Rattle.std.specs.Prelude.{ℕ, ◌+◌, ◌-◌, ◌*◌, ◌≤◌, length, Bool, true, false}
 use Rattle.acts.specs.Deed.{Reply}
 use Rattle.plan.specs.Plan.{Ends, Asks, Reads, Calls}
+use Rattle.state.specs.Cut.{CutsOff, IsCutOff}
 use Rattle.state.specs.Dialogue.{Course}
 use Rattle.state.specs.Piece.{Tree, IsTree}
 use Rattle.state.specs.Rows.{Holds}
@@ -20,11 +21,13 @@ abbrev pub worth : Status → ℕ
 worth s = 4 * s.left + length (opened s.ids.peers) + closing_of_log s.log.logging
 
 -- it runs no script, leaves so many ticks at most, pays for its acts out of what it had and leaves
--- a state that is worth no more than the rest, and each of its waits holds
+-- a state that is worth no more than the rest, each of its waits holds, and an answer that cuts it
+-- off ends it
 abbrev pub Behaves : ℕ → ℕ → Course → Type 0
 Behaves ticks had (Ends left) = (left.0.left ≤ ticks) × (worth left.0 ≤ had)
 Behaves ticks had (Asks deed next) =
     (1 ≤ had) × Holds deed × ((reply : Reply) → Behaves ticks (had - 1) (next reply))
+    × ((reply : Reply) → CutsOff deed reply → IsCutOff (next reply))
 Behaves ticks had (Reads text next) =
     (tree : Tree text) → IsTree text tree → Behaves ticks had (next tree)
 Behaves ticks had (Calls piece state next) = ⊥

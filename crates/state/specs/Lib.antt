@@ -14,6 +14,7 @@ pub mod View
 pub mod Leaf
 pub mod NoWaits
 pub mod Nesting
+pub mod Cut
 pub mod Behaves
 pub mod Budget
 pub mod Proceeds

@@ -4,6 +4,7 @@ use Rattle.acts.specs.Deed.{Reply}
 use Rattle.plan.specs.Plan.{Ends, Asks, Reads, Calls}
 use Rattle.state.specs.Behaves.{worth}
 use Rattle.state.specs.Budget.{budget, left_after}
+use Rattle.state.specs.Cut.{CutsOff, IsCutOff, PassesStops}
 use Rattle.state.specs.Dialogue.{Course}
 use Rattle.state.specs.Outcome.{Outcome}
 use Rattle.state.specs.Piece.{Tree, IsTree}
@@ -11,12 +12,14 @@ use Rattle.state.specs.Rows.{Holds}
 use Rattle.state.specs.Status.{Status}
 
 -- it leaves so much at most, pays for its acts out of what it had and leaves a state that is worth
--- no more than the rest, each of its waits holds, and each piece that it calls has less; had a
--- piece left more than it had, the rest might leave as much more (which no piece does)
+-- no more than the rest, each of its waits holds, an answer that cuts it off ends it, and each
+-- piece that it calls has less, and its stops are passed on; had a piece left more than it had, the
+-- rest might leave as much more (which no piece does)
 abbrev pub Proceeds : ℕ → ℕ → Course → Type 0
 Proceeds most had (Ends left) = (left_after left.0 left.1 ≤ most) × (worth left.0 ≤ had)
 Proceeds most had (Asks deed next) =
     (1 ≤ had) × Holds deed × ((reply : Reply) → Proceeds most (had - 1) (next reply))
+    × ((reply : Reply) → CutsOff deed reply → IsCutOff (next reply))
 Proceeds most had (Reads text next) =
     (tree : Tree text) → IsTree text tree → Proceeds most had (next tree)
 Proceeds most had (Calls piece state next) =
@@ -24,3 +27,4 @@ Proceeds most had (Calls piece state next) =
     ((left : Status) (outcome : Outcome) →
     Proceeds (most + (left_after left outcome - budget piece state))
     (worth left + (had - worth state)) (next left outcome))
+    × PassesStops next

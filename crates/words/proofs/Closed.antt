@@ -1,5 +1,5 @@
 -- What holds of a command's words where it holds of all that may follow them.
-use Rattle.std.proofs.Common.{ℕ, ◌++◌, List, [], ◌∷◌, Bool, true, false, Some, None}
+use Rattle.std.proofs.Common.{ℕ, ◌++◌, List, [], ◌∷◌, Bool, true, false, Some, None, refl}
 use Rattle.state.proofs.Closed.{Closed, inside_closed, listed_closed, reads_closed, value_closed}
 use Rattle.state.specs.Dialogue.{Course, on_value}
 use Rattle.state.specs.Status.{Status}
@@ -13,7 +13,7 @@ module _ (P : Status → Course → Type 0) (closed : Closed P) where
       P s (nested levels commands s next)
   nested_closed levels commands s next each =
       inside_closed P closed levels (record { commands = commands; fault = None }) s
-      (on_value next) (value_closed P closed.over next each)
+      (on_value next) (λ u stop. (u, refl)) (value_closed P closed.over next each)
 
   -- the parts of a word
   pub parts_closed : (levels : ℕ) (ps : Parts) (bytes : List ℕ) (s : Status)
