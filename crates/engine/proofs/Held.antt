@@ -11,7 +11,7 @@ use Rattle.control.specs.declared.held.Held.{Held}
 use Rattle.engine.specs.Frames.{begun, left_of, onward_of}
 use Rattle.engine.specs.Goes.{Goes, here, calls}
 use Rattle.engine.specs.Phases.{Begins, Leads, course_of_next}
-use Rattle.engine.specs.declared.machine.Next.TheVariants as next
+use Rattle.engine.specs.declared.starting.Next.TheVariants as next
 use Rattle.engine.specs.declared.frame.Frame.{Frame}
 use Rattle.engine.specs.declared.frame.Frame.TheVariants as frame
 use Rattle.engine.proofs.Silent.{comes_goes, same_goes, then_goes}

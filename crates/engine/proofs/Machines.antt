@@ -14,8 +14,8 @@ use Rattle.engine.specs.declared.frame.Frame.{Frame}
 use Rattle.engine.specs.declared.frame.Frame.TheVariants as frame
 use Rattle.engine.specs.declared.frame.Script.{Script}
 use Rattle.engine.specs.declared.frame.WordsOf.{WordsOf}
-use Rattle.engine.specs.declared.machine.Unwound.{Unwound}
-use Rattle.engine.specs.declared.machine.Unwound.TheVariants as unwound
+use Rattle.engine.specs.declared.unwinding.Unwound.{Unwound}
+use Rattle.engine.specs.declared.unwinding.Unwound.TheVariants as unwound
 use Rattle.engine.specs.declared.phase.Phase.{Phase}
 use Rattle.engine.specs.declared.phase.Phase.TheVariants as phase
 use Rattle.acts.specs.declared.act.Act.{Act}

@@ -16,10 +16,10 @@ use Rattle.engine.specs.declared.end.End.{End}
 use Rattle.engine.specs.declared.frame.Frame.{Frame}
 use Rattle.engine.specs.declared.frame.WordsOf.{WordsOf}
 use Rattle.engine.specs.declared.frame.WordsOf.TheVariants as whose
-use Rattle.engine.specs.declared.machine.Next.{Next}
-use Rattle.engine.specs.declared.machine.Next.TheVariants as next
-use Rattle.engine.specs.declared.machine.Unwound.{Unwound}
-use Rattle.engine.specs.declared.machine.Unwound.TheVariants as unwound
+use Rattle.engine.specs.declared.starting.Next.{Next}
+use Rattle.engine.specs.declared.starting.Next.TheVariants as next
+use Rattle.engine.specs.declared.unwinding.Unwound.{Unwound}
+use Rattle.engine.specs.declared.unwinding.Unwound.TheVariants as unwound
 use Rattle.engine.specs.declared.phase.Phase.{Phase}
 use Rattle.engine.specs.declared.phase.Phase.TheVariants as phase
 use Rattle.memory.specs.declared.NoMemory.{NoMemory}

@@ -7,11 +7,14 @@ mod closing;
 mod end;
 mod frame;
 mod machine;
+mod nesting;
 mod phase;
 mod running;
 mod session;
+mod starting;
 mod taken;
 mod turns;
+mod unwinding;
 mod waits;
 
 pub use end::End;

@@ -13,7 +13,7 @@ ghost use Rattle.state.specs.Status.{Status};
 ghost use Rattle.state.specs.View.{FitsState};
 
 use crate::frame::{Frame, WordsOf};
-use crate::machine::{gather, put_script};
+use crate::nesting::{gather, put_script};
 use crate::waits::Waits;
 use acts::NoMemory;
 use expects::expect::{begin, by_words};
