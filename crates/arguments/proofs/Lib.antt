@@ -1,0 +1,2 @@
+mod Limits
+pub mod Readings

@@ -1,0 +1,6 @@
+//! The words of a call of the program: its options, and behind them the script with its arguments.
+#![tactic(auto)]
+
+pub mod arguments;
+
+pub use arguments::Arguments;
