@@ -2,7 +2,7 @@ mod Cuts
 mod Digits
 mod Faults
 mod Lines
-mod Notes
+pub mod Notes
 pub mod Records
 mod RowTexts
 pub mod Sinks

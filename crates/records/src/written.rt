@@ -5,7 +5,7 @@ ghost use Rattle.std.specs.List.{AllByRecursion};
 ghost use Rattle.acts.specs.Deed.{reply_of};
 ghost use Rattle.acts.specs.Deed as said;
 ghost use Rattle.hex.specs.Hex.{encode_lower};
-ghost use Rattle.records.specs.Entry.{AreLinesOf, AreNotes, IsNote, IsSecondRecord, note_of};
+ghost use Rattle.records.specs.Entry.{AreLinesOf, AreNotes, IsNote, IsSecondRecord, note_of, second_header};
 ghost use Rattle.records.specs.Record.{AreLines, IsRecord, IsTold, IsWholeLine, newline};
 ghost use Rattle.records.specs.Rows.{IsRow, row_text, rows_text};
 ghost use Rattle.records.specs.Sink.{Takes};
@@ -58,6 +58,13 @@ pub fn write_entries<A: Allocator, S: Sink>(
     put_all(sink, SECOND_HEADER);
     write_notes(sink, entries);
     ended(sink)
+}
+
+/// Writes the first line of a record of version 2, as a run begins.
+pub fn write_header<S: Sink>(sink: &mut S)
+    ensures { Takes S.adds S.has_failed sink.old second_header sink.new }
+{
+    put_all(sink, SECOND_HEADER);
 }
 
 /// Whether a sink has taken all.

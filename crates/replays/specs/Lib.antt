@@ -1,1 +1,4 @@
+pub mod Due
+pub mod Left
+pub mod Recording
 pub mod Replay

@@ -1,13 +1,9 @@
 -- What a replay answers and writes.
-use Rattle.std.specs.Prelude.{◌≡◌, ℕ, Bool, nat_le, if◌then◌else◌, List, [], ◌∷◌, length, take}
+use Rattle.std.specs.Prelude.{◌≡◌, ℕ, Bool, nat_le, if◌then◌else◌, List, [], length, take}
 use Rattle.acts.specs.Deed.{Deed, Reply}
 use Rattle.acts.specs.Deed as said
 use Rattle.records.specs.Sink.{Takes}
-
--- the first of the answers is given, and the others are left; where there is none, NoMore is
-abbrev pub Answers : List Reply → Reply → List Reply → Type 0
-Answers [] reply left = (reply ≡ said.NoMore) × (left ≡ [])
-Answers (first ∷ others) reply left = (reply ≡ first) × (left ≡ others)
+use Rattle.replays.specs.Recording.{Recorded, Answers}
 
 -- what goes out of a text that is written: all of it where that is done, as many bytes as the
 -- answer says where it failed after a number that the text has, and else nothing
@@ -30,8 +26,8 @@ module _ {O E : Type 0} (out : O → List ℕ → O → Type 0) (err : E → Lis
 -- bytes, `out_failed` and `err_failed` whether it has failed.
 module _ {O E : Type 0} (out : O → List ℕ → O → Type 0) (out_failed : O → Bool)
     (err : E → List ℕ → E → Type 0) (err_failed : E → Bool) where
-  -- a step of a replay, which has the answers that are left and the two writers
-  abbrev pub Replays : List Reply × (O × E) → Deed → Reply → List Reply × (O × E) → Type 0
+  -- a step of a replay, which has what is left of a recorded run and the two writers
+  abbrev pub Replays : Recorded × (O × E) → Deed → Reply → Recorded × (O × E) → Type 0
   Replays before act reply after =
-      Answers before.0 reply after.0
+      Answers before.0 act reply after.0
       × Writes (Takes out out_failed) (Takes err err_failed) before.1 act reply after.1

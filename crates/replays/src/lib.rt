@@ -1,6 +1,10 @@
-//! The world of a recorded run, which answers from a list.
+//! The world of a recorded run, which answers from its record.
 #![tactic(auto)]
 
+mod due;
+mod left;
+pub mod recording;
 pub mod replay;
 
+pub use recording::Recording;
 pub use replay::{LentReplay, Replay};

@@ -1,20 +1,22 @@
-//! A world that answers from a list.
+//! A world that answers from a recorded run.
 
 ghost use Rattle.std.specs.Prelude.{◌≡◌, ◌||◌, ℕ, List, map, false};
-ghost use Rattle.std.specs.Vec.Iter.{into_iter_items};
 ghost use Rattle.acts.specs.Deed.{deed_of, reply_of};
+ghost use Rattle.records.specs.Entry.{note_of, plain_note};
+ghost use Rattle.replays.specs.Recording.{recorded_in, whole};
 ghost use Rattle.replays.specs.Replay.{Replays, gone_out};
 
+use crate::recording::Recording;
 use acts::{Act, Answer, World};
-use records::{Sink, put_all};
+use records::{Entry, Sink, put_all};
 use std::alloc::Allocator;
-use std::vec::IntoIter;
 
-/// A world that answers from a list, the first answer first, and then that there is no more. It
-/// writes what goes out of the acts Out and Err to its two writers, and only answers the others.
+/// A world that answers from a recorded run, the first answer first, and then that there is no
+/// more. It writes what goes out of the acts Out and Err to its two writers, and only answers the
+/// others.
 #[derive(Drop)]
 pub struct Replay<A: Allocator, O, E> {
-    answers: IntoIter<Answer<A>, A>,
+    recording: Recording<A>,
     out: O,
     err: E,
 }
@@ -24,12 +26,28 @@ impl<A: Allocator, O: Sink, E: Sink> Replay<A, O, E> {
     pub fn new(answers: Vec<Answer<A>, A>, out: O, err: E) -> Replay<A, O, E>
         requires out { O.has_failed out ≡ false }
         requires err { E.has_failed err ≡ false }
-        ensures answers { into_iter_items result.answers ≡ answers.items }
+        ensures answers { recorded_in result.recording
+            ≡ whole (map plain_note (map reply_of answers.items)) }
         ensures out { result.out ≡ out }
         ensures err { result.err ≡ err }
     {
         Replay {
-            answers: answers.into_iter(),
+            recording: Recording::of_answers(answers),
+            out,
+            err,
+        }
+    }
+
+    /// The same of entries: where one tells rows, its answer is given to a wait for these alone.
+    pub fn of_entries(entries: Vec<Entry<A>, A>, out: O, err: E) -> Replay<A, O, E>
+        requires out { O.has_failed out ≡ false }
+        requires err { E.has_failed err ≡ false }
+        ensures entries { recorded_in result.recording ≡ whole (map note_of entries.items) }
+        ensures out { result.out ≡ out }
+        ensures err { result.err ≡ err }
+    {
+        Replay {
+            recording: Recording::of_entries(entries),
             out,
             err,
         }
@@ -41,23 +59,30 @@ impl<A: Allocator, O: Sink, E: Sink> Replay<A, O, E> {
     {
         self.out.failed() || self.err.failed()
     }
+
+    /// The number of the act that differed from the recorded run, counted from 1.
+    pub fn differs(&self) -> Option<u64>
+        ensures { result ≡ (recorded_in self.now.recording).differs }
+    {
+        self.recording.differs()
+    }
 }
 
 impl<A: Allocator, O: Sink, E: Sink> World<A> for Replay<A, O, E> {
     ghost step = { λ before act answer after.
         Replays O.adds O.has_failed E.adds E.has_failed
-        (map reply_of (into_iter_items before.answers), (before.out, before.err)) act answer
-        (map reply_of (into_iter_items after.answers), (after.out, after.err)) };
+        (recorded_in before.recording, (before.out, before.err)) act answer
+        (recorded_in after.recording, (after.out, after.err)) };
 
     fn act(&mut self, act: &Act<A>) -> Answer<A> {
-        answer_from(&mut self.answers, &mut self.out, &mut self.err, act)
+        answer_from(&mut self.recording, &mut self.out, &mut self.err, act)
     }
 }
 
-/// A replay whose answers and writers are lent to it.
+/// A replay whose recorded run and writers are lent to it.
 #[derive(Drop)]
 pub struct LentReplay<'a, 'o, 'e, A: Allocator, O, E> {
-    pub answers: &'a mut IntoIter<Answer<A>, A>,
+    pub recording: &'a mut Recording<A>,
     pub out: &'o mut O,
     pub err: &'e mut E,
 }
@@ -66,32 +91,31 @@ impl<A: Allocator, O: Sink, E: Sink> World<A> for LentReplay<'_, '_, '_, A, O, E
     // A step of a replay, after which the same places are lent.
     ghost step = { λ before act answer after.
         Replays O.adds O.has_failed E.adds E.has_failed
-        (map reply_of (into_iter_items before.answers.now), (before.out.now, before.err.now))
+        (recorded_in before.recording.now, (before.out.now, before.err.now))
         act answer
-        (map reply_of (into_iter_items after.answers.now), (after.out.now, after.err.now))
-        × (after.answers.ghost_name ≡ before.answers.ghost_name)
+        (recorded_in after.recording.now, (after.out.now, after.err.now))
+        × (after.recording.ghost_name ≡ before.recording.ghost_name)
         × (after.out.ghost_name ≡ before.out.ghost_name)
         × (after.err.ghost_name ≡ before.err.ghost_name) };
 
     fn act(&mut self, act: &Act<A>) -> Answer<A> {
-        answer_from(self.answers, self.out, self.err, act)
+        answer_from(self.recording, self.out, self.err, act)
     }
 }
 
-/// Gives the first of the answers, or that there is no more, and writes what goes out of an act Out
-/// or Err.
+/// Gives the answer to an act, and writes what goes out of an act Out or Err.
 fn answer_from<A: Allocator, O: Sink, E: Sink>(
-    answers: &mut IntoIter<Answer<A>, A>,
+    recording: &mut Recording<A>,
     out: &mut O,
     err: &mut E,
     act: &Act<A>,
 ) -> Answer<A>
     ensures { Replays O.adds O.has_failed E.adds E.has_failed
-        (map reply_of (into_iter_items answers.old), (out.old, err.old))
+        (recorded_in recording.old, (out.old, err.old))
         (deed_of act.now) (reply_of result)
-        (map reply_of (into_iter_items answers.new), (out.new, err.new)) }
+        (recorded_in recording.new, (out.new, err.new)) }
 {
-    let answer = answers.next().unwrap_or(Answer::NoMore);
+    let answer = recording.answer(act);
     match act {
         Act::Out(text) => put_all(out, went_out(text, &answer)),
         Act::Err(text) => put_all(err, went_out(text, &answer)),

@@ -1,0 +1,28 @@
+//! A sink that takes little at a time.
+
+use records::Sink;
+use std::cell::Cell;
+
+/// A sink that takes one byte at a time, and counts the puts that come after it has failed.
+#[derive(Drop)]
+pub struct Short<'a, S> {
+    pub inner: S,
+    pub late: &'a Cell<u64>,
+}
+
+impl<S: Sink> Sink for Short<'_, S> {
+    ghost adds = { λ _ _ _. Unit {0} };
+
+    ghost has_failed = { λ sink. S.has_failed sink.inner };
+
+    fn put(&mut self, bytes: &[u8]) -> usize {
+        if self.inner.failed() {
+            self.late.set(self.late.get().saturating_add(1));
+        }
+        self.inner.put(&bytes[..bytes.len().min(1)])
+    }
+
+    fn failed(&self) -> bool {
+        self.inner.failed()
+    }
+}
