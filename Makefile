@@ -1,5 +1,6 @@
 # make demo     builds rx without its proofs, which is quick, and replays the first example: prints hiok
 # make rx       proves and builds the program to out/rx
+# make install  puts out/rx, its man page, documents and examples under PREFIX (PREFIX=/usr/local DESTDIR=)
 # make test     the gate: every proof from nothing, the must-fail edits, the tests and the programs
 # Beside the gate:
 # make house    rules of this repository that the prover does not know, in a moment
@@ -9,9 +10,11 @@
 # make compare  random scripts against tclsh8.6, dialogues against expect (SCRIPTS=N, DIALOGUES=N, SEED=S)
 # make bench    times of out/rx beside those of tclsh8.6 and jimsh, and dialogues beside expect
 # make soak     a long dialogue, live: whether something is lost and whether memory grows
-.PHONY: demo rx test house rows edits live compare bench soak clean
+.PHONY: demo rx install test house rows edits live compare bench soak clean
 
 FIRST := $(CURDIR)/examples/hello-cat
+PREFIX ?= /usr/local
+SHARE = $(DESTDIR)$(PREFIX)/share
 SCRIPTS ?= 100000
 DIALOGUES ?= 150
 SEED ?= 1
@@ -23,6 +26,15 @@ demo:
 rx:
 	cd crates/rx && rt run -- --replay $(FIRST)/record $(FIRST)/script.exp
 	mkdir -p out && cp crates/rx/out/rx out/rx
+
+# It proves nothing, so that it can be run as another user than the one that ran make rx.
+install:
+	@test -x out/rx || { echo "make install: there is no out/rx yet: make rx" >&2; exit 1; }
+	install -D -m 755 out/rx $(DESTDIR)$(PREFIX)/bin/rx
+	install -D -m 644 rx.1 $(SHARE)/man/man1/rx.1
+	install -D -m 644 -t $(SHARE)/doc/rx README.md CHANGELOG.md
+	install -D -m 644 -t $(SHARE)/doc/rx/docs docs/*.md
+	cd examples && find . -type f -exec install -D -m 644 {} $(SHARE)/doc/rx/examples/{} \;
 
 test:
 	rt ci

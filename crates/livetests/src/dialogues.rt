@@ -3,12 +3,14 @@
 use acts::Limits;
 use anyhow::{Context, Result};
 use rowrules::{Prints, Report};
+use std::alloc::Global;
 use std::fs::{self, File};
 use std::net::{Net, TcpStream};
 use std::process::{Processes, SystemProcess};
 use std::rt::{Clock, Files};
-use worlds::Counted;
 use worlds::lived::lived;
+use worlds::play::rerun;
+use worlds::{Counted, Entry, read_entries};
 
 /// The ticks that a dialogue may take, those of a call without a limit.
 const TICKS: u64 = 10_000_000;
@@ -36,7 +38,8 @@ where
     Ok(())
 }
 
-/// Runs the dialogue of a folder, and compares what came with what has to come.
+/// Runs the dialogue of a folder, and then again under the record that it left, and compares what
+/// came with what has to come.
 fn run_dialogue<R>(rt: &R, report: &mut Report, folder: &str) -> Result<()>
 where
     R: Net<Stream = TcpStream>
@@ -47,23 +50,60 @@ where
 {
     report.count_row();
     let script = read_part(rt, folder, "script.exp")?;
-    let wanted = wanted(rt, folder)?;
+    let wanted = wanted(rt, folder)?.text(rt.alloc())?;
     let limits = Limits::new(TICKS).context("ticks")?;
+    let mut record = Vec::new(rt.alloc());
+    let came = run_live(rt, &script, limits, &mut record).text(rt.alloc())?;
+    report.compare(folder, "a live run", wanted.as_str(), came.as_str())?;
+    let entries = read_entries(rt.alloc(), &record).context("record")?;
+    let again = run_again(rt.alloc(), &script, limits, entries).text(rt.alloc())?;
+    report.compare(folder, "a replay of it", wanted.as_str(), again.as_str())?;
+    Ok(())
+}
+
+/// What comes of a script in the live world, of which a record is made.
+fn run_live<R>(rt: &R, script: &[u8], limits: Limits, record: &mut Vec<u8>) -> Prints
+where
+    R: Net<Stream = TcpStream>
+        + Processes<Started = SystemProcess>
+        + Files<File = File>
+        + Clock
+        + AllocGlobal,
+{
     let mut out = Vec::new(rt.alloc());
     let mut err = Vec::new(rt.alloc());
     let status = lived(
         rt,
-        &script,
+        script,
         &[],
         limits,
         &mut Counted::new(&mut out),
         &mut Counted::new(&mut err),
+        &mut Some(Counted::new(record)),
     );
-    let came = Prints { out, err, status };
-    let wanted = wanted.text(rt.alloc())?;
-    let came = came.text(rt.alloc())?;
-    report.compare(folder, "a live run", wanted.as_str(), came.as_str())?;
-    Ok(())
+    Prints { out, err, status }
+}
+
+/// What comes of a script under the entries of a record.
+fn run_again(
+    alloc: Global,
+    script: &[u8],
+    limits: Limits,
+    entries: Vec<Entry<Global>, Global>,
+) -> Prints {
+    let mut out = Vec::new(alloc);
+    let mut err = Vec::new(alloc);
+    let status = rerun(
+        alloc,
+        script,
+        &[],
+        limits,
+        entries,
+        &mut Counted::new(&mut out),
+        &mut Counted::new(&mut err),
+        &mut None::<Counted<Vec<u8>>>,
+    );
+    Prints { out, err, status }
 }
 
 /// What has to come of a dialogue. Its status is the first line of a file, below which stands what

@@ -7,6 +7,7 @@ use rowfiles::families::Family;
 use rowfiles::{LineFault, read_rows};
 use rowrules::{Call, Prints, Report, run_call, run_rows};
 use std::fs;
+use std::io::ErrorKind;
 use std::rt::Files;
 
 /// The paths of what a folder holds, in order.
@@ -66,16 +67,34 @@ fn run_example<R: Files + AllocGlobal>(rt: &R, report: &mut Report, folder: &str
     report.count_row();
     let script = read_part(rt, folder, "script.exp")?;
     let record = read_part(rt, folder, "record")?;
+    let args = args_of(rt, folder)?;
     let wanted = wanted(rt, folder)?;
     let call = Call {
         title: folder,
         script: &script,
-        args: &[],
+        args: &args,
         limits: Limits::new(10_000_000).context("ticks")?,
         record: &record,
     };
     run_call(rt.alloc(), &Rx, report, &call, &wanted)?;
     Ok(())
+}
+
+/// The name of an example's script and its arguments: the lines of the file `args`, if it is there.
+fn args_of<R: Files + AllocGlobal>(rt: &R, folder: &str) -> Result<Vec<Vec<u8>>> {
+    let mut args = Vec::new(rt.alloc());
+    args.push(Vec::from_slice(rt.alloc(), b"script.exp")?)?;
+    let path = format!(in rt.alloc(); "{folder}/args")?;
+    match fs::read_to_string(rt, path.as_str()) {
+        Ok(text) => {
+            for line in text.lines() {
+                args.push(Vec::from_slice(rt.alloc(), line.as_bytes())?)?;
+            }
+        }
+        Err(error) if error.kind() == ErrorKind::NotFound => {}
+        Err(error) => return Err(error.into()),
+    }
+    Ok(args)
 }
 
 /// What an example has to print.

@@ -1,4 +1,6 @@
 mod Consumed
-mod Limits
+mod Lives
 mod Plays
-mod Readings
+mod Replayed
+mod Scripts
+mod Seen

@@ -1,5 +1,6 @@
-pub mod Arguments
+pub mod Laws
 pub mod Lived
 pub mod Play
 pub mod Program
+pub mod Runs
 pub mod Status

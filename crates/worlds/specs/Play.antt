@@ -1,18 +1,18 @@
 -- What a call of the program comes to under replay (this project's own).
-use Rattle.std.specs.Prelude.{◌≡◌, ◌||◌, ◌⊎◌, if◌then◌else◌, ℕ, Bool, List, Result, MatchResult, Vec}
+use Rattle.std.specs.Prelude.{◌≡◌, ◌||◌, ◌⊎◌, if◌then◌else◌, ℕ, Bool, false, List, Option, Result, Vec}
 use Rattle.std.specs.Borrow.{Bor}
 use Rattle.memory.specs.declared.NoMemory.{NoMemory as Refusal}
-use Rattle.acts.specs.Deed.{Reply}
 use Rattle.engine.specs.declared.end.End.{End}
-use Rattle.engine.specs.View.{ending_of, words_of}
+use Rattle.records.specs.Entry.{AreEntries, Note}
+use Rattle.records.specs.Fault.{IsEntriesFault}
+use Rattle.records.specs.Sink.{Takes}
 use Rattle.records.specs.declared.record.RecordFault.{RecordFault}
-use Rattle.runs.specs.Run.{Began, Ran}
+use Rattle.recorders.specs.Recorder.{is_lost}
+use Rattle.replays.specs.Recording.{Recorded, whole}
+use Rattle.replays.specs.Replay.{Replays}
 use Rattle.worlds.specs.declared.status.Outcome.{Outcome}
 use Rattle.worlds.specs.declared.status.Outcome.TheVariants.{NoMemory}
-use Rattle.records.specs.Fault.{IsFault}
-use Rattle.records.specs.Record.{IsRecord}
-use Rattle.replays.specs.Replay.{Replays}
-use Rattle.records.specs.Sink.{Takes}
+use Rattle.worlds.specs.Runs.{Runs, RunsRecorded}
 use Rattle.worlds.specs.Status.{end_outcome, fault_outcome, line_of, status_of}
 
 -- `out` and `err` say whether a put may lead from one state of a writer to another and add these
@@ -38,27 +38,34 @@ module _ {O E : Type 0} (out : O → List ℕ → O → Type 0) (out_failed : O 
   -- the record of this name and text is refused
   abbrev pub Refuses : Bor (List ℕ) → List ℕ → O × E → O × E → ℕ → Type 0
   Refuses name text before after status =
-      (fault : RecordFault) × IsFault text fault
+      (fault : RecordFault) × IsEntriesFault text fault
       × Declines (fault_outcome name fault) before after status
 
   module _ {A : Type 0} (script : List ℕ) (args : List (Vec ℕ A)) (ticks : ℕ) where
-    -- the acts and the end are the definition's, or a beginning of them where memory was refused
-    abbrev pub Runs : List Reply × (O × E) → List Reply × (O × E) → Result (End A) Refusal → Type 0
-    Runs first last ended =
-        MatchResult ended
-        (λ end. Ran (Replays out out_failed err err_failed) first last script (words_of args) ticks
-        (ending_of end))
-        (λ _. Began (Replays out out_failed err err_failed) first last script (words_of args) ticks)
+    -- the script runs under these entries, and then the line of its end goes to standard error; a
+    -- record of that which was lost, where one was made, counts as a writer that failed
+    abbrev pub Plays : Bool → List Note → O × E → O × E → ℕ → Type 0
+    Plays lost entries before after status =
+        (left : Recorded) × (told : E) × (ended : Result (End A) Refusal)
+        × Runs (Replays out out_failed err err_failed) script args ticks
+        (whole entries, before) (left, (after.0, told)) ended
+        × Finishes (end_outcome (lost || (out_failed after.0 || err_failed told))
+        left.differs ended) told after.1 status
 
-    -- the script runs under these answers, and then the line of its end goes to standard error
-    abbrev pub Plays : List Reply → O × E → O × E → ℕ → Type 0
-    Plays replies before after status =
-        (left : List Reply) × (told : E) × (ended : Result (End A) Refusal)
-        × Runs (replies, before) (left, (after.0, told)) ended
-        × Finishes (end_outcome (out_failed after.0 || err_failed told) ended) told after.1 status
-
-    -- the text of a record is refused, or the script runs under its answers
+    -- the text of a record is refused, or the script runs under its entries
     abbrev pub Replayed : Bor (List ℕ) → List ℕ → O × E → O × E → ℕ → Type 0
     Replayed name text before after status =
         Refuses name text before after status
-        ⊎ ((replies : List Reply) × IsRecord replies text × Plays replies before after status)
+        ⊎ ((entries : List Note) × AreEntries entries text
+        × Plays false entries before after status)
+
+    module _ {S : Type 0} (adds : S → List ℕ → S → Type 0) (failed : S → Bool) where
+      -- the same, of which a record is made where there is a sink for it
+      abbrev pub PlaysRecorded :
+          List Note → O × E → Option S → O × E → Option S → ℕ → Type 0
+      PlaysRecorded entries before empty after kept status =
+          (left : Recorded) × (told : E) × (ended : Result (End A) Refusal)
+          × RunsRecorded (Replays out out_failed err err_failed) adds failed script args ticks
+          (whole entries, before) empty (left, (after.0, told)) kept ended
+          × Finishes (end_outcome (is_lost failed kept || (out_failed after.0 || err_failed told))
+          left.differs ended) told after.1 status

@@ -1,35 +1,93 @@
 -- What a call of the program comes to (this project's own).
-use Rattle.std.specs.Prelude.{◌≡◌, ◌⊎◌, ℕ, Bool, List, [], ◌∷◌, Option, Some, None, Vec}
+use Rattle.std.specs.Prelude.{◌≡◌, ◌⊎◌, ◌++◌, ℕ, Bool, false, List, [], ◌∷◌, Option, Some, None, Vec, codes}
 use Rattle.std.specs.Borrow.{Bor}
+use Rattle.memory.specs.declared.NoMemory.{NoMemory as Refusal}
 use Rattle.worlds.specs.declared.input.Unread.{Unread}
-use Rattle.worlds.specs.Arguments.{texts}
+use Rattle.worlds.specs.declared.status.Outcome.{Outcome}
+use Rattle.worlds.specs.declared.status.Outcome.TheVariants.{NoMemory}
+use Rattle.arguments.specs.Arguments.{Call, lines, texts}
+use Rattle.records.specs.Entry.{AreEntries, Note}
 use Rattle.worlds.specs.Lived.{Lived}
-use Rattle.worlds.specs.Play.{Declines, Replayed}
+use Rattle.worlds.specs.Play.{Declines, Plays, Refuses}
 use Rattle.worlds.specs.Status.{file_outcome}
+
+-- how a call ends that is refused memory, or does not get the file that is named first
+abbrev pub IsLack : List (List ℕ) → Outcome → Type 0
+IsLack [] outcome = (refusal : Refusal) × (outcome ≡ NoMemory refusal)
+IsLack (name ∷ others) outcome =
+    (lent : Bor (List ℕ)) × (lent.now ≡ name) × (fault : Unread)
+    × (outcome ≡ file_outcome lent fault)
+
+-- the name that a script is told, and its arguments: without a file the name is the program's
+abbrev pub argv_of : List (List ℕ) → List (List ℕ)
+argv_of [] = codes "rx" ∷ []
+argv_of (name ∷ args) = name ∷ args
+
+-- the text that a call runs: that of `-c`, and behind it that of the script's file, if there is one
+abbrev pub IsText : Call → List ℕ → Type 0
+IsText call text =
+    (file : List ℕ) × (call.script ≡ [] → file ≡ []) × (text ≡ lines call.commands ++ file)
+
+-- how a call ends that does not get the file of the record that it is to make
+abbrev pub LacksFile : Option (List ℕ) → Outcome → Type 0
+LacksFile None outcome = ⊥
+LacksFile (Some name) outcome = IsLack (name ∷ []) outcome
+
+-- a record may be lost where one is made
+abbrev pub MayBeLost : Option (List ℕ) → Bool → Type 0
+MayBeLost None lost = lost ≡ false
+MayBeLost (Some name) lost = Unit {0}
 
 -- `out` and `err` say whether a put may lead from one state of a writer to another and add these
 -- bytes, `out_failed` and `err_failed` whether it has failed.
 module _ {O E : Type 0} (out : O → List ℕ → O → Type 0) (out_failed : O → Bool)
     (err : E → List ℕ → E → Type 0) (err_failed : E → Bool) where
-  -- the file of this name is not read
-  abbrev pub Misses : List ℕ → O × E → O × E → ℕ → Type 0
-  Misses name before after status =
-      (lent : Bor (List ℕ)) × (lent.now ≡ name) × (fault : Unread)
-      × Declines out out_failed err err_failed (file_outcome lent fault) before after status
+  -- nothing runs, for want of memory or of the file that is named first
+  abbrev pub Lacks : List (List ℕ) → O × E → O × E → ℕ → Type 0
+  Lacks names before after status =
+      (outcome : Outcome) × IsLack names outcome
+      × Declines out out_failed err err_failed outcome before after status
+
+  -- nothing runs, since the file of the record that is to be made is not there
+  abbrev pub LacksRecord : Option (List ℕ) → O × E → O × E → ℕ → Type 0
+  LacksRecord made before after status =
+      (outcome : Outcome) × LacksFile made outcome
+      × Declines out out_failed err err_failed outcome before after status
 
   module _ {A : Type 0} (script : List ℕ) (args : List (Vec ℕ A)) (ticks : ℕ) where
-    -- the script runs in the live world where no record is named, and else under that record
-    abbrev pub Runs : Option (List ℕ) → O × E → O × E → ℕ → Type 0
-    Runs None before after status =
-        Lived out out_failed err err_failed script args ticks after.1 status
-    Runs (Some name) before after status =
-        Misses name before after status
-        ⊎ ((lent : Bor (List ℕ)) × (lent.now ≡ name) × (text : List ℕ)
-        × Replayed out out_failed err err_failed script args ticks lent text before after status)
+    -- the script runs in the live world
+    abbrev pub RunsLive : Option (List ℕ) → O × E → O × E → ℕ → Type 0
+    RunsLive made before after status =
+        LacksRecord made before after status
+        ⊎ ((lost : Bool) × MayBeLost made lost
+        × Lived out out_failed err err_failed script args ticks lost after.1 status)
 
-  -- the script's file is not read, or its text runs, with the name of the file as its only argument
-  abbrev pub Performs : Type 0 → Option (List ℕ) → ℕ → List ℕ → O × E → O × E → ℕ → Type 0
-  Performs A replay ticks name before after status =
-      Misses name before after status
-      ⊎ ((script : List ℕ) × (args : List (Vec ℕ A)) × (texts args ≡ name ∷ [])
-      × Runs script args ticks replay before after status)
+    -- the script runs under these entries
+    abbrev pub RunsUnder : Option (List ℕ) → List Note → O × E → O × E → ℕ → Type 0
+    RunsUnder made entries before after status =
+        LacksRecord made before after status
+        ⊎ ((lost : Bool) × MayBeLost made lost
+        × Plays out out_failed err err_failed script args ticks lost entries before after status)
+
+    -- the text of the record of this name is refused, or the script runs under its entries
+    abbrev pub RunsRecord : Bor (List ℕ) → Option (List ℕ) → List ℕ → O × E → O × E → ℕ → Type 0
+    RunsRecord name made text before after status =
+        Refuses out out_failed err err_failed name text before after status
+        ⊎ ((entries : List Note) × AreEntries entries text
+        × RunsUnder made entries before after status)
+
+    -- the script runs in the live world where no record is named, and else under that record
+    abbrev pub Runs : (replay made : Option (List ℕ)) → O × E → O × E → ℕ → Type 0
+    Runs None made before after status = RunsLive made before after status
+    Runs (Some name) made before after status =
+        Lacks (name ∷ []) before after status
+        ⊎ ((lent : Bor (List ℕ)) × (lent.now ≡ name) × (text : List ℕ)
+        × RunsRecord lent made text before after status)
+
+  -- the script's text is not there, or it runs with its name and arguments
+  abbrev pub Performs : Type 0 → Call → O × E → O × E → ℕ → Type 0
+  Performs A call before after status =
+      Lacks call.script before after status
+      ⊎ ((text : List ℕ) × IsText call text
+      × (args : List (Vec ℕ A)) × (texts args ≡ argv_of call.script)
+      × Runs text args call.ticks call.replay call.made before after status)

@@ -1,5 +1,5 @@
 -- The statuses of the program, and its lines on standard error (this project's own).
-use Rattle.std.specs.Prelude.{ℕ, Bool, true, false, pos, unsigned_abs, List, [], ◌++◌, Result, Ok, Err, codes, decimal}
+use Rattle.std.specs.Prelude.{ℕ, Bool, true, false, pos, unsigned_abs, List, [], ◌++◌, Option, Some, None, Result, Ok, Err, codes, decimal}
 use Rattle.std.specs.Borrow.{Bor}
 use Rattle.std.specs.Int.{int_rem_euclid}
 use Rattle.memory.specs.declared.NoMemory.{NoMemory as Refusal}
@@ -10,7 +10,7 @@ use Rattle.worlds.specs.declared.input.Unread.TheVariants as unread
 use Rattle.records.specs.declared.record.RecordFault.{RecordFault}
 use Rattle.records.specs.declared.record.RecordFault.TheVariants as fault
 use Rattle.worlds.specs.declared.status.Outcome.{Outcome}
-use Rattle.worlds.specs.declared.status.Outcome.TheVariants.{Exit, ScriptError, Usage, CannotOpen, Limit, OutputFailed, UnfitAnswer, NoMoreAnswers, BadRecord, NoMemory}
+use Rattle.worlds.specs.declared.status.Outcome.TheVariants.{Exit, ScriptError, Usage, CannotOpen, Limit, OutputFailed, UnfitAnswer, NoMoreAnswers, WaitDiffers, BadRecord, NoMemory}
 
 -- the end of a run, or the refusal of memory
 abbrev pub run_outcome : {A : Type 0} → Result (End A) Refusal → Outcome
@@ -22,10 +22,12 @@ run_outcome (Ok (end.BadAnswer number)) = UnfitAnswer number
 run_outcome (Ok end.NoMore) = NoMoreAnswers
 run_outcome (Err refusal) = NoMemory refusal
 
--- the end of a run under replay: a writer that has failed is the outcome whatever else ended it
-abbrev pub end_outcome : {A : Type 0} → Bool → Result (End A) Refusal → Outcome
-end_outcome true ended = OutputFailed
-end_outcome false ended = run_outcome ended
+-- the end of a run: a writer that has failed is the outcome whatever else ended it, and else the
+-- act of this number is, which differed from the wait of its record
+abbrev pub end_outcome : {A : Type 0} → Bool → Option ℕ → Result (End A) Refusal → Outcome
+end_outcome true differs ended = OutputFailed
+end_outcome false (Some number) ended = WaitDiffers number
+end_outcome false None ended = run_outcome ended
 
 -- a file of this name that was not read
 abbrev pub file_outcome : Bor (List ℕ) → Unread → Outcome
@@ -53,6 +55,7 @@ status_of Limit = 3
 status_of OutputFailed = 4
 status_of (UnfitAnswer number) = 5
 status_of NoMoreAnswers = 5
+status_of (WaitDiffers number) = 5
 status_of (BadRecord name line) = 5
 status_of (NoMemory refusal) = 6
 
@@ -61,12 +64,13 @@ abbrev pub line_of : Outcome → List ℕ
 line_of (Exit number) = []
 line_of ScriptError = []
 line_of Usage =
-    codes "usage: rx [-c cmds]... [--replay F | --record F] [--limit N] [[-f] file [args]]\n"
+    codes "usage: rx [-c cmds]... [--replay F] [--record G] [--limit N] [[-f] file [args]]\n"
 line_of (CannotOpen name) = codes "rx: cannot open " ++ name.now ++ codes "\n"
 line_of Limit = codes "rx: command limit reached\n"
 line_of OutputFailed = codes "rx: output failed\n"
 line_of (UnfitAnswer number) = codes "rx: answer " ++ decimal number ++ codes " does not fit\n"
 line_of NoMoreAnswers = codes "rx: no more answers\n"
+line_of (WaitDiffers number) = codes "rx: wait differs at answer " ++ decimal number ++ codes "\n"
 line_of (BadRecord name line) =
     codes "rx: bad record " ++ name.now ++ codes " at line " ++ decimal line ++ codes "\n"
 line_of (NoMemory refusal) = codes "rx: no memory\n"

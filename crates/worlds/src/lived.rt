@@ -2,13 +2,16 @@
 
 ghost use Rattle.std.specs.Prelude.{◌≡◌};
 ghost use Rattle.live.specs.Live.{Lives};
-ghost use Rattle.worlds.specs.Lived.{Lived, RunsLive};
+ghost use Rattle.worlds.specs.Lived.{LivedRecorded, Steps};
+ghost use Rattle.worlds.specs.Runs.{RunsRecorded};
 
 use crate::play::finish;
+use crate::recorded::run_recorded;
 use crate::status::Outcome;
 use acts::{Act, Answer, Limits, NoMemory, World};
-use engine::{End, run};
+use engine::End;
 use live::Live;
+use recorders::is_lost;
 use records::Sink;
 use std::alloc::Global;
 use std::fs::File;
@@ -17,15 +20,16 @@ use std::net::{Net, TcpStream};
 use std::process::{Processes, SystemProcess};
 use std::rt::{Clock, Files};
 
-/// Runs a script in the live world, and gives the status of the program. What goes out and the line
-/// of the end are written to two writers.
-pub fn lived<R, O: Sink, E: Sink>(
+/// Runs a script in the live world, makes a record of that where there is a sink for it, and gives
+/// the status of the program. What goes out and the line of the end are written to two writers.
+pub fn lived<R, O: Sink, E: Sink, S: Sink>(
     rt: &R,
     script: &[u8],
     args: &[Vec<u8>],
     limits: Limits,
     out: &mut O,
     err: &mut E,
+    made: &mut Option<S>,
 ) -> u8
 where
     R: Net<Stream = TcpStream>
@@ -33,21 +37,22 @@ where
         + Files<File = File>
         + Clock
         + AllocGlobal,
-    ensures { Lived O.adds O.has_failed E.adds E.has_failed
-        script.now args.now limits.ticks err.new result }
+    ensures { LivedRecorded O.adds O.has_failed E.adds E.has_failed
+        script.now args.now limits.ticks S.adds S.has_failed made.old err.new made.new result }
 {
-    let ended = run_live(rt, script, args, limits, out, err);
-    finish(Outcome::of_run(&ended), err)
+    let ended = run_live(rt, script, args, limits, out, err, made);
+    finish(Outcome::of_end(is_lost(made), None, &ended), err)
 }
 
 /// Runs a script in the live world. Where the system gives none, there are no answers.
-fn run_live<R, O: Sink, E: Sink>(
+fn run_live<R, O: Sink, E: Sink, S: Sink>(
     rt: &R,
     script: &[u8],
     args: &[Vec<u8>],
     limits: Limits,
     out: &mut O,
     err: &mut E,
+    made: &mut Option<S>,
 ) -> Result<End<Global>, NoMemory>
 where
     R: Net<Stream = TcpStream>
@@ -55,11 +60,12 @@ where
         + Files<File = File>
         + Clock
         + AllocGlobal,
-    ensures { RunsLive script.now args.now limits.ticks result }
+    ensures { RunsRecorded Steps S.adds S.has_failed script.now args.now limits.ticks
+        tt made.old tt made.new result }
 {
     match Live::new(rt, Lent(out), Lent(err)) {
-        Ok(mut world) => run(rt.alloc(), script, args, limits, &mut world),
-        Err(_) => run(rt.alloc(), script, args, limits, &mut Silent),
+        Ok(mut world) => run_recorded(rt.alloc(), script, args, limits, &mut world, made),
+        Err(_) => run_recorded(rt.alloc(), script, args, limits, &mut Silent, made),
     }
 }
 

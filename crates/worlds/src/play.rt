@@ -1,21 +1,43 @@
 //! A run under replay, as a call of the program.
 
 ghost use Rattle.std.specs.Prelude.{◌≡◌, ◌⊎◌, ◌||◌, ℕ, List, false, if◌then◌else◌, map};
-ghost use Rattle.std.specs.Vec.Iter.{into_iter_items};
-ghost use Rattle.acts.specs.Deed.{Reply, reply_of};
-ghost use Rattle.worlds.specs.declared.status.Outcome.TheVariants.{BadRecord};
-ghost use Rattle.worlds.specs.Play.{Declines, Plays, Replayed, Runs, Starves};
-ghost use Rattle.records.specs.Record.{HasHeader, IsFirstBad, IsRecord};
+ghost use Rattle.records.specs.Entry.{AreEntries, HasSecondHeader, IsBadLine, Note, note_of};
+ghost use Rattle.records.specs.Record.{HasHeader};
 ghost use Rattle.records.specs.Sink.{Takes};
+ghost use Rattle.recorders.specs.Recorder as spec;
+ghost use Rattle.replays.specs.Recording.{recorded_in};
+ghost use Rattle.replays.specs.Replay.{Replays};
+ghost use Rattle.worlds.specs.Play.{Declines, Plays, PlaysRecorded, Replayed, Starves};
+ghost use Rattle.worlds.specs.Runs.{RunsRecorded};
 ghost use Rattle.worlds.specs.Status.{line_of, status_of};
+ghost use Rattle.worlds.specs.declared.status.Outcome.TheVariants.{BadRecord};
 
+use crate::recorded::run_recorded;
 use crate::status::Outcome;
-use acts::{Answer, Limits, NoMemory};
-use engine::{End, run};
-use records::{Sink, read_record};
-use replays::LentReplay;
+use acts::{Limits, NoMemory};
+use engine::End;
+use recorders::is_lost;
+use records::{Entry, Sink, read_entries};
+use replays::{LentReplay, Recording};
 use std::alloc::Allocator;
-use std::vec::IntoIter;
+
+/// The sink of a record that is not made.
+#[derive(Drop)]
+struct Nowhere;
+
+impl Sink for Nowhere {
+    ghost adds = { λ before bytes after. before ≡ after };
+
+    ghost has_failed = { λ sink. false };
+
+    fn put(&mut self, bytes: &[u8]) -> usize {
+        bytes.len()
+    }
+
+    fn failed(&self) -> bool {
+        false
+    }
+}
 
 /// Runs a script against the record of the file `name`, and gives the status of the program, as
 /// `replayed` does. The writers are given away.
@@ -53,33 +75,71 @@ pub fn replayed<A: Allocator + Copy, O: Sink, E: Sink>(
 ) -> u8
     requires out { O.has_failed out.old ≡ false }
     requires err { E.has_failed err.old ≡ false }
-    // The record is refused, or the script runs under its answers.
+    // The record is refused, or the script runs under its entries.
     ensures ends { Replayed O.adds O.has_failed E.adds E.has_failed
         script.now args.now limits.ticks name.entry «record».now
         (out.old, err.old) (out.new, err.new) result }
 
     // The other way round: what each text of a record leads to.
-    ensures no_header { ¬ HasHeader «record».now → Declines O.adds O.has_failed E.adds E.has_failed
+    ensures no_header { ¬ HasHeader «record».now → ¬ HasSecondHeader «record».now
+        → Declines O.adds O.has_failed E.adds E.has_failed
         (BadRecord name.entry 1) (out.old, err.old) (out.new, err.new) result }
-    ensures bad_line { (n : ℕ) → IsFirstBad «record».now n
+    ensures bad_line { (n : ℕ) → IsBadLine «record».now n
         → Declines O.adds O.has_failed E.adds E.has_failed
         (BadRecord name.entry n) (out.old, err.old) (out.new, err.new) result
         ⊎ Starves O.adds O.has_failed E.adds E.has_failed
         (out.old, err.old) (out.new, err.new) result }
-    ensures answers { (replies : List Reply) → IsRecord replies «record».now
+    ensures answers { (entries : List Note) → AreEntries entries «record».now
         → Plays O.adds O.has_failed E.adds E.has_failed script.now args.now limits.ticks
-        replies (out.old, err.old) (out.new, err.new) result
+        false entries (out.old, err.old) (out.new, err.new) result
         ⊎ Starves O.adds O.has_failed E.adds E.has_failed
         (out.old, err.old) (out.new, err.new) result }
 {
-    let answers = match read_record(alloc, record) {
-        Ok(answers) => answers,
-        Err(fault) => return finish(Outcome::of_fault(name, fault), err),
-    };
-    let mut answers = answers.into_iter();
-    let ended = run_answers(alloc, script, args, limits, &mut answers, out, err);
-    let failed = either_failed(out, err);
-    finish(Outcome::of_end(failed, &ended), err)
+    match read_entries(alloc, record) {
+        Ok(entries) => rerun(
+            alloc,
+            script,
+            args,
+            limits,
+            entries,
+            out,
+            err,
+            &mut None::<Nowhere>,
+        ),
+        Err(fault) => finish(Outcome::of_fault(name, fault), err),
+    }
+}
+
+/// Runs a script under the entries of a record, makes a record of that where there is a sink for
+/// it, and gives the status of the program. What goes out and the line of the end are written to
+/// two writers. None of the three has failed.
+pub fn rerun<A: Allocator + Copy, O: Sink, E: Sink, S: Sink>(
+    alloc: A,
+    script: &[u8],
+    args: &[Vec<u8, A>],
+    limits: Limits,
+    entries: Vec<Entry<A>, A>,
+    out: &mut O,
+    err: &mut E,
+    made: &mut Option<S>,
+) -> u8
+    ensures { PlaysRecorded O.adds O.has_failed E.adds E.has_failed
+        script.now args.now limits.ticks S.adds S.has_failed
+        (map note_of entries.items) (out.old, err.old) made.old (out.new, err.new) made.new
+        result }
+{
+    let mut recording = Recording::of_entries(entries);
+    let ended = run_entries(alloc, script, args, limits, &mut recording, out, err, made);
+    let failed = any_failed(out, err, made);
+    finish(Outcome::of_end(failed, recording.differs(), &ended), err)
+}
+
+/// Whether the sink of a record that is made, or one of two writers, has failed.
+fn any_failed<O: Sink, E: Sink, S: Sink>(out: &O, err: &E, made: &Option<S>) -> bool
+    ensures { result ≡ (spec.is_lost S.has_failed made.now
+        || (O.has_failed out.now || E.has_failed err.now)) }
+{
+    is_lost(made) || either_failed(out, err)
 }
 
 /// Whether one of two writers has failed.
@@ -89,44 +149,49 @@ fn either_failed<O: Sink, E: Sink>(out: &O, err: &E) -> bool
     out.failed() || err.failed()
 }
 
-/// Runs a script under a list of answers, and writes what goes out to two writers.
-fn run_answers<A: Allocator + Copy, O: Sink, E: Sink>(
+/// Runs a script under what is left of a record, and writes what goes out to two writers.
+fn run_entries<A: Allocator + Copy, O: Sink, E: Sink, S: Sink>(
     alloc: A,
     script: &[u8],
     args: &[Vec<u8, A>],
     limits: Limits,
-    answers: &mut IntoIter<Answer<A>, A>,
+    recording: &mut Recording<A>,
     out: &mut O,
     err: &mut E,
+    made: &mut Option<S>,
 ) -> Result<End<A>, NoMemory>
-    ensures { Runs O.adds O.has_failed E.adds E.has_failed script.now args.now limits.ticks
-        (map reply_of (into_iter_items answers.old), (out.old, err.old))
-        (map reply_of (into_iter_items answers.new), (out.new, err.new)) result }
+    ensures { RunsRecorded (Replays O.adds O.has_failed E.adds E.has_failed)
+        S.adds S.has_failed script.now args.now limits.ticks
+        (recorded_in recording.old, (out.old, err.old)) made.old
+        (recorded_in recording.new, (out.new, err.new)) made.new result }
 {
-    let mut world = LentReplay { answers, out, err };
-    run_world(alloc, script, args, limits, &mut world)
+    let mut world = LentReplay {
+        recording,
+        out,
+        err,
+    };
+    run_replay(alloc, script, args, limits, &mut world, made)
 }
 
-/// Runs a script in a replay, to which the same answers and writers are lent afterwards.
-fn run_world<A: Allocator + Copy, O: Sink, E: Sink>(
+/// Runs a script in a replay, to which the same places are lent afterwards.
+fn run_replay<A: Allocator + Copy, O: Sink, E: Sink, S: Sink>(
     alloc: A,
     script: &[u8],
     args: &[Vec<u8, A>],
     limits: Limits,
     world: &mut LentReplay<'_, '_, '_, A, O, E>,
+    made: &mut Option<S>,
 ) -> Result<End<A>, NoMemory>
-    ensures same_answers { world.new.answers.ghost_name ≡ world.old.answers.ghost_name }
+    ensures same_recording { world.new.recording.ghost_name ≡ world.old.recording.ghost_name }
     ensures same_out { world.new.out.ghost_name ≡ world.old.out.ghost_name }
     ensures same_err { world.new.err.ghost_name ≡ world.old.err.ghost_name }
-    ensures runs { Runs O.adds O.has_failed E.adds E.has_failed script.now args.now limits.ticks (
-      map reply_of (into_iter_items world.old.answers.now),
-      (world.old.out.now, world.old.err.now),
-    ) (
-      map reply_of (into_iter_items world.new.answers.now),
-      (world.new.out.now, world.new.err.now),
-    ) result }
+    ensures runs { RunsRecorded (Replays O.adds O.has_failed E.adds E.has_failed)
+        S.adds S.has_failed script.now args.now limits.ticks
+        (recorded_in world.old.recording.now, (world.old.out.now, world.old.err.now)) made.old
+        (recorded_in world.new.recording.now, (world.new.out.now, world.new.err.now)) made.new
+        result }
 {
-    run(alloc, script, args, limits, world)
+    run_recorded(alloc, script, args, limits, world, made)
 }
 
 /// Writes the line of an end, and gives the status. A line that does not go out is a fault of a

@@ -2,6 +2,7 @@
 
 ghost use Rattle.std.specs.Prelude.{◌≡◌, ◌++◌, decimal};
 ghost use Rattle.records.specs.Sink.{Takes};
+ghost use Rattle.worlds.specs.declared.status.Outcome.TheVariants as outcome;
 ghost use Rattle.worlds.specs.Status.{end_outcome, fault_outcome, file_outcome, line_of, run_outcome, status_of, words_outcome};
 
 use crate::input::Unread;
@@ -13,7 +14,7 @@ use std::alloc::Allocator;
 
 /// The line of a call with other arguments.
 const USAGE: &[u8] =
-    b"usage: rx [-c cmds]... [--replay F | --record F] [--limit N] [[-f] file [args]]\n";
+    b"usage: rx [-c cmds]... [--replay F] [--record G] [--limit N] [[-f] file [args]]\n";
 
 /// How a call of the program ends.
 #[derive(Clone, Copy, Debug)]
@@ -34,10 +35,20 @@ pub enum Outcome<'a> {
     UnfitAnswer(u64),
     /// The world had no more answers.
     NoMoreAnswers,
+    /// The act of this number, counted from 1, is not the wait that its record tells.
+    WaitDiffers(u64),
     /// The record of this name is none, by its line of this number.
     BadRecord { name: &'a [u8], line: u64 },
     /// Memory was refused.
     NoMemory(NoMemory),
+}
+
+impl From<NoMemory> for Outcome<'_> {
+    ghost from_gives = { λ refusal result. result ≡ outcome.NoMemory refusal };
+
+    fn from(refusal: NoMemory) -> Self {
+        Outcome::NoMemory(refusal)
+    }
 }
 
 impl<'a> Outcome<'a> {
@@ -67,17 +78,21 @@ impl<'a> Outcome<'a> {
         }
     }
 
-    /// How a run under replay ended: by the fault of a writer, whatever else ended it.
+    /// How a run ended: by the fault of a writer, whatever else ended it, and else by the act that
+    /// differed from its record.
     pub fn of_end<A: Allocator>(
         writer_failed: bool,
+        differs: Option<u64>,
         ended: &Result<End<A>, NoMemory>,
     ) -> Outcome<'a>
-        ensures { result ≡ end_outcome writer_failed ended.now }
+        ensures { result ≡ end_outcome writer_failed differs ended.now }
     {
         if writer_failed {
-            Outcome::OutputFailed
-        } else {
-            Outcome::of_run(ended)
+            return Outcome::OutputFailed;
+        }
+        match differs {
+            Some(number) => Outcome::WaitDiffers(number),
+            None => Outcome::of_run(ended),
         }
     }
 
@@ -111,7 +126,8 @@ impl<'a> Outcome<'a> {
             Outcome::Usage | Outcome::CannotOpen(_) => 2,
             Outcome::Limit => 3,
             Outcome::OutputFailed => 4,
-            Outcome::UnfitAnswer(_) | Outcome::NoMoreAnswers | Outcome::BadRecord { .. } => 5,
+            Outcome::UnfitAnswer(_) | Outcome::NoMoreAnswers => 5,
+            Outcome::WaitDiffers(_) | Outcome::BadRecord { .. } => 5,
             Outcome::NoMemory(_) => 6,
         }
     }
@@ -130,6 +146,9 @@ impl<'a> Outcome<'a> {
                 put_number(err, b"rx: answer ", *number, b" does not fit\n");
             }
             Outcome::NoMoreAnswers => put_all(err, b"rx: no more answers\n"),
+            Outcome::WaitDiffers(number) => {
+                put_number(err, b"rx: wait differs at answer ", *number, b"\n");
+            }
             Outcome::BadRecord { name, line } => {
                 put_parts(err, b"rx: bad record ", name, b" at line ");
                 put_number(err, b"", *line, b"\n");

@@ -106,10 +106,10 @@ fn reads_on_after_an_interruption(rt: HostRuntime) -> Result<(), Fail> {
     Ok(())
 }
 
-/// The status and the line of a call of the words of a text, cut at blanks.
-fn told(rt: &HostRuntime, text: &str) -> Result<String<Global>, Fail> {
+/// The status of a call, and what it prints and tells.
+fn told(rt: &HostRuntime, call: &[&str]) -> Result<String<Global>, Fail> {
     let mut words = Vec::new(rt.alloc());
-    for word in text.split(' ') {
+    for word in call {
         words.push(Vec::from_slice(rt.alloc(), word.as_bytes())?)?;
     }
     let mut printed = Vec::new(rt.alloc());
@@ -125,29 +125,142 @@ fn told(rt: &HostRuntime, text: &str) -> Result<String<Global>, Fail> {
     Ok(format!(in rt.alloc(); "{status} {printed}{told}")?)
 }
 
-/// A missing file, a folder, and a file that is there and empty.
+/// A missing file, a folder, a file that is there and empty, and one that takes nothing.
+const FILES: [(&[&str], &str); 18] = [
+    (&["missing"], "2 rx: cannot open missing\n"),
+    (&["-f", "-missing", "a"], "2 rx: cannot open -missing\n"),
+    (&["--limit", "1", "."], "2 rx: cannot open .\n"),
+    (&["/dev/null"], "0 "),
+    (&["-f", "/dev/null", "a"], "0 "),
+    (&["-c", "puts a", "missing"], "2 rx: cannot open missing\n"),
+    (
+        &["--replay", "/dev/null", "missing"],
+        "2 rx: cannot open missing\n",
+    ),
+    (
+        &["--replay", "missing", "/dev/null"],
+        "2 rx: cannot open missing\n",
+    ),
+    (
+        &["--replay", "missing", "absent"],
+        "2 rx: cannot open absent\n",
+    ),
+    (&["--replay", "/dev/null", "."], "2 rx: cannot open .\n"),
+    (&["--replay", ".", "-c", "puts a"], "2 rx: cannot open .\n"),
+    (
+        &["--replay", "/dev/null", "/dev/null"],
+        "5 rx: bad record /dev/null at line 1\n",
+    ),
+    (
+        &["--record", "missing/g", "-c", "puts a"],
+        "2 rx: cannot open missing/g\n",
+    ),
+    (
+        &["--record", "missing/g", "missing"],
+        "2 rx: cannot open missing\n",
+    ),
+    (
+        &["--record", "missing/g", "--replay", "absent", "-c", ""],
+        "2 rx: cannot open absent\n",
+    ),
+    (
+        &["--record", "missing/g", "--replay", "/dev/null", "-c", ""],
+        "5 rx: bad record /dev/null at line 1\n",
+    ),
+    (
+        &["--record", "/dev/full", "-c", "puts a"],
+        "4 a\nrx: output failed\n",
+    ),
+    (&["--record", "/dev/null", "-c", "puts a"], "0 a\n"),
+];
+
 #[test]
-fn tells_files_that_cannot_be_read(rt: HostRuntime) -> Result<(), Fail> {
-    for (words, wanted) in [
-        ("missing", "2 rx: cannot open missing\n"),
-        ("--limit 1 .", "2 rx: cannot open .\n"),
-        ("/dev/null", "0 "),
-        ("--replay /dev/null missing", "2 rx: cannot open missing\n"),
-        ("--replay missing /dev/null", "2 rx: cannot open missing\n"),
-        ("--replay missing absent", "2 rx: cannot open absent\n"),
-        ("--replay /dev/null .", "2 rx: cannot open .\n"),
-        ("--replay . /dev/null", "2 rx: cannot open .\n"),
-        (
-            "--replay /dev/null /dev/null",
-            "5 rx: bad record /dev/null at line 1\n",
-        ),
-        (
-            "--replay missing",
-            "2 usage: rx [-c cmds]... [--replay F | --record F] [--limit N] [[-f] file [args]]\n",
-        ),
-    ] {
-        let found = told(&rt, words)?;
-        assert_eq!(rt; found.as_str(), wanted, "{words}");
+fn tells_files_that_cannot_be_read_or_made(rt: HostRuntime) -> Result<(), Fail> {
+    for (call, wanted) in FILES {
+        let found = told(&rt, call)?;
+        assert_eq!(rt; found.as_str(), wanted, "{call:?}");
     }
+    Ok(())
+}
+
+/// Calls that are refused, the last of them for want of a file.
+#[test]
+fn tells_the_usage(rt: HostRuntime) -> Result<(), Fail> {
+    let calls: [&[&str]; 4] = [&["--replay", "missing"], &["-missing"], &["--", "s"], &[]];
+    for call in calls {
+        let found = told(&rt, call)?;
+        assert_eq!(rt;
+            found.as_str(),
+            "2 usage: rx [-c cmds]... [--replay F] [--record G] [--limit N] [[-f] file [args]]\n",
+            "{call:?}"
+        );
+    }
+    Ok(())
+}
+
+/// Texts of `-c` with a newline behind each, before the text of a file; `$argv0`, `$argv`, `$argc`.
+const SCRIPTS: [(&[&str], &str); 10] = [
+    (&["-c", "puts hi"], "0 hi\n"),
+    (&["-c", "puts b", "-c", "puts a"], "0 b\na\n"),
+    (&["-c", "puts {a", "-c", "b}"], "0 a\nb\n"),
+    (&["-c", "# puts a", "-c", "puts c"], "0 c\n"),
+    (&["-c", "puts {", "/dev/null"], "1 missing close-brace\n"),
+    (
+        &["-c", "puts a", "--limit", "1", "-c", "puts b"],
+        "3 a\nrx: command limit reached\n",
+    ),
+    (&["-c", "puts a; exit 7", "/dev/null"], "7 a\n"),
+    (
+        &["-c", "puts $argv0; puts $argv; puts $argc"],
+        "0 rx\n\n0\n",
+    ),
+    (
+        &["-c", "puts $argv0; puts $argv; puts $argc", "/dev/null"],
+        "0 /dev/null\n\n0\n",
+    ),
+    (
+        &[
+            "-c",
+            "puts $argv0; puts $argv; puts $argc",
+            "-f",
+            "/dev/null",
+            "#a",
+            "b c",
+            "",
+            "-c",
+            "{",
+            "#a",
+        ],
+        "0 /dev/null\n{#a} {b c} {} -c \\{ #a\n6\n",
+    ),
+];
+
+#[test]
+fn runs_scripts_of_calls(rt: HostRuntime) -> Result<(), Fail> {
+    for (call, wanted) in SCRIPTS {
+        let found = told(&rt, call)?;
+        assert_eq!(rt; found.as_str(), wanted, "{call:?}");
+    }
+    Ok(())
+}
+
+#[test]
+fn hands_arguments_on_as_their_bytes(rt: HostRuntime) -> Result<(), Fail> {
+    let call: [&[u8]; 4] = [b"-c", b"puts -nonewline $argv", b"/dev/null", b"\xff\xfe"];
+    let mut words = Vec::new(rt.alloc());
+    for word in call {
+        words.push(Vec::from_slice(rt.alloc(), word)?)?;
+    }
+    let mut printed = Vec::new(rt.alloc());
+    let mut told = Vec::new(rt.alloc());
+    let status = perform(
+        &rt,
+        &words,
+        &mut Counted::new(&mut printed),
+        &mut Counted::new(&mut told),
+    );
+    assert_eq!(rt; status, 0);
+    assert_eq!(rt; printed.as_slice(), b"\xff\xfe".as_slice());
+    assert!(rt; told.is_empty());
     Ok(())
 }

@@ -4,8 +4,6 @@
 #[cfg(test)]
 mod again;
 #[cfg(test)]
-mod arguments;
-#[cfg(test)]
 mod calls;
 #[cfg(test)]
 mod lived;
@@ -13,6 +11,8 @@ mod lived;
 mod played;
 #[cfg(test)]
 mod record;
+#[cfg(test)]
+mod recorded;
 #[cfg(test)]
 mod replay;
 #[cfg(test)]

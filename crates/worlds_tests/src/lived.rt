@@ -68,6 +68,7 @@ fn runs_scripts_live(rt: HostRuntime) -> Result<(), Fail> {
             limits,
             &mut Counted::new(&mut out),
             &mut Counted::new(&mut err),
+            &mut None::<Counted<Vec<u8>>>,
         );
         assert_eq!(rt; ended, status, "{script}");
         assert_eq!(rt; out.as_slice(), printed.as_bytes(), "{script}");
@@ -91,6 +92,7 @@ fn ends_where_a_write_fails(rt: HostRuntime) -> Result<(), Fail> {
             limits,
             &mut sink,
             &mut Counted::new(&mut err),
+            &mut None::<Counted<Vec<u8>>>,
         );
         let whole = room == 4;
         assert_eq!(rt; sink.failed(), !whole);

@@ -15,7 +15,7 @@ fn tells_each_end(rt: HostRuntime) -> Result<(), Fail> {
         (
             Outcome::Usage,
             2,
-            "usage: rx [-c cmds]... [--replay F | --record F] [--limit N] [[-f] file [args]]\n",
+            "usage: rx [-c cmds]... [--replay F] [--record G] [--limit N] [[-f] file [args]]\n",
         ),
         (
             Outcome::CannotOpen(b"no such"),

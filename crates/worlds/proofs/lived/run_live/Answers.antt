@@ -1,16 +1,27 @@
-use Rattle.engine.specs.View.{words_of}
+use Rattle.recorders.specs.Recorder.{MayRecord}
 use Rattle.worlds.specs.Lived.{Steps}
-use Rattle.worlds.proofs.Plays.{run_seen}
+use Rattle.worlds.proofs.Seen.{runs_seen}
 use Rattle.worlds.proofs.lived.run_live.Goals as goal
 
 pub returns-in-Ok : goal.returns-in-Ok
 returns-in-Ok g c =
-    run_seen _ Steps (λ world. tt) (λ before act reply after step. step)
-    c.in-Ok.world c.run.new.world c.args.script.now (words_of c.args.args.now)
-    c.args.limits.ticks c.run.result c.run.ensures.ran c.run.ensures.began
+    let (begun, begins, runs) = c.run_recorded.ensures in (
+      begun,
+      begins,
+      runs_seen _ (MayRecord Steps g.S.Sink.adds g.S.Sink.has_failed) (λ pair. (tt, pair.1))
+          (λ before act reply after step. step)
+          c.args.script.now c.args.args.now c.args.limits.ticks (c.in-Ok.world, begun)
+          (c.run_recorded.new.world, c.run_recorded.new.made) c.run_recorded.result runs,
+    )
 
 pub returns-in-Err : goal.returns-in-Err
 returns-in-Err g c =
-    run_seen _ Steps (λ world. tt) (λ before act reply after step. step) _ _
-    c.args.script.now (words_of c.args.args.now) c.args.limits.ticks c.run-in-Err.result
-    c.run-in-Err.ensures.ran c.run-in-Err.ensures.began
+    let (begun, begins, runs) = c.run_recorded-in-Err.ensures in (
+      begun,
+      begins,
+      runs_seen _ (MayRecord Steps g.S.Sink.adds g.S.Sink.has_failed) (λ pair. (tt, pair.1))
+          (λ before act reply after step. step)
+          c.args.script.now c.args.args.now c.args.limits.ticks (_, begun)
+          (c.run_recorded-in-Err.new.world, c.run_recorded-in-Err.new.made)
+          c.run_recorded-in-Err.result runs,
+    )

@@ -1,0 +1,50 @@
+-- A live run of which a record may be made.
+use Rattle.std.proofs.Common.{◌≡◌, ℕ, Bool, false, List, Option, Some, None, Vec, refl, ap, subst}
+use Rattle.recorders.specs.Recorder.{is_lost}
+use Rattle.worlds.specs.Lived.{Lived, LivedRecorded, Steps}
+use Rattle.worlds.specs.Program.{MayBeLost}
+use Rattle.worlds.proofs.Seen.{none_kept, runs_alone}
+
+module _ {O E S A : Type 0} (out : O → List ℕ → O → Type 0) (out_failed : O → Bool)
+    (err : E → List ℕ → E → Type 0) (err_failed : E → Bool)
+    (adds : S → List ℕ → S → Type 0) (failed : S → Bool)
+    (script : List ℕ) (args : List (Vec ℕ A)) (ticks : ℕ) where
+  -- it is a live run
+  pub lives : (after : E) (empty kept : Option S) (status : ℕ) →
+      LivedRecorded out out_failed err err_failed script args ticks adds failed empty after kept
+      status →
+      Lived out out_failed err err_failed script args ticks (is_lost failed kept) after status
+  lives after empty kept status (told, ended, (begun, begins, runs), finishes) = (
+    told,
+    ended,
+    runs_alone Steps adds failed script args ticks (tt, begun) (tt, kept) ended runs,
+    finishes,
+  )
+
+  -- where none is made, none is lost
+  pub lives_alone : (after : E) (kept : Option S) (status : ℕ) →
+      LivedRecorded out out_failed err err_failed script args ticks adds failed None after kept
+      status →
+      Lived out out_failed err err_failed script args ticks false after status
+  lives_alone after kept status (told, ended, (begun, begins, runs), finishes) =
+      let none : kept ≡ None =
+      none_kept Steps adds failed script args ticks (tt, begun) (tt, kept) ended begins runs in
+      subst (λ lost. Lived out out_failed err err_failed script args ticks lost after status)
+      (ap (is_lost failed) none)
+      (lives after None kept status (told, ended, (begun, begins, runs), finishes))
+
+  -- and whether a record is made or not, it is a live run
+  pub lives_so : (made : Option (List ℕ)) (after : E) (empty kept : Option S) (status : ℕ) →
+      (made ≡ None → empty ≡ None) →
+      LivedRecorded out out_failed err err_failed script args ticks adds failed empty after kept
+      status →
+      (lost : Bool) × MayBeLost made lost
+      × Lived out out_failed err err_failed script args ticks lost after status
+  lives_so None after empty kept status none lived = (
+    false,
+    refl,
+    lives_alone after kept status (subst (λ begun. LivedRecorded out out_failed err
+        err_failed script args ticks adds failed begun after kept status) (none refl) lived),
+  )
+  lives_so (Some name) after empty kept status none lived =
+      (is_lost failed kept, tt, lives after empty kept status lived)

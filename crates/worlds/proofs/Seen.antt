@@ -1,0 +1,94 @@
+-- Runs in a world, as runs in what is seen of it.
+use Rattle.std.proofs.Common.{◌≡◌, ℕ, Bool, List, [], ◌∷◌, Option, Some, None, Result, Ok, Err, IfOk, IfErr, Vec, refl, sym, ap, ◌∙◌}
+use Rattle.memory.specs.declared.NoMemory.{NoMemory as Refusal}
+use Rattle.acts.specs.Deed.{Deed, Reply}
+use Rattle.acts.specs.History.{History, Past}
+use Rattle.engine.specs.declared.end.End.{End}
+use Rattle.engine.specs.View.{ending_of, words_of}
+use Rattle.recorders.specs.Recorder.{MayRecord, Notes}
+use Rattle.runs.specs.Ending.{Ending}
+use Rattle.runs.specs.Run.{Began, Ran}
+use Rattle.worlds.specs.Runs.{Runs}
+
+-- `see` takes each step of a world to a step of what is seen
+module _ {W V : Type 0} (S : W → Deed → Reply → W → Type 0) (T : V → Deed → Reply → V → Type 0)
+    (see : W → V)
+    (steps : (before : W) (act : Deed) (reply : Reply) (after : W) → S before act reply after →
+    T (see before) act reply (see after)) where
+  pub past_seen : (first now : W) (h : History) → Past S first now h → Past T (see first) (see now) h
+  past_seen first now [] is = ap see is
+  past_seen first now (pair ∷ h) (mid, step, past) =
+      (see mid, steps first pair.0 pair.1 mid step, past_seen mid now h past)
+
+  module _ {A : Type 0} (script : List ℕ) (args : List (Vec ℕ A)) (ticks : ℕ) (first now : W) where
+    pub runs_seen : (ended : Result (End A) Refusal) → Runs S script args ticks first now ended →
+        Runs T script args ticks (see first) (see now) ended
+    runs_seen (Ok end) ran = record {
+      history = ran.history;
+      past = past_seen first now ran.history ran.past;
+      run = ran.run;
+      holds = ran.holds;
+    }
+    runs_seen (Err refusal) began = record {
+      history = began.history;
+      past = past_seen first now began.history began.past;
+      rest = began.rest;
+      ending = began.ending;
+      run = began.run;
+      holds = began.holds;
+    }
+
+-- each step of a world keeps what `name` reads from it
+module _ {W N : Type 0} (S : W → Deed → Reply → W → Type 0) (name : W → N)
+    (kept : (before : W) (act : Deed) (reply : Reply) (after : W) → S before act reply after →
+    name after ≡ name before) where
+  past_kept : (first now : W) (h : History) → Past S first now h → name now ≡ name first
+  past_kept first now [] is = ap name (sym is)
+  past_kept first now (pair ∷ h) (mid, step, past) =
+      past_kept mid now h past ∙ kept first pair.0 pair.1 mid step
+
+  pub runs_kept : {A : Type 0} (script : List ℕ) (args : List (Vec ℕ A)) (ticks : ℕ)
+      (first now : W) (ended : Result (End A) Refusal) →
+      Runs S script args ticks first now ended → name now ≡ name first
+  runs_kept script args ticks first now (Ok end) ran = past_kept first now ran.history ran.past
+  runs_kept script args ticks first now (Err refusal) began =
+      past_kept first now began.history began.past
+
+-- what a run answered, as one fact
+pub runs_of : {W A : Type 0} (S : W → Deed → Reply → W → Type 0) (script : List ℕ)
+    (args : List (Vec ℕ A)) (ticks : ℕ) (first now : W) (ended : Result (End A) Refusal) →
+    IfOk ended (λ end. Ran S first now script (words_of args) ticks (ending_of end)) →
+    IfErr ended (λ _. Began S first now script (words_of args) ticks) →
+    Runs S script args ticks first now ended
+runs_of S script args ticks first now (Ok end) ran began = ran
+runs_of S script args ticks first now (Err refusal) ran began = began
+
+-- a run of which a record may be made is a run of the world
+module _ {V S : Type 0} (Step : V → Deed → Reply → V → Type 0) (adds : S → List ℕ → S → Type 0)
+    (failed : S → Bool) where
+  pub runs_alone : {A : Type 0} (script : List ℕ) (args : List (Vec ℕ A)) (ticks : ℕ)
+      (first now : V × Option S) (ended : Result (End A) Refusal) →
+      Runs (MayRecord Step adds failed) script args ticks first now ended →
+      Runs Step script args ticks first.0 now.0 ended
+  runs_alone script args ticks first now ended runs =
+      runs_seen (MayRecord Step adds failed) Step (λ pair. pair.0)
+      (λ before act reply after step. step.0) script args ticks first now ended runs
+
+  -- where none was begun, none was made
+  still_none : (before after : Option S) (act : Deed) (reply : Reply) → before ≡ None →
+      Notes adds failed before act reply after → after ≡ None
+  still_none before after act reply none noted = rw none at noted
+
+  none_made : (h : History) (first now : V × Option S) → first.1 ≡ None →
+      Past (MayRecord Step adds failed) first now h → now.1 ≡ None
+  none_made [] first now none same = ap (λ pair. pair.1) (sym same) ∙ none
+  none_made (pair ∷ h) first now none (mid, (step, noted), past) =
+      none_made h mid now (still_none first.1 mid.1 pair.0 pair.1 none noted) past
+
+  pub none_kept : {A : Type 0} (script : List ℕ) (args : List (Vec ℕ A)) (ticks : ℕ)
+      (first now : V × Option S) (ended : Result (End A) Refusal) → first.1 ≡ None →
+      Runs (MayRecord Step adds failed) script args ticks first now ended → now.1 ≡ None
+  none_kept script args ticks first now (Ok end) none ran =
+      none_made ran.history first now none ran.past
+  none_kept script args ticks first now (Err refusal) none began =
+      none_made began.history first now none began.past

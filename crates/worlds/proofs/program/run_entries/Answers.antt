@@ -1,0 +1,13 @@
+use Rattle.std.proofs.Common.{map, inr}
+use Rattle.std.specs.Option.{option_copied}
+use Rattle.records.specs.Entry.{note_of}
+use Rattle.worlds.proofs.Plays.{plays_so}
+use Rattle.worlds.proofs.program.run_entries.Goals as goal
+
+pub returns-in-Ok : goal.returns-in-Ok
+returns-in-Ok g c =
+    inr (plays_so g.O.Sink.adds g.O.Sink.has_failed g.E.Sink.adds g.E.Sink.has_failed _ _
+    c.args.script.now c.args.args.now c.args.call.now.limits.ticks
+    (option_copied c.args.call.now.made) (map note_of c.args.entries.items)
+    (c.args.out.now, c.args.err.now) (c.rerun.new.out, c.rerun.new.err) c.in-Ok.made
+    c.rerun.new.made c.rerun.result c.in-Ok.ensures.none c.rerun.ensures)

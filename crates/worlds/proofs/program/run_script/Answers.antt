@@ -1,0 +1,64 @@
+use Rattle.std.proofs.Common.{map, refl, sym, ap, subst, inl, inr}
+use Rattle.std.specs.Option.{option_copied}
+use Rattle.records.specs.Entry.{note_of}
+use Rattle.worlds.specs.Play.{Declines}
+use Rattle.worlds.specs.Program.{Runs}
+use Rattle.worlds.proofs.Lives.{lives_so}
+use Rattle.worlds.proofs.program.run_script.Goals as goal
+
+pub returns-in-Ok : goal.returns-in-Ok
+returns-in-Ok g c =
+    subst (λ replay. Runs g.O.Sink.adds g.O.Sink.has_failed g.E.Sink.adds g.E.Sink.has_failed
+    c.args.script.now c.args.args.now c.args.call.now.limits.ticks replay
+    (option_copied c.args.call.now.made) (c.args.out.now, c.args.err.now)
+    (c.lived.new.out, c.lived.new.err) c.lived.result) (sym (ap option_copied c.in_default.is))
+    (inr (lives_so g.O.Sink.adds g.O.Sink.has_failed g.E.Sink.adds g.E.Sink.has_failed _ _
+    c.args.script.now c.args.args.now c.args.call.now.limits.ticks
+    (option_copied c.args.call.now.made) c.lived.new.err c.in-Ok.made c.lived.new.made
+    c.lived.result c.in-Ok.ensures.none c.lived.ensures))
+
+pub returns-in-Ok-read_entries : goal.returns-in-Ok-read_entries
+returns-in-Ok-read_entries g c =
+    subst (λ replay. Runs g.O.Sink.adds g.O.Sink.has_failed g.E.Sink.adds g.E.Sink.has_failed
+    c.args.script.now c.args.args.now c.args.call.now.limits.ticks replay
+    (option_copied c.args.call.now.made) (c.args.out.now, c.args.err.now)
+    (c.run_entries.new.out, c.run_entries.new.err) c.run_entries.result)
+    (sym (ap option_copied c.in-Some.is))
+    (inr (
+      c.in-Some.name,
+      refl,
+      c.deref.result.now,
+      inr (
+        map note_of c.in-Ok-read_entries.entries.items,
+        c.in-Ok-read_entries.ensures.read,
+        c.run_entries.ensures,
+      ),
+    ))
+
+pub returns : goal.returns
+returns g c =
+    subst (λ replay. Runs g.O.Sink.adds g.O.Sink.has_failed g.E.Sink.adds g.E.Sink.has_failed
+    c.args.script.now c.args.args.now c.args.call.now.limits.ticks replay
+    (option_copied c.args.call.now.made) (c.args.out.now, c.args.err.now)
+    (c.args.out.now, c.finish-in-Err-read_entries.new.err) c.finish-in-Err-read_entries.result)
+    (sym (ap option_copied c.in-Some.is))
+    (inr (
+      c.in-Some.name,
+      refl,
+      c.deref.result.now,
+      inl (
+        c.in-Err-read_entries.fault,
+        c.in-Err-read_entries.ensures.fault,
+        subst (λ outcome. Declines g.O.Sink.adds g.O.Sink.has_failed g.E.Sink.adds
+            g.E.Sink.has_failed outcome (c.args.out.now, c.args.err.now)
+            (c.args.out.now, c.finish-in-Err-read_entries.new.err)
+            c.finish-in-Err-read_entries.result)
+            c.of_fault.ensures (
+              refl,
+              (
+                c.finish-in-Err-read_entries.ensures.line,
+                c.finish-in-Err-read_entries.ensures.status,
+              ),
+            ),
+      ),
+    ))

@@ -1,0 +1,46 @@
+//! A run of which a record may be made.
+
+ghost use Rattle.std.specs.Prelude.{◌≡◌};
+ghost use Rattle.recorders.specs.Recorder.{MayRecord};
+ghost use Rattle.worlds.specs.Runs.{Runs, RunsRecorded};
+
+use acts::{Limits, NoMemory, World};
+use engine::{End, run};
+use recorders::{LentRecorder, begin};
+use records::Sink;
+use std::alloc::Allocator;
+
+/// Runs a script in a world that is lent, and makes a record of that where there is a sink for it,
+/// which has got nothing yet.
+pub fn run_recorded<A: Allocator + Copy, W: World<A>, S: Sink>(
+    alloc: A,
+    script: &[u8],
+    args: &[Vec<u8, A>],
+    limits: Limits,
+    world: &mut W,
+    made: &mut Option<S>,
+) -> Result<End<A>, NoMemory>
+    ensures { RunsRecorded W.step S.adds S.has_failed script.now args.now limits.ticks
+        world.old made.old world.new made.new result }
+{
+    begin(made);
+    let mut recorder = LentRecorder { world, made };
+    run_lent(alloc, script, args, limits, &mut recorder)
+}
+
+/// Runs a script in a recorder, to which the same world and sink are lent afterwards.
+fn run_lent<A: Allocator + Copy, W: World<A>, S: Sink>(
+    alloc: A,
+    script: &[u8],
+    args: &[Vec<u8, A>],
+    limits: Limits,
+    recorder: &mut LentRecorder<'_, '_, W, S>,
+) -> Result<End<A>, NoMemory>
+    ensures same_world { recorder.new.world.ghost_name ≡ recorder.old.world.ghost_name }
+    ensures same_made { recorder.new.made.ghost_name ≡ recorder.old.made.ghost_name }
+    ensures runs { Runs (MayRecord W.step S.adds S.has_failed) script.now args.now limits.ticks
+        (recorder.old.world.now, recorder.old.made.now)
+        (recorder.new.world.now, recorder.new.made.now) result }
+{
+    run(alloc, script, args, limits, recorder)
+}
