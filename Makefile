@@ -1,4 +1,5 @@
-# make demo     builds rx without its proofs, which is quick, and replays the first example: prints hiok
+# make demo     builds rx without its proofs, which is quick, and holds the first example's dialogue,
+#               once by its record and once live: prints hiok twice
 # make rx       proves and builds the program to out/rx
 # make install  puts out/rx, its man page, documents and examples under PREFIX (PREFIX=/usr/local DESTDIR=)
 # make test     the gate: every proof from nothing, the must-fail edits, the tests and the programs
@@ -21,6 +22,7 @@ SEED ?= 1
 
 demo:
 	@cd crates/rx && rt try --data record=$(FIRST)/record --data script.exp=$(FIRST)/script.exp -- --replay record script.exp
+	@cd crates/rx && rt try --data script.exp=$(FIRST)/script.exp -- script.exp
 
 # rt builds only what it has proved, and runs it once on the first example.
 rx:
@@ -49,7 +51,7 @@ edits:
 	tools/edits $(SINCE)
 
 live: rx
-	live/live
+	live/live --record
 
 # The program runs no row here: rt builds only what it has proved.
 compare: rx
