@@ -1,5 +1,5 @@
 //! Reading the words of an `expect`, part by part.
-ghost use Rattle.std.specs.Prelude.{◌≡◌, ◌≤◌, ◌∷◌, length, codes, Ok, Err, IfOk, IfErr, IfSome};
+ghost use Rattle.std.specs.Prelude.{◌≤◌, ◌∷◌, length, Ok, Err, IfOk, IfErr, IfSome};
 ghost use Rattle.dialog.specs.Drafts.{GoesOn, Fails, wanted_of};
 ghost use Rattle.dialog.specs.Misreads.{flaw_of};
 ghost use Rattle.dialog.specs.Parts.{parts, parts_from, AList, ANumber, APattern, ABody};
@@ -82,7 +82,7 @@ fn read_part<'a, A: Allocator + Copy>(
         Sign::Regex => Err(BranchError::RegexNotHere),
         Sign::Bad => Err(BranchError::BadFlag(word)),
         Sign::Ids => read_ids(alloc, at, draft, rest),
-        Sign::Seconds => read_seconds(at, draft, word, rest),
+        Sign::Seconds => read_seconds(at, draft, rest),
         Sign::Pattern(style) => read_pattern(alloc, at, draft, style, rest),
         Sign::Keyword(keyword) => read_branch(alloc, at, draft, Wanted::Names(keyword), rest),
         Sign::Plain => read_branch(alloc, at, draft, Wanted::Seeks(Style::Glob, word), rest),
@@ -113,14 +113,12 @@ fn read_ids<'a, A: Allocator + Copy>(
     Ok(behind)
 }
 
-/// Reads seconds behind their flag, and gives the words behind them.
+/// Reads seconds behind `-timeout`, and gives the words behind them.
 fn read_seconds<'a, A: Allocator + Copy>(
     at: &Place<'_, A>,
     draft: &mut Draft<A>,
-    flag: &'a [u8],
     rest: &'a [Value<A>],
 ) -> Result<&'a [Value<A>], BranchError<'a>>
-    requires { flag.now ≡ codes "-timeout" }
     ensures goes_on { let here = place at.now.table.now.lines at.now.current at.now.standing in
         IfOk result (λ behind. GoesOn here draft.old
         (parts_from at.now.standing ANumber rest.now)
@@ -134,7 +132,7 @@ fn read_seconds<'a, A: Allocator + Copy>(
         return Err(BranchError::NoPattern);
     };
     let Some(seconds) = read_int(number.as_slice()) else {
-        return Err(BranchError::BadFlag(flag));
+        return Err(BranchError::BadFlag(b"-timeout"));
     };
     draft.set_timeout(seconds);
     Ok(behind)

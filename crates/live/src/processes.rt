@@ -27,21 +27,26 @@ impl Program {
         id: Id,
         words: &[Vec<u8>],
     ) -> io::Result<(Program, Link)> {
-        let Some((name, args)) = words.split_first() else {
-            return Err(io::Error::from(ErrorKind::InvalidInput));
-        };
-        let mut command = Command::new(rt.alloc(), text_of(name)?)?;
-        for arg in args {
-            command.arg(text_of(arg)?)?;
-        }
-        command.stdin(Stdio::piped());
-        command.stdout(Stdio::piped());
-        let mut child = command.spawn(rt)?;
+        let mut child = command_of(rt, words)?.spawn(rt)?;
         let (Some(input), Some(output)) = (child.stdin.take(), child.stdout.take()) else {
             return Err(io::Error::from(ErrorKind::Other));
         };
         Ok((Program { id, child }, Link::program(input, output)?))
     }
+}
+
+/// The command of a program and its arguments, over pipes.
+fn command_of<R: AllocGlobal>(rt: &R, words: &[Vec<u8>]) -> io::Result<Command> {
+    let Some((name, args)) = words.split_first() else {
+        return Err(io::Error::from(ErrorKind::InvalidInput));
+    };
+    let mut command = Command::new(rt.alloc(), text_of(name)?)?;
+    for arg in args {
+        command.arg(text_of(arg)?)?;
+    }
+    command.stdin(Stdio::piped());
+    command.stdout(Stdio::piped());
+    Ok(command)
 }
 
 /// Starts a program under an id, and says the number of its process.

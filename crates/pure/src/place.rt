@@ -1,6 +1,6 @@
 //! The places that index words name in lists and strings.
 
-ghost use Rattle.std.specs.Prelude.{◌≡◌, ◌+ℤ◌, pos, min, option_copied};
+ghost use Rattle.std.specs.Prelude.{◌≡◌, ◌+ℤ◌, ◌-ℤ◌, pos, min, option_copied, option_map};
 ghost use Rattle.pure.specs.Place as meant;
 
 use tcltext::read_int;
@@ -20,12 +20,19 @@ pub fn place_of(word: &[u8], len: usize) -> Option<i128>
 fn behind_end(text: &[u8], len: usize) -> Option<i128>
     ensures { result ≡ meant.behind_end len text.now }
 {
-    let last = len as i128 - 1;
     match text {
-        [] => Some(last),
-        [b'-', number @ ..] => Some(last - i128::from(whole_of(number)?)),
+        [] => Some(len as i128 - 1),
+        [b'-', number @ ..] => before_last(number, len),
         _ => None,
     }
+}
+
+/// The place so many before the last one.
+fn before_last(number: &[u8], len: usize) -> Option<i128>
+    ensures { result ≡ option_map (λ k. meant.last_of len -ℤ k) (meant.whole_of number.now) }
+{
+    let last = len as i128 - 1;
+    Some(last - i128::from(whole_of(number)?))
 }
 
 /// The whole number that a text is, where 64 bits hold it.
