@@ -1,11 +1,2 @@
-pub mod Stacks
-pub mod Silent
-pub mod Closings
-pub mod Scripted
-pub mod Taking
-pub mod Machines
-pub mod Held
-pub mod Waiting
-pub mod Added
 pub mod Sessions
 pub mod Worlds

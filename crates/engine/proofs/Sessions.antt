@@ -5,19 +5,19 @@ use Rattle.acts.specs.Deed.{Deed, Reply, deed_of, reply_of}
 use Rattle.acts.specs.History.{History}
 use Rattle.acts.specs.declared.act.Act.{Act}
 use Rattle.acts.specs.declared.answer.Answer.{Answer}
-use Rattle.engine.specs.Frames.{stack}
-use Rattle.engine.specs.Phases.{IsPlan, IsTold, Stands, after_acts, deed_in, paired}
+use Rattle.machine.specs.Frames.{stack}
+use Rattle.machine.specs.Phases.{IsPlan, IsTold, Stands, after_acts, deed_in, paired}
 use Rattle.engine.specs.Session.{IsAt, AsksFirst, EndsSo, Tells}
 use Rattle.engine.specs.Step.{AsksFor}
-use Rattle.engine.specs.View.{ending_of}
-use Rattle.engine.specs.declared.closing.Closing.{Closing}
-use Rattle.engine.specs.declared.frame.Frame.{Frame}
-use Rattle.engine.specs.declared.phase.Phase.{Phase}
-use Rattle.engine.specs.declared.phase.Phase.TheVariants as phase
+use Rattle.machine.specs.View.{ending_of}
+use Rattle.machine.specs.declared.closing.Closing.{Closing}
+use Rattle.machine.specs.declared.frame.Frame.{Frame}
+use Rattle.machine.specs.declared.phase.Phase.{Phase}
+use Rattle.machine.specs.declared.phase.Phase.TheVariants as phase
 use Rattle.engine.specs.declared.session.Session.{Session}
-use Rattle.engine.specs.declared.waits.Waits.{Waits}
-use Rattle.engine.specs.declared.end.End.{End}
-use Rattle.engine.proofs.Silent.{goes_exact}
+use Rattle.machine.specs.declared.waits.Waits.{Waits}
+use Rattle.machine.specs.declared.end.End.{End}
+use Rattle.machine.proofs.Silent.{goes_exact}
 use Rattle.plan.specs.Exact.{Same, Begins, Rests}
 use Rattle.plan.specs.Plan.{Ends, Asks}
 use Rattle.plan.specs.Runs.{Runs, ends}

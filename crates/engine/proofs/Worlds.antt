@@ -5,13 +5,13 @@ use Rattle.acts.specs.Deed.{Deed, Reply, deed_of, reply_of}
 use Rattle.acts.specs.History.{History, Past}
 use Rattle.acts.specs.declared.act.Act.{Act}
 use Rattle.acts.specs.declared.answer.Answer.{Answer}
-use Rattle.engine.specs.Phases.{IsTold, deed_in, paired}
+use Rattle.machine.specs.Phases.{IsTold, deed_in, paired}
 use Rattle.engine.specs.Session.{IsAt, AsksFirst, EndsSo, Tells, end_in}
 use Rattle.engine.specs.Step.{AsksFor}
-use Rattle.engine.specs.View.{ending_of}
-use Rattle.engine.specs.declared.end.End.{End}
-use Rattle.engine.specs.declared.phase.Phase.{Phase}
-use Rattle.engine.specs.declared.phase.Phase.TheVariants as phase
+use Rattle.machine.specs.View.{ending_of}
+use Rattle.machine.specs.declared.end.End.{End}
+use Rattle.machine.specs.declared.phase.Phase.{Phase}
+use Rattle.machine.specs.declared.phase.Phase.TheVariants as phase
 use Rattle.engine.specs.declared.session.Session.{Session}
 use Rattle.engine.proofs.Sessions.{left_bounded, session_tells}
 use Rattle.plan.specs.Exact.{Begins}

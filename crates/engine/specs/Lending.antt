@@ -5,7 +5,7 @@ use Rattle.std.specs.declared.alloc.Allocator.{Ghosts}
 use mathlib.Core.Option.{none}
 use Rattle.acts.specs.History.{History}
 use Rattle.acts.specs.declared.answer.Answer.{Answer}
-use Rattle.engine.specs.Phases.{GivesAgain, MayFail}
+use Rattle.machine.specs.Phases.{GivesAgain, MayFail}
 use Rattle.engine.specs.Session.{IsAt, IsRefused, answered_so}
 use Rattle.engine.specs.Step.{StepIs, TellsNext}
 use Rattle.engine.specs.contracts.session.Session.{the_row}

@@ -1,10 +1,3 @@
-pub mod View
-pub mod Frames
-pub mod Waiting
-pub mod Gathers
-pub mod Goes
-pub mod Taken
-pub mod Phases
 pub mod Session
 pub mod Step
 pub mod Lending

@@ -4,12 +4,12 @@ use Rattle.acts.specs.Deed.{Deed, Reply, deed_of}
 use Rattle.acts.specs.History.{History}
 use Rattle.acts.specs.Limits.{IsLimit}
 use Rattle.acts.specs.declared.answer.Answer.{Answer}
-use Rattle.engine.specs.Frames.{stack}
-use Rattle.engine.specs.Phases.{IsPlan, deed_in, paired}
-use Rattle.engine.specs.View.{ending_of}
-use Rattle.engine.specs.declared.end.End.{End}
-use Rattle.engine.specs.declared.phase.Phase.{Phase}
-use Rattle.engine.specs.declared.phase.Phase.TheVariants as phase
+use Rattle.machine.specs.Frames.{stack}
+use Rattle.machine.specs.Phases.{IsPlan, deed_in, paired}
+use Rattle.machine.specs.View.{ending_of}
+use Rattle.machine.specs.declared.end.End.{End}
+use Rattle.machine.specs.declared.phase.Phase.{Phase}
+use Rattle.machine.specs.declared.phase.Phase.TheVariants as phase
 use Rattle.engine.specs.declared.session.Session.{Session}
 use Rattle.engine.specs.declared.session.Step.{Step}
 use Rattle.engine.specs.declared.session.Step.TheVariants as step

@@ -3,12 +3,12 @@ use Rattle.std.specs.Prelude.{◌≡◌, List, ℕ}
 use Rattle.acts.specs.Deed.{deed_of}
 use Rattle.acts.specs.History.{History}
 use Rattle.acts.specs.declared.act.Act.{Act}
-use Rattle.engine.specs.declared.phase.Phase.{Phase}
-use Rattle.engine.specs.declared.phase.Phase.TheVariants as phase
+use Rattle.machine.specs.declared.phase.Phase.{Phase}
+use Rattle.machine.specs.declared.phase.Phase.TheVariants as phase
 use Rattle.engine.specs.declared.session.Step.{Step}
 use Rattle.engine.specs.declared.session.Step.TheVariants as step
 use Rattle.engine.specs.Session.{AsksFirst, EndsSo}
-use Rattle.engine.specs.View.{ending_of}
+use Rattle.machine.specs.View.{ending_of}
 
 -- this act is asked
 abbrev pub AsksFor : {A : Type 0} → Phase A → Act A → Type 0

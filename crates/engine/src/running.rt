@@ -1,12 +1,12 @@
 //! A whole run of a script in a world.
 
 ghost use Rattle.std.specs.Prelude.{IfOk, IfErr};
-ghost use Rattle.engine.specs.View.{ending_of, words_of};
+ghost use Rattle.machine.specs.View.{ending_of, words_of};
 ghost use Rattle.runs.specs.Run.{Began, Ran};
 
-use crate::end::End;
 use crate::session::{Session, Step};
 use acts::{Limits, NoMemory, World};
+use machine::End;
 use std::alloc::Allocator;
 
 /// Runs a script with its arguments, of which the first is `argv0`, in a world, for so many ticks

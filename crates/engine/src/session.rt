@@ -1,28 +1,18 @@
 //! A run that stops at each act and goes on with its answer.
 
-ghost use Rattle.std.specs.Prelude.{◌≡◌, ◌<◌, ◌+◌, ◌^◌, ℕ, List, [], ◌++◌, length, IfOk, IfErr};
+ghost use Rattle.std.specs.Prelude.{◌≡◌, ℕ, List, [], ◌++◌, IfOk, IfErr};
 ghost use Rattle.std.specs.Borrow.{sem};
-ghost use Rattle.acts.specs.Deed.{deed_of, reply_of};
 ghost use Rattle.acts.specs.History.{History};
-ghost use Rattle.engine.specs.Frames.{IsWhole, left_of, stack};
-ghost use Rattle.engine.specs.Phases.{GivesAgain, IsPlan, IsTold, Leads, MayFail, Stands, after_acts, deed_in, paired};
-ghost use Rattle.engine.specs.View.{words_of};
-ghost use Rattle.engine.specs.Waiting.{next_of};
-ghost use Rattle.runs.specs.Ending.{Over};
-ghost use Rattle.state.specs.Dialogue.{Dialogue, replied};
-ghost use Rattle.state.specs.Status.{Status};
-ghost use Rattle.state.specs.View.{FitsState};
+ghost use Rattle.machine.specs.Frames.{IsWhole};
+ghost use Rattle.machine.specs.Phases.{GivesAgain, IsTold, MayFail};
+ghost use Rattle.machine.specs.View.{words_of};
 
-use crate::beginning::beginning;
-use crate::closing::{closed, is_no_more};
-use crate::end::End;
-use crate::frame::{Frame, Script};
-use crate::machine::advance;
-use crate::phase::Phase;
-use crate::turns::talk;
-use crate::waits::{Waits, plainly};
-use acts::{Act, Answer, Limits, NoMemory, fits};
-use state::{Leaf, Leave, State, Stop};
+use acts::{Act, Answer, Limits, NoMemory};
+use machine::answering::forward;
+use machine::beginning::beginning;
+use machine::frame::{Frame, Script};
+use machine::{End, Phase};
+use state::State;
 use std::alloc::Allocator;
 use std::mem;
 use tcltext::Value;
@@ -174,99 +164,4 @@ fn first_frame<A: Allocator + Copy>(alloc: A, script: &[u8]) -> Result<Frame<A>,
         levels: MOST_LEVELS,
         fault,
     }))
-}
-
-/// From where a session stands, with the answer to its act, to the next act or the end.
-fn forward<A: Allocator + Copy>(
-    alloc: A,
-    frames: &mut Vec<Frame<A>, A>,
-    state: &mut State<A>,
-    answers: &mut u64,
-    phase: Phase<A>,
-    answer: Option<Answer<A>>,
-) -> Result<Phase<A>, NoMemory>
-    ensures stands { (s : Status) (p : Dialogue Over) → answers.old + 1 < 2 ^ 64 →
-        FitsState state.old s → IsPlan phase (stack frames.old) s answers.old p →
-        IfOk result (λ now. Stands now (stack frames.new) state.new answers.new
-        (after_acts p (paired (deed_in phase) answer))) }
-    ensures counts { answers.old + 1 < 2 ^ 64 → IfOk result (λ _.
-        answers.new ≡ answers.old + length (paired (deed_in phase) answer)) }
-    ensures told { IfOk result IsTold }
-    ensures fails { IfErr result (λ _. MayFail phase answer) }
-    ensures again { GivesAgain (λ now end. now ≡ end) phase result }
-{
-    match phase {
-        Phase::Has(outcome) => advance(alloc, frames, state, *answers, outcome),
-        Phase::Asks(act, waits) => match answer {
-            Some(answer) => {
-                *answers = answers.wrapping_add(1);
-                answered(alloc, frames, state, *answers, act, waits, answer)
-            }
-            None => Ok(Phase::Asks(act, waits)),
-        },
-        Phase::Closes(act, closing) => match answer {
-            Some(answer) => {
-                *answers = answers.wrapping_add(1);
-                Ok(closed(state, *answers, act, closing, answer))
-            }
-            None => Ok(Phase::Closes(act, closing)),
-        },
-        Phase::Over(end) => Ok(Phase::Over(end)),
-        Phase::Refused(refusal) => Err(refusal),
-    }
-}
-
-/// Goes on with the answer to the act of a command, up to the next act or the end. Without an
-/// answer, or with one that does not fit, the whole run stops.
-fn answered<A: Allocator + Copy>(
-    alloc: A,
-    frames: &mut Vec<Frame<A>, A>,
-    state: &mut State<A>,
-    answers: u64,
-    act: Act<A>,
-    waits: Waits<A>,
-    answer: Answer<A>,
-) -> Result<Phase<A>, NoMemory>
-    ensures stands { (s : Status) → FitsState state.old s → IfOk result (λ phase.
-        Stands phase (stack frames.new) state.new answers
-        (left_of (replied (deed_of act) s (next_of waits (deed_of act)) (reply_of answer))
-        (stack frames.old))) }
-    ensures told { IfOk result IsTold }
-{
-    let stop = if is_no_more(&answer) {
-        Stop::NoMore
-    } else if !fits(&act, &answer) {
-        Stop::BadAnswer
-    } else {
-        return match go_on(alloc, frames, state, act, waits, answer)? {
-            Leaf::Has(outcome) => advance(alloc, frames, state, answers, outcome),
-            Leaf::Asks(act, waits) => Ok(Phase::Asks(act, waits)),
-        };
-    };
-    advance(alloc, frames, state, answers, Err(Leave::Stopped(stop)))
-}
-
-/// Goes on with an answer that fits, up to how what waits for it ends, or to the next act.
-fn go_on<A: Allocator + Copy>(
-    alloc: A,
-    frames: &mut Vec<Frame<A>, A>,
-    state: &mut State<A>,
-    act: Act<A>,
-    waits: Waits<A>,
-    answer: Answer<A>,
-) -> Result<Leaf<A, Waits<A>>, NoMemory>
-    ensures { (s : Status) → FitsState state.old s →
-        IfOk result (λ leaf. Leads leaf (stack frames.new) state.new
-        (left_of (next_of waits (deed_of act) s (reply_of answer)) (stack frames.old))) }
-{
-    match waits {
-        Waits::Command(waits) => {
-            let leaf = commands::answered(alloc, state, act, waits, answer)?;
-            Ok(plainly(leaf))
-        }
-        Waits::Turn(waits) => {
-            let came = expects::waiting::answered(alloc, state, act, waits, answer)?;
-            talk(alloc, frames, state, came)
-        }
-    }
 }

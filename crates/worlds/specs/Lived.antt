@@ -2,7 +2,7 @@
 use Rattle.std.specs.Prelude.{⊤, ℕ, Bool, List, Option, None, Result, Vec}
 use Rattle.memory.specs.declared.NoMemory.{NoMemory as Refusal}
 use Rattle.acts.specs.Deed.{Deed, Reply}
-use Rattle.engine.specs.declared.end.End.{End}
+use Rattle.machine.specs.declared.end.End.{End}
 use Rattle.live.specs.Live.{Lives}
 use Rattle.recorders.specs.Recorder.{is_lost}
 use Rattle.worlds.specs.Play.{Finishes}

@@ -2,7 +2,7 @@
 use Rattle.std.specs.Prelude.{◌≡◌, ◌||◌, ◌⊎◌, if◌then◌else◌, ℕ, Bool, false, List, Option, Result, Vec}
 use Rattle.std.specs.Borrow.{Bor}
 use Rattle.memory.specs.declared.NoMemory.{NoMemory as Refusal}
-use Rattle.engine.specs.declared.end.End.{End}
+use Rattle.machine.specs.declared.end.End.{End}
 use Rattle.records.specs.Entry.{AreEntries, Note}
 use Rattle.records.specs.Fault.{IsEntriesFault}
 use Rattle.records.specs.Sink.{Takes}

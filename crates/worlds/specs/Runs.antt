@@ -2,8 +2,8 @@
 use Rattle.std.specs.Prelude.{ℕ, Bool, List, Option, Result, MatchResult, Vec}
 use Rattle.memory.specs.declared.NoMemory.{NoMemory as Refusal}
 use Rattle.acts.specs.Deed.{Deed, Reply}
-use Rattle.engine.specs.declared.end.End.{End}
-use Rattle.engine.specs.View.{ending_of, words_of}
+use Rattle.machine.specs.declared.end.End.{End}
+use Rattle.machine.specs.View.{ending_of, words_of}
 use Rattle.recorders.specs.Recorder.{Begins, MayRecord}
 use Rattle.runs.specs.Run.{Began, Ran}
 

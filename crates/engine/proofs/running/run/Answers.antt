@@ -1,6 +1,6 @@
 use Rattle.std.proofs.Common.{sym}
 use Rattle.std.proofs.lemmas.Result.{err_from_is_err_and}
-use Rattle.engine.specs.View.{words_of}
+use Rattle.machine.specs.View.{words_of}
 use Rattle.engine.proofs.Worlds.{sets_out, goes, goes_on, fewer_left, is_over, refused_on, never_began}
 use Rattle.engine.proofs.running.run.Goals as goal
 

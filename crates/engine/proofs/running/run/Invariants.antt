@@ -1,6 +1,6 @@
 use Rattle.std.proofs.Common.{◌-◌}
-use Rattle.engine.specs.Phases.{IsTold}
-use Rattle.engine.specs.View.{words_of}
+use Rattle.machine.specs.Phases.{IsTold}
+use Rattle.machine.specs.View.{words_of}
 use Rattle.runs.specs.Bounds.{most_acts}
 use Rattle.engine.proofs.Worlds.{Going}
 use Rattle.engine.proofs.running.run.Given as goal

@@ -1,6 +1,6 @@
 use Rattle.std.proofs.Common.{◌≡◌, ◌+◌, length, sym, subst}
-use Rattle.engine.specs.Frames.{stack}
-use Rattle.engine.specs.Phases.{IsPlan, Stands, after_acts, deed_in, paired}
+use Rattle.machine.specs.Frames.{stack}
+use Rattle.machine.specs.Phases.{IsPlan, Stands, after_acts, deed_in, paired}
 use Rattle.engine.proofs.Sessions.{counts_on, went_on}
 use Rattle.engine.proofs.session.Session.go_on.Goals as goal
 

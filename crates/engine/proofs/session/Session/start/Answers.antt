@@ -1,10 +1,10 @@
 use Rattle.std.proofs.Common.{◌≡◌, ◌∙◌, [], ◌∷◌, Ok, refl, sym, ap, rules}
-use Rattle.engine.specs.Frames.{onward_of, stack}
-use Rattle.engine.specs.View.{words_of}
+use Rattle.machine.specs.Frames.{onward_of, stack}
+use Rattle.machine.specs.View.{words_of}
 use Rattle.runs.specs.Run.{initial, whole}
 use Rattle.state.specs.Outcome.{Outcome, Gives}
-use Rattle.engine.proofs.Machines.{whole_goes}
-use Rattle.engine.proofs.Silent.{goes_exact, same_goes, then_goes}
+use Rattle.machine.proofs.Machines.{whole_goes}
+use Rattle.machine.proofs.Silent.{goes_exact, same_goes, then_goes}
 use Rattle.engine.proofs.session.Session.start.Goals as goal
 
 pub returns : goal.returns

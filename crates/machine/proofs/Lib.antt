@@ -1,0 +1,9 @@
+pub mod Stacks
+pub mod Silent
+pub mod Closings
+pub mod Scripted
+pub mod Taking
+pub mod Machines
+pub mod Held
+pub mod Waiting
+pub mod Added

@@ -1,0 +1,209 @@
+-- What the parts of the machine come to.
+use Rattle.std.proofs.Common.{◌≡◌, ◌∙◌, ℕ, zero, suc, ◌+◌, ◌<◌, ◌≤◌, List, [], ◌∷◌, length, drop, Box, Option, None, option_map, Result, Ok, Err, IfOk, refl, sym, ap, subst, arith}
+use Rattle.std.specs.declared.rc.Rc.{Rc}
+use Rattle.std.specs.declared.vec.Vec.{Vec}
+use Rattle.tclparse.specs.declared.tree.Command.{Command}
+use Rattle.acts.specs.Flaw as flaw
+use Rattle.machine.specs.Waiting as waiting
+use Rattle.machine.specs.declared.waits.Waits.{Waits}
+use Rattle.control.specs.declared.held.Held.{Held}
+use Rattle.machine.specs.Frames.{IsWhole, call_of, next_of, onward_of, left_of, weight, weight_of, words_in, words_of_frame}
+use Rattle.machine.specs.Goes.{Goes, here, calls, reads}
+use Rattle.machine.specs.Phases.{Leads, Begins, Unwinds, Stands}
+use Rattle.machine.specs.declared.frame.Frame.{Frame}
+use Rattle.machine.specs.declared.frame.Frame.TheVariants as frame
+use Rattle.machine.specs.declared.frame.Script.{Script}
+use Rattle.machine.specs.declared.frame.WordsOf.{WordsOf}
+use Rattle.machine.specs.declared.unwinding.Unwound.{Unwound}
+use Rattle.machine.specs.declared.unwinding.Unwound.TheVariants as unwound
+use Rattle.machine.specs.declared.phase.Phase.{Phase}
+use Rattle.machine.specs.declared.phase.Phase.TheVariants as phase
+use Rattle.acts.specs.declared.act.Act.{Act}
+use Rattle.machine.proofs.Silent.{reaches_goes, same_goes, then_goes, same_left}
+use Rattle.expects.specs.declared.turn.Turn.{Turn}
+use Rattle.plan.specs.Plan.{Ends}
+use Rattle.runs.specs.Ending.{Over}
+use Rattle.runs.specs.Run.{initial, whole}
+use Rattle.state.specs.Budget.{again_of}
+use Rattle.state.specs.Dialogue.{Course, Dialogue, gives, raises}
+use Rattle.state.specs.Leaf.{HasOutcome, Shows, course_of}
+use Rattle.state.specs.Outcome.{Outcome, Gives, Leaves, Again, AgainRunning}
+use Rattle.state.specs.Piece.{ScriptText, ScriptTree}
+use Rattle.state.specs.Reaches.{Reaches}
+use Rattle.state.specs.Status.{Status}
+use Rattle.state.specs.View.{FitsState, outcome_of}
+use Rattle.state.specs.declared.leaf.Leaf.{Leaf}
+use Rattle.state.specs.declared.leaf.Leaf.TheVariants as leaf
+use Rattle.state.specs.declared.outcome.Leave.{Leave}
+use Rattle.state.specs.declared.outcome.Leave.TheVariants as leave
+use Rattle.state.specs.declared.state.State.{State}
+use Rattle.tclparse.specs.View.{commands_of}
+use Rattle.tclparse.specs.Tree.{Commands}
+use Rattle.words.specs.Gathering.{course_of_gathered, gathering_on}
+use Rattle.words.specs.Words.{nested}
+use Rattle.words.specs.declared.gathering.Gathered.{Gathered}
+use Rattle.words.specs.declared.gathering.Gathering.{Gathering}
+
+-- what holds of a value holds of another where the one gives the other
+pub on_ok : {X E : Type 0} (r : Result X E) {P Q : X → Type 0} → ((x : X) → P x → Q x) →
+    IfOk r P → IfOk r Q
+on_ok (Ok x) each holds = each x holds
+on_ok (Err e) each holds = holds
+
+-- for some state that the code's fits, the dialogue goes on as the frames say with this outcome
+pub record Comes {A : Type 0} (fs : List (Frame A)) (state : State A) (o : Outcome)
+    (p : Dialogue Over) : Type 0 where
+  pub status : Status
+  pub fits : FitsState state status
+  pub goes : Goes p (onward_of fs status o)
+
+module _ {A : Type 0} (fs : List (Frame A)) (state : State A) {p q : Dialogue Over}
+    (goes : Goes p q) where
+  pub leads_from : {l : Leaf A (Waits A)} → Leads l fs state q → Leads l fs state p
+  leads_from leads = record {
+    status = leads.status;
+    fits = leads.fits;
+    goes = then_goes goes leads.goes;
+  }
+
+  pub unwinds_from : (u : Unwound A) → Unwinds u fs state q → Unwinds u fs state p
+  unwinds_from (unwound.Has outcome) leads = leads_from leads
+  unwinds_from (unwound.Begins next) begins = record {
+    status = begins.status;
+    fits = begins.fits;
+    goes = then_goes goes begins.goes;
+  }
+
+  pub stands_from : {at : Phase A} {answers : ℕ} → Stands at fs state answers q →
+      Stands at fs state answers p
+  stands_from stands = record {
+    status = stands.status;
+    fits = stands.fits;
+    plan = stands.plan;
+    is_plan = stands.is_plan;
+    goes = then_goes goes stands.goes;
+  }
+
+module _ {A : Type 0} (fs : List (Frame A)) where
+  -- a command at hand goes on under the frames
+  pub shown_leads : {l : Leaf A (Waits A)} {state : State A} {course : Course} →
+      Shows waiting.next_of l state course → Leads l fs state (left_of course fs)
+  shown_leads shown = record {
+    status = shown.status;
+    fits = shown.fits;
+    goes = reaches_goes fs shown.reaches;
+  }
+
+  -- a command that is over does
+  pub over_goes : (l : Leaf A (Waits A)) (o : Outcome) (s : Status) → HasOutcome l o →
+      Goes (left_of (Ends (s, o)) fs) (left_of (course_of waiting.next_of l s) fs)
+  over_goes (leaf.Has outcome) o s is =
+      same_left fs (ap (λ (x : Outcome). let c : Course = Ends (s, x) in c) (sym is))
+  over_goes (leaf.Asks act waits) o s is = absurd is
+
+  pub over_leads : (l : Leaf A (Waits A)) (o : Outcome) (s : Status) (state : State A) →
+      FitsState state s → HasOutcome l o → Leads l fs state (left_of (Ends (s, o)) fs)
+  over_leads l o s state fits is =
+      record { status = s; fits = fits; goes = over_goes l o s is }
+
+  -- what words came to, where it is known what that is
+  pub gathered_goes : (levels : ℕ) (call : Status → List (List ℕ) → Course) (s : Status)
+      {found known : Gathered A} {p : Course} →
+      Reaches p (course_of_gathered levels found call s) → found ≡ known →
+      Goes (left_of p fs) (left_of (course_of_gathered levels known call s) fs)
+  gathered_goes levels call s first is =
+      then_goes (reaches_goes fs first)
+      (same_left fs (ap (λ found. course_of_gathered levels found call s) is))
+
+  -- a script in a word is put on the stack above the words behind it
+  pub nest_goes : (levels inner : ℕ) (cs : Rc (Vec (Command A) A) A) (box : Box (Gathering A) A)
+      (whose : WordsOf) (s : Status) → levels ≡ suc inner →
+      Goes
+      (left_of (nested levels (commands_of cs) s
+      (gathering_on levels box.value (call_of whose levels))) fs)
+      (left_of (Ends (s, Gives [])) (frame.Script
+      (record { commands = cs; next = 0; levels = inner; fault = None })
+      ∷ frame.Words box levels whose ∷ fs))
+  nest_goes levels inner cs box whose s is = rw is (calls here)
+
+-- a stack goes on by its top
+pub top_goes : {A : Type 0} (fs rest : List (Frame A)) (f : Frame A) (s : Status) (o : Outcome) →
+    fs ≡ f ∷ rest → Goes (onward_of fs s o) (left_of (next_of f s o) rest)
+top_goes fs rest f s o is = same_goes (ap (λ l. onward_of l s o) is)
+
+module _ {A : Type 0} {fs : List (Frame A)} {state : State A} {p q : Dialogue Over} where
+  -- what is over hands its outcome to the frames
+  pub over_comes : (o : Result (List ℕ) (Leave A)) → Goes p q → Leads (leaf.Has o) fs state q →
+      Comes fs state (outcome_of o) p
+  over_comes o goes leads = record {
+    status = leads.status;
+    fits = leads.fits;
+    goes = then_goes goes leads.goes;
+  }
+
+  -- an act waits for its answer
+  pub asks_stands : (act : Act A) (waits : Waits A) (answers : ℕ) → Goes p q →
+      Leads (leaf.Asks act waits) fs state q → Stands (phase.Asks act waits) fs state answers p
+  asks_stands act waits answers goes leads = record {
+    status = leads.status;
+    fits = leads.fits;
+    plan = left_of (course_of waiting.next_of (leaf.Asks act waits) leads.status) fs;
+    is_plan = refl;
+    goes = then_goes goes leads.goes;
+  }
+
+-- where no level is left, that is the script's error
+pub nested_over : (levels : ℕ) (cs : Commands) (s : Status)
+    (next : Status → List ℕ → Course) → levels ≡ 0 →
+    nested levels cs s next ≡ raises flaw.TooManyNested s
+nested_over levels cs s next is = rw is refl
+
+-- an outcome that is no value passes through a script, and through words
+pub script_passes : {A : Type 0} (own : Script A) (s : Status) (l : Leave A) →
+    next_of (frame.Script own) s (outcome_of (Err l)) ≡ Ends (s, outcome_of (Err l))
+script_passes own s (leave.Coded code value) = refl
+script_passes own s (leave.Stopped stop) = refl
+
+pub words_passes : {A : Type 0} (box : Box (Gathering A) A) (levels : ℕ) (whose : WordsOf)
+    (s : Status) (l : Leave A) →
+    next_of (frame.Words box levels whose) s (outcome_of (Err l)) ≡ Ends (s, outcome_of (Err l))
+words_passes box levels whose s (leave.Coded code value) = refl
+words_passes box levels whose s (leave.Stopped stop) = refl
+
+-- and so through every frame but that of a command or of a turn
+pub passed_on : {A : Type 0} (f : Frame A) (s : Status) (l : Leave A) →
+    ((held : Held A) → f ≡ frame.Held held → ⊥) →
+    ((turn : Box (Turn A) A) → f ≡ frame.Turn turn → ⊥) →
+    next_of f s (outcome_of (Err l)) ≡ Ends (s, outcome_of (Err l))
+passed_on (frame.Script own) s l not none = script_passes own s l
+passed_on (frame.Words box levels whose) s l not none = words_passes box levels whose s l
+passed_on (frame.Held held) s l not none = absurd (not held refl)
+passed_on (frame.Turn turn) s l not none = absurd (none turn refl)
+
+-- a frame that goes lightens the others
+pub lighter_without : {A : Type 0} (f : Frame A) (fs : List (Frame A)) →
+    weight fs < weight_of f + weight fs
+lighter_without (frame.Script own) fs = omega arith
+lighter_without (frame.Words box levels whose) fs = omega arith
+lighter_without (frame.Held held) fs = omega arith
+lighter_without (frame.Turn turn) fs = omega arith
+
+pub fewer_without : {A : Type 0} (f : Frame A) (fs : List (Frame A)) (again : ℕ) →
+    again + words_in fs ≤ again + (words_of_frame f + words_in fs)
+fewer_without f fs again = omega arith
+
+-- an outcome of exp_continue counts as one, and every other as none
+pub again_at_most : (o : Outcome) → again_of o ≤ 1
+again_at_most (Leaves Again value) = omega arith
+again_at_most (Leaves AgainRunning value) = omega arith
+again_at_most _ = omega arith
+
+-- a whole run begins with the text's script
+pub whole_goes : {A : Type 0} (f : Frame A) (text : List ℕ) (args : List (List ℕ)) (limit : ℕ) →
+    IsWhole f text →
+    Goes (whole text args limit) (onward_of (f ∷ []) (initial args limit) (Gives []))
+whole_goes {A = A} f text args limit is =
+    let tree : ScriptTree = record { commands = is.commands; fault = is.fault } in
+    let none : List (Frame A) = [] in
+    reads {text = ScriptText text} tree is.is (calls
+    (same_left none (sym (is.next (initial args limit)))))

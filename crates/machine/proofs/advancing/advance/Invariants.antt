@@ -1,0 +1,18 @@
+use Rattle.std.proofs.Common.{◌+◌, ◌≤◌}
+use Rattle.machine.specs.Frames.{load, onward_of, stack}
+use Rattle.state.specs.Budget.{again_of}
+use Rattle.state.specs.Status.{Status}
+use Rattle.state.specs.View.{FitsState, outcome_of}
+use Rattle.machine.proofs.Machines.{Comes}
+use Rattle.machine.proofs.advancing.advance.Given as goal
+
+abbrev pub invariant-commands : goal.invariant-commands
+invariant-commands g l =
+    (s : Status) → FitsState l.fn.state s →
+    Comes (stack l.frames) l.state (outcome_of l.outcome)
+    (onward_of (stack l.fn.frames) s (outcome_of l.fn.outcome))
+
+-- each tick begins a command by its tree; its words may wait, it may be called, and it may end by
+-- exp_continue, behind which a turn begins
+abbrev pub decreases-commands : goal.decreases-commands
+decreases-commands g l = again_of (outcome_of l.outcome) + load (stack l.frames) l.state

@@ -1,0 +1,45 @@
+use Rattle.std.proofs.Common.{◌∙◌, sym, ap}
+use Rattle.machine.specs.Frames.{call_of, stack}
+use Rattle.machine.specs.Taken.{course_of_taken}
+use Rattle.machine.proofs.Machines.{on_ok, unwinds_from}
+use Rattle.machine.proofs.Silent.{same_left}
+use Rattle.words.specs.Gathering.{gathering_on}
+use Rattle.machine.proofs.unwinding.value_on.Goals as goal
+
+pub returns-in-Command-clause-unwinds : goal.returns-in-Command-clause-unwinds
+returns-in-Command-clause-unwinds g c = λ s fits. record {
+  status = s;
+  fits = fits;
+  goes = same_left (stack c.args.frames.now)
+      (ap (λ taken. course_of_taken taken s c.args.value) c.in-Command.is);
+}
+
+pub returns-in-Limit-clause-unwinds : goal.returns-in-Limit-clause-unwinds
+returns-in-Limit-clause-unwinds g c = λ s fits. record {
+  status = s;
+  fits = fits;
+  goes = same_left (stack c.args.frames.now)
+      (ap (λ taken. course_of_taken taken s c.args.value) c.in-Limit.is);
+}
+
+pub returns-in_ok-behind-in-Behind-clause-unwinds :
+    goal.returns-in_ok-behind-in-Behind-clause-unwinds
+returns-in_ok-behind-in-Behind-clause-unwinds g c = λ s fits. record {
+  status = s;
+  fits = fits;
+  goes = same_left (stack c.args.frames.now)
+      (ap (λ taken. course_of_taken taken s c.args.value) c.in-Behind.is
+      ∙ c.in_ok-behind-in-Behind.ensures.ends s);
+}
+
+pub returns-in-Words-clause-unwinds : goal.returns-in-Words-clause-unwinds
+returns-in-Words-clause-unwinds g c = λ s fits.
+    let levels = c.in-Words.levels in
+    on_ok c.words_on.result
+    (λ unwound unwinds.
+    unwinds_from (stack c.words_on.new.frames) c.words_on.new.state
+    (same_left (stack c.args.frames.now)
+    (ap (λ taken. course_of_taken taken s c.args.value) c.in-Words.is
+    ∙ ap (λ gathering. gathering_on levels gathering (call_of c.in-Words.whose levels) s c.args.value)
+    (sym c.into_inner-gathering.ensures))) unwound unwinds)
+    (c.words_on.ensures.unwinds s fits)

@@ -1,0 +1,108 @@
+-- What is done next: the frames of a session.
+use Rattle.std.specs.Prelude.{◌≡◌, ℕ, ◌+◌, ◌*◌, List, [], ◌∷◌, map, reverse, drop, Option, option_map}
+use Rattle.std.specs.declared.vec.Vec.{Vec}
+use Rattle.control.specs.View as control
+use Rattle.machine.specs.declared.frame.Frame.{Frame}
+use Rattle.machine.specs.declared.frame.Frame.TheVariants as frame
+use Rattle.machine.specs.declared.frame.Script.{Script}
+use Rattle.machine.specs.declared.frame.WordsOf.{WordsOf}
+use Rattle.machine.specs.declared.frame.WordsOf.TheVariants as whose
+use Rattle.expects.specs.Expect.{by_words}
+use Rattle.expects.specs.Turn.{behind}
+use Rattle.expects.specs.View.{form_of, turn_of}
+use Rattle.plan.specs.Plan.{Plan, and_then, onward, after}
+use Rattle.runs.specs.Closing.{closing}
+use Rattle.runs.specs.Commands.{command}
+use Rattle.runs.specs.Ending.{Over}
+use Rattle.runs.specs.Run.{most_levels}
+use Rattle.runs.specs.Scripts.{script}
+use Rattle.state.specs.Dialogue.{Course, Dialogue, on_value}
+use Rattle.state.specs.Outcome.{Outcome, Gives}
+use Rattle.state.specs.Status.{Status}
+use Rattle.state.specs.declared.state.State.{State}
+use Rattle.tclparse.specs.Fault.{Fault}
+use Rattle.tclparse.specs.Grammar.{IsScript}
+use Rattle.tclparse.specs.Seen.{fault_of}
+use Rattle.tclparse.specs.Tree.{Commands, no_commands}
+use Rattle.tclparse.specs.View.{commands_then}
+use Rattle.tclparse.specs.declared.script.Script as read
+use Rattle.words.specs.Gathering.{gathering_on}
+use Rattle.words.specs.Scripts.{scripts_left}
+
+-- the frames, the top one first
+abbrev pub stack : {A : Type 0} → Vec (Frame A) A → List (Frame A)
+stack frames = reverse frames.items
+
+-- the commands of a script that are left
+abbrev pub commands_left : {A : Type 0} → Script A → Commands
+commands_left s = commands_then (drop s.next s.commands.value.items) no_commands
+
+-- what is done with words that are all there: they begin a command, or say branches
+abbrev pub call_of : WordsOf → ℕ → Status → List (List ℕ) → Course
+call_of whose.Command levels = command levels
+call_of (whose.Argument form) levels = by_words (form_of form) levels
+
+-- a frame is what is done next with how the part within it ended: the commands of a script that are
+-- left, the words of a command or of an argument in braces behind a script in one of them, a
+-- command behind a script that it ran, or a turn of expect behind the body of what it chose
+abbrev pub next_of : {A : Type 0} → Frame A → Status → Outcome → Course
+next_of (frame.Script s) =
+    on_value (script s.levels (commands_left s) (option_map fault_of s.fault))
+next_of (frame.Words gathering levels whose) =
+    on_value (gathering_on levels gathering.value (call_of whose levels))
+next_of (frame.Held held) = control.next_of held
+next_of (frame.Turn turn) = behind (turn_of turn.value) turn.value.levels
+
+-- a script of which nothing is done yet, in which so many levels may stand
+abbrev pub begun : {A : Type 0} → read.Script A → ℕ → Script A
+begun script levels =
+    record { commands = script.commands; next = 0; levels = levels; fault = script.fault }
+
+-- a frame is a whole text, of which nothing is done yet
+pub record IsWhole {A : Type 0} (f : Frame A) (text : List ℕ) : Type 0 where
+  pub commands : Commands
+  pub fault : Option Fault
+  pub is : IsScript commands fault text
+  pub next : (s : Status) → next_of f s (Gives []) ≡ script most_levels commands fault s []
+
+-- what is done with an outcome: the frames from the top down, and then the run is closed
+abbrev pub onward_of : {A : Type 0} → List (Frame A) → Status → Outcome → Dialogue Over
+onward_of frames = after (map next_of frames) closing
+
+-- a course, and then what is done with its outcome
+abbrev pub left_of : {A : Type 0} → Course → List (Frame A) → Dialogue Over
+left_of course frames = and_then course (onward (onward_of frames))
+
+-- how much a frame may still put on the stack between two ticks
+abbrev pub weight_of : {A : Type 0} → Frame A → ℕ
+weight_of (frame.Script s) = 1
+weight_of (frame.Words gathering levels whose) = 3 + 2 * scripts_left gathering.value
+weight_of (frame.Held held) = 1 + 2 * control.scripts_held held
+weight_of (frame.Turn turn) = 1
+
+-- how much all frames may
+abbrev pub weight : {A : Type 0} → List (Frame A) → ℕ
+weight [] = 0
+weight (f ∷ fs) = weight_of f + weight fs
+
+-- what may come of words before the next tick: those of a command may begin it, and it may end by
+-- exp_continue; those of an argument in braces may begin a turn
+abbrev pub words_load : WordsOf → ℕ
+words_load whose.Command = 2
+words_load (whose.Argument form) = 1
+
+-- what may come of a frame before the next tick: what a command holds may end by exp_continue
+abbrev pub words_of_frame : {A : Type 0} → Frame A → ℕ
+words_of_frame (frame.Script s) = 0
+words_of_frame (frame.Words gathering levels whose) = words_load whose
+words_of_frame (frame.Held held) = 1
+words_of_frame (frame.Turn turn) = 0
+
+-- what may come of all frames
+abbrev pub words_in : {A : Type 0} → List (Frame A) → ℕ
+words_in [] = 0
+words_in (f ∷ fs) = words_of_frame f + words_in fs
+
+-- how much more may begin: a tick begins a command by its tree, of which words may wait
+abbrev pub load : {A : Type 0} → List (Frame A) → State A → ℕ
+load frames state = 3 * state.left + words_in frames

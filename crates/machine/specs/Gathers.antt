@@ -1,0 +1,22 @@
+-- What words come to that begin to be substituted.
+use Rattle.std.specs.Prelude.{◌≡◌, ℕ, List, Result, Ok, Err, Vec}
+use Rattle.machine.specs.Frames.{left_of, onward_of}
+use Rattle.machine.specs.Goes.{Goes}
+use Rattle.machine.specs.declared.frame.Frame.{Frame}
+use Rattle.runs.specs.Ending.{Over}
+use Rattle.state.specs.Budget.{again_of}
+use Rattle.state.specs.Dialogue.{Course, Dialogue}
+use Rattle.state.specs.Status.{Status}
+use Rattle.state.specs.View.{outcome_of}
+use Rattle.state.specs.declared.outcome.Leave.{Leave}
+
+-- the dialogue goes on as what is done with their values, or as the frames say with an outcome
+abbrev pub Gathers : {A : Type 0} → Result (Vec (List ℕ) A) (Result (List ℕ) (Leave A)) →
+    List (Frame A) → Status → Dialogue Over → (Status → List (List ℕ) → Course) → Type 0
+Gathers (Ok values) frames s p call = Goes p (left_of (call s values.items) frames)
+Gathers (Err outcome) frames s p call = Goes p (onward_of frames s (outcome_of outcome))
+
+-- an outcome of exp_continue counts as one
+abbrev pub again_among : {A X : Type 0} → Result X (Result (List ℕ) (Leave A)) → ℕ
+again_among (Ok values) = 0
+again_among (Err outcome) = again_of (outcome_of outcome)

@@ -1,0 +1,7 @@
+pub mod View
+pub mod Frames
+pub mod Waiting
+pub mod Gathers
+pub mod Goes
+pub mod Taken
+pub mod Phases

@@ -1,0 +1,164 @@
+-- Where a session stands.
+use Rattle.std.specs.Prelude.{◌≡◌, ℕ, ◌+◌, ◌*◌, ◌<◌, ◌≤◌, List, [], ◌∷◌, ◌++◌, Option, Some, None, Result, Ok, Err, IsOkAnd}
+use Rattle.std.specs.declared.rc.Rc.{Rc}
+use Rattle.acts.specs.Deed.{Deed, Reply, deed_of, reply_of}
+use Rattle.acts.specs.History.{History}
+use Rattle.acts.specs.declared.act.Act.{Act}
+use Rattle.acts.specs.declared.answer.Answer.{Answer}
+use Rattle.machine.specs.Waiting.{again_in, next_of}
+use Rattle.machine.specs.declared.waits.Waits.{Waits}
+use Rattle.machine.specs.Frames.{call_of, load, onward_of, left_of, weight, words_in}
+use Rattle.machine.specs.Goes.{Goes}
+use Rattle.machine.specs.View.{ending_of}
+use Rattle.machine.specs.declared.closing.Closing.{Closing}
+use Rattle.machine.specs.declared.closing.Closing.TheVariants as closing
+use Rattle.machine.specs.declared.end.End.{End}
+use Rattle.machine.specs.declared.frame.Frame.{Frame}
+use Rattle.machine.specs.declared.frame.WordsOf.{WordsOf}
+use Rattle.machine.specs.declared.frame.WordsOf.TheVariants as whose
+use Rattle.machine.specs.declared.starting.Next.{Next}
+use Rattle.machine.specs.declared.starting.Next.TheVariants as next
+use Rattle.machine.specs.declared.unwinding.Unwound.{Unwound}
+use Rattle.machine.specs.declared.unwinding.Unwound.TheVariants as unwound
+use Rattle.machine.specs.declared.phase.Phase.{Phase}
+use Rattle.machine.specs.declared.phase.Phase.TheVariants as phase
+use Rattle.memory.specs.declared.NoMemory.{NoMemory}
+use Rattle.plan.specs.Plan.{Ends, Asks}
+use Rattle.runs.specs.Commands.{command}
+use Rattle.runs.specs.Closing.{does, ends_with, reported}
+use Rattle.runs.specs.Ending.{Ending, Over, numbered}
+use Rattle.expects.specs.Turn.{turns}
+use Rattle.expects.specs.View.{turn_of}
+use Rattle.state.specs.Budget.{again_of}
+use Rattle.state.specs.Dialogue.{Dialogue, Course, gives}
+use Rattle.state.specs.Leaf.{course_of}
+use Rattle.state.specs.Outcome.{Outcome}
+use Rattle.state.specs.Status.{Status}
+use Rattle.state.specs.View.{FitsState, outcome_of}
+use Rattle.state.specs.declared.leaf.Leaf.{Leaf}
+use Rattle.state.specs.declared.leaf.Leaf.TheVariants as leaf
+use Rattle.state.specs.declared.state.State.{State}
+use Rattle.tclparse.specs.View.{words_of}
+use Rattle.words.specs.Words.{words}
+
+-- for some state that the code's fits, the dialogue goes on as the course that is at hand, and then
+-- as the frames say
+pub record Leads {A : Type 0} (l : Leaf A (Waits A)) (frames : List (Frame A)) (state : State A)
+    (p : Dialogue Over) : Type 0 where
+  pub status : Status
+  pub fits : FitsState state status
+  pub goes : Goes p (left_of (course_of next_of l status) frames)
+
+-- for some state that the code's fits, it goes on as the words of a command
+pub record Begins {A : Type 0} (course : Status → Course) (frames : List (Frame A))
+    (state : State A) (p : Dialogue Over) : Type 0 where
+  pub status : Status
+  pub fits : FitsState state status
+  pub goes : Goes p (left_of (course status) frames)
+
+-- what begins, as a course
+abbrev pub course_of_next : {A : Type 0} → Next A → Status → Course
+course_of_next (next.Command ws levels) s = words levels (words_of ws) [] s (command levels)
+course_of_next (next.Call values levels whose) s = call_of whose levels s values.items
+course_of_next (next.Turn turn) s = turns (turn_of turn.value) turn.value.levels s
+course_of_next next.Again s = gives [] s
+
+-- what a frame came to
+abbrev pub Unwinds : {A : Type 0} → Unwound A → List (Frame A) → State A → Dialogue Over → Type 0
+Unwinds (unwound.Has outcome) frames state p = Leads (leaf.Has outcome) frames state p
+Unwinds (unwound.Begins next) frames state p = Begins (course_of_next next) frames state p
+
+-- what may come of words that are all there: a command may end by exp_continue
+abbrev pub call_load : WordsOf → ℕ
+call_load whose.Command = 1
+call_load (whose.Argument form) = 0
+
+-- what may come of what begins: the words of a command that begins by its tree may wait in a frame
+abbrev pub more_of : {A : Type 0} → Next A → ℕ
+more_of (next.Command ws levels) = 2
+more_of (next.Call values levels whose) = call_load whose
+more_of (next.Turn turn) = 0
+more_of next.Again = 0
+
+-- it lightens the frames, or what begins leaves less that may begin
+abbrev pub Lightens : {A : Type 0} → Unwound A → List (Frame A) → State A → ℕ → ℕ → ℕ → Type 0
+Lightens (unwound.Has outcome) frames state most waiting left =
+    (weight frames < most) × (again_of (outcome_of outcome) + words_in frames ≤ waiting)
+    × (state.left ≤ left)
+Lightens (unwound.Begins next) frames state most waiting left =
+    more_of next + load frames state < 3 * left + waiting
+
+-- all frames are gone where there is an outcome
+abbrev pub IsEmptied : {A : Type 0} → Unwound A → List (Frame A) → Type 0
+IsEmptied (unwound.Has outcome) frames = frames ≡ []
+IsEmptied (unwound.Begins next) frames = Unit {0}
+
+-- what is done with the answer to an act that closes a run, where it fits
+abbrev pub closing_on : {A : Type 0} → Closing A → Status → Reply → Dialogue Over
+closing_on (closing.Report text) s reply = ends_with (reported text.items reply) s
+closing_on (closing.Close end) s reply = ends_with (ending_of end) s
+
+-- what a session is still to do, from this state of the definition on; after so many answers
+abbrev pub IsPlan : {A : Type 0} → Phase A → List (Frame A) → Status → ℕ → Dialogue Over → Type 0
+IsPlan (phase.Has outcome) frames s answers p = p ≡ onward_of frames s (outcome_of outcome)
+IsPlan (phase.Asks act waits) frames s answers p =
+    p ≡ left_of (course_of next_of (leaf.Asks act waits) s) frames
+IsPlan (phase.Closes act c) frames s answers p = p ≡ does (deed_of act) (closing_on c s)
+IsPlan (phase.Over end) frames s answers p =
+    (over : Over) × (p ≡ Ends over) × (ending_of end ≡ numbered answers over)
+IsPlan (phase.Refused refusal) frames s answers p = ⊥
+
+-- for some state that the code's fits, the dialogue goes on as what the session is still to do
+pub record Stands {A : Type 0} (at : Phase A) (frames : List (Frame A)) (state : State A)
+    (answers : ℕ) (p : Dialogue Over) : Type 0 where
+  pub status : Status
+  pub fits : FitsState state status
+  pub plan : Dialogue Over
+  pub is_plan : IsPlan at frames status answers plan
+  pub goes : Goes p plan
+
+-- the act that waits for its answer
+abbrev pub deed_in : {A : Type 0} → Phase A → Option Deed
+deed_in (phase.Asks act waits) = Some (deed_of act)
+deed_in (phase.Closes act c) = Some (deed_of act)
+deed_in _ = None
+
+-- an act with its answer, where an act waits and there is an answer
+abbrev pub paired : {A : Type 0} → Option Deed → Option (Answer A) → History
+paired (Some deed) (Some answer) = (deed, reply_of answer) ∷ []
+paired _ _ = []
+
+-- a dialogue after an answer to its first act
+abbrev pub after_reply : Dialogue Over → Reply → Dialogue Over
+after_reply (Asks deed next) reply = next reply
+after_reply p reply = p
+
+-- a dialogue after these acts and answers
+abbrev pub after_acts : Dialogue Over → History → Dialogue Over
+after_acts p [] = p
+after_acts p (pair ∷ h) = after_acts (after_reply p pair.1) h
+
+-- an act is asked, or the run is over
+abbrev pub IsTold : {A : Type 0} → Phase A → Type 0
+IsTold (phase.Has outcome) = ⊥
+IsTold (phase.Asks act waits) = Unit {0}
+IsTold (phase.Closes act c) = Unit {0}
+IsTold (phase.Over end) = Unit {0}
+IsTold (phase.Refused refusal) = ⊥
+
+-- memory may be refused here: not where an act waits for its answer and none is given, not where
+-- the run is closed or over
+abbrev pub MayFail : {A : Type 0} → Phase A → Option (Answer A) → Type 0
+MayFail (phase.Has outcome) answer = Unit {0}
+MayFail (phase.Asks act waits) None = ⊥
+MayFail (phase.Asks act waits) (Some answer) = Unit {0}
+MayFail (phase.Closes act c) answer = ⊥
+MayFail (phase.Over end) answer = ⊥
+MayFail (phase.Refused refusal) answer = Unit {0}
+
+-- an end is given again, and a refusal stays; IsEnd says of what is given that it is that end
+abbrev pub GivesAgain : {A X : Type 0} →
+    (X → Phase A → Type 0) → Phase A → Result X NoMemory → Type 0
+GivesAgain IsEnd (phase.Over end) r = IsOkAnd r (λ x. IsEnd x (phase.Over end))
+GivesAgain IsEnd (phase.Refused refusal) r = r ≡ Err refusal
+GivesAgain IsEnd _ r = Unit {0}

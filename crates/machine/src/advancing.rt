@@ -1,0 +1,43 @@
+//! The steps of a session between two acts.
+
+ghost use Rattle.std.specs.Prelude.{IfOk};
+ghost use Rattle.machine.specs.Frames.{onward_of, stack};
+ghost use Rattle.machine.specs.Phases.{IsTold, Stands};
+ghost use Rattle.state.specs.Status.{Status};
+ghost use Rattle.state.specs.View.{FitsState, outcome_of};
+
+use crate::closing::close_run;
+use crate::frame::Frame;
+use crate::phase::Phase;
+use crate::starting::start;
+use crate::unwinding::{Unwound, unwind};
+use acts::NoMemory;
+use state::{Leaf, Outcome, State};
+use std::alloc::Allocator;
+
+/// Silent steps up to the next act or the end, from how a part ended.
+pub fn advance<A: Allocator + Copy>(
+    alloc: A,
+    frames: &mut Vec<Frame<A>, A>,
+    state: &mut State<A>,
+    answers: u64,
+    mut outcome: Outcome<A>,
+) -> Result<Phase<A>, NoMemory>
+    ensures stands { (s : Status) → FitsState state.old s →
+        IfOk result (λ phase. Stands phase (stack frames.new) state.new answers
+        (onward_of (stack frames.old) s (outcome_of outcome))) }
+    ensures told { IfOk result IsTold }
+{
+    'commands: loop {
+        let unwound = unwind(alloc, frames, state, outcome)?;
+        let next = match unwound {
+            Unwound::Has(last) => return close_run(alloc, state, answers, last),
+            Unwound::Begins(next) => next,
+        };
+        let leaf = start(alloc, frames, state, next)?;
+        match leaf {
+            Leaf::Has(next) => outcome = next,
+            Leaf::Asks(act, waits) => return Ok(Phase::Asks(act, waits)),
+        }
+    }
+}

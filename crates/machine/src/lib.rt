@@ -1,0 +1,22 @@
+//! The machine of a session: frames, and the silent steps from an answer to the next act or the
+//! end.
+#![tactic(auto)]
+
+mod advancing;
+pub mod answering;
+pub mod beginning;
+mod closing;
+mod end;
+pub mod frame;
+mod nesting;
+mod phase;
+mod starting;
+mod taken;
+mod turns;
+mod unwinding;
+mod waits;
+
+pub use closing::Closing;
+pub use end::End;
+pub use phase::Phase;
+pub use waits::Waits;

@@ -1,0 +1,98 @@
+//! What the frame on top comes to where a value stands before it.
+
+ghost use Rattle.std.specs.Prelude.{ℕ, List, ◌∷◌, IfOk, MatchOption};
+ghost use Rattle.machine.specs.Frames.{stack};
+ghost use Rattle.machine.specs.Taken.{CannotMove, HasNoCommand, IsOver, IsTaken};
+ghost use Rattle.machine.specs.declared.frame.Frame as frames_are;
+ghost use Rattle.machine.specs.declared.taken.Taken.TheVariants as taken;
+
+use crate::frame::{Frame, WordsOf};
+use acts::NoMemory;
+use control::Held;
+use expects::turn::Turn;
+use std::alloc::Allocator;
+use std::rc::Rc;
+use tclparse::{Fault, Word};
+use words::Gathering;
+
+/// What the frame on top comes to where a value stands before it.
+#[derive(Drop)]
+pub enum Taken<A: Allocator> {
+    /// A command of a script, which has taken its tick, and the levels that may still stand in it;
+    /// the script has moved on in place.
+    Command(Rc<Vec<Word<A>, A>, A>, u8),
+    /// A command of a script for which no tick is left.
+    Limit,
+    /// What stands behind the commands of a script.
+    Behind(Option<Fault>),
+    /// Words behind a script in one of them, the levels that may still stand in their command, and
+    /// whose words they are.
+    Words(Box<Gathering<A>, A>, u8, WordsOf),
+    /// A command behind a script that it ran.
+    Held(Held<A>),
+    /// A turn of `expect` behind the body of what it chose.
+    Turn(Box<Turn<A>, A>),
+}
+
+/// Looks at the frame on top: a script that has a command and a tick left moves on in place; every
+/// other frame is taken off. `None` where there is no frame.
+///
+/// # Errors
+/// `NoMemory` where memory is refused.
+pub fn take_top<A: Allocator>(
+    frames: &mut Vec<Frame<A>, A>,
+    ticks: &mut u64,
+) -> Result<Option<Taken<A>>, NoMemory>
+    ensures { IfOk result (λ found. MatchOption found
+        (IsOver (stack frames.old) (stack frames.new) ticks.old ticks.new)
+        (λ taken. IsTaken taken (stack frames.old) (stack frames.new) ticks.old ticks.new)) }
+{
+    if let Some((words, levels)) = next_command(frames, ticks)? {
+        return Ok(Some(Taken::Command(words, levels)));
+    }
+    match Frame::pop(frames) {
+        Some(frame) => Ok(Some(taken_off(frame))),
+        None => Ok(None),
+    }
+}
+
+/// The next command of the script on top, which takes its tick, and the levels that may still stand
+/// in it; the script moves on in place. `None` where there is no such command, or no tick for it.
+fn next_command<A: Allocator>(
+    frames: &mut Vec<Frame<A>, A>,
+    ticks: &mut u64,
+) -> Result<Option<(Rc<Vec<Word<A>, A>, A>, u8)>, NoMemory>
+    ensures { IfOk result (λ found. MatchOption found
+        (CannotMove (stack frames.old) (stack frames.new) ticks.old ticks.new)
+        (λ next. IsTaken (taken.Command next.0 next.1) (stack frames.old) (stack frames.new)
+        ticks.old ticks.new)) }
+{
+    let Some(left) = ticks.checked_sub(1) else {
+        return Ok(None);
+    };
+    let Some(next) = Frame::next_command(frames)? else {
+        return Ok(None);
+    };
+    *ticks = left;
+    Ok(Some(next))
+}
+
+/// A frame that is taken off: no tick is left, or no command.
+fn taken_off<A: Allocator>(frame: Frame<A>) -> Taken<A>
+    ensures { (frames : List (frames_are.Frame A)) (ticks : ℕ) →
+        HasNoCommand (frame ∷ frames) ticks →
+        IsTaken result (frame ∷ frames) frames ticks ticks }
+{
+    match frame {
+        Frame::Script(script) => {
+            if script.next < script.commands.len() {
+                Taken::Limit
+            } else {
+                Taken::Behind(script.fault)
+            }
+        }
+        Frame::Words(gathering, levels, whose) => Taken::Words(gathering, levels, whose),
+        Frame::Held(held) => Taken::Held(held),
+        Frame::Turn(turn) => Taken::Turn(turn),
+    }
+}

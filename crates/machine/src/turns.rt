@@ -1,0 +1,146 @@
+//! Turns of `expect` under frames.
+
+ghost use Rattle.std.specs.Prelude.{◌≡◌, ◌+◌, ◌≤◌, IfOk};
+ghost use Rattle.machine.specs.Frames.{left_of, load, stack, words_in};
+ghost use Rattle.machine.specs.Goes.{Goes};
+ghost use Rattle.machine.specs.Phases.{Leads};
+ghost use Rattle.machine.specs.Waiting.{again_in, next_of};
+ghost use Rattle.expects.specs.Expect as definition;
+ghost use Rattle.expects.specs.Turn.{turns};
+ghost use Rattle.expects.specs.View.{IsPlain, IsPlainOpening, course_of_opening, course_of_talk, course_of_turned, form_of, turn_of};
+ghost use Rattle.state.specs.Leaf.{course_of};
+ghost use Rattle.state.specs.Status.{Status};
+ghost use Rattle.state.specs.View.{FitsState};
+
+use crate::frame::{Frame, WordsOf};
+use crate::nesting::{gather, put_script};
+use crate::waits::Waits;
+use acts::NoMemory;
+use expects::expect::{begin, by_words};
+use expects::form::Form;
+use expects::turn::{Begun, Opening, Talk, Turn, Turned};
+use expects::turning::turn as turn_of_it;
+use state::leaf::empty;
+use state::{Leaf, State};
+use std::alloc::Allocator;
+use tcltext::Value;
+
+/// Begins `expect` or a command that lets branches stand, up to its first act or a script in it.
+pub fn wait<A: Allocator + Copy>(
+    alloc: A,
+    frames: &mut Vec<Frame<A>, A>,
+    state: &mut State<A>,
+    form: Form,
+    args: &[Value<A>],
+    levels: u8,
+) -> Result<Leaf<A, Waits<A>>, NoMemory>
+    ensures leads { (s : Status) → FitsState state.old s →
+        IfOk result (λ leaf. Leads leaf (stack frames.new) state.new
+        (left_of (definition.expect (form_of form) levels args.now s) (stack frames.old))) }
+    ensures load { IfOk result (λ leaf. again_in leaf + load (stack frames.new) state.new
+        ≤ 1 + load (stack frames.old) state.old) }
+{
+    match begin(alloc, state, form, args, levels)? {
+        Begun::Opens(opening) => open(alloc, frames, state, opening),
+        Begun::Gathers(words, form) => {
+            match gather(alloc, frames, state, words, levels, WordsOf::Argument(form))? {
+                Ok(values) => say(alloc, frames, state, form, &values, levels),
+                Err(outcome) => Ok(Leaf::Has(outcome)),
+            }
+        }
+    }
+}
+
+/// Goes on with words that say branches, all of which are there.
+pub fn say<A: Allocator + Copy>(
+    alloc: A,
+    frames: &mut Vec<Frame<A>, A>,
+    state: &mut State<A>,
+    form: Form,
+    words: &[Value<A>],
+    levels: u8,
+) -> Result<Leaf<A, Waits<A>>, NoMemory>
+    ensures leads { (s : Status) → FitsState state.old s →
+        IfOk result (λ leaf. Leads leaf (stack frames.new) state.new
+        (left_of (definition.by_words (form_of form) levels s words.now) (stack frames.old))) }
+    ensures load { IfOk result (λ leaf. again_in leaf + load (stack frames.new) state.new
+        ≤ load (stack frames.old) state.old) }
+{
+    let opening = by_words(alloc, state, form, words, levels)?;
+    open(alloc, frames, state, opening)
+}
+
+/// Begins a turn, where one begins.
+fn open<A: Allocator + Copy>(
+    alloc: A,
+    frames: &mut Vec<Frame<A>, A>,
+    state: &mut State<A>,
+    opening: Opening<A>,
+) -> Result<Leaf<A, Waits<A>>, NoMemory>
+    ensures leads { (s : Status) → FitsState state.old s →
+        IfOk result (λ leaf. Leads leaf (stack frames.new) state.new
+        (left_of (course_of_opening opening s) (stack frames.old))) }
+    ensures load { IsPlainOpening opening →
+        IfOk result (λ leaf. again_in leaf + load (stack frames.new) state.new
+        ≤ load (stack frames.old) state.old) }
+{
+    match opening {
+        Opening::Has(outcome) => Ok(Leaf::Has(outcome)),
+        Opening::Turns(turn) => take_turn(alloc, frames, state, turn),
+    }
+}
+
+/// A turn, up to its wait or the body of what is chosen.
+pub fn take_turn<A: Allocator + Copy>(
+    alloc: A,
+    frames: &mut Vec<Frame<A>, A>,
+    state: &mut State<A>,
+    turn: Box<Turn<A>, A>,
+) -> Result<Leaf<A, Waits<A>>, NoMemory>
+    ensures leads { (s : Status) → FitsState state.old s →
+        IfOk result (λ leaf. Leads leaf (stack frames.new) state.new
+        (left_of (turns (turn_of turn.value) turn.value.levels s) (stack frames.old))) }
+    ensures load { IfOk result (λ leaf. again_in leaf + load (stack frames.new) state.new
+        ≤ load (stack frames.old) state.old) }
+{
+    let turned = turn_of_it(alloc, state, turn)?;
+    settle(frames, turned)
+}
+
+/// Goes on with the answer to an act of a turn.
+pub fn talk<A: Allocator + Copy>(
+    alloc: A,
+    frames: &mut Vec<Frame<A>, A>,
+    state: &mut State<A>,
+    talk: Talk<A>,
+) -> Result<Leaf<A, Waits<A>>, NoMemory>
+    ensures { (s : Status) → FitsState state.old s →
+        IfOk result (λ leaf. Leads leaf (stack frames.new) state.new
+        (left_of (course_of_talk talk s) (stack frames.old))) }
+{
+    match talk {
+        Talk::Turned(turned) => settle(frames, turned),
+        Talk::Turns(turn) => take_turn(alloc, frames, state, turn),
+    }
+}
+
+/// Puts the body of what was chosen on the stack, above its turn.
+fn settle<A: Allocator>(
+    frames: &mut Vec<Frame<A>, A>,
+    turned: Turned<A>,
+) -> Result<Leaf<A, Waits<A>>, NoMemory>
+    ensures goes { (s : Status) → IfOk result (λ leaf.
+        Goes (left_of (course_of_turned turned s) (stack frames.old))
+        (left_of (course_of next_of leaf s) (stack frames.new))) }
+    ensures words { IsPlain turned → IfOk result (λ leaf.
+        again_in leaf + words_in (stack frames.new) ≤ words_in (stack frames.old)) }
+{
+    match turned {
+        Turned::Has(outcome) => Ok(Leaf::Has(outcome)),
+        Turned::Runs(script, levels, turn) => {
+            put_script(frames, script, levels, Frame::Turn(turn))?;
+            Ok(empty())
+        }
+        Turned::Asks(act, waits) => Ok(Leaf::Asks(act, Waits::Turn(waits))),
+    }
+}
