@@ -11,8 +11,8 @@ use Rattle.peers.proofs.Behaves.{close_behaves, match_max_behaves, remove_nulls_
 use Rattle.procedures.proofs.Behaves.{proc_behaves}
 use Rattle.processes.proofs.SleepBehaves.{sleep_behaves}
 use Rattle.processes.proofs.SocketBehaves.{socket_behaves}
-use Rattle.processes.proofs.SendBehaves.{send_behaves}
 use Rattle.processes.proofs.SpawnBehaves.{spawn_behaves}
+use Rattle.sending.proofs.SendBehaves.{send_behaves}
 use Rattle.state.proofs.Behaves.{if_behaves, more_behaves}
 use Rattle.state.specs.Dialogue.{Course}
 use Rattle.state.specs.Behaves.{Behaves, worth}

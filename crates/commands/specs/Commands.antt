@@ -24,11 +24,11 @@ use Rattle.peers.specs.MatchMax.{match_max}
 use Rattle.peers.specs.RemoveNulls.{remove_nulls}
 use Rattle.peers.specs.Wait.{wait}
 use Rattle.procedures.specs.Proc.{proc}
-use Rattle.processes.specs.Send.{send}
 use Rattle.processes.specs.Sleep.{sleep}
 use Rattle.processes.specs.Socket.{socket}
 use Rattle.processes.specs.Spawn.{spawn}
 use Rattle.pure.specs.Pure as pure
+use Rattle.sending.specs.Send.{send}
 use Rattle.texts.specs.Text.{text}
 use Rattle.variables.specs.Append.{append}
 use Rattle.variables.specs.Array.{array}

@@ -14,10 +14,10 @@ use Rattle.state.specs.Status.{Status}
 use Rattle.logs.specs.LogFile as log_file
 use Rattle.peers.specs.Close as close
 use Rattle.peers.specs.Wait as wait
-use Rattle.processes.specs.Send as send
 use Rattle.processes.specs.Sleep as sleep
 use Rattle.processes.specs.Socket as socket
 use Rattle.processes.specs.Spawn as spawn
+use Rattle.sending.specs.Send as send
 use Rattle.writing.specs.Channel as channel
 
 -- the command that one of the code's stands for

@@ -4,6 +4,5 @@ pub mod Words
 pub mod Answered
 pub mod Behaves
 pub mod SpawnBehaves
-pub mod SendBehaves
 pub mod SleepBehaves
 pub mod SocketBehaves

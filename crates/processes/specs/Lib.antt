@@ -3,6 +3,4 @@ pub mod Numbers
 pub mod Socket
 pub mod Launch
 pub mod Spawn
-pub mod Send
-pub mod Targets
 pub mod Sleep

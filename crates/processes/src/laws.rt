@@ -1,7 +1,6 @@
 //! What the commands keep to, for the laws of all runs.
 
 ghost use Rattle.std.specs.Prelude.{ℕ, ◌+◌, List};
-ghost use Rattle.processes.specs.Send.{send};
 ghost use Rattle.processes.specs.Sleep.{sleep};
 ghost use Rattle.processes.specs.Socket.{socket};
 ghost use Rattle.processes.specs.Spawn.{spawn};
@@ -12,12 +11,6 @@ ghost use Rattle.state.specs.Status.{Status};
 #[tactic(auto, using(crate::proofs::SpawnBehaves::spawn_behaves))]
 pub fn spawn_behaves()
     ensures { (args : List (List ℕ)) (s : Status) → Behaves s.left (worth s + 4) (spawn args s) }
-{}
-
-/// `send` runs no script, uses up no tick, and makes its act out of four.
-#[tactic(auto, using(crate::proofs::SendBehaves::send_behaves))]
-pub fn send_behaves()
-    ensures { (args : List (List ℕ)) (s : Status) → Behaves s.left (worth s + 4) (send args s) }
 {}
 
 /// `socket` runs no script, uses up no tick, and makes its act and opens its id out of four.

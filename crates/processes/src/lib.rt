@@ -1,10 +1,9 @@
-//! The commands that start programs and call servers, write to them, and let time pass.
+//! The commands that start programs and call servers, and let time pass.
 #![tactic(auto)]
 
 mod launch;
 pub mod laws;
 mod numbers;
-pub mod send;
 pub mod sleep;
 pub mod socket;
 pub mod spawn;

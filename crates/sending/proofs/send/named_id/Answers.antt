@@ -2,7 +2,7 @@ use Rattle.std.proofs.Common.{◌≡◌, Some, None, refl, sym, ◌∙◌}
 use Rattle.acts.specs.Flaw as flaw
 use Rattle.dialog.specs.Channels.{named}
 use Rattle.state.specs.Status.{lines}
-use Rattle.processes.proofs.send.named_id.Goals as goal
+use Rattle.sending.proofs.send.named_id.Goals as goal
 
 pub returns-in_ok-raises-in-None : goal.returns-in_ok-raises-in-None
 returns-in_ok-raises-in-None g c = λ s fits.

@@ -7,7 +7,7 @@ use Rattle.state.specs.Dialogue.{Course, raises}
 use Rattle.state.specs.Leaf.{HasOutcome}
 use Rattle.state.specs.Outcome.{Leaves, Error}
 use Rattle.state.specs.Status.{Status}
-use Rattle.processes.specs.Send.{with_target}
+use Rattle.sending.specs.Send.{with_target}
 
 -- the id is open, or the command ends with the error that it is not
 abbrev pub Targets : {A W : Type 0} → Result Id (Leaf A W) → Option (List ℕ) → Status → Type 0

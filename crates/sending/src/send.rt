@@ -5,8 +5,8 @@ ghost use Rattle.std.specs.Prelude.{◌≡◌, ◌≤◌, IfOk, Some, option_cop
 ghost use Rattle.acts.specs.Deed.{deed_of, reply_of};
 ghost use Rattle.acts.specs.Flaw as flaw;
 ghost use Rattle.acts.specs.Flaw.{text_of};
-ghost use Rattle.processes.specs.Send as definition;
-ghost use Rattle.processes.specs.Targets.{Targets};
+ghost use Rattle.sending.specs.Send as definition;
+ghost use Rattle.sending.specs.Targets.{Targets};
 ghost use Rattle.state.specs.Leaf.{HasOutcome, Shows};
 ghost use Rattle.state.specs.Outcome.{Leaves, Error};
 ghost use Rattle.state.specs.Status.{Status};

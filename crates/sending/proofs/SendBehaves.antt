@@ -11,7 +11,7 @@ use Rattle.state.specs.Behaves.{Behaves, worth}
 use Rattle.state.specs.Dialogue.{raises}
 use Rattle.state.specs.Status.{Status, lines}
 use Rattle.state.specs.Variables.{on_open}
-use Rattle.processes.specs.Send.{ends_flags, is_id_flag, send, sends, sends_alone, sends_text, sent, with_target, wrong_words}
+use Rattle.sending.specs.Send.{ends_flags, is_id_flag, send, sends, sends_alone, sends_text, sent, with_target, wrong_words}
 
 sent_behaves : (i : Id) (t had : ℕ) (s : Status) (reply : Reply) → s.left ≤ t → worth s ≤ had →
     Behaves t had (sent i s reply)

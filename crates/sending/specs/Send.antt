@@ -10,8 +10,8 @@ use Rattle.state.specs.Arguments.{begins_with_dash}
 use Rattle.state.specs.Dialogue.{Course, gives, raises, ask}
 use Rattle.state.specs.Status.{Status, lines}
 use Rattle.state.specs.Variables.{on_open, with_current}
-use Rattle.processes.specs.declared.send.Waits.{Waits}
-use Rattle.processes.specs.declared.send.Waits.TheVariants as waits
+use Rattle.sending.specs.declared.send.Waits.{Waits}
+use Rattle.sending.specs.declared.send.Waits.TheVariants as waits
 
 -- what an answer to a send comes to (expect(1), send)
 abbrev pub sent : Id → Status → Reply → Course

@@ -1,0 +1,2 @@
+pub mod Send
+pub mod Targets

@@ -1,0 +1,5 @@
+//! The command that writes to programs and servers.
+#![tactic(auto)]
+
+pub mod laws;
+pub mod send;
