@@ -4,5 +4,3 @@ mod Asked
 mod Found
 mod Fits
 mod Among
-mod Bits
-mod Quotients

@@ -1,9 +1,9 @@
 -- What the operators do that ask for two numbers.
 use Rattle.std.specs.Prelude.{ℤ, ◌+ℤ◌, ◌-ℤ◌, ◌*ℤ◌}
+use Rattle.integers.specs.Bits.{bits_and, bits_or, bits_xor}
 use Rattle.meanings.specs.Meaning.{Meaning}
 use Rattle.operators.specs.declared.arithmetic.Arithmetic.{Arithmetic}
 use Rattle.operators.specs.declared.arithmetic.Arithmetic.TheVariants as operation
-use Rattle.operators.specs.Bits.{bits_and, bits_or, bits_xor}
 use Rattle.operators.specs.Division.{divide, modulo}
 use Rattle.operators.specs.Number.{told}
 use Rattle.operators.specs.Shift.{shift_left, shift_right}

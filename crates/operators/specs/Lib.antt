@@ -4,7 +4,6 @@ pub mod Truth
 pub mod Unary
 pub mod Division
 pub mod Shift
-pub mod Bits
 pub mod Arithmetic
 pub mod Order
 pub mod Member

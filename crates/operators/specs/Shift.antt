@@ -1,8 +1,8 @@
 -- How numbers are shifted.
 use Rattle.std.specs.Prelude.{ℕ, ◌^◌, ℤ, pos, negsuc, ◌*ℤ◌}
 use Rattle.acts.specs.Flaw as flaw
+use Rattle.integers.specs.Division.{rounded_down}
 use Rattle.meanings.specs.Meaning.{Meaning, Raises}
-use Rattle.operators.specs.Division.{rounded_down}
 use Rattle.operators.specs.Number.{told}
 
 -- what a count leads to; one below 0 is the error (expr(n), operators)

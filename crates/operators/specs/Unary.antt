@@ -1,6 +1,7 @@
 -- What the operators before an operand do.
-use Rattle.std.specs.Prelude.{ℕ, List, Bool, not, ℤ, pos, neg_ℤ, ◌-ℤ◌, Result, Ok, Err}
+use Rattle.std.specs.Prelude.{ℕ, List, Bool, not, neg_ℤ, Result, Ok, Err}
 use Rattle.acts.specs.Flaw.{Flaw}
+use Rattle.integers.specs.Bits.{complement}
 use Rattle.meanings.specs.Meaning.{Meaning, Gives, Raises, truth}
 use Rattle.tclparse.specs.declared.operator.Unary.{Unary}
 use Rattle.tclparse.specs.declared.operator.Unary.TheVariants as operator
@@ -11,10 +12,6 @@ use Rattle.operators.specs.Truth.{truth_of}
 abbrev pub turned : Result Bool Flaw → Meaning
 turned (Ok holds) = Gives (truth (not holds))
 turned (Err flaw) = Raises flaw
-
--- the number whose bits are the other ones, which is -n - 1 (expr(n), operators)
-abbrev pub complement : ℤ → ℤ
-complement n = neg_ℤ n -ℤ pos 1
 
 -- what an operator makes of its operand (expr(n), operators)
 abbrev pub unary : Unary → List ℕ → Meaning

@@ -4,7 +4,6 @@ ghost use Rattle.std.specs.Prelude.{◌≡◌, ℤ, Some, IfOk, IfErr, SomeIff, 
 ghost use Rattle.std.specs.Int.{w64};
 ghost use Rattle.meanings.specs.View.{Answers};
 ghost use Rattle.operators.specs.Number as meant;
-ghost use Rattle.tcltext.specs.Numbers.{with_sign};
 ghost use Rattle.operators.specs.View.{IsNoNumber, AreNumbers, AreNoNumbers};
 
 use crate::operand::Operand;
@@ -47,16 +46,5 @@ pub fn told<A: Allocator>(number: Option<i64>) -> Result<Operand<A>, MeaningFaul
     match number {
         Some(n) => Ok(Operand::number(n)),
         None => Err(MeaningFault::Fault(Fault::OutOfRange)),
-    }
-}
-
-/// The number of a size and a sign; none where 64 bits do not hold it.
-pub fn signed(negative: bool, size: u64) -> Option<i64>
-    ensures { SomeIff result (FitsSigned w64 (with_sign negative size)) (with_sign negative size) }
-{
-    if negative {
-        0i64.checked_sub_unsigned(size)
-    } else {
-        0i64.checked_add_unsigned(size)
     }
 }

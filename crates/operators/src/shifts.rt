@@ -1,14 +1,12 @@
-//! Shifts, by any count.
+//! The operators that shift, by any count.
 
-ghost use Rattle.std.specs.Prelude.{◌≡◌, ◌^◌, SomeIff, FitsSigned, pos, ◌*ℤ◌, ◌≤ℤ◌, unsigned_abs};
-ghost use Rattle.std.specs.Int.{w64};
 ghost use Rattle.meanings.specs.View.{Answers};
-ghost use Rattle.operators.specs.Division.{rounded_down};
 ghost use Rattle.operators.specs.Shift as meant;
 
-use crate::numbers::{signed, told};
+use crate::numbers::told;
 use crate::operand::Operand;
 use acts::Fault;
+use integers::shifts::{over_power, times_power};
 use meanings::MeaningFault;
 use std::alloc::Allocator;
 
@@ -30,25 +28,4 @@ pub fn shift_right<A: Allocator>(a: i64, count: i64) -> Result<Operand<A>, Meani
         Ok(n) => told(Some(over_power(a, n))),
         Err(_) => Err(MeaningFault::Fault(Fault::NegativeShift)),
     }
-}
-
-/// A number times a power of two; none where 64 bits do not hold it.
-fn times_power(a: i64, n: u64) -> Option<i64>
-    ensures { SomeIff result (FitsSigned w64 (a *ℤ pos (2 ^ n))) (a *ℤ pos (2 ^ n)) }
-{
-    if a == 0 {
-        return Some(0);
-    }
-    if n > 63 {
-        return None;
-    }
-    let size = a.unsigned_abs().checked_mul(1u64 << n)?;
-    signed(a < 0, size)
-}
-
-/// A number over a power of two, rounded down.
-fn over_power(a: i64, n: u64) -> i64
-    ensures { result ≡ rounded_down a (2 ^ n) }
-{
-    a >> n.min(63)
 }

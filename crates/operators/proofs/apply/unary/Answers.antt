@@ -1,6 +1,6 @@
 use Rattle.std.proofs.Common.{ℤ, neg_ℤ}
+use Rattle.integers.specs.Bits.{complement}
 use Rattle.operators.specs.Number.{with_number, told}
-use Rattle.operators.specs.Unary.{complement}
 use Rattle.operators.proofs.Asked.{passed}
 use Rattle.operators.proofs.apply.unary.Goals as goal
 

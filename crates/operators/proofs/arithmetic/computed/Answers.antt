@@ -1,5 +1,5 @@
-use Rattle.operators.specs.Bits.{bits_and, bits_or, bits_xor}
-use Rattle.operators.proofs.Bits.{and_is, or_is, xor_is, and_fits, or_fits, xor_fits}
+use Rattle.integers.specs.Bits.{bits_and, bits_or, bits_xor}
+use Rattle.integers.proofs.Bits.{and_is, or_is, xor_is, and_fits, or_fits, xor_fits}
 use Rattle.operators.proofs.arithmetic.computed.Goals as goal
 
 pub returns-in-And : goal.returns-in-And

@@ -1,6 +1,6 @@
 use Rattle.std.proofs.Common.{◌≡◌, ℤ, FitsSigned, w64, of_z, to_z, SomeIff, subst}
 use Rattle.std.proofs.lemmas.Int.{to_z-of_z}
-use Rattle.operators.specs.Division.{remainder}
+use Rattle.integers.specs.Division.{remainder}
 use Rattle.operators.proofs.Fits.{not_zero}
 use Rattle.operators.proofs.division.modulo.Goals as goal
 

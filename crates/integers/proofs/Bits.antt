@@ -8,8 +8,7 @@ use Rattle.std.proofs.Math.Facts.{sfits_to_z, of_z-to_z}
 use Rattle.std.proofs.lemmas.Int.{ints, to_z_pos}
 use Rattle.std.proofs.lemmas.Nat.{mod-pow-add, and_le_l, or_lt, xor_lt}
 use Rattle.std.proofs.lemmas.Nat.Bits.{bit_at_and, bit_at_or, bit_at_xor, bit_at_not, bit_at-lt}
-use Rattle.operators.specs.Unary.{complement}
-use Rattle.operators.specs.Bits.{bit, worth, lowest, of_bits, differ, bits_and, bits_or, bits_xor}
+use Rattle.integers.specs.Bits.{bit, worth, lowest, of_bits, differ, bits_and, bits_or, bits_xor, complement}
 
 -- whether bit i of a pattern is set
 abbrev pub is_set : ℕ → ℕ → Bool

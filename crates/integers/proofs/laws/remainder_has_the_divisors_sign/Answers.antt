@@ -1,5 +1,5 @@
-use Rattle.operators.proofs.Quotients.{whole, above, below_zero}
-use Rattle.operators.proofs.laws.remainder_has_the_divisors_sign.Goals as goal
+use Rattle.integers.proofs.Quotients.{whole, above, below_zero}
+use Rattle.integers.proofs.laws.remainder_has_the_divisors_sign.Goals as goal
 
 pub returns-clause-whole : goal.returns-clause-whole
 returns-clause-whole c = whole

@@ -1,5 +1,5 @@
-use Rattle.operators.proofs.Bits.{and_bit, or_bit, xor_bit, complement_bit}
-use Rattle.operators.proofs.laws.bits_are_those.Goals as goal
+use Rattle.integers.proofs.Bits.{and_bit, or_bit, xor_bit, complement_bit}
+use Rattle.integers.proofs.laws.bits_are_those.Goals as goal
 
 pub returns-clause-and : goal.returns-clause-and
 returns-clause-and c a b i left right below = and_bit a b left right i below

@@ -1,6 +1,6 @@
 -- Numbers bit by bit, in two's complement.
-use Rattle.std.specs.Prelude.{ℕ, zero, suc, ◌+◌, ◌%◌, ◌^◌, ◌==◌, ◌&&◌, ◌||◌, Bool, not, ℤ, pos, negsuc, ◌-ℤ◌, if◌then◌else◌}
-use Rattle.operators.specs.Division.{rounded_down}
+use Rattle.std.specs.Prelude.{ℕ, zero, suc, ◌+◌, ◌%◌, ◌^◌, ◌==◌, ◌&&◌, ◌||◌, Bool, not, ℤ, pos, negsuc, neg_ℤ, ◌-ℤ◌, if◌then◌else◌}
+use Rattle.integers.specs.Division.{rounded_down}
 
 -- a number is odd; -(n + 1) is where n is not (expr(n), operators)
 abbrev pub is_odd : ℤ → Bool
@@ -40,3 +40,7 @@ bits_or a b = of_bits (λ i. bit a i || bit b i)
 -- a ^ b: the bits that are set in one alone (expr(n), operators)
 abbrev pub bits_xor : ℤ → ℤ → ℤ
 bits_xor a b = of_bits (λ i. differ (bit a i) (bit b i))
+
+-- the number whose bits are the other ones, which is -n - 1 (expr(n), operators)
+abbrev pub complement : ℤ → ℤ
+complement n = neg_ℤ n -ℤ pos 1

@@ -1,5 +1,5 @@
-use Rattle.operators.proofs.Quotients.{below, greatest, turned}
-use Rattle.operators.proofs.laws.quotient_rounds_down.Goals as goal
+use Rattle.integers.proofs.Quotients.{below, greatest, turned}
+use Rattle.integers.proofs.laws.quotient_rounds_down.Goals as goal
 
 pub returns-clause-below : goal.returns-clause-below
 returns-clause-below c = below

@@ -3,7 +3,7 @@ use Rattle.std.proofs.Common.{◌≡◌, ◌≢◌, ℕ, zero, suc, ◌+◌, ◌
 use Rattle.std.proofs.lemmas.Int.{ints}
 use Rattle.std.proofs.lemmas.Nat.{le-div, div_below}
 use native.Mathlib.Nat.{mul-suc, suc-mul, mul_comm}
-use Rattle.operators.specs.Division.{rounded_down, quotient, remainder}
+use Rattle.integers.specs.Division.{rounded_down, quotient, remainder}
 
 -- what is left of n behind the quotient
 splits : (n b : ℕ) → 0 < b → (b * (n / b) + n % b ≡ n) × (n % b < b)

@@ -1,0 +1,3 @@
+mod Quotients
+pub mod Bits
+mod Fits
