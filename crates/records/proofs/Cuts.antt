@@ -1,13 +1,11 @@
 -- Texts that lack a byte, and where they are cut.
-use Rattle.std.proofs.Common.{◌≡◌, ◌==◌, ◌+◌, ◌-◌, ◌<◌, ◌≤◌, ℕ, zero, suc, Bool, true, false, cond, List, [], ◌∷◌, ◌++◌, length, take, drop, get_or, Option, Some, None, IfSome, position, refl, sym, ap, ◌∙◌, arith, take-append-drop}
+use Rattle.std.proofs.Common.{◌≡◌, ◌+◌, ◌-◌, ◌<◌, ℕ, zero, suc, true, false, List, [], ◌∷◌, ◌++◌, length, take, drop, slice_index, Option, Some, None, IfSome, refl, sym, ap, ◌∙◌, arith, take-append-drop}
 use Rattle.std.specs.Str.{bytes_eq}
 use Rattle.std.proofs.Math.Seq.{take-append_seam}
 use Rattle.std.proofs.lemmas.Slice.Eq.{bytes_eq-Decides}
-use Rattle.std.proofs.lemmas.Bool.{eqb-false, eqb-true, false≢true, ltb-false}
+use Rattle.std.proofs.lemmas.Bool.{eq-eqb, eqb-true, false≢true}
 use Rattle.std.proofs.lemmas.List.{take_all, drop_more, take_rest}
-use Rattle.std.proofs.lemmas.List.Quantifiers.{position-Some}
-use Rattle.std.specs.List.{position_or_len}
-use Rattle.std.proofs.lemmas.List.Sums.{fails_before_first}
+use Rattle.memchr.specs.Find.{IsFirstByte, Passes, is_byte}
 use Rattle.records.specs.Cut.{Lacks, StartsAt}
 
 pub head : {a b : ℕ} {x y : List ℕ} → a ∷ x ≡ b ∷ y → a ≡ b
@@ -19,43 +17,33 @@ tail e = cc e
 cons_same : (c d : ℕ) (a b : List ℕ) → c ≡ d → a ≡ b → c ∷ a ≡ d ∷ b
 cons_same c d a b e f = cc (e, f)
 
--- a front whose bytes are all others
-Lacks-take : (byte : ℕ) (text : List ℕ) (n : ℕ) →
-    ((k : ℕ) → k < n → (get_or text k 0 == byte) ≡ false) → Lacks byte (take n text)
+-- a front at whose places the byte is not
+Lacks-take : (byte : ℕ) (text : List ℕ) (n : ℕ) → ((k : ℕ) → k < n → ¬ Passes (is_byte byte) text k)
+    → Lacks byte (take n text)
 Lacks-take byte text zero others = tt
 Lacks-take byte [] (suc n) others = tt
 Lacks-take byte (b ∷ text) (suc n) others = (
-  eqb-false b byte (others 0 (omega arith)),
+  (λ same. others 0 (omega arith) (eq-eqb b byte same)),
   Lacks-take byte text n (λ k lt. others (suc k) (omega arith)),
 )
 
 -- the place of the byte, and the parts around it
-pub cut_there : (byte : ℕ) (text : List ℕ) (place : ℕ) → position (λ b. b == byte) text ≡ Some place
+pub cut_there : (byte : ℕ) (text : List ℕ) (place : ℕ) → IsFirstByte (is_byte byte) text (Some place)
     → (text ≡ take place text ++ byte ∷ take (length text - (place + 1)) (drop (place + 1) text))
     × Lacks byte (take place text)
-cut_there byte text place found =
-    let (below, here, before) = position-Some (λ b. b == byte) text place 0 found in
-    let same : get_or text place 0 ≡ byte = eqb-true (get_or text place 0) byte here in
-    let rest = drop_more text place 0 below ∙ ap (λ b. b ∷ drop (place + 1) text) same
+cut_there byte text place (within, here) =
+    let same : slice_index text place ≡ byte = eqb-true (slice_index text place) byte here in
+    let rest = drop_more text place 0 within.high ∙ ap (λ b. b ∷ drop (place + 1) text) same
     ∙ ap (λ after. byte ∷ after) (sym (take_rest text (place + 1))) in (
       sym (take-append-drop place text) ∙ ap (λ after. take place text ++ after) rest,
-      Lacks-take byte text place before,
+      Lacks-take byte text place (λ k below. within.before k (omega arith) below),
     )
 
-none_found : (found : Bool) (place : ℕ) → cond found (Some place) None ≡ None → found ≡ false
-none_found true place e = cc e
-none_found false place e = refl
-
 -- no place
-pub cut_nowhere : (byte : ℕ) (text : List ℕ) → position (λ b. b == byte) text ≡ None →
+pub cut_nowhere : (byte : ℕ) (text : List ℕ) → IsFirstByte (is_byte byte) text None →
     Lacks byte text
-cut_nowhere byte text found =
-    let is = λ (b : ℕ). b == byte in
-    let past : length text ≤ position_or_len is text =
-    ltb-false (position_or_len is text) (length text) (none_found _ (position_or_len is text) found)
-    in
-    let all = Lacks-take byte text (length text) (λ k below.
-    fails_before_first is text k 0 (omega arith)) in
+cut_nowhere byte text none =
+    let all = Lacks-take byte text (length text) (λ k below. none k (omega arith) below) in
     rw (take_all (length text) text (omega arith)) at all
 
 -- two cuts at the first byte of one value give the same parts
@@ -101,16 +89,15 @@ no_prefix text word rest differs e =
     (ap (take (length word)) e ∙ take-append_seam word rest)))
 
 -- what stands before the first byte of a value, and from it on
-pub cut_rest : (byte : ℕ) (text : List ℕ) (place : ℕ) → position (λ b. b == byte) text ≡ Some place
+pub cut_rest : (byte : ℕ) (text : List ℕ) (place : ℕ) → IsFirstByte (is_byte byte) text (Some place)
     → (text ≡ take place text ++ take (length text - place) (drop place text))
     × Lacks byte (take place text) × StartsAt byte (take (length text - place) (drop place text))
-cut_rest byte text place found =
-    let (below, here, before) = position-Some (λ b. b == byte) text place 0 found in
-    let same : get_or text place 0 ≡ byte = eqb-true (get_or text place 0) byte here in
+cut_rest byte text place (within, here) =
+    let same : slice_index text place ≡ byte = eqb-true (slice_index text place) byte here in
     let whole = take_rest text place in
-    let tail = whole ∙ drop_more text place 0 below in (
+    let tail = whole ∙ drop_more text place 0 within.high in (
       sym (take-append-drop place text) ∙ ap (λ after. take place text ++ after) (sym whole),
-      Lacks-take byte text place before,
+      Lacks-take byte text place (λ k below. within.before k (omega arith) below),
       rw tail same,
     )
 

@@ -99,7 +99,7 @@ Lacks-end row is =
     (Lacks-decimal 10 row.held (omega arith) (omega arith))
     (Lacks-decimal 10 row.max (omega arith) (omega arith))
 
-Lacks-rows : (rows : List Row) → AllByRecursion IsRow rows → Lacks 10 (rows_text rows)
+pub Lacks-rows : (rows : List Row) → AllByRecursion IsRow rows → Lacks 10 (rows_text rows)
 Lacks-rows [] all = tt
 Lacks-rows (row ∷ rows) all = (
   (λ e. absurd (omega arith)),
@@ -118,6 +118,13 @@ Lacks-wait rows line is =
       ),
     ) in
     rw is.1 (Lacks-append 10 (codes "wait") (rows_text rows) word (Lacks-rows rows is.0))
+
+-- a text that begins with the line of a wait: its word, its rows, and what follows the line
+pub wait_split : (text line rest : List ℕ) (rows : List Row) → IsWait rows line
+    → text ≡ line ++ 10 ∷ rest → text ≡ codes "wait" ++ (rows_text rows ++ 10 ∷ rest)
+wait_split text line rest rows is whole =
+    whole ∙ ap (λ front. front ++ 10 ∷ rest) is.1
+    ∙ append_assoc (codes "wait") (rows_text rows) (10 ∷ rest)
 
 -- rows end, or go on with a blank
 pub starts : (rows : List Row) → StartsAt 32 (rows_text rows)

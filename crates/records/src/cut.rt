@@ -1,7 +1,9 @@
 //! Cutting a text in two.
 
-ghost use Rattle.std.specs.Prelude.{◌≡◌, ◌==◌, ◌∷◌, ◌++◌, IfSome, IfNone, position};
+ghost use Rattle.std.specs.Prelude.{◌≡◌, ◌∷◌, ◌++◌, IfSome, IfNone};
 ghost use Rattle.records.specs.Cut.{Lacks, StartsAt};
+
+use memchr::memchr;
 
 /// The parts of a text before and after the first byte of this value.
 pub fn cut_at(text: &[u8], byte: u8) -> Option<(&[u8], &[u8])>
@@ -9,7 +11,7 @@ pub fn cut_at(text: &[u8], byte: u8) -> Option<(&[u8], &[u8])>
         (text.now ≡ parts.0.now ++ byte ∷ parts.1.now) × Lacks byte parts.0.now) }
     ensures none { IfNone result (Lacks byte text.now) }
 {
-    let place = place_of(text, byte)?;
+    let place = memchr(byte, text)?;
     Some((&text[..place], &text[place + 1..]))
 }
 
@@ -20,15 +22,8 @@ pub fn cut_before(text: &[u8], byte: u8) -> (&[u8], &[u8])
     ensures lacks { Lacks byte result.0.now }
     ensures rest { StartsAt byte result.1.now }
 {
-    match place_of(text, byte) {
+    match memchr(byte, text) {
         Some(place) => (&text[..place], &text[place..]),
         None => (text, &[]),
     }
-}
-
-/// Where the first byte of this value is.
-fn place_of(text: &[u8], byte: u8) -> Option<usize>
-    ensures { result ≡ position (λ b. b == byte) text.now }
-{
-    text.iter().position(|b| *b == byte)
 }

@@ -26,26 +26,15 @@ pub fn read_wait<A: Allocator>(
         (λ first. (line : List ℕ) × IsWait first.0.items line
         × (text.now ≡ line ++ newline ∷ first.1.now))) }
 {
-    let Some((line, rest)) = cut_at(text, b'\n') else {
+    // The line of an answer, which may be long, is not sought for its end here.
+    let Some(behind) = text.strip_prefix(b"wait") else {
         return Ok(None);
     };
-    match read_wait_line(alloc, line)? {
+    let Some((line, rest)) = cut_at(behind, b'\n') else {
+        return Ok(None);
+    };
+    match read_rows(alloc, line)? {
         Some(rows) => Ok(Some((rows, rest))),
-        None => Ok(None),
-    }
-}
-
-/// The rows of the wait whose line this is.
-fn read_wait_line<A: Allocator>(alloc: A, line: &[u8]) -> Result<Option<Vec<Row, A>>, NoMemory>
-    ensures { IfOk result (λ found. MatchOption found
-        ((rows : List WaitRow) → ¬ IsWait rows line.now)
-        (λ rows. IsWait rows.items line.now)) }
-{
-    let Some(text) = line.strip_prefix(b"wait") else {
-        return Ok(None);
-    };
-    match read_rows(alloc, text)? {
-        Some(rows) => Ok(Some(rows)),
         None => Ok(None),
     }
 }

@@ -1,16 +1,26 @@
-use Rattle.std.proofs.Common.{sym, ◌∙◌}
-use Rattle.records.proofs.Cuts.{no_cut, same_cut}
-use Rattle.records.proofs.RowTexts.{Lacks-wait}
+use Rattle.std.proofs.Common.{◌∷◌, ◌++◌, drop, codes, ap, sym, ◌∙◌}
+use Rattle.records.specs.Rows.{rows_text}
+use Rattle.records.proofs.Cuts.{no_cut, no_prefix, same_cut}
+use Rattle.records.proofs.RowTexts.{Lacks-rows, wait_split}
 use Rattle.records.proofs.rows.read_wait.Goals as goal
 
 pub returns-in_default : goal.returns-in_default
-returns-in_default g c = λ (rows, line, rest, is, e).
-    no_cut 10 c.args.text.now line rest c.in_default.ensures.none e
+returns-in_default g c = λ (rows, line, rest, is, whole).
+    no_prefix c.args.text.now (codes "wait") (rows_text rows ++ 10 ∷ rest)
+    c.in_default.ensures.cases (wait_split c.args.text.now line rest rows is whole)
+
+pub returns-in_default-cut_at : goal.returns-in_default-cut_at
+returns-in_default-cut_at g c = λ (rows, line, rest, is, whole).
+    let (test, cut, room) = c.in-Some.ensures.cases in
+    no_cut 10 c.in-Some.behind.now (rows_text rows) rest c.in_default-cut_at.ensures.none
+    (cut ∙ ap (drop 4) (wait_split c.args.text.now line rest rows is whole))
 
 pub returns-in-None : goal.returns-in-None
-returns-in-None g c = λ (rows, line, rest, is, e).
-    let (whole, lacks) = c.in-Some.ensures.found in
-    let same = (same_cut 10 c.in-Some.line.now line c.in-Some.rest.now rest lacks
-    (Lacks-wait rows line is) (sym whole ∙ e)).0 in
+returns-in-None g c = λ (rows, line, rest, is, whole).
+    let (test, cut, room) = c.in-Some.ensures.cases in
+    let (found, lacks) = c.in-Some-cut_at.ensures.found in
+    let same = (same_cut 10 c.in-Some-cut_at.line.now (rows_text rows) c.in-Some-cut_at.rest.now
+    rest lacks (Lacks-rows rows is.0)
+    (sym found ∙ cut ∙ ap (drop 4) (wait_split c.args.text.now line rest rows is whole))).0 in
     let none = rw c.in-None.is at c.in_ok-rows.ensures in
-    none rows (rw (sym same) at is)
+    none rows (is.0, same)
