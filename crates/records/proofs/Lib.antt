@@ -1,6 +1,6 @@
 mod Cuts
-mod Digits
 mod Faults
+mod HexTexts
 mod Lines
 pub mod Notes
 pub mod Records

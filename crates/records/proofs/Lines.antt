@@ -19,7 +19,7 @@ use Rattle.hex.proofs.HexLemmas.{decode_of-encode_lower}
 use Rattle.records.specs.Cut.{Lacks}
 use Rattle.records.specs.Record.{IsLine, is_lower_digit}
 use Rattle.records.proofs.Cuts.{Lacks-append, head, same_cut}
-use Rattle.records.proofs.Digits.{lower_text}
+use Rattle.records.proofs.HexTexts.{lower_text}
 
 pub none_weaker : {T : Type 0} {P Q : Type 0} (o : Option T) → IfNone o P → (P → Q) → IfNone o Q
 none_weaker None p more = more p

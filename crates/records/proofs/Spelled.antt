@@ -6,11 +6,12 @@ use Rattle.std.proofs.lemmas.List.{append_assoc}
 use Rattle.std.specs.List.{AllByRecursion}
 use Rattle.acts.specs.declared.row.Row.{Row}
 use Rattle.acts.specs.Deed.{Reply}
-use Rattle.hex.specs.Hex.{encode_lower, encode_with}
+use Rattle.hex.specs.Hex.{encode_lower}
 use Rattle.records.specs.Entry.{AreLinesOf, AreNotes, IsNote, Note}
 use Rattle.records.specs.Record.{AreLines, IsTold, IsWholeLine}
 use Rattle.records.specs.Rows.{row_text, rows_text}
 use Rattle.records.specs.Sink.{Takes}
+use Rattle.records.proofs.HexTexts.{encode-append, no_digits}
 use Rattle.records.proofs.Sinks.{Takes-then}
 
 -- the item at a place, and those behind it
@@ -91,15 +92,6 @@ rows_done adds failed rows rest first last none (done, takes, so_far) =
     subst (λ text. Takes adds failed first text last)
     (sym (so_far ∙ ap (λ left. done ++ rows_text left) none ∙ append-nil done)) takes
 
--- the digits of joined bytes are joined
-pub encode-append : (table a b : List ℕ) → encode_with table (a ++ b) ≡ encode_with table a
-    ++ encode_with table b
-unfolding encode_with
-encode-append table [] b = refl
-encode-append table (c ∷ a) b =
-    let others = encode-append table a b in
-    rw others refl
-
 -- one piece of bytes on
 pub piece_written : (bytes done rest piece after : List ℕ) → encode_lower bytes ≡ done
     ++ encode_lower rest → rest ≡ piece ++ after
@@ -135,17 +127,12 @@ none_left (b ∷ bytes) test =
     let none = eqb-true (length (b ∷ bytes)) 0 test in
     absurd (omega (arith, none))
 
--- no bytes have no digits
-no_digits : encode_lower [] ≡ []
-unfolding encode_with
-no_digits = refl
-
 -- all bytes are spelled
 pub all_spelled : (bytes done rest : List ℕ) → encode_lower bytes ≡ done ++ encode_lower rest
     → (length rest == 0) ≡ true → done ≡ encode_lower bytes
 all_spelled bytes done rest so_far test =
     sym (so_far ∙ ap (λ left. done ++ encode_lower left) (none_left rest test)
-    ∙ ap (λ text. done ++ text) no_digits ∙ append-nil done)
+    ∙ ap (λ text. done ++ text) (sym no_digits) ∙ append-nil done)
 
 -- the parts of an arrival's line
 pub arrival_joined : (id digits : List ℕ) → (((codes "arrive exp" ++ id) ++ codes " ") ++ digits)

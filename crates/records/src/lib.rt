@@ -3,6 +3,7 @@
 
 pub mod counted;
 mod cut;
+mod digits;
 pub mod entries;
 pub mod entry;
 mod line;

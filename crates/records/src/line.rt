@@ -1,15 +1,15 @@
 //! The lines of records.
 
 ghost use Rattle.std.specs.Prelude.{◌≡◌, ◌≢◌, ◌^◌, ◌<◌, ◌≤◌, ◌∷◌, ◌++◌, ℕ, List, codes, decimal, MatchOption, IfOk, IfSome, IfNone};
-ghost use Rattle.std.specs.List.{list_all};
 ghost use Rattle.acts.specs.Deed.{Reply, reply_of};
 ghost use Rattle.acts.specs.Fits.{greatest_status};
 ghost use Rattle.acts.specs.Id.{id_text};
 ghost use Rattle.hex.specs.Hex.{IsBytes, encode_lower};
 ghost use Rattle.records.specs.Cut.{Lacks};
-ghost use Rattle.records.specs.Record.{IsLine, is_lower_digit};
+ghost use Rattle.records.specs.Record.{IsLine};
 
 use crate::cut::cut_at;
+use crate::digits::read_digits;
 use acts::decimal::read_decimal;
 use acts::{Answer, Id, NoMemory};
 use std::alloc::Allocator;
@@ -142,20 +142,13 @@ fn read_hex<A: Allocator>(alloc: A, digits: &[u8]) -> Result<Option<Vec<u8, A>>,
         ((bytes : List ℕ) → IsBytes bytes → digits.now ≢ encode_lower bytes)
         (λ bytes. IsBytes bytes.items × (digits.now ≡ encode_lower bytes.items))) }
 {
-    // The decoder takes upper case digits too.
-    if !are_lower_digits(digits) {
+    if digits.len() % 2 != 0 {
         return Ok(None);
     }
     let mut bytes = vec![in alloc; 0u8; digits.len() / 2]?;
-    match hex::decode_to_slice(digits, bytes.as_mut_slice()) {
-        Ok(()) => Ok(Some(bytes)),
-        Err(_) => Ok(None),
+    if read_digits(digits, bytes.as_mut_slice()) {
+        Ok(Some(bytes))
+    } else {
+        Ok(None)
     }
-}
-
-/// Whether each byte is a digit below ten or a lower case letter up to `f`.
-fn are_lower_digits(text: &[u8]) -> bool
-    ensures { result ≡ list_all is_lower_digit text.now }
-{
-    text.iter().all(|b| matches!(*b, b'0'..=b'9' | b'a'..=b'f'))
 }

@@ -10,6 +10,7 @@ ghost use Rattle.records.specs.Record.{AreLines, IsRecord, IsTold, IsWholeLine, 
 ghost use Rattle.records.specs.Rows.{IsRow, row_text, rows_text};
 ghost use Rattle.records.specs.Sink.{Takes};
 
+use crate::digits::write_digits;
 use crate::entries::SECOND_HEADER;
 use crate::entry::Entry;
 use crate::record::HEADER;
@@ -258,8 +259,6 @@ fn put_piece<S: Sink>(sink: &mut S, piece: &[u8])
 {
     let mut digits = [0u8; 2 * PIECE];
     let room = &mut digits[..2 * piece.len()];
-    // There is room for two digits a byte.
-    if hex::encode_to_slice(piece, room).is_ok() {
-        put_all(sink, room);
-    }
+    write_digits(piece, room);
+    put_all(sink, room);
 }
