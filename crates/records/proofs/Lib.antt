@@ -7,4 +7,5 @@ pub mod Records
 mod RowTexts
 pub mod Sinks
 mod Spelled
+mod Told
 mod Tries

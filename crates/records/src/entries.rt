@@ -3,7 +3,7 @@
 ghost use Rattle.std.specs.Prelude.{◌≡◌, ◌+◌, ◌^◌, ◌<◌, ◌⊎◌, ℕ, List, length, map, ◌++◌, IfOk, IfErr, MatchResult};
 ghost use Rattle.std.specs.List.{AllByRecursion};
 ghost use Rattle.acts.specs.Deed.{Reply, reply_of};
-ghost use Rattle.records.specs.Entry.{AreEntries, AreLinesOf, AreNotes, HasLines, HasSecondHeader, IsBadLine, IsSecondRecord, Note, lines_of, note_of, plain_note};
+ghost use Rattle.records.specs.Entry.{AreEntries, AreLinesOf, AreNotes, HasLines, HasSecondHeader, IsBadLine, IsNote, IsSecondRecord, Note, lines_of, note_of, plain_note};
 ghost use Rattle.records.specs.Fault.{IsEntriesFault, IsFault, IsNoteFault, IsNotesFault, IsRefused};
 ghost use Rattle.records.specs.Record.{HasHeader, IsRecord};
 
@@ -23,6 +23,8 @@ pub fn read_entries<A: Allocator + Copy>(
     text: &[u8],
 ) -> Result<Vec<Entry<A>, A>, RecordFault>
     ensures read { IfOk result (λ entries. AreEntries (map note_of entries.items) text.now) }
+    // So they may be written.
+    ensures told { IfOk result (λ entries. AllByRecursion IsNote (map note_of entries.items)) }
     ensures fault { IfErr result (λ fault. IsEntriesFault text.now fault) }
     // The other way round, where memory is not refused.
     ensures record { (notes : List Note) → AreEntries notes text.now

@@ -4,7 +4,7 @@ ghost use Rattle.std.specs.Prelude.{◌≡◌, ◌+◌, ◌^◌, ◌<◌, ◌⊎
 ghost use Rattle.std.specs.List.{AllByRecursion};
 ghost use Rattle.acts.specs.Deed.{Reply, reply_of};
 ghost use Rattle.records.specs.Fault.{IsFault, IsLineFault, IsRefused};
-ghost use Rattle.records.specs.Record.{AreLines, BeginsWithLine, HasHeader, HasLine, IsFirstBad, IsLine, IsRecord, newline};
+ghost use Rattle.records.specs.Record.{AreLines, BeginsWithLine, HasHeader, HasLine, IsFirstBad, IsLine, IsRecord, IsTold, newline};
 ghost use Rattle.records.specs.declared.record.RecordFault.TheVariants as fault;
 
 use crate::cut::cut_at;
@@ -53,6 +53,8 @@ pub fn read_record<A: Allocator + Copy>(
     text: &[u8],
 ) -> Result<Vec<Answer<A>, A>, RecordFault>
     ensures read { IfOk result (λ answers. IsRecord (map reply_of answers.items) text.now) }
+    // So they may be written.
+    ensures told { IfOk result (λ answers. AllByRecursion IsTold (map reply_of answers.items)) }
     ensures fault { IfErr result (λ fault. IsFault text.now fault) }
     // The other way round, where memory is not refused.
     ensures record { (replies : List Reply) → IsRecord replies text.now

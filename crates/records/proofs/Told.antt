@@ -1,5 +1,5 @@
 -- What was read of a record may be written.
-use Rattle.std.proofs.Common.{◌≡◌, ℕ, List, [], ◌∷◌, Option, Some, None, IfSome, map, sym, subst, inl, inr}
+use Rattle.std.proofs.Common.{ℕ, List, [], ◌∷◌, Option, Some, None, IfSome, map, sym, subst, inl, inr}
 use Rattle.std.specs.List.{AllByRecursion}
 use Rattle.acts.specs.Deed.{Reply}
 use Rattle.acts.specs.Deed as said
@@ -19,7 +19,8 @@ line_told (said.Ended id) line is = tt
 line_told said.TimedOut line is = tt
 line_told said.NoMore line is = is
 
-lines_told : (replies : List Reply) (text : List ℕ) → AreLines replies text →
+-- the answers of lines
+pub lines_told : (replies : List Reply) (text : List ℕ) → AreLines replies text →
     AllByRecursion IsTold replies
 lines_told [] text are = tt
 lines_told (reply ∷ replies) text (line, rest, is, cut, are) =
@@ -42,7 +43,7 @@ plain_told [] all = tt
 plain_told (reply ∷ replies) (told, all) = ((tt, told), plain_told replies all)
 
 -- the answers of a record
-pub answers_told : (replies : List Reply) (text : List ℕ) → IsRecord replies text →
+answers_told : (replies : List Reply) (text : List ℕ) → IsRecord replies text →
     AllByRecursion IsTold replies
 answers_told replies text (lines, whole, are) = lines_told replies lines are
 
