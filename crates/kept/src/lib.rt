@@ -6,9 +6,6 @@ ghost use Rattle.std.specs.List.{IsDistinct};
 ghost use Rattle.std.specs.Str.{bytes_eq};
 ghost use Rattle.kept.specs.Kept.{is_among, with_newest, with_text, IsTree};
 
-#[cfg(test)]
-mod tests;
-
 use indexmap::IndexMap;
 use memory::NoMemory;
 use std::alloc::Allocator;

@@ -3,6 +3,10 @@
 #![tactic(auto)]
 
 #[cfg(test)]
+mod answers;
+#[cfg(test)]
+mod counted;
+#[cfg(test)]
 mod cuts;
 #[cfg(test)]
 mod differing;
@@ -10,6 +14,8 @@ mod differing;
 mod entries;
 #[cfg(test)]
 mod recorded;
+#[cfg(test)]
+mod replayed;
 #[cfg(test)]
 mod short;
 #[cfg(test)]

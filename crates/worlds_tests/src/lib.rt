@@ -10,12 +10,6 @@ mod lived;
 #[cfg(test)]
 mod played;
 #[cfg(test)]
-mod record;
-#[cfg(test)]
 mod recorded;
 #[cfg(test)]
-mod replay;
-#[cfg(test)]
 mod status;
-#[cfg(test)]
-mod writers;

@@ -1,8 +1,8 @@
-//! The texts of records.
+//! Records of version 1.
 
+use records::{RecordFault, read_record};
 use refusal::Refusing;
 use std::test::Fail;
-use worlds::{RecordFault, read_record};
 
 /// Each line that has an answer, an empty arrival and the greatest numbers among them.
 const RECORD: &str = "rx-record 1\nstarted 100\ndone\narrive exp4 68690a\ntimeout\n\

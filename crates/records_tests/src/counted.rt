@@ -1,8 +1,8 @@
 //! Sinks over writers that are interrupted, take less than a text, or fail.
 
+use records::{Counted, Sink, put_all};
 use std::io::{self, ErrorKind, Write};
 use std::test::Fail;
-use worlds::{Counted, Sink, put_all};
 
 /// A writer that is interrupted so often before each write, takes two bytes at a time, and takes
 /// nothing or fails where it has no room left.

@@ -1,34 +1,12 @@
 //! What a replay answers and writes.
 
+use crate::short::Short;
 use acts::{Act, Answer, Id, Timer, World};
+use records::Counted;
+use replays::Replay;
 use std::alloc::Global;
 use std::cell::Cell;
 use std::test::Fail;
-use worlds::{Counted, Replay, Sink};
-
-/// A sink that takes one byte at a time, and counts the puts that come after it has failed.
-#[derive(Drop)]
-struct Short<'a, S> {
-    inner: S,
-    late: &'a Cell<u64>,
-}
-
-impl<S: Sink> Sink for Short<'_, S> {
-    ghost adds = { λ _ _ _. Unit {0} };
-
-    ghost has_failed = { λ sink. S.has_failed sink.inner };
-
-    fn put(&mut self, bytes: &[u8]) -> usize {
-        if self.inner.failed() {
-            self.late.set(self.late.get().saturating_add(1));
-        }
-        self.inner.put(&bytes[..bytes.len().min(1)])
-    }
-
-    fn failed(&self) -> bool {
-        self.inner.failed()
-    }
-}
 
 /// Two whole texts, two that fail, one of them after more bytes than it has, and other acts.
 fn acts(alloc: Global) -> Result<Vec<Act<Global>>, Fail> {

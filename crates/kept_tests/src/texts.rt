@@ -1,6 +1,6 @@
 //! That texts are kept, and that a refusal leaves them as they were.
 
-use super::*;
+use kept::Kept;
 use refusal::Refusing;
 use std::rc::Rc;
 use std::test::Fail;
