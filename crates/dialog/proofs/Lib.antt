@@ -15,4 +15,3 @@ pub mod Peers
 pub mod Readings
 pub mod Refused
 pub mod RowsMade
-pub mod Spelled

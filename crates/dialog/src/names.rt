@@ -1,13 +1,11 @@
 //! Open ids by the texts that name them.
-ghost use Rattle.std.specs.Prelude.{◌≡◌, ◌++◌, decimal};
-ghost use Rattle.std.specs.Str.{bytes_eq};
+ghost use Rattle.std.specs.Prelude.{◌≡◌};
 ghost use Rattle.dialog.specs.Channels.{named, is_channel, connection};
 
 use crate::entry::Entry;
 use crate::kind::Kind;
 use crate::table::Table;
 use acts::Id;
-use itoa::Buffer;
 use std::alloc::Allocator;
 
 impl<A: Allocator> Table<A> {
@@ -31,7 +29,7 @@ fn first_named<A: Allocator>(entries: &[Entry<A>], text: &[u8]) -> Option<Id>
     ensures { result ≡ named entries.now text.now }
 {
     for entry in entries {
-        if is_spelled(text, b"exp", entry.id()) {
+        if entry.id().is_named(b"exp", text) {
             return Some(entry.id());
         }
     }
@@ -56,16 +54,6 @@ fn is_channel<A: Allocator>(text: &[u8], entry: &Entry<A>) -> bool
 {
     match entry.kind() {
         Kind::Process(_) => false,
-        Kind::Socket => is_spelled(text, b"sock", entry.id()),
-    }
-}
-
-/// Whether a text is a prefix and the number of an id.
-fn is_spelled(text: &[u8], prefix: &[u8], id: Id) -> bool
-    ensures { result ≡ bytes_eq text.now (prefix.now ++ decimal id.0) }
-{
-    match text.strip_prefix(prefix) {
-        Some(digits) => digits == Buffer::new().format(id.0).as_bytes(),
-        None => false,
+        Kind::Socket => entry.id().is_named(b"sock", text),
     }
 }

@@ -1,8 +1,6 @@
 //! Changes of ids.
 
 ghost use Rattle.std.specs.Prelude.{◌≡◌, ◌==◌, not, filter, IfOk, OnOk, map, option_map};
-ghost use Rattle.std.specs.Str.{bytes_eq};
-ghost use Rattle.acts.specs.Id.{id_text};
 ghost use Rattle.dialog.specs.Peers.{set_nulls, sized};
 ghost use Rattle.peers.specs.Settings.{with_later, with_setting};
 ghost use Rattle.peers.specs.View.{setting_seen};
@@ -12,7 +10,6 @@ ghost use Rattle.state.specs.View.{FitsIds, unreaped_of};
 
 use crate::settings::Setting;
 use acts::{Id, NoMemory};
-use itoa::Buffer;
 use matchbuf::MatchBufError;
 use state::{Ids, Size, Unreaped};
 use std::alloc::Allocator;
@@ -75,21 +72,11 @@ pub(crate) fn unreaped_among(unreaped: &[Unreaped], text: &[u8]) -> Option<Unrea
     ensures { option_map unreaped_of result ≡ among (map unreaped_of unreaped.now) text.now }
 {
     for other in unreaped {
-        if is_spelled(text, other.id) {
+        if other.id.is_named(b"exp", text) {
             return Some(*other);
         }
     }
     None
-}
-
-/// Whether a text spells an id.
-fn is_spelled(text: &[u8], id: Id) -> bool
-    ensures { result ≡ bytes_eq text.now (id_text id.0) }
-{
-    match text.strip_prefix(b"exp") {
-        Some(digits) => digits == Buffer::new().format(id.0).as_bytes(),
-        None => false,
-    }
 }
 
 /// Notes that an id, open or closed, was waited for (expect(1), wait).
