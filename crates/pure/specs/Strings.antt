@@ -1,7 +1,7 @@
 -- What string does.
-use Rattle.std.specs.Prelude.{ℕ, List, [], ◌∷◌, codes, Option, Some, None, if◌then◌else◌}
-use Rattle.std.specs.Str.{bytes_eq}
+use Rattle.std.specs.Prelude.{ℕ, List, [], ◌∷◌, codes, Option, Some, None}
 use Rattle.acts.specs.Flaw as flaw
+use Rattle.names.specs.Tables.{Table, found}
 use Rattle.pure.specs.declared.string.Subcommand.{Subcommand}
 use Rattle.pure.specs.declared.string.Subcommand.TheVariants as subcommand
 use Rattle.meanings.specs.Meaning.{Meaning, Raises}
@@ -23,23 +23,27 @@ pub mod Range
 pub mod Search
 pub mod Trimming
 
--- the subcommand of a name (string(n))
+-- the names of the subcommands (string(n))
+abbrev pub subcommands : Table Subcommand
+subcommands =
+    (codes "length", subcommand.Length)
+    ∷ (codes "index", subcommand.Index)
+    ∷ (codes "range", subcommand.Range)
+    ∷ (codes "equal", subcommand.Equal)
+    ∷ (codes "compare", subcommand.Compare)
+    ∷ (codes "match", subcommand.Match)
+    ∷ (codes "tolower", subcommand.ToLower)
+    ∷ (codes "toupper", subcommand.ToUpper)
+    ∷ (codes "trim", subcommand.Trim)
+    ∷ (codes "trimleft", subcommand.TrimLeft)
+    ∷ (codes "trimright", subcommand.TrimRight)
+    ∷ (codes "first", subcommand.First)
+    ∷ (codes "last", subcommand.Last)
+    ∷ []
+
+-- the subcommand of a name
 abbrev pub named : List ℕ → Option Subcommand
-named name =
-    if bytes_eq name (codes "length") then Some subcommand.Length
-    else if bytes_eq name (codes "index") then Some subcommand.Index
-    else if bytes_eq name (codes "range") then Some subcommand.Range
-    else if bytes_eq name (codes "equal") then Some subcommand.Equal
-    else if bytes_eq name (codes "compare") then Some subcommand.Compare
-    else if bytes_eq name (codes "match") then Some subcommand.Match
-    else if bytes_eq name (codes "tolower") then Some subcommand.ToLower
-    else if bytes_eq name (codes "toupper") then Some subcommand.ToUpper
-    else if bytes_eq name (codes "trim") then Some subcommand.Trim
-    else if bytes_eq name (codes "trimleft") then Some subcommand.TrimLeft
-    else if bytes_eq name (codes "trimright") then Some subcommand.TrimRight
-    else if bytes_eq name (codes "first") then Some subcommand.First
-    else if bytes_eq name (codes "last") then Some subcommand.Last
-    else None
+named name = found subcommands name
 
 -- what a subcommand does with the words behind its name (string(n))
 abbrev pub does : Subcommand → List (List ℕ) → Meaning

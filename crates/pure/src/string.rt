@@ -2,6 +2,7 @@
 
 ghost use Rattle.std.specs.Prelude.{◌≡◌};
 ghost use Rattle.pure.specs.Strings as meant;
+ghost use Rattle.names.specs.Tables.{found, so_long};
 ghost use Rattle.meanings.specs.View.{Answers};
 
 mod case;
@@ -41,25 +42,17 @@ pub enum Subcommand {
 }
 
 impl Subcommand {
-    /// The subcommand of a name.
-    #[tactic(auto, using(names::proofs::Compared::compared))]
+    /// The subcommand of a name, which is sought only among the names of its length.
     fn named(name: &[u8]) -> Option<Subcommand>
         ensures { result ≡ meant.named name.now }
     {
-        match name {
-            b"length" => Some(Subcommand::Length),
-            b"index" => Some(Subcommand::Index),
-            b"range" => Some(Subcommand::Range),
-            b"equal" => Some(Subcommand::Equal),
-            b"compare" => Some(Subcommand::Compare),
-            b"match" => Some(Subcommand::Match),
-            b"tolower" => Some(Subcommand::ToLower),
-            b"toupper" => Some(Subcommand::ToUpper),
-            b"trim" => Some(Subcommand::Trim),
-            b"trimleft" => Some(Subcommand::TrimLeft),
-            b"trimright" => Some(Subcommand::TrimRight),
-            b"first" => Some(Subcommand::First),
-            b"last" => Some(Subcommand::Last),
+        match name.len() {
+            4 => of_four(name),
+            5 => of_five(name),
+            6 => of_six(name),
+            7 => of_seven(name),
+            8 => of_eight(name),
+            9 => of_nine(name),
             _ => None,
         }
     }
@@ -103,5 +96,79 @@ pub fn string<A: Allocator + Copy>(
     match Subcommand::named(name.as_slice()) {
         Some(subcommand) => subcommand.apply(alloc, words),
         None => bad_argument(alloc, name.as_slice(), b"string"),
+    }
+}
+
+/// The subcommand of a name of four bytes.
+fn of_four(name: &[u8]) -> Option<Subcommand>
+    ensures { result ≡ found (so_long 4 meant.subcommands) name.now }
+{
+    if name == b"trim".as_slice() {
+        Some(Subcommand::Trim)
+    } else if name == b"last".as_slice() {
+        Some(Subcommand::Last)
+    } else {
+        None
+    }
+}
+
+/// The subcommand of a name of five bytes.
+#[tactic(auto, using(names::proofs::Compared::compared))]
+fn of_five(name: &[u8]) -> Option<Subcommand>
+    ensures { result ≡ found (so_long 5 meant.subcommands) name.now }
+{
+    match name {
+        b"index" => Some(Subcommand::Index),
+        b"range" => Some(Subcommand::Range),
+        b"equal" => Some(Subcommand::Equal),
+        b"match" => Some(Subcommand::Match),
+        b"first" => Some(Subcommand::First),
+        _ => None,
+    }
+}
+
+/// The subcommand of a name of six bytes.
+fn of_six(name: &[u8]) -> Option<Subcommand>
+    ensures { result ≡ found (so_long 6 meant.subcommands) name.now }
+{
+    if name == b"length".as_slice() {
+        Some(Subcommand::Length)
+    } else {
+        None
+    }
+}
+
+/// The subcommand of a name of seven bytes.
+#[tactic(auto, using(names::proofs::Compared::compared))]
+fn of_seven(name: &[u8]) -> Option<Subcommand>
+    ensures { result ≡ found (so_long 7 meant.subcommands) name.now }
+{
+    match name {
+        b"compare" => Some(Subcommand::Compare),
+        b"tolower" => Some(Subcommand::ToLower),
+        b"toupper" => Some(Subcommand::ToUpper),
+        _ => None,
+    }
+}
+
+/// The subcommand of a name of eight bytes.
+fn of_eight(name: &[u8]) -> Option<Subcommand>
+    ensures { result ≡ found (so_long 8 meant.subcommands) name.now }
+{
+    if name == b"trimleft".as_slice() {
+        Some(Subcommand::TrimLeft)
+    } else {
+        None
+    }
+}
+
+/// The subcommand of a name of nine bytes.
+fn of_nine(name: &[u8]) -> Option<Subcommand>
+    ensures { result ≡ found (so_long 9 meant.subcommands) name.now }
+{
+    if name == b"trimright".as_slice() {
+        Some(Subcommand::TrimRight)
+    } else {
+        None
     }
 }
