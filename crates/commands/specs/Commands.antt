@@ -1,10 +1,11 @@
 -- Which command a name has, and what it does.
 use Rattle.std.specs.Prelude.{ℕ, List, [], ◌∷◌, codes, Option, Some, None, option_map, if◌then◌else◌}
-use Rattle.std.specs.Str.{bytes_eq}
+use Rattle.std.specs.Option.{option_or}
 use Rattle.acts.specs.Flaw as flaw
 use Rattle.commands.specs.Builtin as builtin
 use Rattle.commands.specs.Builtin.{Builtin}
 use Rattle.commands.specs.LeftOut.{is_left_out}
+use Rattle.names.specs.Tables.{Table, found}
 use Rattle.state.specs.Dialogue.{Course, gives, raises}
 use Rattle.state.specs.Status.{Status}
 use Rattle.leaving.specs.Breaks.{breaks}
@@ -40,40 +41,44 @@ use Rattle.variables.specs.Set.{set}
 use Rattle.variables.specs.Unset.{unset}
 use Rattle.writing.specs.Puts.{puts}
 
+-- the names of the commands that are no functions of their words
+abbrev pub builtins : Table Builtin
+builtins =
+    (codes "puts", builtin.Puts)
+    ∷ (codes "list", builtin.List)
+    ∷ (codes "break", builtin.Break)
+    ∷ (codes "continue", builtin.Continue)
+    ∷ (codes "return", builtin.Return)
+    ∷ (codes "error", builtin.Error)
+    ∷ (codes "exit", builtin.Exit)
+    ∷ (codes "exp_continue", builtin.ExpContinue)
+    ∷ (codes "set", builtin.Set)
+    ∷ (codes "append", builtin.Append)
+    ∷ (codes "incr", builtin.Incr)
+    ∷ (codes "lappend", builtin.Lappend)
+    ∷ (codes "unset", builtin.Unset)
+    ∷ (codes "global", builtin.Global)
+    ∷ (codes "array", builtin.Array)
+    ∷ (codes "info", builtin.Info)
+    ∷ (codes "proc", builtin.Proc)
+    ∷ (codes "spawn", builtin.Spawn)
+    ∷ (codes "send", builtin.Send)
+    ∷ (codes "sleep", builtin.Sleep)
+    ∷ (codes "socket", builtin.Socket)
+    ∷ (codes "close", builtin.Close)
+    ∷ (codes "wait", builtin.Wait)
+    ∷ (codes "match_max", builtin.MatchMax)
+    ∷ (codes "remove_nulls", builtin.RemoveNulls)
+    ∷ (codes "send_user", builtin.SendUser)
+    ∷ (codes "send_error", builtin.SendError)
+    ∷ (codes "send_log", builtin.SendLog)
+    ∷ (codes "log_user", builtin.LogUser)
+    ∷ (codes "log_file", builtin.LogFile)
+    ∷ []
+
 -- the command of a name
 abbrev pub named : List ℕ → Option Builtin
-named name =
-    if bytes_eq name (codes "puts") then Some builtin.Puts
-    else if bytes_eq name (codes "list") then Some builtin.List
-    else if bytes_eq name (codes "break") then Some builtin.Break
-    else if bytes_eq name (codes "continue") then Some builtin.Continue
-    else if bytes_eq name (codes "return") then Some builtin.Return
-    else if bytes_eq name (codes "error") then Some builtin.Error
-    else if bytes_eq name (codes "exit") then Some builtin.Exit
-    else if bytes_eq name (codes "exp_continue") then Some builtin.ExpContinue
-    else if bytes_eq name (codes "set") then Some builtin.Set
-    else if bytes_eq name (codes "append") then Some builtin.Append
-    else if bytes_eq name (codes "incr") then Some builtin.Incr
-    else if bytes_eq name (codes "lappend") then Some builtin.Lappend
-    else if bytes_eq name (codes "unset") then Some builtin.Unset
-    else if bytes_eq name (codes "global") then Some builtin.Global
-    else if bytes_eq name (codes "array") then Some builtin.Array
-    else if bytes_eq name (codes "info") then Some builtin.Info
-    else if bytes_eq name (codes "proc") then Some builtin.Proc
-    else if bytes_eq name (codes "spawn") then Some builtin.Spawn
-    else if bytes_eq name (codes "send") then Some builtin.Send
-    else if bytes_eq name (codes "sleep") then Some builtin.Sleep
-    else if bytes_eq name (codes "socket") then Some builtin.Socket
-    else if bytes_eq name (codes "close") then Some builtin.Close
-    else if bytes_eq name (codes "wait") then Some builtin.Wait
-    else if bytes_eq name (codes "match_max") then Some builtin.MatchMax
-    else if bytes_eq name (codes "remove_nulls") then Some builtin.RemoveNulls
-    else if bytes_eq name (codes "send_user") then Some builtin.SendUser
-    else if bytes_eq name (codes "send_error") then Some builtin.SendError
-    else if bytes_eq name (codes "send_log") then Some builtin.SendLog
-    else if bytes_eq name (codes "log_user") then Some builtin.LogUser
-    else if bytes_eq name (codes "log_file") then Some builtin.LogFile
-    else option_map builtin.Text (pure.named name)
+named name = option_or (found builtins name) (option_map builtin.Text (pure.named name))
 
 -- what a command does with the words behind its name
 abbrev pub does : Builtin → List (List ℕ) → Status → Course

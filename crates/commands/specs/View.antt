@@ -3,8 +3,8 @@ use Rattle.std.specs.Prelude.{◌≡◌}
 use Rattle.acts.specs.Deed.{Deed, Reply}
 use Rattle.commands.specs.Builtin as meant
 use Rattle.commands.specs.Builtin.{Builtin}
-use Rattle.commands.specs.declared.table.Builtin as named
-use Rattle.commands.specs.declared.table.Builtin.TheVariants as builtin
+use Rattle.commands.specs.declared.builtin.Builtin as named
+use Rattle.commands.specs.declared.builtin.Builtin.TheVariants as builtin
 use Rattle.commands.specs.declared.waits.Waits.{Waits}
 use Rattle.commands.specs.declared.waits.Waits.TheVariants as waits
 use Rattle.state.specs.declared.leaf.Leaf.{Leaf}

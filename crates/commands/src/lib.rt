@@ -1,6 +1,7 @@
 //! The commands of all families by their names.
 #![tactic(auto)]
 
+mod builtin;
 pub mod laws;
 mod left_out;
 mod table;

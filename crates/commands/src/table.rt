@@ -1,7 +1,7 @@
-//! The table of names.
+//! The table of the commands: what each one begins, and what goes on with an answer.
 #![tactic(auto, using(state::proofs::Reaches::same_reaches, crate::proofs::Lifted::lifted_shows))]
 
-ghost use Rattle.std.specs.Prelude.{◌≡◌, ◌≤◌, IfOk, option_map};
+ghost use Rattle.std.specs.Prelude.{◌≡◌, ◌≤◌, IfOk};
 ghost use Rattle.acts.specs.Deed.{deed_of, reply_of};
 ghost use Rattle.commands.specs.Commands as definition;
 ghost use Rattle.commands.specs.View.{builtin_of, next_of};
@@ -9,6 +9,7 @@ ghost use Rattle.state.specs.Leaf.{Shows};
 ghost use Rattle.state.specs.Status.{Status};
 ghost use Rattle.state.specs.View.{FitsState};
 
+use crate::builtin::Builtin;
 use crate::left_out::is_left_out;
 use crate::waits::{
     Waits, from_close, from_log_file, from_send, from_sleep, from_socket, from_spawn, from_wait,
@@ -21,7 +22,6 @@ use logs::{log_file, log_user, send_error, send_log, send_user};
 use peers::{close, match_max, remove_nulls, wait};
 use procedures::proc;
 use processes::{sleep, socket, spawn};
-use pure::Pure;
 use sending::send;
 use state::leaf::{empty, raises};
 use state::{Leaf, State};
@@ -30,116 +30,6 @@ use tcltext::Value;
 use texts::text;
 use variables::{append, array, global, incr, info, lappend, set, unset};
 use writing::{channel, puts};
-
-/// The commands.
-#[derive(Clone, Copy, Debug, PartialEq, Eq)]
-enum Builtin {
-    Puts,
-    List,
-    Break,
-    Continue,
-    Return,
-    Error,
-    Exit,
-    ExpContinue,
-    Set,
-    Append,
-    Incr,
-    Lappend,
-    Unset,
-    Global,
-    Array,
-    Info,
-    Proc,
-    Spawn,
-    Send,
-    Sleep,
-    Socket,
-    Close,
-    Wait,
-    MatchMax,
-    RemoveNulls,
-    SendUser,
-    SendError,
-    SendLog,
-    LogUser,
-    LogFile,
-    Text(Pure),
-}
-
-impl Builtin {
-    /// The command of a name.
-    fn read(name: &[u8]) -> Option<Builtin>
-        ensures { option_map builtin_of result ≡ definition.named name.now }
-    {
-        if name == b"puts".as_slice() {
-            Some(Builtin::Puts)
-        } else if name == b"list".as_slice() {
-            Some(Builtin::List)
-        } else if name == b"break".as_slice() {
-            Some(Builtin::Break)
-        } else if name == b"continue".as_slice() {
-            Some(Builtin::Continue)
-        } else if name == b"return".as_slice() {
-            Some(Builtin::Return)
-        } else if name == b"error".as_slice() {
-            Some(Builtin::Error)
-        } else if name == b"exit".as_slice() {
-            Some(Builtin::Exit)
-        } else if name == b"exp_continue".as_slice() {
-            Some(Builtin::ExpContinue)
-        } else if name == b"set".as_slice() {
-            Some(Builtin::Set)
-        } else if name == b"append".as_slice() {
-            Some(Builtin::Append)
-        } else if name == b"incr".as_slice() {
-            Some(Builtin::Incr)
-        } else if name == b"lappend".as_slice() {
-            Some(Builtin::Lappend)
-        } else if name == b"unset".as_slice() {
-            Some(Builtin::Unset)
-        } else if name == b"global".as_slice() {
-            Some(Builtin::Global)
-        } else if name == b"array".as_slice() {
-            Some(Builtin::Array)
-        } else if name == b"info".as_slice() {
-            Some(Builtin::Info)
-        } else if name == b"proc".as_slice() {
-            Some(Builtin::Proc)
-        } else if name == b"spawn".as_slice() {
-            Some(Builtin::Spawn)
-        } else if name == b"send".as_slice() {
-            Some(Builtin::Send)
-        } else if name == b"sleep".as_slice() {
-            Some(Builtin::Sleep)
-        } else if name == b"socket".as_slice() {
-            Some(Builtin::Socket)
-        } else if name == b"close".as_slice() {
-            Some(Builtin::Close)
-        } else if name == b"wait".as_slice() {
-            Some(Builtin::Wait)
-        } else if name == b"match_max".as_slice() {
-            Some(Builtin::MatchMax)
-        } else if name == b"remove_nulls".as_slice() {
-            Some(Builtin::RemoveNulls)
-        } else if name == b"send_user".as_slice() {
-            Some(Builtin::SendUser)
-        } else if name == b"send_error".as_slice() {
-            Some(Builtin::SendError)
-        } else if name == b"send_log".as_slice() {
-            Some(Builtin::SendLog)
-        } else if name == b"log_user".as_slice() {
-            Some(Builtin::LogUser)
-        } else if name == b"log_file".as_slice() {
-            Some(Builtin::LogFile)
-        } else {
-            match Pure::named(name) {
-                Some(text) => Some(Builtin::Text(text)),
-                None => None,
-            }
-        }
-    }
-}
 
 /// Begins a command, by its words, up to its first act.
 ///
