@@ -19,7 +19,7 @@ const FIRST_ROOM: usize = 256;
 const MOST_DOUBLINGS: u32 = 54;
 
 /// How many bytes of a file are read at a time.
-const CHUNK: usize = 4096;
+const CHUNK: usize = 65_536;
 
 /// Why bytes from outside were not read.
 #[derive(Clone, Copy, Debug, PartialEq, Eq, Error)]

@@ -52,9 +52,13 @@ fn is_whole(text: &[u8]) -> bool {
     text.ends_with(b"\n") && !is_wait(text)
 }
 
-/// Whether a text is one line, that of a wait.
+/// Whether a text is one line, that of a wait. The line of its answer, which may be long, is not
+/// looked at.
 fn is_wait(text: &[u8]) -> bool {
-    text.starts_with(b"wait") && text.iter().filter(|b| **b == b'\n').count() == 1
+    match text.iter().position(|b| *b == b'\n') {
+        Some(end) => end + 1 == text.len() && text.starts_with(b"wait"),
+        None => false,
+    }
 }
 
 /// Makes the file of a record, or empties it. A name that is not UTF-8 is refused.

@@ -4,5 +4,5 @@ use Rattle.worlds.proofs.input.read_all.Given as goal
 
 abbrev pub invariant-chunks : goal.invariant-chunks
 invariant-chunks g l =
-    (vec_len l.chunk ≡ 4096)
+    (vec_len l.chunk ≡ 65536)
     × Consumes (g.R.Read.remaining l.fn.reader) (g.R.Read.remaining l.reader) l.text.items
