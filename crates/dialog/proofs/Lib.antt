@@ -15,3 +15,4 @@ pub mod Peers
 pub mod Readings
 pub mod Refused
 pub mod RowsMade
+pub mod Vains

@@ -12,4 +12,5 @@ pub mod Reads
 pub mod Selects
 pub mod Signs
 pub mod Standing
+pub mod Vain
 pub mod Views

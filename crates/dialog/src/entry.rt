@@ -1,5 +1,6 @@
 //! An open id with its match buffer.
 ghost use Rattle.std.specs.Prelude.{◌≡◌, ◌≤◌, ◌==◌, ◌↔◌, ◌++◌, length, Err, IfOk, OnOk, OnErr, IfSome, MatchOption};
+ghost use Rattle.dialog.specs.Branches.{Sought};
 ghost use Rattle.dialog.specs.Choice.{front_of, share_by, shortened_to};
 ghost use Rattle.dialog.specs.Lines.{reached, resized, dropping, row_of_line, without_nulls};
 ghost use Rattle.circular_buffer.specs.Buffer.{keep_last};
@@ -8,13 +9,16 @@ ghost use Rattle.matchbuf.specs.Size.{IsSize};
 ghost use Rattle.dialog.specs.Views.{line_by, kind_of};
 ghost use Rattle.tcltext.specs.Pattern.Match.{IsFound, SitsNowhere};
 
+use crate::branch::Branch;
 use crate::kind::Kind;
+use crate::searched::Searched;
 use acts::{Id, NoMemory, Row};
 use matchbuf::{MatchBuf, MatchBufError};
 use memchr::memchr;
 use std::alloc::Allocator;
 use std::marker::Model;
-use tcltext::{Found, Pattern, Scratch};
+use std::rc::Rc;
+use tcltext::{Found, Pattern};
 
 /// An open id: what it was opened for, its match buffer, and whether nulls are removed from what
 /// arrives.
@@ -22,7 +26,7 @@ use tcltext::{Found, Pattern, Scratch};
 pub(crate) struct Entry<A: Allocator> {
     id: Id,
     kind: Kind,
-    buffer: MatchBuf<A>,
+    buffer: Searched<A>,
     drops_nulls: bool,
 }
 
@@ -37,15 +41,25 @@ impl<A: Allocator> Model for Entry<A> {
 
 impl<A: Allocator> Entry<A> {
     /// An id that is just opened for that.
-    pub(crate) fn new(id: Id, kind: Kind, buffer: MatchBuf<A>, drops_nulls: bool) -> Entry<A>
-        ensures { result ≡ line_by id (kind_of kind) buffer drops_nulls }
+    ///
+    /// # Errors
+    /// `NoMemory`.
+    pub(crate) fn new(
+        alloc: A,
+        id: Id,
+        kind: Kind,
+        buffer: MatchBuf<A>,
+        drops_nulls: bool,
+    ) -> Result<Entry<A>, NoMemory>
+        ensures { IfOk result (λ entry. entry ≡ line_by id (kind_of kind) buffer drops_nulls) }
     {
-        Entry {
+        let buffer = Searched::new(alloc, buffer)?;
+        Ok(Entry {
             id,
             kind,
             buffer,
             drops_nulls,
-        }
+        })
     }
 
     /// The id.
@@ -130,19 +144,20 @@ impl<A: Allocator> Entry<A> {
 }
 
 impl<A: Allocator + Copy> Entry<A> {
-    /// Finds a pattern in the window. No memory is asked for.
-    pub(crate) fn search(&mut self, alloc: A, pattern: &Pattern<A>) -> Option<Found>
+    /// Finds the pattern of a branch in the window. No memory is asked for.
+    pub(crate) fn search(
+        &mut self,
+        alloc: A,
+        branch: &Rc<Branch<A>, A>,
+        pattern: &Pattern<A>,
+    ) -> Option<Found>
+        requires { branch.now.value.awaited ≡ Sought pattern.now }
         ensures unchanged { self.new ≡ self.old }
         ensures found { let window = self.old.held.bytes in MatchOption result
             (SitsNowhere pattern.now window)
             (λ found. IsFound pattern.now window found.start found.end) }
     {
-        let room = self.buffer.len() as u32;
-        let Ok(mut scratch) = Scratch::new(alloc, room) else {
-            unreachable!()
-        };
-        let window = self.buffer.window();
-        pattern.find(window, &mut scratch).found
+        self.buffer.search(alloc, branch, pattern)
     }
 
     /// Hands out the match and all before it, or the whole window where there is no match. They are
@@ -162,8 +177,7 @@ impl<A: Allocator + Copy> Entry<A> {
             Some(found) => found.end,
             None => self.buffer.len(),
         };
-        let window = self.buffer.window();
-        let bytes = Vec::from_slice(alloc, &window[..end])?;
+        let bytes = self.buffer.copy_front(alloc, end)?;
         if found.is_none() || !stays {
             self.buffer.take(end);
         }
@@ -184,7 +198,7 @@ impl<A: Allocator + Copy> Entry<A> {
 }
 
 /// Puts bytes into a buffer without their nulls, piece by piece (expect(1), remove_nulls).
-fn arrive_without_nulls<A: Allocator>(buffer: &mut MatchBuf<A>, bytes: &[u8])
+fn arrive_without_nulls<A: Allocator>(buffer: &mut Searched<A>, bytes: &[u8])
     ensures { let max = buffer.old.max in buffer.new
         ≡ held (keep_last max (buffer.old.bytes ++ without_nulls bytes.now)) max }
 {

@@ -16,9 +16,11 @@ mod log_state;
 mod names;
 mod reading;
 mod rows;
+mod searched;
 mod sign;
 mod standing;
 mod table;
+mod vain;
 
 pub use branch::{Awaited, Branch, Flags, Pair};
 pub use branch_error::BranchError;

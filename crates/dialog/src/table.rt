@@ -233,7 +233,7 @@ impl<A: Allocator + Copy> Table<A> {
             return Err(OpenError::TooMany);
         };
         let buffer = empty_buffer(alloc, max)?;
-        self.add(Entry::new(id, kind, buffer, drops_nulls))?;
+        self.add(Entry::new(alloc, id, kind, buffer, drops_nulls)?)?;
         self.skip();
         Ok(id)
     }

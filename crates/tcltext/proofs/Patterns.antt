@@ -10,3 +10,4 @@ pub mod Finds
 pub mod Folds
 pub mod Bytes
 pub mod Items
+pub mod Shifts

@@ -1,8 +1,8 @@
 //! Patterns: read from a text, tested against a whole text, or sought in a window.
-ghost use Rattle.std.specs.Prelude.{◌≡◌, ◌+◌, ◌*◌, ◌<◌, ◌≤◌, ◌↔◌, length, map, IfOk, IsTrue, MatchOption, MatchResult};
+ghost use Rattle.std.specs.Prelude.{◌≡◌, ℕ, ◌+◌, ◌*◌, ◌<◌, ◌≤◌, ◌↔◌, false, length, map, IfOk, IfSome, IsTrue, MatchOption, MatchResult};
 ghost use Rattle.tcltext.specs.Pattern.Item.{literal};
 ghost use Rattle.tcltext.specs.Pattern.Glob.{glob, plain, exact, folded};
-ghost use Rattle.tcltext.specs.Pattern.Match.{Whole, SitsNowhere, IsFound};
+ghost use Rattle.tcltext.specs.Pattern.Match.{Whole, Sits, SitsNowhere, IsFound};
 ghost use Rattle.tcltext.specs.Pattern.Runs.{items_of_runs};
 
 pub mod error;
@@ -22,7 +22,7 @@ use memory::NoMemory;
 use read::{read_runs, split_caret};
 use run::{Run, Runs};
 use scratch::Scratch;
-use search::{Search, Ties, locate};
+use search::{Found, Search, Ties, locate};
 use std::alloc::Allocator;
 use std::marker::Model;
 use window::Window;
@@ -122,6 +122,38 @@ impl<A: Allocator> Pattern<A> {
             ties: self.ties,
             folds: true,
         }
+    }
+
+    /// The text that the pattern is, where it takes this text and no other, wherever it stands.
+    pub fn text(&self) -> Option<&[u8]>
+        ensures { IfSome result (λ text. self.now ≡ exact text.now) }
+    {
+        if self.folds || self.ties.start || self.ties.end || !self.runs.starred.is_empty() {
+            return None;
+        }
+        match &self.runs.last {
+            Run::Text(bytes) => Some(bytes.as_slice()),
+            Run::Items(_) => None,
+        }
+    }
+
+    /// The same as [`find`](Pattern::find), where it is known that the pattern begins nowhere
+    /// before this place. The bytes before it are not looked at.
+    pub fn find_from(&self, window: &[u8], from: usize, scratch: &mut Scratch<A>) -> Option<Found>
+        requires room { length window.now ≤ scratch.old }
+        requires inside { from ≤ length window.now }
+        requires untied { self.now.at_start ≡ false }
+        requires low { (s e : ℕ) → Sits self.now window.now s e → from ≤ s }
+        ensures found { MatchOption result
+            (SitsNowhere self.now window.now)
+            (λ found. IsFound self.now window.now found.start found.end) }
+        ensures room { scratch.new ≡ scratch.old }
+    {
+        let found = self.find(&window[from..], scratch).found?;
+        Some(Found {
+            start: found.start + from,
+            end: found.end + from,
+        })
     }
 
     /// Whether the pattern's items take the whole text, whatever it is tied to. Takes no memory.

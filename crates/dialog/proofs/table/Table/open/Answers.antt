@@ -6,9 +6,9 @@ use Rattle.dialog.proofs.table.Table.open.Goals as goal
 
 pub returns-clause-fits : goal.returns-clause-fits
 returns-clause-fits g c =
-    let entry : c.new.result ≡ fresh_line c.in-Some.id (kind_of c.args.kind) c.args.max
+    let entry : c.in_ok-new.field-0 ≡ fresh_line c.in-Some.id (kind_of c.args.kind) c.args.max
     c.args.drops_nulls =
-    c.new.ensures ∙ ap (λ h. line_by c.in-Some.id (kind_of c.args.kind) h c.args.drops_nulls) c.in_ok-buffer.ensures in
+    c.in_ok-new.ensures ∙ ap (λ h. line_by c.in-Some.id (kind_of c.args.kind) h c.args.drops_nulls) c.in_ok-buffer.ensures in
     fits_opened c.in-Some.id (kind_of c.args.kind) c.args.max c.args.drops_nulls c.args.self.now.lines
     c.skip.new.self.lines
     (c.skip.ensures.lines ∙ c.in_ok-add.ensures.lines

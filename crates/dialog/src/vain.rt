@@ -1,0 +1,97 @@
+//! Texts that were sought in a buffer in vain.
+
+ghost use Rattle.std.specs.Prelude.{◌≡◌, ◌≤◌, [], ℕ, List, IfOk, IsTrue, drop, length};
+ghost use Rattle.dialog.specs.Branches.{Sought as Awaits};
+ghost use Rattle.dialog.specs.Vain.{ArePassed, IsPassed};
+ghost use Rattle.tcltext.specs.Pattern.Glob.{exact};
+ghost use Rattle.tcltext.specs.Pattern.Passed.{Passed};
+
+use crate::branch::{Awaited, Branch};
+use acts::NoMemory;
+use std::alloc::Allocator;
+use std::rc::Rc;
+
+/// How many of the last searches are kept in mind.
+const MOST: usize = 8;
+
+/// A text that was sought in vain, by the branch that waits for it.
+#[derive(Drop)]
+pub(crate) struct Vain<A: Allocator> {
+    branch: Rc<Branch<A>, A>,
+    /// Before this place it begins nowhere, whatever follows. Places are counted from the first
+    /// byte that was there when the list was empty.
+    from: usize,
+}
+
+impl<A: Allocator> Vain<A> {
+    /// Whether the branch waits for this text.
+    fn is_text(&self, text: &[u8]) -> bool
+        ensures { IsTrue result → self.now.branch.value.awaited ≡ Awaits (exact text.now) }
+    {
+        let Awaited::Sought(pattern) = self.branch.awaited() else {
+            return false;
+        };
+        match pattern.text() {
+            Some(known) => known == text,
+            None => false,
+        }
+    }
+}
+
+/// Room for the last searches.
+pub(crate) fn room<A: Allocator>(alloc: A) -> Result<Vec<Vain<A>, A>, NoMemory>
+    ensures { IfOk result (λ vains. vains.items ≡ []) }
+{
+    Ok(Vec::with_capacity(alloc, MOST)?)
+}
+
+/// The place before which a text begins nowhere, whatever follows, as far as it is known.
+pub(crate) fn place_of<A: Allocator>(vains: &[Vain<A>], text: &[u8], gone: usize) -> usize
+    ensures { (bytes : List ℕ) → ArePassed gone bytes vains.now →
+        Passed (exact text.now) bytes result }
+{
+    let mut rest = vains;
+    while let Some((vain, more)) = rest.split_first() {
+        if vain.is_text(text) {
+            return vain.from.saturating_sub(gone);
+        }
+        rest = more;
+    }
+    0
+}
+
+/// Keeps in mind that a branch's text was sought in vain, up to this place of the bytes, instead of
+/// the oldest search where there are many. Takes no memory.
+pub(crate) fn note<A: Allocator>(
+    vains: &mut Vec<Vain<A>, A>,
+    branch: &Rc<Branch<A>, A>,
+    next: usize,
+    gone: usize,
+)
+    ensures { (bytes : List ℕ) → ArePassed gone bytes vains.old.items →
+        IsPassed 0 bytes branch.now.value next → ArePassed gone bytes vains.new.items }
+{
+    let Some(from) = gone.checked_add(next) else {
+        return;
+    };
+    vains.truncate(MOST - 1);
+    // Where the branch has as many holders as can be counted, the next search begins anew.
+    if let Ok(branch) = branch.clone() {
+        let _ = vains.insert(0, Vain { branch, from });
+    }
+}
+
+/// Counts bytes that are gone at the front. Where they are too many to be counted, nothing is kept
+/// in mind.
+pub(crate) fn forget<A: Allocator>(vains: &mut Vec<Vain<A>, A>, gone: &mut usize, count: usize)
+    ensures { (bytes : List ℕ) → count ≤ length bytes → ArePassed gone.old bytes vains.old.items →
+        ArePassed gone.new (drop count bytes) vains.new.items }
+{
+    match gone.checked_add(count) {
+        Some(all) => *gone = all,
+        None => {
+            vains.clear();
+            *gone = 0;
+        }
+    }
+}

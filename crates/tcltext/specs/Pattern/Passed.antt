@@ -1,0 +1,9 @@
+-- What is known of a window in which a pattern was sought in vain.
+use Rattle.std.specs.Prelude.{ℕ, ◌≤◌, List, ◌++◌}
+use Rattle.tcltext.specs.Pattern.Item.{Reading}
+use Rattle.tcltext.specs.Pattern.Match.{Sits}
+
+-- Whatever follows the window, the pattern sits nowhere before this place (this project's own
+-- rule).
+abbrev pub Passed : Reading → List ℕ → ℕ → Type 0
+Passed p window from = (rest : List ℕ) (s e : ℕ) → Sits p (window ++ rest) s e → from ≤ s
