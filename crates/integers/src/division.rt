@@ -6,9 +6,9 @@ ghost use Rattle.integers.specs.Division as meant;
 
 use crate::signs::signed;
 
-/// The quotient by a divisor that is not 0, rounded down (expr(n), operators); none where 64 bits do
-/// not hold it. Below 0 one more than the size is divided, since the quotient's size is rounded up
-/// there.
+/// The quotient by a divisor that is not 0, rounded down (expr(n), operators); none where 64 bits
+/// do not hold it. Below 0 one more than the size is divided, since the quotient's size is rounded
+/// up there.
 pub fn quotient(a: i64, b: i64) -> Option<i64>
     requires { 0 < unsigned_abs b }
     ensures { SomeIff result (FitsSigned w64 (meant.quotient a b)) (meant.quotient a b) }
