@@ -1,13 +1,10 @@
 -- Texts that were sought in vain, while bytes come and go.
-use Rattle.std.proofs.Common.{◌≡◌, ℕ, ◌+◌, ◌-◌, ◌≤◌, List, [], ◌∷◌, ◌++◌, length, take, drop, zero, suc, refl, sym, ◌∙◌, ap, subst, arith, length-append}
+use Rattle.std.proofs.Common.{◌≡◌, ℕ, ◌+◌, ◌-◌, ◌≤◌, List, [], ◌∷◌, ◌++◌, length, take, drop, zero, suc, refl, subst, arith}
 use Rattle.std.specs.List.{AllByRecursion}
-use Rattle.circular_buffer.specs.Buffer.{keep_last}
-use Rattle.dialog.specs.Branches.{Awaited, Branch, Sought}
-use Rattle.dialog.specs.Vain.{ArePassed, IsPassed}
+use Rattle.dialog.specs.Vain.{ArePassed}
 use Rattle.dialog.specs.declared.vain.Vain.{Vain}
 use Rattle.tcltext.proofs.Patterns.Shifts.{Passed-drop, Passed-more}
 use Rattle.tcltext.specs.Pattern.Glob.{exact}
-use Rattle.tcltext.specs.Pattern.Item.{Reading}
 use Rattle.tcltext.specs.Pattern.Passed.{Passed}
 
 all_so : {X : Type 0} (P Q : X → Type 0) → ((x : X) → P x → Q x) → (xs : List X) →
@@ -22,34 +19,23 @@ all_taken P zero xs all = tt
 all_taken P (suc n) [] all = tt
 all_taken P (suc n) (x ∷ xs) (here, all) = (here, all_taken P n xs all)
 
-passed_gone : (gone count : ℕ) (bytes : List ℕ) (branch : Branch) (from : ℕ) →
-    count ≤ length bytes → IsPassed gone bytes branch from →
-    IsPassed (gone + count) (drop count bytes) branch from
-passed_gone gone count bytes branch from inside passed = λ text is.
+passed_gone : (gone count : ℕ) (bytes text : List ℕ) (from : ℕ) → count ≤ length bytes →
+    Passed (exact text) bytes (from - gone) →
+    Passed (exact text) (drop count bytes) (from - (gone + count))
+passed_gone gone count bytes text from inside passed =
     let place : from - gone - count ≡ from - (gone + count) = omega arith in
     subst (Passed (exact text) (drop count bytes)) place
-    (Passed-drop (exact text) bytes count (from - gone) refl inside (passed text is))
+    (Passed-drop (exact text) bytes count (from - gone) refl inside passed)
 
 -- bytes are gone at the front
 pub are_gone : {A : Type 0} (gone count : ℕ) (bytes : List ℕ) (vains : List (Vain A)) →
     count ≤ length bytes → ArePassed gone bytes vains →
     ArePassed (gone + count) (drop count bytes) vains
 are_gone gone count bytes vains inside are =
-    all_so _ _ (λ vain. passed_gone gone count bytes vain.branch.value vain.from inside) vains are
+    all_so _ _ (λ vain. passed_gone gone count bytes vain.text vain.from inside) vains are
 
 -- bytes have come
 pub are_more : {A : Type 0} (gone : ℕ) (bytes more : List ℕ) (vains : List (Vain A)) →
     ArePassed gone bytes vains → ArePassed gone (bytes ++ more) vains
 are_more gone bytes more vains are =
-    all_so _ _
-    (λ vain passed text is. Passed-more (exact text) bytes more (vain.from - gone) (passed text is))
-    vains are
-
--- a branch that waits for two patterns waits for one
-pub sought_once : (awaited : Awaited) (p q : Reading) → awaited ≡ Sought p → awaited ≡ Sought q →
-    p ≡ q
-sought_once awaited p q one other = ap reading_in (sym one ∙ other)
-  where
-    reading_in : Awaited → Reading
-    reading_in (Sought reading) = reading
-    reading_in other = p
+    all_so _ _ (λ vain. Passed-more (exact vain.text) bytes more (vain.from - gone)) vains are

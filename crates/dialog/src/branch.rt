@@ -89,13 +89,6 @@ impl<A: Allocator> Branch<A> {
             body,
         }
     }
-
-    /// What it waits for.
-    pub(crate) fn awaited(&self) -> &Awaited<A>
-        ensures { awaited_of result.now ≡ self.now.awaited }
-    {
-        &self.awaited
-    }
 }
 
 /// A branch for one id (expect(1), expect, `-i`).
@@ -139,18 +132,11 @@ impl<A: Allocator> Pair<A> {
         self.id
     }
 
-    /// Its branch.
-    pub(crate) fn branch(&self) -> &Rc<Branch<A>, A>
-        ensures { result.now.value ≡ self.now.branch }
-    {
-        &self.branch
-    }
-
     /// What its branch waits for.
     pub(crate) fn awaited(&self) -> &Awaited<A>
         ensures { awaited_of result.now ≡ self.now.branch.awaited }
     {
-        self.branch.awaited()
+        &self.branch.awaited
     }
 
     /// Whether the bytes that its branch finds stay in the buffer (`-notransfer`).

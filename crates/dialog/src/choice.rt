@@ -181,21 +181,20 @@ impl<A: Allocator + Copy> Table<A> {
         let Awaited::Sought(pattern) = pair.awaited() else {
             return None;
         };
-        self.find(alloc, pair, pattern)
+        self.find(alloc, pair.id(), pattern)
     }
 
-    /// Where the pattern of a pair is found in the window of its id, where that is open.
-    fn find(&mut self, alloc: A, pair: &Pair<A>, pattern: &Pattern<A>) -> Option<Found>
-        requires { pair.now.branch.awaited ≡ Sought pattern.now }
+    /// Where a pattern is found in the window of an id, where the id is open.
+    fn find(&mut self, alloc: A, id: Id, pattern: &Pattern<A>) -> Option<Found>
         ensures unchanged { self.new ≡ self.old }
-        ensures found { let line = line_of self.old.lines pair.now.id in MatchOption result
+        ensures found { let line = line_of self.old.lines id in MatchOption result
             ((f : found.Found) → ¬ FindsIn (Sought pattern.now) line f)
             (FindsIn (Sought pattern.now) line) }
     {
-        let Some(place) = self.place(pair.id()) else {
+        let Some(place) = self.place(id) else {
             return None;
         };
-        self.entries[place].search(alloc, pair.branch(), pattern)
+        self.entries[place].search(alloc, pattern)
     }
 
     /// What a chosen pair comes to. On `Err` the table is unchanged.

@@ -1,6 +1,5 @@
 //! An open id with its match buffer.
 ghost use Rattle.std.specs.Prelude.{◌≡◌, ◌≤◌, ◌==◌, ◌↔◌, ◌++◌, length, Err, IfOk, OnOk, OnErr, IfSome, MatchOption};
-ghost use Rattle.dialog.specs.Branches.{Sought};
 ghost use Rattle.dialog.specs.Choice.{front_of, share_by, shortened_to};
 ghost use Rattle.dialog.specs.Lines.{reached, resized, dropping, row_of_line, without_nulls};
 ghost use Rattle.circular_buffer.specs.Buffer.{keep_last};
@@ -9,7 +8,6 @@ ghost use Rattle.matchbuf.specs.Size.{IsSize};
 ghost use Rattle.dialog.specs.Views.{line_by, kind_of};
 ghost use Rattle.tcltext.specs.Pattern.Match.{IsFound, SitsNowhere};
 
-use crate::branch::Branch;
 use crate::kind::Kind;
 use crate::searched::Searched;
 use acts::{Id, NoMemory, Row};
@@ -17,7 +15,6 @@ use matchbuf::{MatchBuf, MatchBufError};
 use memchr::memchr;
 use std::alloc::Allocator;
 use std::marker::Model;
-use std::rc::Rc;
 use tcltext::{Found, Pattern};
 
 /// An open id: what it was opened for, its match buffer, and whether nulls are removed from what
@@ -144,20 +141,14 @@ impl<A: Allocator> Entry<A> {
 }
 
 impl<A: Allocator + Copy> Entry<A> {
-    /// Finds the pattern of a branch in the window. No memory is asked for.
-    pub(crate) fn search(
-        &mut self,
-        alloc: A,
-        branch: &Rc<Branch<A>, A>,
-        pattern: &Pattern<A>,
-    ) -> Option<Found>
-        requires { branch.now.value.awaited ≡ Sought pattern.now }
+    /// Finds a pattern in the window. No memory is asked for.
+    pub(crate) fn search(&mut self, alloc: A, pattern: &Pattern<A>) -> Option<Found>
         ensures unchanged { self.new ≡ self.old }
         ensures found { let window = self.old.held.bytes in MatchOption result
             (SitsNowhere pattern.now window)
             (λ found. IsFound pattern.now window found.start found.end) }
     {
-        self.buffer.search(alloc, branch, pattern)
+        self.buffer.search(alloc, pattern)
     }
 
     /// Hands out the match and all before it, or the whole window where there is no match. They are

@@ -2,19 +2,16 @@
 
 ghost use Rattle.std.specs.Prelude.{◌≡◌, ◌≤◌, ◌↔◌, ◌++◌, drop, length, take, Err, IfOk, IsTrue, OnOk, OnErr, MatchOption};
 ghost use Rattle.circular_buffer.specs.Buffer.{keep_last};
-ghost use Rattle.dialog.specs.Branches.{Sought};
 ghost use Rattle.matchbuf.specs.Held.{held};
 ghost use Rattle.matchbuf.specs.Size.{IsSize};
 ghost use Rattle.tcltext.specs.Pattern.Match.{IsFound, SitsNowhere};
 
-use crate::branch::Branch;
 use crate::vain::{Vain, forget, note, place_of, room};
 use acts::NoMemory;
 use matchbuf::{MatchBuf, MatchBufError};
 use std::alloc::Allocator;
 use std::marker::Model;
-use std::rc::Rc;
-use tcltext::{Found, Pattern, Scratch};
+use tcltext::{Found, Pattern, Scratch, find_text};
 
 /// A match buffer, and what was sought in it in vain: a search for such a text goes on where the
 /// last one ended.
@@ -99,14 +96,8 @@ impl<A: Allocator> Searched<A> {
 }
 
 impl<A: Allocator + Copy> Searched<A> {
-    /// Finds the pattern of a branch. Takes no memory.
-    pub(crate) fn search(
-        &mut self,
-        alloc: A,
-        branch: &Rc<Branch<A>, A>,
-        pattern: &Pattern<A>,
-    ) -> Option<Found>
-        requires { branch.now.value.awaited ≡ Sought pattern.now }
+    /// Finds a pattern in the window. Takes no memory.
+    pub(crate) fn search(&mut self, alloc: A, pattern: &Pattern<A>) -> Option<Found>
         ensures unchanged { self.new ≡ self.old }
         ensures found { let window = self.old.bytes in MatchOption result
             (SitsNowhere pattern.now window)
@@ -116,16 +107,15 @@ impl<A: Allocator + Copy> Searched<A> {
             unreachable!()
         };
         let window = self.buffer.window();
-        let Some(text) = pattern.text() else {
-            return pattern.find(window, &mut scratch).found;
-        };
+        let needed = pattern.needs();
+        let text = needed.as_slice();
         let known = place_of(&self.vains, text, self.gone).min(window.len());
-        if let Some(found) = pattern.find_from(window, known, &mut scratch) {
-            return Some(found);
+        if find_text(text, window, known).is_none() {
+            let next = (window.len() + 1).saturating_sub(text.len());
+            note(&mut self.vains, needed, next, self.gone);
+            return None;
         }
-        let next = (window.len() + 1).saturating_sub(text.len());
-        note(&mut self.vains, branch, next, self.gone);
-        None
+        pattern.find(window, &mut scratch).found
     }
 
     /// A copy of the first bytes.

@@ -1,41 +1,24 @@
 //! Texts that were sought in a buffer in vain.
 
-ghost use Rattle.std.specs.Prelude.{◌≡◌, ◌≤◌, [], ℕ, List, IfOk, IsTrue, drop, length};
-ghost use Rattle.dialog.specs.Branches.{Sought as Awaits};
-ghost use Rattle.dialog.specs.Vain.{ArePassed, IsPassed};
+ghost use Rattle.std.specs.Prelude.{◌≡◌, ◌-◌, ◌≤◌, [], ℕ, List, IfOk, drop, length};
+ghost use Rattle.dialog.specs.Vain.{ArePassed};
 ghost use Rattle.tcltext.specs.Pattern.Glob.{exact};
 ghost use Rattle.tcltext.specs.Pattern.Passed.{Passed};
 
-use crate::branch::{Awaited, Branch};
 use acts::NoMemory;
 use std::alloc::Allocator;
-use std::rc::Rc;
+use tcltext::Value;
 
 /// How many of the last searches are kept in mind.
 const MOST: usize = 8;
 
-/// A text that was sought in vain, by the branch that waits for it.
+/// A text that was sought in vain.
 #[derive(Drop)]
 pub(crate) struct Vain<A: Allocator> {
-    branch: Rc<Branch<A>, A>,
+    text: Value<A>,
     /// Before this place it begins nowhere, whatever follows. Places are counted from the first
     /// byte that was there when the list was empty.
     from: usize,
-}
-
-impl<A: Allocator> Vain<A> {
-    /// Whether the branch waits for this text.
-    fn is_text(&self, text: &[u8]) -> bool
-        ensures { IsTrue result → self.now.branch.value.awaited ≡ Awaits (exact text.now) }
-    {
-        let Awaited::Sought(pattern) = self.branch.awaited() else {
-            return false;
-        };
-        match pattern.text() {
-            Some(known) => known == text,
-            None => false,
-        }
-    }
 }
 
 /// Room for the last searches.
@@ -52,7 +35,7 @@ pub(crate) fn place_of<A: Allocator>(vains: &[Vain<A>], text: &[u8], gone: usize
 {
     let mut rest = vains;
     while let Some((vain, more)) = rest.split_first() {
-        if vain.is_text(text) {
+        if vain.text.as_slice() == text {
             return vain.from.saturating_sub(gone);
         }
         rest = more;
@@ -60,24 +43,24 @@ pub(crate) fn place_of<A: Allocator>(vains: &[Vain<A>], text: &[u8], gone: usize
     0
 }
 
-/// Keeps in mind that a branch's text was sought in vain, up to this place of the bytes, instead of
-/// the oldest search where there are many. Takes no memory.
+/// Keeps in mind that a text begins nowhere before this place of the bytes, instead of the oldest
+/// search where there are many. Takes no memory.
 pub(crate) fn note<A: Allocator>(
     vains: &mut Vec<Vain<A>, A>,
-    branch: &Rc<Branch<A>, A>,
+    text: &Value<A>,
     next: usize,
     gone: usize,
 )
     ensures { (bytes : List ℕ) → ArePassed gone bytes vains.old.items →
-        IsPassed 0 bytes branch.now.value next → ArePassed gone bytes vains.new.items }
+        Passed (exact text.now) bytes next → ArePassed gone bytes vains.new.items }
 {
     let Some(from) = gone.checked_add(next) else {
         return;
     };
     vains.truncate(MOST - 1);
-    // Where the branch has as many holders as can be counted, the next search begins anew.
-    if let Ok(branch) = branch.clone() {
-        let _ = vains.insert(0, Vain { branch, from });
+    // Where the text has as many holders as can be counted, the next search begins anew.
+    if let Ok(text) = text.share() {
+        let _ = vains.insert(0, Vain { text, from });
     }
 }
 

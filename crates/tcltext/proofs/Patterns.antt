@@ -10,4 +10,5 @@ pub mod Finds
 pub mod Folds
 pub mod Bytes
 pub mod Items
+pub mod Needs
 pub mod Shifts

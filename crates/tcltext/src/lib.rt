@@ -17,4 +17,5 @@ pub use pattern::Pattern;
 pub use pattern::error::PatternError;
 pub use pattern::scratch::Scratch;
 pub use pattern::search::{Found, Search};
+pub use pattern::text::find_text;
 pub use value::Value;

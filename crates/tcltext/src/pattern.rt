@@ -1,9 +1,10 @@
 //! Patterns: read from a text, tested against a whole text, or sought in a window.
-ghost use Rattle.std.specs.Prelude.{◌≡◌, ℕ, ◌+◌, ◌*◌, ◌<◌, ◌≤◌, ◌↔◌, false, length, map, IfOk, IfSome, IsTrue, MatchOption, MatchResult};
+ghost use Rattle.std.specs.Prelude.{◌≡◌, ◌+◌, ◌*◌, ◌<◌, ◌≤◌, ◌↔◌, false, length, map, IfOk, IsTrue, MatchOption, MatchResult};
 ghost use Rattle.tcltext.specs.Pattern.Item.{literal};
 ghost use Rattle.tcltext.specs.Pattern.Glob.{glob, plain, exact, folded};
-ghost use Rattle.tcltext.specs.Pattern.Match.{Whole, Sits, SitsNowhere, IsFound};
-ghost use Rattle.tcltext.specs.Pattern.Runs.{items_of_runs};
+ghost use Rattle.tcltext.specs.Pattern.Match.{Whole, SitsNowhere, IsFound};
+ghost use Rattle.tcltext.specs.Pattern.Passed.{Needs};
+ghost use Rattle.tcltext.specs.Pattern.Runs.{items_of_runs, reading_of};
 
 pub mod error;
 mod items;
@@ -12,17 +13,18 @@ pub mod run;
 pub mod scratch;
 pub mod search;
 mod set;
-mod text;
+pub mod text;
 pub mod token;
 mod walk;
 pub mod window;
 
+use crate::value::Value;
 use error::PatternError;
 use memory::NoMemory;
 use read::{read_runs, split_caret};
 use run::{Run, Runs};
 use scratch::Scratch;
-use search::{Found, Search, Ties, locate};
+use search::{Search, Ties, locate};
 use std::alloc::Allocator;
 use std::marker::Model;
 use window::Window;
@@ -57,6 +59,8 @@ pub struct Pattern<A: Allocator> {
     runs: Runs<A>,
     ties: Ties,
     folds: bool,
+    /// A text that stands wherever the pattern sits.
+    needs: Value<A>,
 }
 
 impl<A: Allocator> Model for Pattern<A> {
@@ -66,7 +70,11 @@ impl<A: Allocator> Model for Pattern<A> {
 
     ghost use Rattle.tcltext.specs.Pattern.Runs.{reading_of};
 
+    ghost use Rattle.tcltext.specs.Pattern.Passed.{Needs};
+
     ghost view = { λ p. reading_of p.runs p.ties p.folds };
+
+    ghost invariant = { λ p. Needs (reading_of p.runs p.ties p.folds) p.needs };
 }
 
 impl<A: Allocator + Copy> Pattern<A> {
@@ -79,9 +87,7 @@ impl<A: Allocator + Copy> Pattern<A> {
         check_length(text)?;
         let (start, body) = split_caret(text);
         let (runs, end) = read_runs(alloc, body, true)?;
-        let ties = Ties { start, end };
-        let folds = false;
-        Ok(Pattern { runs, ties, folds })
+        Ok(Pattern::of_runs(alloc, runs, Ties { start, end })?)
     }
 
     /// Reads a glob of `string match` (string(n)), which is tied nowhere.
@@ -91,9 +97,7 @@ impl<A: Allocator + Copy> Pattern<A> {
     {
         check_length(text)?;
         let (runs, _) = read_runs(alloc, text, false)?;
-        let ties = Ties::NOWHERE;
-        let folds = false;
-        Ok(Pattern { runs, ties, folds })
+        Ok(Pattern::of_runs(alloc, runs, Ties::NOWHERE)?)
     }
 
     /// A pattern that takes this text and no other.
@@ -103,9 +107,21 @@ impl<A: Allocator + Copy> Pattern<A> {
     {
         check_length(text)?;
         let runs = text_alone(alloc, text)?;
-        let ties = Ties::NOWHERE;
+        Ok(Pattern::of_runs(alloc, runs, Ties::NOWHERE)?)
+    }
+
+    /// The pattern of these runs with these ties.
+    fn of_runs(alloc: A, runs: Runs<A>, ties: Ties) -> Result<Pattern<A>, NoMemory>
+        ensures { IfOk result (λ pattern. pattern ≡ reading_of runs ties false) }
+    {
+        let needs = Value::from_slice(alloc, runs.text())?;
         let folds = false;
-        Ok(Pattern { runs, ties, folds })
+        Ok(Pattern {
+            runs,
+            ties,
+            folds,
+            needs,
+        })
     }
 }
 
@@ -121,39 +137,15 @@ impl<A: Allocator> Pattern<A> {
             runs: self.runs,
             ties: self.ties,
             folds: true,
+            needs: Value::empty(),
         }
     }
 
-    /// The text that the pattern is, where it takes this text and no other, wherever it stands.
-    pub fn text(&self) -> Option<&[u8]>
-        ensures { IfSome result (λ text. self.now ≡ exact text.now) }
+    /// A text that stands wherever the pattern sits; the empty one where none is known.
+    pub fn needs(&self) -> &Value<A>
+        ensures { Needs self.now result.now }
     {
-        if self.folds || self.ties.start || self.ties.end || !self.runs.starred.is_empty() {
-            return None;
-        }
-        match &self.runs.last {
-            Run::Text(bytes) => Some(bytes.as_slice()),
-            Run::Items(_) => None,
-        }
-    }
-
-    /// The same as [`find`](Pattern::find), where it is known that the pattern begins nowhere
-    /// before this place. The bytes before it are not looked at.
-    pub fn find_from(&self, window: &[u8], from: usize, scratch: &mut Scratch<A>) -> Option<Found>
-        requires room { length window.now ≤ scratch.old }
-        requires inside { from ≤ length window.now }
-        requires untied { self.now.at_start ≡ false }
-        requires low { (s e : ℕ) → Sits self.now window.now s e → from ≤ s }
-        ensures found { MatchOption result
-            (SitsNowhere self.now window.now)
-            (λ found. IsFound self.now window.now found.start found.end) }
-        ensures room { scratch.new ≡ scratch.old }
-    {
-        let found = self.find(&window[from..], scratch).found?;
-        Some(Found {
-            start: found.start + from,
-            end: found.end + from,
-        })
+        &self.needs
     }
 
     /// Whether the pattern's items take the whole text, whatever it is tied to. Takes no memory.

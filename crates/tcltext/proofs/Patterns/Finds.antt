@@ -1,12 +1,14 @@
 -- What the places of the runs say of where the whole pattern sits.
-use Rattle.std.proofs.Common.{◌≡◌, ℕ, ◌+◌, ◌-◌, ◌≤◌, Bool, true, false, List, [], ◌∷◌, ◌++◌, length, drop, refl, sym, ◌∙◌, ap, subst, arith, IsTrue, Option, Some, None, MatchOption, is_some}
-use Rattle.std.proofs.lemmas.List.{append-nil, length-drop, take_all}
+use Rattle.std.proofs.Common.{◌≡◌, ℕ, ◌+◌, ◌-◌, ◌≤◌, Bool, true, false, List, [], ◌∷◌, ◌++◌, length, map, drop, refl, sym, ◌∙◌, ap, subst, inl, inr, arith, IsTrue, Option, Some, None, MatchOption, is_some}
+use Rattle.std.proofs.lemmas.List.{append-nil, length-drop, length-map, take_all}
 use Rattle.std.specs.Prelude.{slice_range}
-use Rattle.std.proofs.lemmas.Bool.{false≢true}
-use Rattle.tcltext.specs.Pattern.Item.{Item, any_run, Reading}
+use Rattle.std.proofs.lemmas.Bool.{cases_lt, false≢true}
+use Rattle.tcltext.specs.Pattern.Glob.{exact}
+use Rattle.tcltext.specs.Pattern.Item.{Item, literal, any_run, Reading}
 use Rattle.tcltext.specs.Pattern.Match.{Whole, Sits, SitsNowhere, IsFound}
-use Rattle.tcltext.specs.Pattern.Runs.{IsFixed, Leaves, IsPlace, FitsNowhere, IsFurthest, EndsNowhere}
+use Rattle.tcltext.specs.Pattern.Runs.{IsFixed, Leaves, IsPlace, IsFirstPlace, FitsNowhere, IsFurthest, EndsNowhere}
 use Rattle.tcltext.specs.declared.pattern.search.Found.{Found}
+use Rattle.tcltext.proofs.Patterns.Items.{IsFixed-text}
 use Rattle.tcltext.proofs.Patterns.Spans.{Fits-length, Leaves-behind_run, Leaves-join_run, Leaves-from_range, Leaves-range, drop_once}
 use Rattle.tcltext.proofs.Patterns.Stars.{drop_behind, Leaves-star_run, Leaves-earlier, last_place_of, last_joins}
 
@@ -85,7 +87,7 @@ only_sits run at_start at_end w s e fixed sits =
     (record { room = room; fits = parts.0 }, drop_once w (s + length run) e room sits.within behind)
 
 -- a run sits at its place
-only_sits_there : (run : List Item) (at_start at_end : Bool) (w : List ℕ) (s e : ℕ) → IsFixed run →
+pub only_sits_there : (run : List Item) (at_start at_end : Bool) (w : List ℕ) (s e : ℕ) → IsFixed run →
     IsPlace run w s → s + length run ≡ e →
     (IsTrue at_start → s ≡ 0) → (IsTrue at_end → e ≡ length w) →
     Sits (with_ties run at_start at_end) w s e
@@ -240,3 +242,32 @@ whole_iff_found items w (Some f) found =
     ap (λ (s : ℕ). slice_range w s f.end) starts ∙ ap (λ (e : ℕ). slice_range w 0 e) ends
     ∙ take_all (length w - 0) w (omega arith) in
     (λ _. subst (λ (x : List ℕ). Whole items x) range found.sits.whole, λ _. refl)
+
+untied : (n m : ℕ) → IsTrue false → n ≡ m
+untied n m tied = absurd (false≢true tied)
+
+-- a text that begins nowhere before a place has its place behind that
+low_place : (text w : List ℕ) (from k : ℕ) → ((s e : ℕ) → Sits (exact text) w s e → from ≤ s) →
+    IsPlace (map literal text) w k → from ≤ k
+low_place text w from k low here =
+    low k (k + length (map literal text))
+    (only_sits_there (map literal text) false false w k (k + length (map literal text))
+    (IsFixed-text text) here refl (untied k 0) (untied (k + length (map literal text)) (length w)))
+
+-- a text whose first place behind another is known, where it stands nowhere before that
+pub text_found : (text w : List ℕ) (from : ℕ) (r : Option ℕ) →
+    ((s e : ℕ) → Sits (exact text) w s e → from ≤ s) →
+    MatchOption r (FitsNowhere (map literal text) w from) (IsFirstPlace (map literal text) w from) →
+    MatchOption r (SitsNowhere (exact text) w)
+    (λ place. IsFound (exact text) w place (place + length text))
+text_found text w from None low none =
+    only_nowhere (map literal text) (map literal text) false false w (length text) refl
+    (IsFixed-text text) (sym (length-map text literal))
+    (λ k ties here. none k (low_place text w from k low here) here)
+text_found text w from (Some place) low first =
+    only_found (map literal text) (map literal text) false false w (length text) place refl
+    (IsFixed-text text) (sym (length-map text literal)) first.here (untied place 0, untied (place + length text) (length w))
+    (λ j ties here. elim (cases_lt j place) [
+      | inl before ↦ absurd (first.before j (low_place text w from j low here) before here)
+      | inr behind ↦ behind
+    ])

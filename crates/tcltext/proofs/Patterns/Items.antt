@@ -8,7 +8,7 @@ use Rattle.tcltext.specs.declared.pattern.run.Run.{Run}
 use Rattle.tcltext.specs.declared.pattern.run.Run.TheVariants.{Text, Items}
 use Rattle.tcltext.proofs.Patterns.Places.{IsFixed-items}
 
-IsFixed-text : (bytes : List ℕ) → IsFixed (map literal bytes)
+pub IsFixed-text : (bytes : List ℕ) → IsFixed (map literal bytes)
 IsFixed-text [] = tt
 IsFixed-text (b ∷ bytes) = IsFixed-text bytes
 
@@ -44,6 +44,22 @@ pub starred_items-push : {A : Type 0} (runs : List (Run A)) (run : Run A) (items
 starred_items-push [] run items = refl
 starred_items-push (r ∷ runs) run items =
     ap (λ (x : List Item). items_of_run r ++ any_run ∷ x) (starred_items-push runs run items)
+
+-- the items of the last run behind those before it
+pub starred_items-last : {A : Type 0} (runs : List (Run A)) (items : List Item) →
+    starred_items runs items ≡ starred_items runs [] ++ (items ++ [])
+starred_items-last runs items =
+    starred_items-append runs [] items
+    ∙ ap (λ (x : List Item). starred_items runs [] ++ x) (sym (append-nil items))
+
+-- the items of the last run with a `*` behind it, and those around it
+pub starred_items-before : {A : Type 0} (all runs : List (Run A)) (run : Run A)
+    (items : List Item) → all ≡ runs ++ run ∷ [] →
+    starred_items all items ≡ starred_items runs [] ++ (items_of_run run ++ any_run ∷ items)
+starred_items-before all runs run items split =
+    ap (λ r. starred_items r items) split
+    ∙ starred_items-push runs run items
+    ∙ starred_items-append runs [] (items_of_run run ++ any_run ∷ items)
 
 -- a sign was read, and its item stands behind the last run
 pub read_item : {A : Type 0} (runs : List (Run A)) (old new : List Item) (s : Sign)

@@ -1,11 +1,11 @@
--- Where a pattern sits in a window without its first bytes, and from where on it is sought.
+-- What a search in vain says of the window without its first bytes, or with more behind it.
 use Rattle.std.proofs.Common.{◌≡◌, ℕ, ◌+◌, ◌-◌, ◌≤◌, false, List, [], ◌∷◌, ◌++◌, IsTrue, length, map, take, drop, refl, sym, ◌∙◌, ap, subst, inl, inr, arith, append_assoc}
 use Rattle.std.specs.Prelude.{slice_range}
 use Rattle.std.proofs.lemmas.Bool.{cases_lt, false≢true}
 use Rattle.std.proofs.lemmas.List.{length-drop, length-append, length-take-le, take-append-le, append-nil, drop-drop, drop-append-le}
 use Rattle.tcltext.specs.Pattern.Glob.{exact}
 use Rattle.tcltext.specs.Pattern.Item.{Reading, literal}
-use Rattle.tcltext.specs.Pattern.Match.{Whole, Sits, SitsNowhere, IsFound, compared}
+use Rattle.tcltext.specs.Pattern.Match.{Whole, Sits, SitsNowhere, compared}
 use Rattle.tcltext.specs.Pattern.Passed.{Passed}
 
 -- the bytes from s up to e behind the first k
@@ -30,50 +30,6 @@ Sits-on p w k s e is inside sits = record {
   at_start = untied p (s + k) is;
   at_end = λ tied. omega (arith, sits.at_end tied, length-drop k w);
 }
-
--- and the other way round
-pub Sits-back : (p : Reading) (w : List ℕ) (k s e : ℕ) → p.at_start ≡ false → k ≤ length w →
-    Sits p w (s + k) (e + k) → Sits p (drop k w) s e
-Sits-back p w k s e is inside sits = record {
-  ordered = omega (arith, sits.ordered);
-  within = omega (arith, sits.within, length-drop k w);
-  whole =
-      subst (λ (x : List ℕ). Whole p.items (compared p.folds x)) (sym (range_on w k s e)) sits.whole;
-  at_start = untied p s is;
-  at_end = λ tied. omega (arith, sits.at_end tied, length-drop k w);
-}
-
--- where no match begins before k, a match behind k is one there
-found_back : (p : Reading) (w : List ℕ) (k s e : ℕ) → p.at_start ≡ false → k ≤ length w → k ≤ s →
-    Sits p w s e → Sits p (drop k w) (s - k) (e - k)
-found_back p w k s e is inside low sits =
-    let first : s - k + k ≡ s = omega arith in
-    let last : e - k + k ≡ e = omega (arith, sits.ordered) in
-    Sits-back p w k (s - k) (e - k) is inside
-    (subst (λ (n : ℕ). Sits p w (s - k + k) n) (sym last)
-    (subst (λ (n : ℕ). Sits p w n e) (sym first) sits))
-
--- what is found behind k is found in the window, where no match begins before k
-pub IsFound-on : (p : Reading) (w : List ℕ) (k s e : ℕ) → p.at_start ≡ false → k ≤ length w →
-    ((s' e' : ℕ) → Sits p w s' e' → k ≤ s') → IsFound p (drop k w) s e → IsFound p w (s + k) (e + k)
-IsFound-on p w k s e is inside none found = record {
-  sits = Sits-on p w k s e is inside found.sits;
-  least_start = λ s' e' sits.
-      let low = none s' e' sits in
-      let least = found.least_start (s' - k) (e' - k) (found_back p w k s' e' is inside low sits) in
-      omega arith;
-  greatest_end = λ e' sits.
-      let there = found_back p w k (s + k) e' is inside (omega arith) sits in
-      let same : s + k - k ≡ s = omega arith in
-      let most = found.greatest_end (e' - k) (subst (λ (n : ℕ). Sits p (drop k w) n (e' - k)) same there)
-      in
-      omega (arith, sits.ordered);
-}
-
-pub SitsNowhere-on : (p : Reading) (w : List ℕ) (k : ℕ) → p.at_start ≡ false → k ≤ length w →
-    ((s' e' : ℕ) → Sits p w s' e' → k ≤ s') → SitsNowhere p (drop k w) → SitsNowhere p w
-SitsNowhere-on p w k is inside none nowhere = λ s e sits.
-    nowhere (s - k) (e - k) (found_back p w k s e is inside (none s e sits) sits)
 
 -- bytes that are gone at the front
 pub Passed-drop : (p : Reading) (w : List ℕ) (k from : ℕ) → p.at_start ≡ false → k ≤ length w →

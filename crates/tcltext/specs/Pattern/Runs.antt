@@ -37,6 +37,10 @@ starred_items (run ∷ runs) items = items_of_run run ++ any_run ∷ starred_ite
 abbrev pub items_of_runs : {A : Type 0} → Runs A → List Item
 items_of_runs runs = starred_items runs.starred.items (items_of_run runs.last)
 
+-- Somewhere among the items are the bytes of the text (this project's own rule).
+abbrev pub Holds : List Item → List ℕ → Type 0
+Holds items text = (before after : List Item) × (items ≡ before ++ (map literal text ++ after))
+
 -- The pattern of these runs with these ties (this project's own rule).
 abbrev pub reading_of : {A : Type 0} → Runs A → Ties → Bool → Reading
 reading_of runs ties folds = record {

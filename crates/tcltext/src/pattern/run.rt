@@ -1,7 +1,7 @@
 //! The runs of a pattern: its items between two `*`, each of which takes one byte.
 ghost use Rattle.std.specs.Prelude.{◌≡◌, ℕ, ◌+◌, ◌*◌, ◌≤◌, ◌↔◌, ◌++◌, ◌∷◌, [], IsTrue, length, map, MatchOption, IfOk, IfSome};
 ghost use Rattle.tcltext.specs.Pattern.Item.{literal};
-ghost use Rattle.tcltext.specs.Pattern.Runs.{items_of, items_of_run, item_of_token, TakesFirst, IsPlace, IsFirstPlace, IsLastPlace, FitsNowhere};
+ghost use Rattle.tcltext.specs.Pattern.Runs.{items_of, items_of_run, items_of_runs, item_of_token, Holds, TakesFirst, IsPlace, IsFirstPlace, IsLastPlace, FitsNowhere};
 
 use crate::pattern::token::Token;
 use crate::pattern::window::Window;
@@ -35,6 +35,16 @@ impl<A: Allocator> Run<A> {
         match self {
             Run::Text(bytes) => bytes.len(),
             Run::Items(tokens) => tokens.len(),
+        }
+    }
+
+    /// The bytes, where all its items are bytes; else none.
+    fn text(&self) -> &[u8]
+        ensures { Holds (items_of_run self.now) result.now }
+    {
+        match self {
+            Run::Text(bytes) => bytes.as_slice(),
+            Run::Items(_) => &[],
         }
     }
 
@@ -92,6 +102,19 @@ impl<A: Allocator> Run<A> {
         match (self, window.as_bytes()) {
             (Run::Text(text), Some(bytes)) => text::last_place(text, bytes, from, steps),
             _ => walk::last_place(self, window, from, steps),
+        }
+    }
+}
+
+impl<A: Allocator> Runs<A> {
+    /// The bytes of the last run that has some, of the last two.
+    pub fn text(&self) -> &[u8]
+        ensures { Holds (items_of_runs self.now) result.now }
+    {
+        let text = self.last.text();
+        match self.starred.split_last() {
+            Some((run, _)) if text.is_empty() => run.text(),
+            _ => text,
         }
     }
 }

@@ -1,6 +1,8 @@
 //! Where bytes that stand for themselves fit in a window.
-ghost use Rattle.std.specs.Prelude.{◌+◌, ◌*◌, ◌≤◌, ◌↔◌, IsTrue, length, map, MatchOption};
+ghost use Rattle.std.specs.Prelude.{ℕ, ◌+◌, ◌*◌, ◌≤◌, ◌↔◌, IsTrue, length, map, MatchOption};
+ghost use Rattle.tcltext.specs.Pattern.Glob.{exact};
 ghost use Rattle.tcltext.specs.Pattern.Item.{literal};
+ghost use Rattle.tcltext.specs.Pattern.Match.{IsFound, Sits, SitsNowhere};
 ghost use Rattle.tcltext.specs.Pattern.Runs.{Fits, IsFirstPlace, IsLastPlace, FitsNowhere};
 
 use crate::pattern::window::Window;
@@ -58,6 +60,19 @@ pub fn first_place(bytes: &[u8], window: &[u8], from: usize, steps: &mut u64) ->
     };
     *steps = steps.saturating_add((passed + bytes.len()) as u64);
     Some(from + passed)
+}
+
+/// The first place of the window at which a text stands, where it is known to stand at none before
+/// `from`. Takes no memory, and time in the length of what is behind that.
+pub fn find_text(text: &[u8], window: &[u8], from: usize) -> Option<usize>
+    requires inside { from ≤ length window.now }
+    requires low { (s e : ℕ) → Sits (exact text.now) window.now s e → from ≤ s }
+    ensures { MatchOption result
+        (SitsNowhere (exact text.now) window.now)
+        (λ place. IsFound (exact text.now) window.now place (place + length text.now)) }
+{
+    let mut steps = 0;
+    first_place(text, window, from, &mut steps)
 }
 
 /// The last place of the window, at or behind `from`, at which the bytes stand. Time and steps are

@@ -1,4 +1,4 @@
-use Rattle.std.proofs.Common.{◌≡◌, ◌+◌, ◌-◌, ◌++◌, List, ℕ, length, drop, sym, ◌∙◌, ap, subst, arith, length-append}
+use Rattle.std.proofs.Common.{◌≡◌, ◌-◌, ◌++◌, List, ℕ, length, drop, sym, ◌∙◌, ap, subst, arith, length-append}
 use Rattle.matchbuf.specs.Held.{Held}
 use Rattle.dialog.specs.Vain.{ArePassed}
 use Rattle.dialog.proofs.Vains.{are_more}
