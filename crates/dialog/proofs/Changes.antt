@@ -11,6 +11,7 @@ use Rattle.dialog.specs.Kinds.{Kind}
 use Rattle.dialog.specs.Peers.{Peer, opened, at_peer, fresh, fresh_journal, shut, arrived, sized, set_nulls, line, HaveJournals, FitsPeers}
 use Rattle.dialog.specs.Views.{line_by}
 use Rattle.dialog.proofs.Chosen.{own_fits}
+use Rattle.dialog.proofs.Opened.{same_number}
 use Rattle.dialog.proofs.Peers.{Keeps, changes, opened-first, have}
 
 arrives : (bytes : List ℕ) (p : Peer) → IsJournal p.journal → Keeps (arrived bytes) (reached bytes) p
@@ -117,9 +118,6 @@ module _ (i : Id) where
       let lines : map line (opened (at_peer shut i ps)) ≡ new =
       left.lines ∙ ap (without i) fits.lines ∙ sym is in
       record { journals = left.journals; lines = lines }
-
-same_number : (n : ℕ) → (n == n) ≡ true
-same_number n = grind (arith, nat_tests)
 
 -- the id that was opened first closed
 out_first : (l : Line) (ls : List Line) → without l.id (l ∷ ls) ≡ ls

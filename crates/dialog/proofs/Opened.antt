@@ -45,7 +45,8 @@ module _ (i : Id) where
   opened_after_shut [] = refl
   opened_after_shut (p ∷ ps) = by p ps p.is_open (p.id.0 == i.0) refl refl (opened_after_shut ps)
 
-same_number : (n : ℕ) → (n == n) ≡ true
+-- a number is itself
+pub same_number : (n : ℕ) → (n == n) ≡ true
 same_number n = grind (arith, nat_tests)
 
 -- where the first open id is closed, the others are left

@@ -283,7 +283,8 @@ opened_bare c x h =
     let b = not_true (c == 34) p.1 in
     rw (a, b) refl
 
-bare_ends : (e z : List ℕ) → ends_element z ≡ true → 0 < length e →
+-- behind an element white follows, or nothing
+pub bare_ends : (e z : List ℕ) → ends_element z ≡ true → 0 < length e →
     BareEnds e z (next up_to_white z) (Ok (e, z))
 bare_ends e [] h some = (some, refl)
 bare_ends e (c ∷ z) h some = rw h (some, refl)

@@ -9,9 +9,10 @@ use Rattle.tcltext.specs.Style.{up_to_white}
 use Rattle.tcltext.specs.Escape.{escape}
 use Rattle.tcltext.specs.White.{is_white, skip_white, ends_element}
 use Rattle.tcltext.specs.Balanced.{IsBalanced, nothing}
-use Rattle.tcltext.specs.Elements.{a_byte, escaped, next, IsSpelled, BareEnds, bare, opening, IsOpened, IsElement, IsElements, IsList, HasFlaw}
+use Rattle.tcltext.specs.Elements.{a_byte, escaped, next, IsSpelled, bare, opening, IsOpened, IsElement, IsElements, IsList, HasFlaw}
 use Rattle.tcltext.specs.Canonical.{is_special, is_comment, is_empty, is_bare, pairs_up, is_braceable, escape_name, escaped_bytes, written, joined, canonical}
 use Rattle.tcltext.proofs.Pairing.{Closes, closes_byte, closes_open, closes_close}
+use Rattle.tcltext.proofs.Spellings.{bare_ends}
 use Rattle.tcltext.proofs.Unique.{one_list, no_list_with_flaw}
 
 -- What a byte is not, where it is not special
@@ -111,12 +112,6 @@ special_cases c h x =
 next_special : (c : ℕ) (x : List ℕ) → is_special c ≡ true →
     next up_to_white (92 ∷ escape_name c ∷ x) ≡ a_byte c x
 next_special c x h = ap escaped (special_cases c h x)
-
--- behind an element white follows, or nothing
-bare_ends : (e z : List ℕ) → ends_element z ≡ true → 0 < length e →
-    BareEnds e z (next up_to_white z) (Ok (e, z))
-bare_ends e [] h some = (some, refl)
-bare_ends e (c ∷ z) h some = rw h (some, refl)
 
 spelled_plain : (e z : List ℕ) → list_any is_special e ≡ false → IsSpelled up_to_white e (e ++ z) z
 spelled_plain [] z h = refl

@@ -37,11 +37,13 @@ pub struct Ties {
 }
 
 impl Ties {
+    /// Tied to neither end.
     pub const NOWHERE: Ties = Ties {
         start: false,
         end: false,
     };
 
+    /// Tied to both ends.
     pub const BOTH_ENDS: Ties = Ties {
         start: true,
         end: true,
