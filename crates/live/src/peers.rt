@@ -22,8 +22,10 @@ const MOST_READ: usize = 65_536;
 pub struct Peer {
     pub id: Id,
     pub link: Link,
-    /// What came while something was sent, and was not handed on yet.
+    /// What came while something was sent, until all of it was handed on.
     early: Vec<u8>,
+    /// How many bytes of that were handed on already, from its start.
+    handed_on: usize,
 }
 
 impl Peer {
@@ -34,12 +36,19 @@ impl Peer {
         if self.early.is_empty() {
             return self.link.look(room);
         }
-        let most = room.len().min(self.early.len());
+        let from = self.handed_on.min(self.early.len());
+        let rest = &self.early[from..];
+        let most = room.len().min(rest.len());
         if most == 0 {
             return Look::Silence;
         }
-        room[..most].copy_from_slice(&self.early[..most]);
-        self.early.drain(..most);
+        room[..most].copy_from_slice(&rest[..most]);
+        if most == rest.len() {
+            self.early.clear();
+            self.handed_on = 0;
+        } else {
+            self.handed_on = from + most;
+        }
         Look::Bytes(most)
     }
 
@@ -49,6 +58,7 @@ impl Peer {
         ensures bound { length self.old.early.items ≤ most_early
             → length self.new.early.items ≤ most_early }
     {
+        self.forget();
         let most = MOST_EARLY.saturating_sub(self.early.len()).min(room.len());
         let room = &mut room[..most];
         match self.link.look(room) {
@@ -58,6 +68,21 @@ impl Peer {
             }
             Look::Silence | Look::End => Ok(false),
         }
+    }
+
+    /// Drops the bytes that were handed on, and moves the rest of what was kept to the start. A
+    /// look does not, so that it costs no more than the bytes that it hands on.
+    fn forget(&mut self)
+        ensures { length self.new.early.items ≤ length self.old.early.items }
+    {
+        if self.handed_on == 0 {
+            return;
+        }
+        let from = self.handed_on.min(self.early.len());
+        let rest = self.early.len() - from;
+        self.early.copy_within(from.., 0);
+        self.early.truncate(rest);
+        self.handed_on = 0;
     }
 }
 
@@ -96,7 +121,12 @@ impl Peers {
         self.waiting.watch(&link)?;
         let early = Vec::new(self.alloc);
         self.list
-            .push(Peer { id, link, early })
+            .push(Peer {
+                id,
+                link,
+                early,
+                handed_on: 0,
+            })
             .map_err(AllocError::from)?;
         Ok(())
     }
