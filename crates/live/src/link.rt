@@ -4,7 +4,7 @@ ghost use Rattle.std.specs.Prelude.{length};
 ghost use Rattle.std.specs.Io.{ReadsAtMost, WritesAtMost};
 ghost use Rattle.live.specs.Look.{IsWithin};
 
-use std::io::{self, ErrorKind, Read, Write};
+use std::io::{self, ErrorKind, PipeReader, PipeWriter, Read, Write};
 use std::net::TcpStream;
 use std::os::fd::{AsRawFd, OwnedFd, RawFd};
 use std::process::{ChildStdin, ChildStdout};
@@ -34,7 +34,7 @@ pub enum Look {
 
 impl Link {
     /// A link to a program by two pipes. An `Err` closes both.
-    pub fn program(input: ChildStdin, output: ChildStdout) -> io::Result<Link> {
+    pub fn program(input: PipeWriter, output: PipeReader) -> io::Result<Link> {
         Ok(Link::Program {
             input: ChildStdin::from(without_waits(OwnedFd::from(input))?),
             output: ChildStdout::from(without_waits(OwnedFd::from(output))?),

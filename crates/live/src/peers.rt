@@ -116,9 +116,8 @@ impl Peers {
         self.list.reserve(1)
     }
 
-    /// Adds a link under an id. An `Err` closes the link.
-    pub fn open(&mut self, id: Id, link: Link) -> io::Result<()> {
-        self.waiting.watch(&link)?;
+    /// Adds a link that is watched, under an id. An `Err` closes the link.
+    pub fn open(&mut self, id: Id, link: Link) -> Result<(), AllocError> {
         let early = Vec::new(self.alloc);
         self.list
             .push(Peer {
@@ -127,8 +126,7 @@ impl Peers {
                 early,
                 handed_on: 0,
             })
-            .map_err(AllocError::from)?;
-        Ok(())
+            .map_err(AllocError::from)
     }
 
     /// Closes the link of an id, where one is open.

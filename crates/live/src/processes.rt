@@ -8,9 +8,10 @@ use crate::link::Link;
 use crate::peers::Peers;
 use crate::system::{refused, text_of};
 use acts::{Answer, Id};
-use std::alloc::{AllocError, Global};
-use std::io::{self, ErrorKind};
-use std::process::{Child, Command, Processes, Stdio, SystemProcess};
+use std::alloc::Global;
+use std::io::{self, ErrorKind, pipe};
+use std::process::{Child, Command, Processes, SystemProcess};
+use std::rt::Files;
 
 /// A program that was started under an id and not waited for yet.
 #[derive(Drop)]
@@ -19,23 +20,7 @@ pub struct Program {
     child: Child<SystemProcess>,
 }
 
-impl Program {
-    /// Starts a program with its arguments, and gives the two pipes to it. Its standard error stays
-    /// that of this process.
-    fn start<R: Processes<Started = SystemProcess> + AllocGlobal>(
-        rt: &R,
-        id: Id,
-        words: &[Vec<u8>],
-    ) -> io::Result<(Program, Link)> {
-        let mut child = command_of(rt, words)?.spawn(rt)?;
-        let (Some(input), Some(output)) = (child.stdin.take(), child.stdout.take()) else {
-            return Err(io::Error::from(ErrorKind::Other));
-        };
-        Ok((Program { id, child }, Link::program(input, output)?))
-    }
-}
-
-/// The command of a program and its arguments, over pipes.
+/// The command of a program and its arguments. Its standard error stays that of this process.
 fn command_of<R: AllocGlobal>(rt: &R, words: &[Vec<u8>]) -> io::Result<Command> {
     let Some((name, args)) = words.split_first() else {
         return Err(io::Error::from(ErrorKind::InvalidInput));
@@ -44,13 +29,20 @@ fn command_of<R: AllocGlobal>(rt: &R, words: &[Vec<u8>]) -> io::Result<Command> 
     for arg in args {
         command.arg(text_of(arg)?)?;
     }
-    command.stdin(Stdio::piped());
-    command.stdout(Stdio::piped());
     Ok(command)
 }
 
+/// Gives a command one end each of two pipes, and makes the link of the others.
+fn link_to(files: &impl Files, command: &mut Command) -> io::Result<Link> {
+    let (stdin, input) = pipe(files)?;
+    let (output, stdout) = pipe(files)?;
+    command.stdin(stdin);
+    command.stdout(stdout);
+    Link::program(input, output)
+}
+
 /// Starts a program under an id, and says the number of its process.
-pub fn spawn<R: Processes<Started = SystemProcess> + AllocGlobal>(
+pub fn spawn<R: Processes<Started = SystemProcess> + Files + AllocGlobal>(
     rt: &R,
     peers: &mut Peers,
     programs: &mut Vec<Program>,
@@ -65,8 +57,9 @@ pub fn spawn<R: Processes<Started = SystemProcess> + AllocGlobal>(
     }
 }
 
-/// Starts a program under an id, and gives the number of its process. Room for it is made before.
-fn started<R: Processes<Started = SystemProcess> + AllocGlobal>(
+/// Starts a program under an id, and gives the number of its process. Its link and the room for it
+/// are made before, so that no program is left running that nobody waits for.
+fn started<R: Processes<Started = SystemProcess> + Files + AllocGlobal>(
     rt: &R,
     peers: &mut Peers,
     programs: &mut Vec<Program>,
@@ -75,9 +68,12 @@ fn started<R: Processes<Started = SystemProcess> + AllocGlobal>(
 ) -> io::Result<u64> {
     peers.reserve()?;
     programs.reserve(1)?;
-    let (program, link) = Program::start(rt, id, words)?;
-    let number = u64::from(program.child.id());
-    programs.push(program).map_err(AllocError::from)?;
+    let mut command = command_of(rt, words)?;
+    let link = link_to(rt, &mut command)?;
+    peers.waiting.watch(&link)?;
+    let child = command.spawn(rt)?;
+    let number = u64::from(child.id());
+    programs.push_reserved(Program { id, child });
     peers.open(id, link)?;
     Ok(number)
 }

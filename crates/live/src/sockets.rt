@@ -38,5 +38,8 @@ fn connected<R: Net<Stream = TcpStream>>(
 ) -> io::Result<()> {
     peers.reserve()?;
     let stream = TcpStream::connect(rt, (text_of(host)?, port))?;
-    peers.open(id, Link::server(stream)?)
+    let link = Link::server(stream)?;
+    peers.waiting.watch(&link)?;
+    peers.open(id, link)?;
+    Ok(())
 }
