@@ -7,6 +7,7 @@ ghost use Rattle.live.specs.Arriving.{comes, is_of, is_wanted};
 
 use crate::link::Look;
 use crate::peers::Peers;
+use crate::system::MOST_TRIES;
 use crate::waiting::Left;
 use acts::{Answer, Id, Row, Timer};
 use std::alloc::Global;
@@ -38,7 +39,7 @@ impl Peers {
         if timer == Timer::Running && self.waiting.left(clock, timer)? == Left::Nothing {
             return Ok(Answer::TimedOut);
         }
-        'looks: for _ in 0..u64::MAX {
+        'looks: for _ in 0..MOST_TRIES {
             if let Some(answer) = self.look(rows)? {
                 return Ok(answer);
             }

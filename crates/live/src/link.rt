@@ -4,6 +4,7 @@ ghost use Rattle.std.specs.Prelude.{length};
 ghost use Rattle.std.specs.Io.{ReadsAtMost, WritesAtMost};
 ghost use Rattle.live.specs.Look.{IsWithin};
 
+use crate::system::MOST_TRIES;
 use std::io::{self, ErrorKind, PipeReader, PipeWriter, Read, Write};
 use std::net::TcpStream;
 use std::os::fd::{AsRawFd, OwnedFd, RawFd};
@@ -75,7 +76,7 @@ impl Link {
         if room.is_empty() {
             return Look::Silence;
         }
-        'tries: for _ in 0..u64::MAX {
+        'tries: for _ in 0..MOST_TRIES {
             match self.read(room) {
                 Ok(0) => return Look::End,
                 Ok(count) => return Look::Bytes(count),

@@ -4,7 +4,7 @@ ghost use Rattle.std.specs.Prelude.{◌≡◌, true};
 ghost use Rattle.acts.specs.Deed.{reply_of};
 ghost use Rattle.acts.specs.Fits as table;
 
-use crate::system::{refused, text_of};
+use crate::system::{MOST_TRIES, refused, text_of};
 use acts::{Answer, LogMode};
 use std::alloc::Global;
 use std::fs::{File, OpenOptions};
@@ -17,7 +17,7 @@ pub fn write_text<W: Write>(writer: &mut W, text: &[u8]) -> Answer<Global>
     ensures { table.fits_write text.now (reply_of result) ≡ true }
 {
     let mut rest = text;
-    'text: for _ in 0..u64::MAX {
+    'text: for _ in 0..MOST_TRIES {
         if rest.is_empty() {
             return Answer::Done;
         }

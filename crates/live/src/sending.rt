@@ -6,6 +6,7 @@ ghost use Rattle.acts.specs.Deed.{reply_of};
 ghost use Rattle.acts.specs.Fits as table;
 
 use crate::peers::{Peer, Peers};
+use crate::system::MOST_TRIES;
 use crate::waiting::Waiting;
 use acts::{Answer, Id};
 use std::alloc::Global;
@@ -30,7 +31,7 @@ fn send_to(peer: &mut Peer, waiting: &mut Waiting, room: &mut [u8], text: &[u8])
     ensures { table.fits_write text.now (reply_of result) ≡ true }
 {
     let mut rest = text;
-    'text: for _ in 0..u64::MAX {
+    'text: for _ in 0..MOST_TRIES {
         if rest.is_empty() {
             return Answer::Done;
         }

@@ -1,4 +1,4 @@
-//! What the system's errors and texts are to a run.
+//! What the system's errors and texts are to a run, and how often its calls are tried.
 
 ghost use Rattle.std.specs.Prelude.{◌≡◌, true};
 ghost use Rattle.acts.specs.Deed.{reply_of};
@@ -8,6 +8,9 @@ use acts::Answer;
 use std::alloc::Global;
 use std::io::{self, ErrorKind};
 use std::str;
+
+/// How often a loop tries its calls at most, since it has to be seen to end. No run comes near it.
+pub const MOST_TRIES: u64 = u64::MAX;
 
 /// The answer to an act that the system refused: no more answers where memory was refused, and else
 /// that it is refused.
