@@ -32,10 +32,10 @@ pub fn read_line<A: Allocator>(alloc: A, line: &[u8]) -> Result<Option<Answer<A>
     if line == b"timeout".as_slice() {
         return Ok(Some(Answer::TimedOut));
     }
-    if let Some(sent) = read_failed(line) {
+    if let Some(sent) = read_number(line, b"failed ") {
         return Ok(Some(Answer::Failed(sent)));
     }
-    if let Some(pid) = read_started(line) {
+    if let Some(pid) = read_number(line, b"started ") {
         return Ok(Some(Answer::Started(pid)));
     }
     if let Some(status) = read_status(line) {
@@ -48,26 +48,6 @@ pub fn read_line<A: Allocator>(alloc: A, line: &[u8]) -> Result<Option<Answer<A>
         Some((id, bytes)) => Ok(Some(Answer::Arrive(id, bytes))),
         None => Ok(None),
     }
-}
-
-/// The number of bytes in the line of a failure.
-fn read_failed(line: &[u8]) -> Option<u64>
-    ensures sent { IfSome result (λ sent. line.now ≡ codes "failed " ++ decimal sent) }
-    ensures none { IfNone result ((sent : ℕ)
-        → sent < 2 ^ 64 → line.now ≢ codes "failed " ++ decimal sent) }
-{
-    let sent = line.strip_prefix(b"failed ")?;
-    read_decimal(sent)
-}
-
-/// The process number of the line of a program that was started.
-fn read_started(line: &[u8]) -> Option<u64>
-    ensures pid { IfSome result (λ pid. line.now ≡ codes "started " ++ decimal pid) }
-    ensures none { IfNone result ((pid : ℕ)
-        → pid < 2 ^ 64 → line.now ≢ codes "started " ++ decimal pid) }
-{
-    let pid = line.strip_prefix(b"started ")?;
-    read_decimal(pid)
 }
 
 /// The number that stands in a line behind a word.

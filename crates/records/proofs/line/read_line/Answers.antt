@@ -9,6 +9,6 @@ returns-in-None g c =
     (other_text line (codes "refused") _ _ c.eq-2.ensures c.as_slice-2.ensures c.if-eq-2.false)
     (other_text line (codes "exited -") _ _ c.eq-3.ensures c.as_slice-3.ensures c.if-eq-3.false)
     (other_text line (codes "timeout") _ _ c.eq-4.ensures c.as_slice-4.ensures c.if-eq-4.false)
-    c.in_default.ensures.none c.in_default-read_started.ensures.none
+    c.in_default.ensures.none c.in_default-read_number.ensures.none
     c.in_default-read_status.ensures.none c.in_default-read_end.ensures.none
     (rw c.in-None.is at c.in_ok-id.ensures)
