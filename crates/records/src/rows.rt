@@ -64,14 +64,10 @@ fn read_first_row(text: &[u8]) -> Option<(Row, &[u8])>
     ensures none { IfNone result ((row : WaitRow) (rest : List ℕ) → IsRow row → StartsAt 32 rest
         → text.now ≢ 32 ∷ (row_text row ++ rest)) }
 {
-    let Some(behind) = text.strip_prefix(b" ") else {
-        return None;
-    };
+    let behind = text.strip_prefix(b" ")?;
     let (front, after) = cut_before(behind, b' ');
-    match read_row(front) {
-        Some(row) => Some((row, after)),
-        None => None,
-    }
+    let row = read_row(front)?;
+    Some((row, after))
 }
 
 /// The row whose text this is.
@@ -79,21 +75,11 @@ fn read_row(text: &[u8]) -> Option<Row>
     ensures row { IfSome result (λ row. IsRow row × (text.now ≡ row_text row)) }
     ensures none { IfNone result ((row : WaitRow) → IsRow row → text.now ≢ row_text row) }
 {
-    let Some((name, sizes)) = cut_at(text, b':') else {
-        return None;
-    };
-    let Some((held, max)) = cut_at(sizes, b':') else {
-        return None;
-    };
-    let Some(id) = Id::read(name) else {
-        return None;
-    };
-    let Some(held) = read_decimal(held) else {
-        return None;
-    };
-    let Some(max) = read_decimal(max) else {
-        return None;
-    };
+    let (name, sizes) = cut_at(text, b':')?;
+    let (held, max) = cut_at(sizes, b':')?;
+    let id = Id::read(name)?;
+    let held = read_decimal(held)?;
+    let max = read_decimal(max)?;
     row_of(id, held, max)
 }
 

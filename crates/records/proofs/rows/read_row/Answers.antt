@@ -6,58 +6,58 @@ use Rattle.records.proofs.Lines.{none_weaker}
 use Rattle.records.proofs.RowTexts.{row_cut, sizes_cut, sizes_text}
 use Rattle.records.proofs.rows.read_row.Goals as goal
 
-pub returns-in_default-clause-none : goal.returns-in_default-clause-none
-returns-in_default-clause-none c = λ row is e.
-    no_cut 58 c.args.text.now (id_text row.id.0) (sizes_text row) c.in_default.ensures.none e
+pub returns-in_err-name-clause-none : goal.returns-in_err-name-clause-none
+returns-in_err-name-clause-none c = rw c.from_residual.ensures (λ row is e.
+    no_cut 58 c.args.text.now (id_text row.id.0) (sizes_text row) c.in_err-name.ensures.none e)
 
-pub returns-in_default-cut_at-clause-none : goal.returns-in_default-cut_at-clause-none
-returns-in_default-cut_at-clause-none c = λ row is e.
-    let (whole, lacks) = c.in-Some.ensures.found in
-    let (name, sizes) = row_cut c.args.text.now c.in-Some.name.now c.in-Some.sizes.now row is whole
-    lacks e in
-    no_cut 58 c.in-Some.sizes.now (decimal row.held) (decimal row.max)
-    c.in_default-cut_at.ensures.none sizes
+pub returns-in_err-held-clause-none : goal.returns-in_err-held-clause-none
+returns-in_err-held-clause-none c = rw c.from_residual-in_err-held.ensures (λ row is e.
+    let (whole, lacks) = c.in_ok-name.ensures.found in
+    let (name, sizes) = row_cut c.args.text.now c.in_ok-name.name.now c.in_ok-name.sizes.now row is
+    whole lacks e in
+    no_cut 58 c.in_ok-name.sizes.now (decimal row.held) (decimal row.max)
+    c.in_err-held.ensures.none sizes)
 
-pub returns-in_default-read-clause-none : goal.returns-in_default-read-clause-none
-returns-in_default-read-clause-none c = λ row is e.
-    let (whole, lacks) = c.in-Some.ensures.found in
-    let (name, sizes) = row_cut c.args.text.now c.in-Some.name.now c.in-Some.sizes.now row is whole
-    lacks e in
-    c.in_default-read.ensures.none row.id.0 is.0 name
+pub returns-in_err-id-clause-none : goal.returns-in_err-id-clause-none
+returns-in_err-id-clause-none c = rw c.from_residual-in_err-id.ensures (λ row is e.
+    let (whole, lacks) = c.in_ok-name.ensures.found in
+    let (name, sizes) = row_cut c.args.text.now c.in_ok-name.name.now c.in_ok-name.sizes.now row is
+    whole lacks e in
+    c.in_err-id.ensures.none row.id.0 is.0 name)
 
-pub returns-in_default-read_decimal-clause-none : goal.returns-in_default-read_decimal-clause-none
-returns-in_default-read_decimal-clause-none c = λ row is e.
-    let (whole, lacks) = c.in-Some.ensures.found in
-    let (name, sizes) = row_cut c.args.text.now c.in-Some.name.now c.in-Some.sizes.now row is whole
-    lacks e in
-    let (cut, lacks_held) = c.in-Some-cut_at.ensures.found in
-    let (held, max) = sizes_cut c.in-Some.sizes.now c.in-Some-cut_at.held.now
-    c.in-Some-cut_at.max.now row is cut lacks_held sizes in
+pub returns-in_err-held-2-clause-none : goal.returns-in_err-held-2-clause-none
+returns-in_err-held-2-clause-none c = rw c.from_residual-in_err-held-2.ensures (λ row is e.
+    let (whole, lacks) = c.in_ok-name.ensures.found in
+    let (name, sizes) = row_cut c.args.text.now c.in_ok-name.name.now c.in_ok-name.sizes.now row is
+    whole lacks e in
+    let (cut, lacks_held) = c.in_ok-held.ensures.found in
+    let (held, max) = sizes_cut c.in_ok-name.sizes.now c.in_ok-held.held.now c.in_ok-held.max.now
+    row is cut lacks_held sizes in
     let (id, some, most, fits, want) = is in
-    c.in_default-read_decimal.ensures.none row.held (omega arith) held
+    c.in_err-held-2.ensures.none row.held (omega arith) held)
 
-pub returns-in_default-read_decimal-2-clause-none : goal.returns-in_default-read_decimal-2-clause-none
-returns-in_default-read_decimal-2-clause-none c = λ row is e.
-    let (whole, lacks) = c.in-Some.ensures.found in
-    let (name, sizes) = row_cut c.args.text.now c.in-Some.name.now c.in-Some.sizes.now row is whole
-    lacks e in
-    let (cut, lacks_held) = c.in-Some-cut_at.ensures.found in
-    let (held, max) = sizes_cut c.in-Some.sizes.now c.in-Some-cut_at.held.now
-    c.in-Some-cut_at.max.now row is cut lacks_held sizes in
+pub returns-in_err-max-clause-none : goal.returns-in_err-max-clause-none
+returns-in_err-max-clause-none c = rw c.from_residual-in_err-max.ensures (λ row is e.
+    let (whole, lacks) = c.in_ok-name.ensures.found in
+    let (name, sizes) = row_cut c.args.text.now c.in_ok-name.name.now c.in_ok-name.sizes.now row is
+    whole lacks e in
+    let (cut, lacks_held) = c.in_ok-held.ensures.found in
+    let (held, max) = sizes_cut c.in_ok-name.sizes.now c.in_ok-held.held.now c.in_ok-held.max.now
+    row is cut lacks_held sizes in
     let (id, some, most, fits, want) = is in
-    c.in_default-read_decimal-2.ensures.none row.max (omega arith) max
+    c.in_err-max.ensures.none row.max (omega arith) max)
 
 pub returns-clause-none : goal.returns-clause-none
 returns-clause-none c = none_weaker c.row_of.result c.row_of.ensures.none (λ none row is e.
-    let (whole, lacks) = c.in-Some.ensures.found in
-    let (name, sizes) = row_cut c.args.text.now c.in-Some.name.now c.in-Some.sizes.now row is whole
-    lacks e in
-    let (cut, lacks_held) = c.in-Some-cut_at.ensures.found in
-    let (held, max) = sizes_cut c.in-Some.sizes.now c.in-Some-cut_at.held.now
-    c.in-Some-cut_at.max.now row is cut lacks_held sizes in
+    let (whole, lacks) = c.in_ok-name.ensures.found in
+    let (name, sizes) = row_cut c.args.text.now c.in_ok-name.name.now c.in_ok-name.sizes.now row is
+    whole lacks e in
+    let (cut, lacks_held) = c.in_ok-held.ensures.found in
+    let (held, max) = sizes_cut c.in_ok-name.sizes.now c.in_ok-held.held.now c.in_ok-held.max.now
+    row is cut lacks_held sizes in
     let (id, some, most, fits, want) = is in
-    let h : c.in-Some-read_decimal.held ≡ row.held = decimal_injective c.in-Some-read_decimal.held
-    row.held (omega arith) (omega arith) (sym c.in-Some-read_decimal.ensures.spelled ∙ held) in
-    let m : c.in-Some-read_decimal-2.max ≡ row.max = decimal_injective c.in-Some-read_decimal-2.max
-    row.max (omega arith) (omega arith) (sym c.in-Some-read_decimal-2.ensures.spelled ∙ max) in
+    let h : c.in_ok-held-2.held ≡ row.held = decimal_injective c.in_ok-held-2.held row.held
+    (omega arith) (omega arith) (sym c.in_ok-held-2.ensures.spelled ∙ held) in
+    let m : c.in_ok-max.max ≡ row.max = decimal_injective c.in_ok-max.max row.max (omega arith)
+    (omega arith) (sym c.in_ok-max.ensures.spelled ∙ max) in
     none (omega arith) (omega arith) (omega arith))
