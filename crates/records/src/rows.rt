@@ -1,6 +1,6 @@
 //! The rows of waits, as records spell them.
 
-ghost use Rattle.std.specs.Prelude.{◌≡◌, ◌≢◌, ◌≤◌, ◌∷◌, ◌++◌, ◌↔◌, [], ℕ, List, codes, MatchOption, IfOk, IfSome, IfNone, IsTrue};
+ghost use Rattle.std.specs.Prelude.{◌≡◌, ◌≢◌, ◌≤◌, ◌∷◌, ◌++◌, ◌↔◌, ℕ, List, codes, MatchOption, IfOk, IfSome, IfNone, IsTrue};
 ghost use Rattle.std.specs.List.{AllByRecursion};
 ghost use Rattle.acts.specs.declared.row.Row.{Row as WaitRow};
 ghost use Rattle.records.specs.Cut.{StartsAt};
@@ -117,35 +117,17 @@ fn wanted(held: u32, max: u32) -> u32
 pub fn are_rows(rows: &[Row]) -> bool
     ensures { IsTrue result ↔ AllByRecursion IsRow rows.now }
 {
-    let mut rest = rows;
-    while !rest.is_empty() {
-        let Some((row, behind)) = first_row(rest) else {
-            return true;
-        };
+    for row in rows {
         if !is_row(row) {
             return false;
         }
-        rest = behind;
     }
     true
 }
 
-/// The first row, and those behind it.
-pub fn first_row(rows: &[Row]) -> Option<(Row, &[Row])>
-    ensures { MatchOption result (rows.now ≡ []) (λ first. rows.now ≡ first.0 ∷ first.1.now) }
-{
-    match rows {
-        [first, behind @ ..] => Some((*first, behind)),
-        [] => None,
-    }
-}
-
 /// Whether a record can tell this row: its sizes are in range, and it wants what they say.
-fn is_row(row: Row) -> bool
-    ensures { IsTrue result ↔ IsRow row }
+fn is_row(row: &Row) -> bool
+    ensures { IsTrue result ↔ IsRow row.now }
 {
-    if row.max < 1 || (row.max as u64) > GREATEST_SIZE || row.max < row.held {
-        return false;
-    }
-    row.want == wanted(row.held, row.max)
+    row_of(row.id, row.held as u64, row.max as u64) == Some(*row)
 }

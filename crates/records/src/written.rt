@@ -14,7 +14,6 @@ use crate::digits::write_digits;
 use crate::entries::SECOND_HEADER;
 use crate::entry::Entry;
 use crate::record::HEADER;
-use crate::rows::first_row;
 use crate::sink::{Sink, put_all};
 use acts::{Answer, Id, Row};
 use itoa::Buffer;
@@ -194,19 +193,14 @@ fn put_arrival<S: Sink>(sink: &mut S, id: Id, bytes: &[u8])
 fn put_rows<S: Sink>(sink: &mut S, rows: &[Row])
     ensures { Takes S.adds S.has_failed sink.old (rows_text rows.now) sink.new }
 {
-    let mut rest = rows;
-    while !rest.is_empty() {
-        let Some((row, behind)) = first_row(rest) else {
-            return;
-        };
+    for row in rows {
         put_row(sink, row);
-        rest = behind;
     }
 }
 
 /// Puts a row behind a blank.
-fn put_row<S: Sink>(sink: &mut S, row: Row)
-    ensures { Takes S.adds S.has_failed sink.old (32 ∷ row_text row) sink.new }
+fn put_row<S: Sink>(sink: &mut S, row: &Row)
+    ensures { Takes S.adds S.has_failed sink.old (32 ∷ row_text row.now) sink.new }
 {
     put_number(sink, b" exp", row.id.0, b":");
     put_number(sink, b"", row.held as u64, b":");

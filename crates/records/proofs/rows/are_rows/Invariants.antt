@@ -1,10 +1,8 @@
-use Rattle.std.proofs.Common.{◌↔◌, length}
+use Rattle.std.proofs.Common.{◌↔◌, drop}
 use Rattle.std.specs.List.{AllByRecursion}
 use Rattle.records.specs.Rows.{IsRow}
 use Rattle.records.proofs.rows.are_rows.Given as goal
 
-abbrev pub invariant-loop-rest : goal.invariant-loop-rest
-invariant-loop-rest l = AllByRecursion IsRow l.rest ↔ AllByRecursion IsRow l.rows
-
-abbrev pub decreases-loop-rest : goal.decreases-loop-rest
-decreases-loop-rest l = length l.rest
+abbrev pub invariant-loop-row : goal.invariant-loop-row
+invariant-loop-row l =
+    AllByRecursion IsRow (drop l.row-index l.rows) ↔ AllByRecursion IsRow l.rows

@@ -1,21 +1,19 @@
-use Rattle.std.proofs.Common.{sym, ◌∙◌}
-use Rattle.records.proofs.Spelled.{none_left, rows_done, rows_written}
+use Rattle.std.proofs.Common.{◌+◌, drop}
+use Rattle.std.proofs.lemmas.List.{drop_more}
+use Rattle.records.proofs.Spelled.{nothing_behind, rows_done, rows_written}
 use Rattle.records.proofs.written.put_rows.Goals as goal
 
-pub loop-rest-preserved : goal.loop-rest-preserved
-loop-rest-preserved g c =
-    rows_written g.S.Sink.adds g.S.Sink.has_failed c.args.rows.now c.loop-rest.rest.now
-    c.in-Some.behind.now c.in-Some.row c.args.sink.now c.loop-rest.sink c.put_row.new.sink
-    c.in-Some.ensures c.loop-rest.invariant c.put_row.ensures
-
-pub returns-in_default : goal.returns-in_default
-returns-in_default g c =
-    rows_done g.S.Sink.adds g.S.Sink.has_failed c.args.rows.now c.loop-rest.rest.now
-    c.args.sink.now c.loop-rest.sink c.in_default.ensures c.loop-rest.invariant
+pub loop-row-preserved : goal.loop-row-preserved
+loop-row-preserved g c =
+    let rows = c.args.rows.now in
+    let i = c.loop-row.row-index in
+    rows_written g.S.Sink.adds g.S.Sink.has_failed rows (drop i rows) (drop (i + 1) rows) _
+    c.args.sink.now c.loop-row.sink c.put_row.new.sink (drop_more rows i _ c.loop-row-test.true)
+    c.loop-row.invariant c.put_row.ensures
 
 pub returns : goal.returns
 returns g c =
-    rows_done g.S.Sink.adds g.S.Sink.has_failed c.args.rows.now c.loop-rest.rest.now
-    c.args.sink.now c.loop-rest.sink
-    (none_left c.loop-rest.rest.now (sym c.is_empty.ensures ∙ c.loop-rest-test.false))
-    c.loop-rest.invariant
+    let rows = c.args.rows.now in
+    let i = c.loop-row.row-index in
+    rows_done g.S.Sink.adds g.S.Sink.has_failed rows (drop i rows) c.args.sink.now c.loop-row.sink
+    (nothing_behind rows i c.loop-row-test.false) c.loop-row.invariant

@@ -1,12 +1,9 @@
-use Rattle.std.proofs.Common.{◌≡◌, ℕ, List, length, ◌++◌}
+use Rattle.std.proofs.Common.{◌≡◌, ℕ, List, drop, ◌++◌}
 use Rattle.records.specs.Rows.{rows_text}
 use Rattle.records.specs.Sink.{Takes}
 use Rattle.records.proofs.written.put_rows.Given as goal
 
-abbrev pub invariant-loop-rest : goal.invariant-loop-rest
-invariant-loop-rest g l =
+abbrev pub invariant-loop-row : goal.invariant-loop-row
+invariant-loop-row g l =
     (done : List ℕ) × Takes g.S.Sink.adds g.S.Sink.has_failed l.fn.sink done l.sink
-    × (rows_text l.rows ≡ done ++ rows_text l.rest)
-
-abbrev pub decreases-loop-rest : goal.decreases-loop-rest
-decreases-loop-rest g l = length l.rest
+    × (rows_text l.rows ≡ done ++ rows_text (drop l.row-index l.rows))
