@@ -88,10 +88,7 @@ fn read_notes<A: Allocator + Copy>(alloc: A, lines: &[u8]) -> Result<Vec<Entry<A
     let mut line = 2u64;
     let mut rest = lines;
     while !rest.is_empty() {
-        let (entry, after) = match read_entry(alloc, rest, line) {
-            Ok(found) => found,
-            Err(fault) => return Err(fault),
-        };
+        let (entry, after) = read_entry(alloc, rest, line)?;
         line += count_lines(&entry);
         entries.push(entry)?;
         rest = after;
