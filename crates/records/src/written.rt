@@ -9,6 +9,7 @@ ghost use Rattle.records.specs.Entry.{AreLinesOf, AreNotes, IsNote, IsSecondReco
 ghost use Rattle.records.specs.Record.{AreLines, IsRecord, IsTold, IsWholeLine, newline};
 ghost use Rattle.records.specs.Rows.{IsRow, row_text, rows_text};
 ghost use Rattle.records.specs.Sink.{Takes};
+ghost use Rattle.records.specs.declared.written.TheConstants.{PIECE};
 
 use crate::digits::write_digits;
 use crate::entries::SECOND_HEADER;
@@ -237,18 +238,18 @@ fn put_hex<S: Sink>(sink: &mut S, bytes: &[u8])
     }
 }
 
-/// At most 512 bytes from the front of a text, and what follows them.
+/// At most `PIECE` bytes from the front of a text, and what follows them.
 fn split_piece(bytes: &[u8]) -> (&[u8], &[u8])
     ensures whole { bytes.now ≡ result.0.now ++ result.1.now }
-    ensures piece { length result.0.now ≤ 512 }
+    ensures piece { length result.0.now ≤ PIECE }
     ensures less { 0 < length bytes.now → length result.1.now < length bytes.now }
 {
     bytes.split_at(bytes.len().min(PIECE))
 }
 
-/// Puts at most 512 bytes as lower case digits.
+/// Puts at most `PIECE` bytes as lower case digits.
 fn put_piece<S: Sink>(sink: &mut S, piece: &[u8])
-    requires { length piece.now ≤ 512 }
+    requires { length piece.now ≤ PIECE }
     ensures { Takes S.adds S.has_failed sink.old (encode_lower piece.now) sink.new }
 {
     let mut digits = [0u8; 2 * PIECE];
