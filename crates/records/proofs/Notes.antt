@@ -14,12 +14,8 @@ use Rattle.records.specs.Record.{HasHeader, IsLine, IsWholeLine, header}
 use Rattle.records.specs.Rows.{IsWait, rows_text}
 use Rattle.records.proofs.Cuts.{head, same_cut}
 use Rattle.records.proofs.Lines.{Lacks-line, no_wait, one_line, same_line}
-use Rattle.records.proofs.Records.{no_bad_line, one_bad_line, one_list}
+use Rattle.records.proofs.Records.{no_bad_line, nothing_after, one_bad_line, one_list, whole_rest}
 use Rattle.records.proofs.RowTexts.{Lacks-wait, same_rows}
-
--- a whole line and what follows it
-whole_rest : (text line rest : List ℕ) → text ≡ line ++ 10 ∷ [] → text ++ rest ≡ line ++ 10 ∷ rest
-whole_rest text line rest e = ap (λ front. front ++ rest) e ∙ append_assoc line (10 ∷ []) rest
 
 -- two first lines of answers and what follows them
 same_answer : (a b : Reply) (x y r s : List ℕ) → IsWholeLine a x → IsWholeLine b y → x ++ r ≡ y
@@ -172,10 +168,6 @@ stops_once (suc zero) zero bad s t = absurd (t.2 (s.0, s.1, s.2, s.3, s.4))
 stops_once (suc zero) (suc zero) bad s t = refl
 stops_once (suc zero) (suc (suc n)) bad s t = absurd t
 stops_once (suc (suc m)) n bad s t = absurd s
-
-nothing_after : (front rest : List ℕ) → [] ≡ front ++ rest → rest ≡ []
-nothing_after [] rest e = sym e
-nothing_after (c ∷ front) rest e = cc e
 
 -- what follows the first entry of both
 next : (a b : Note) (x y rest after bad text good : List ℕ) → AreLinesOf a.rows a.reply x

@@ -8,6 +8,11 @@ use Rattle.records.specs.Record.{AreLines, BeginsWithLine, HasLine, IsFirstBad, 
 use Rattle.records.proofs.Cuts.{same_cut}
 use Rattle.records.proofs.Lines.{Lacks-line, one_line, same_line}
 
+-- a whole line and what follows it
+pub whole_rest : (text line rest : List ℕ) → text ≡ line ++ 10 ∷ []
+    → text ++ rest ≡ line ++ 10 ∷ rest
+whole_rest text line rest e = ap (λ front. front ++ rest) e ∙ append_assoc line (10 ∷ []) rest
+
 -- two first lines and what follows them
 same_first : (a b : Reply) (x y rest after : List ℕ) → IsLine a x → IsLine b y → x ++ 10 ∷ rest ≡ y
     ++ 10 ∷ after → (a ≡ b) × (rest ≡ after)
@@ -42,7 +47,8 @@ same_text (reply ∷ replies) a b la lb =
     la.3 ∙ ap (λ front. front ++ 10 ∷ la.1) line ∙ ap (λ after. lb.0 ++ 10 ∷ after) others
     ∙ sym lb.3
 
-nothing_after : (front rest : List ℕ) → [] ≡ front ++ rest → rest ≡ []
+-- no text stands behind a front of no text
+pub nothing_after : (front rest : List ℕ) → [] ≡ front ++ rest → rest ≡ []
 nothing_after [] rest e = sym e
 nothing_after (c ∷ front) rest e = cc e
 

@@ -1,8 +1,7 @@
 -- What is written of answers, entries and rows, one by one.
-use Rattle.std.proofs.Common.{◌≡◌, ℕ, ◌+◌, ◌<◌, ◌≤◌, zero, Bool, List, [], ◌∷◌, ◌++◌, length, get_or, drop, suc, map, refl, sym, ap, subst, ◌∙◌, append-nil, add-one, codes, true, ◌==◌, arith}
-use Rattle.std.proofs.Math.Seq.{drop-cons}
+use Rattle.std.proofs.Common.{◌≡◌, ℕ, ◌+◌, ◌<◌, Bool, List, [], ◌∷◌, ◌++◌, length, get_or, drop, map, refl, sym, ap, subst, ◌∙◌, append-nil, codes, true, ◌==◌, arith}
 use Rattle.std.proofs.lemmas.Bool.{eqb-true}
-use Rattle.std.proofs.lemmas.List.{append_assoc}
+use Rattle.std.proofs.lemmas.List.{append_assoc, drop_more}
 use Rattle.std.specs.List.{AllByRecursion}
 use Rattle.acts.specs.declared.row.Row.{Row}
 use Rattle.acts.specs.Deed.{Reply}
@@ -12,25 +11,14 @@ use Rattle.records.specs.Record.{AreLines, IsTold, IsWholeLine}
 use Rattle.records.specs.Rows.{row_text, rows_text}
 use Rattle.records.specs.Sink.{Takes}
 use Rattle.records.proofs.HexTexts.{encode-append, no_digits}
+use Rattle.records.proofs.Records.{whole_rest}
 use Rattle.records.proofs.Sinks.{Takes-then}
 
 -- the item at a place, and those behind it
 pub item_at : {T : Type 0} (xs : List T) (i : ℕ) (x : T) → i < length xs → x ≡ get_or xs i x →
     drop i xs ≡ x ∷ drop (i + 1) xs
 item_at xs i x below is =
-    drop-cons xs i x below ∙ ap (λ y. y ∷ drop (suc i) xs) (sym is)
-    ∙ ap (λ n. x ∷ drop n xs) (sym (add-one i))
-
--- nothing stands behind the last item
-pub nothing_behind : {T : Type 0} (xs : List T) (i : ℕ) → length xs ≤ i → drop i xs ≡ []
-nothing_behind [] zero end = refl
-nothing_behind [] (suc i) end = refl
-nothing_behind (x ∷ xs) zero end = absurd (omega (arith, end))
-nothing_behind (x ∷ xs) (suc i) end = nothing_behind xs i (omega (arith, end))
-
--- a whole line and what follows it
-whole_rest : (text line rest : List ℕ) → text ≡ line ++ 10 ∷ [] → text ++ rest ≡ line ++ 10 ∷ rest
-whole_rest text line rest e = ap (λ front. front ++ rest) e ∙ append_assoc line (10 ∷ []) rest
+    drop_more xs i x below ∙ ap (λ y. y ∷ drop (i + 1) xs) (sym is)
 
 module _ {T S : Type 0} (adds : S → List ℕ → S → Type 0) (failed : S → Bool) (xs : List T) (i : ℕ)
     (x : T) (first mid after : S) (step : drop i xs ≡ x ∷ drop (i + 1) xs) where
@@ -121,7 +109,7 @@ row_joined id held max =
     ++ (max ++ [])) ∙ ap (λ text. id ++ 58 ∷ text) sizes)
 
 -- a list that is found to be empty
-pub none_left : {T : Type 0} (bytes : List T) → (length bytes == 0) ≡ true → bytes ≡ []
+none_left : {T : Type 0} (bytes : List T) → (length bytes == 0) ≡ true → bytes ≡ []
 none_left [] test = refl
 none_left (b ∷ bytes) test =
     let none = eqb-true (length (b ∷ bytes)) 0 test in

@@ -1,6 +1,7 @@
 use Rattle.std.proofs.Common.{◌+◌, drop}
+use Rattle.std.proofs.Math.ListN.{drop_of_length-le}
 use Rattle.std.proofs.lemmas.List.{drop_more}
-use Rattle.records.proofs.Spelled.{nothing_behind, rows_done, rows_written}
+use Rattle.records.proofs.Spelled.{rows_done, rows_written}
 use Rattle.records.proofs.written.put_rows.Goals as goal
 
 pub loop-row-preserved : goal.loop-row-preserved
@@ -16,4 +17,4 @@ returns g c =
     let rows = c.args.rows.now in
     let i = c.loop-row.row-index in
     rows_done g.S.Sink.adds g.S.Sink.has_failed rows (drop i rows) c.args.sink.now c.loop-row.sink
-    (nothing_behind rows i c.loop-row-test.false) c.loop-row.invariant
+    (drop_of_length-le rows c.loop-row-test.false) c.loop-row.invariant

@@ -1,7 +1,8 @@
 use Rattle.std.proofs.Common.{◌++◌, [], map, refl, sym, subst, append-nil, arith}
+use Rattle.std.proofs.Math.ListN.{drop_of_length-le}
 use Rattle.acts.specs.Deed.{reply_of}
 use Rattle.records.specs.Sink.{Takes}
-use Rattle.records.proofs.Spelled.{answers_on, item_at, nothing_behind}
+use Rattle.records.proofs.Spelled.{answers_on, item_at}
 use Rattle.records.proofs.written.write_answers.Goals as goal
 
 pub loop-answer-preserved : goal.loop-answer-preserved
@@ -18,7 +19,7 @@ returns g c =
     let answers = c.args.answers.now in
     let i = c.loop-answer.answer-index in
     let (told, done, takes, so_far) = c.loop-answer.invariant in
-    let empty = nothing_behind answers i (omega (arith, c.loop-answer-test.false)) in (
+    let empty = drop_of_length-le answers {i = i} (omega (arith, c.loop-answer-test.false)) in (
       done ++ [],
       so_far [] (rw empty refl),
       subst (λ text. Takes g.S.Sink.adds g.S.Sink.has_failed c.args.sink.now text

@@ -1,7 +1,8 @@
 use Rattle.std.proofs.Common.{◌++◌, [], map, refl, sym, subst, append-nil, arith}
+use Rattle.std.proofs.Math.ListN.{drop_of_length-le}
 use Rattle.records.specs.Entry.{note_of}
 use Rattle.records.specs.Sink.{Takes}
-use Rattle.records.proofs.Spelled.{entries_on, item_at, nothing_behind}
+use Rattle.records.proofs.Spelled.{entries_on, item_at}
 use Rattle.records.proofs.written.write_notes.Goals as goal
 
 pub loop-entry-preserved : goal.loop-entry-preserved
@@ -18,7 +19,7 @@ returns g c =
     let entries = c.args.entries.now in
     let i = c.loop-entry.entry-index in
     let (told, done, takes, so_far) = c.loop-entry.invariant in
-    let empty = nothing_behind entries i (omega (arith, c.loop-entry-test.false)) in (
+    let empty = drop_of_length-le entries {i = i} (omega (arith, c.loop-entry-test.false)) in (
       done ++ [],
       so_far [] (rw empty refl),
       subst (λ text. Takes g.S.Sink.adds g.S.Sink.has_failed c.args.sink.now text
