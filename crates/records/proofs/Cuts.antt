@@ -28,7 +28,8 @@ Lacks-take byte (b ∷ text) (suc n) others = (
 )
 
 -- the place of the byte, and the parts around it
-pub cut_there : (byte : ℕ) (text : List ℕ) (place : ℕ) → IsFirstByte (is_byte byte) text (Some place)
+pub cut_there : (byte : ℕ) (text : List ℕ) (place : ℕ)
+    → IsFirstByte (is_byte byte) text (Some place)
     → (text ≡ take place text ++ byte ∷ take (length text - (place + 1)) (drop (place + 1) text))
     × Lacks byte (take place text)
 cut_there byte text place (within, here) =

@@ -104,10 +104,19 @@ byte_read text bytes place high low byte fits room first second hi lo is so_far 
     take_two text place fits
     ∙ ap (λ front. front ++ (slice_index text (2 * place) ∷ slice_index text (2 * place + 1) ∷ []))
     so_far
-    ∙ (rw (more, encode-append lower_digits (take place bytes) (byte ∷ []), one_byte lower_digits byte, upper, lower, hi, lo) refl)
+    ∙ (rw (
+      more,
+      encode-append lower_digits (take place bytes) (byte ∷ []),
+      one_byte lower_digits byte,
+      upper,
+      lower,
+      hi,
+      lo,
+    ) refl)
 
 -- every byte is read
-pub all_read : (text bytes : List ℕ) (place : ℕ) → length bytes ≤ place → length text ≡ 2 * length bytes
+pub all_read : (text bytes : List ℕ) (place : ℕ) → length bytes ≤ place
+    → length text ≡ 2 * length bytes
     → take (2 * place) text ≡ encode_lower (take place bytes) → text ≡ encode_lower bytes
 all_read text bytes place end twice so_far =
     let whole = take_all (2 * place) text (omega arith) in

@@ -1,5 +1,5 @@
--- Records of version 2: each list of entries has one text at most, no two lists have the same, and a
--- text that has a bad line is of none.
+-- Records of version 2: each list of entries has one text at most, no two lists have the same, and
+-- a text that has a bad line is of none.
 use Rattle.std.proofs.Common.{◌≡◌, ◌⊎◌, ℕ, zero, suc, List, [], ◌∷◌, ◌++◌, Option, Some, None, Ok, Err, IfOk, IfErr, MatchResult, length, length-append, map, drop, refl, sym, ap, subst, ◌∙◌, append-nil, ◌+◌, ◌≤◌, inl, inr, arith}
 use Rattle.std.specs.Prelude.{Result}
 use Rattle.std.proofs.lemmas.List.{append_assoc, map_push}

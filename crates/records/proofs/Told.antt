@@ -26,8 +26,8 @@ lines_told [] text are = tt
 lines_told (reply ∷ replies) text (line, rest, is, cut, are) =
     (line_told reply line is, lines_told replies rest are)
 
-note_told : (rows : Option (List Row)) (reply : Reply) (text : List ℕ) → AreLinesOf rows reply text →
-    IfSome rows (AllByRecursion IsRow) × IsTold reply
+note_told : (rows : Option (List Row)) (reply : Reply) (text : List ℕ)
+    → AreLinesOf rows reply text → IfSome rows (AllByRecursion IsRow) × IsTold reply
 note_told None reply text (line, is, whole) = (tt, line_told reply line is)
 note_told (Some rows) reply text (wait, answer, is, (line, told, whole), cut) =
     (is.0, line_told reply line told)

@@ -7,7 +7,11 @@ use Rattle.records.proofs.HexTexts.{IsBytes-set, all_read, byte_read, lower_on, 
 use Rattle.records.proofs.digits.read_digits.Goals as goal
 
 pub loop-place-init : goal.loop-place-init
-loop-place-init c = record { lower = refl; bytes = λ _. no_digits; small = λ k. omega (arith, c.type_inv.bytes k) }
+loop-place-init c = record {
+  lower = refl;
+  bytes = λ _. no_digits;
+  small = λ k. omega (arith, c.type_inv.bytes k);
+}
 
 pub loop-place-preserved : goal.loop-place-preserved
 loop-place-preserved c =
@@ -30,7 +34,8 @@ loop-place-preserved c =
 pub returns-clause-lower : goal.returns-clause-lower
 returns-clause-lower c =
     c.loop-place.invariant.lower
-    ∙ ap (list_all is_lower_digit) (take_all (2 * c.loop-place.place) c.args.digits.now (omega arith))
+    ∙ ap (list_all is_lower_digit) (take_all (2 * c.loop-place.place) c.args.digits.now
+    (omega arith))
 
 pub returns-clause-bytes : goal.returns-clause-bytes
 returns-clause-bytes c = λ good.

@@ -5,8 +5,9 @@ use Rattle.records.proofs.digits.write_digits.Goals as goal
 
 pub loop-place-preserved : goal.loop-place-preserved
 loop-place-preserved c =
-    encode_step lower_digits c.args.bytes.now c.loop-place.digits c.loop-place.place _ _ (omega arith)
-    (omega arith) c.digit_of.ensures c.digit_of-in-loop-place.ensures c.loop-place.invariant
+    encode_step lower_digits c.args.bytes.now c.loop-place.digits c.loop-place.place _ _
+    (omega arith) (omega arith) c.digit_of.ensures c.digit_of-in-loop-place.ensures
+    c.loop-place.invariant
 
 pub returns : goal.returns
 returns c =

@@ -20,5 +20,6 @@ loop-rest-preserved g c =
       more,
       joined,
       λ rows are. let (left, left_are) = others rows are in
-          rows_left left c.loop-rest.rest.now c.in-Some.after.now c.in-Some.row left_are is blank cut,
+          rows_left left c.loop-rest.rest.now c.in-Some.after.now c.in-Some.row left_are is blank
+          cut,
     )
