@@ -69,7 +69,6 @@ impl<A: Allocator> Model for Pattern<A> {
     ghost Value = { Reading };
 
     ghost use Rattle.tcltext.specs.Pattern.Runs.{reading_of};
-
     ghost use Rattle.tcltext.specs.Pattern.Passed.{Needs};
 
     ghost view = { λ p. reading_of p.runs p.ties p.folds };

@@ -15,8 +15,7 @@ whole_parts : (items more : List Item) (t : List ℕ) → Whole (items ++ more) 
     (front rest : List ℕ) × (t ≡ front ++ rest) × Whole items front × Whole more rest
 whole_parts [] more t whole = ([], t, refl, refl, whole)
 whole_parts (item ∷ items) more t (piece, rest, joined, taken, whole) =
-    let (front, back, split, ours, theirs) = whole_parts items more rest whole in
-    (
+    let (front, back, split, ours, theirs) = whole_parts items more rest whole in (
       piece ++ front,
       back,
       joined ∙ ap (λ (x : List ℕ). piece ++ x) split ∙ sym (append_assoc piece front back),
@@ -79,16 +78,15 @@ Holds-needs p text plain (before, after, items) = λ w nowhere s e sits.
 -- bytes among items that stand among others
 pub Holds-within : (items : List Item) (text : List ℕ) (before after all : List Item) →
     all ≡ before ++ (items ++ after) → Holds items text → Holds all text
-Holds-within items text before after all is (front, behind, split) =
-    (
-      before ++ front,
-      behind ++ after,
-      is
+Holds-within items text before after all is (front, behind, split) = (
+  before ++ front,
+  behind ++ after,
+  is
       ∙ ap (λ (x : List Item). before ++ (x ++ after)) split
       ∙ ap (λ (x : List Item). before ++ x) (append_assoc front (map literal text ++ behind) after)
       ∙ ap (λ (x : List Item). before ++ (front ++ x)) (append_assoc (map literal text) behind after)
       ∙ sym (append_assoc before front (map literal text ++ (behind ++ after))),
-    )
+)
 
 -- no bytes
 pub Holds-nothing : (items : List Item) → Holds items []
