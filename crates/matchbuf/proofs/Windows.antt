@@ -279,6 +279,23 @@ fits_sized j b size fits =
       max = refl;
     }
 
+-- the last of the last are the last
+pub kept_within : (n m : ℕ) (xs : List ℕ) → n ≤ m → keep_last n (keep_last m xs) ≡ keep_last n xs
+kept_within n m xs le =
+    let over = length xs - m in
+    let more = length (drop over xs) - n in
+    let all : over + more ≡ length xs - n = omega (arith, length-drop over xs) in
+    drop-drop more over xs ∙ ap (λ k. drop k xs) all
+
+-- a ring that took an arrival and then kept as many bytes as it may hold
+pub arrived : (m : ℕ) (before taken kept : Buffer ℕ) (bytes : List ℕ) → m ≤ before.capacity
+    → taken ≡ buffer (keep_last before.capacity (before.items ++ bytes)) before.capacity
+    → kept ≡ buffer (keep_last m taken.items) taken.capacity
+    → kept.items ≡ keep_last m (before.items ++ bytes)
+arrived m before taken kept bytes le e₁ e₂ =
+    ap (λ (b : Buffer ℕ). b.items) e₂ ∙ ap (λ (b : Buffer ℕ). keep_last m b.items) e₁
+    ∙ kept_within m before.capacity (before.items ++ bytes) le
+
 -- a ring that is filled in two parts holds what one filled at once would
 pub kept_twice : (m : ℕ) (first second : List ℕ)
     → keep_last m (keep_last m ([] ++ first) ++ second) ≡ keep_last m (first ++ second)
@@ -302,7 +319,6 @@ pub refilled : (m : ℕ) (one two three : Buffer ℕ) (first second bytes : List
     → two ≡ buffer (keep_last one.capacity (one.items ++ first)) one.capacity
     → three ≡ buffer (keep_last two.capacity (two.items ++ second)) two.capacity → first ++ second
     ≡ bytes
-    → held three.items three.capacity ≡ held (keep_last m bytes) m
+    → three.items ≡ keep_last m bytes
 refilled m one two three first second bytes e₁ e₂ e₃ e =
-    rw e₃ (rw e₂ (rw e₁ (ap (λ (l : List ℕ). held l m) (kept_twice m first second
-    ∙ ap (keep_last m) e))))
+    rw e₃ (rw e₂ (rw e₁ (kept_twice m first second ∙ ap (keep_last m) e)))

@@ -20,24 +20,28 @@ pub const MAX_SIZE: u32 = 1_000_000;
 /// The last bytes that arrived and were neither consumed nor forgotten, at most as many as its
 /// size; expect(1), `match_max`.
 ///
-/// Its block is as large as its size, and only [`new`](MatchBuf::new) and
-/// [`set_max`](MatchBuf::set_max) take memory.
+/// Only [`new`](MatchBuf::new) and [`set_max`](MatchBuf::set_max) take memory.
 #[derive(Drop)]
 pub struct MatchBuf<A: Allocator> {
+    /// Has room for twice the size: its bytes go round the end of the block, and have to be moved
+    /// into one piece, only once for as many arriving bytes as it may hold.
     ring: HeapCircularBuffer<u8, A>,
+    size: u32,
 }
 
 impl<A: Allocator> Model for MatchBuf<A> {
     ghost use Rattle.matchbuf.specs.Held.{Held, held, held_code};
     ghost use Rattle.matchbuf.specs.Size.{IsSize};
+    ghost use Rattle.std.specs.Prelude.{◌≡◌, ◌≤◌, ◌*◌, length};
 
     ghost Value = { Held };
 
     ghost coded = { held_code };
 
-    ghost view = { λ b. held b.ring.items b.ring.capacity };
+    ghost view = { λ b. held b.ring.items b.size };
 
-    ghost invariant = { λ b. IsSize b.ring.capacity };
+    ghost invariant = { λ b.
+        IsSize b.size × (b.ring.capacity ≡ 2 * b.size) × (length b.ring.items ≤ b.size) };
 }
 
 impl<A: Allocator> MatchBuf<A> {
@@ -51,8 +55,8 @@ impl<A: Allocator> MatchBuf<A> {
         ensures size { (result ≡ Err MatchBufError.Size) ↔ ¬ IsSize max }
     {
         check_size(max)?;
-        let ring = HeapCircularBuffer::with_capacity(alloc, max as usize)?;
-        Ok(MatchBuf { ring })
+        let ring = HeapCircularBuffer::with_capacity(alloc, 2 * max as usize)?;
+        Ok(MatchBuf { ring, size: max })
     }
 
     /// How many bytes it holds.
@@ -69,14 +73,14 @@ impl<A: Allocator> MatchBuf<A> {
         ensures max { result ≡ self.now.max }
         ensures within { IsSize result }
     {
-        self.ring.capacity() as u32
+        self.size
     }
 
     /// Whether it holds as many bytes as it may; expect(1), `full_buffer`.
     pub fn is_full(&self) -> bool
         ensures { IsTrue result ↔ (length self.now.bytes ≡ self.now.max) }
     {
-        self.ring.is_full()
+        self.len() == self.max() as usize
     }
 
     /// Takes an arrival whole, however long, and then forgets the oldest bytes where there are too
@@ -86,7 +90,9 @@ impl<A: Allocator> MatchBuf<A> {
         ensures value { let max = self.old.max in
             self.new ≡ held (keep_last max (self.old.bytes ++ bytes.now)) max }
     {
+        let size = self.max() as usize;
         self.ring.extend_from_slice(bytes);
+        self.ring.truncate_front(size);
     }
 
     /// Consumes the first `n` bytes.
@@ -134,11 +140,12 @@ impl<A: Allocator + Copy> MatchBuf<A> {
         ensures size { (result ≡ Err MatchBufError.Size) ↔ ¬ IsSize max }
     {
         check_size(max)?;
-        let mut ring = HeapCircularBuffer::with_capacity(*self.ring.allocator(), max as usize)?;
+        let mut ring = HeapCircularBuffer::with_capacity(*self.ring.allocator(), 2 * max as usize)?;
         let (first, second) = self.ring.as_slices();
         ring.extend_from_slice(first);
         ring.extend_from_slice(second);
-        self.ring = ring;
+        ring.truncate_front(max as usize);
+        *self = MatchBuf { ring, size: max };
         Ok(())
     }
 }

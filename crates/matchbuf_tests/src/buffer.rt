@@ -114,6 +114,26 @@ fn takes_a_long_stream_in_little_time(rt: HostRuntime) -> Result<(), Fail> {
     Ok(())
 }
 
+/// 100,000 single bytes into a full buffer of the largest size, with a window after each, take a
+/// fraction of a second: to move 1,000,000 bytes each time would take longer than a test may.
+#[test]
+fn takes_single_bytes_when_it_is_full_in_little_time(rt: HostRuntime) -> Result<(), Fail> {
+    let mut buffer = MatchBuf::new(rt.alloc(), 1_000_000)?;
+    let piece = [b'.'; 1_000];
+    for _ in 0..1_000u32 {
+        buffer.arrive(&piece);
+    }
+    assert!(rt; buffer.is_full());
+    for number in 0..100_000u32 {
+        let newest = number.to_le_bytes()[0];
+        buffer.arrive(&[newest]);
+        let window = buffer.window();
+        assert_eq!(rt; window.len(), 1_000_000);
+        assert_eq!(rt; window.last(), Some(&newest));
+    }
+    Ok(())
+}
+
 #[test]
 fn names_its_errors(rt: HostRuntime) -> Result<(), Fail> {
     let heap = Refusing::new(rt.alloc());
