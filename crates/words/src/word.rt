@@ -210,6 +210,23 @@ fn run<A: Allocator + Copy>(
     Ok(Met::Value(bytes.finish(alloc)?))
 }
 
+/// The value of a word of one part that is a literal, or a variable that is read, as most words are;
+/// none of every other word. No word in progress is made for it, nor moved.
+fn alone<A: Allocator>(part: &Part<A>, scopes: &Scopes<A>) -> Result<Option<Value<A>>, NoMemory>
+    ensures { (levels : ℕ) (s : Status) (k : Status → List ℕ → Course) →
+        s.scopes ≡ scopes.now → IfOk result (λ found. IfSome found (λ value.
+        substituted levels (part_view part.now no_parts) [] s k ≡ k s value)) }
+{
+    match part {
+        Part::Literal(value) => Ok(Some(value.share()?)),
+        Part::Variable(name) => match scopes.get(name.as_slice(), None) {
+            Ok(value) => Ok(Some(value.share()?)),
+            Err(_) => Ok(None),
+        },
+        _ => Ok(None),
+    }
+}
+
 /// Substitutes the parts of a word, up to a script in it.
 pub fn begin<A: Allocator + Copy>(
     parts: &Rc<Vec<Part<A>, A>, A>,
@@ -221,6 +238,12 @@ pub fn begin<A: Allocator + Copy>(
         substituted levels (parts_of parts.now) [] s k ≡ course_of_met levels met k s) }
     ensures fewer { IfOk result (λ met. MeetsFewer met (scripts_in (parts_of parts.now))) }
 {
+    let list: &Vec<Part<A>, A> = parts;
+    if list.len() == 1 {
+        if let Some(value) = alone(&list[0], scopes)? {
+            return Ok(Met::Value(value));
+        }
+    }
     run(parts, 0, Joined::new(alloc), alloc, scopes)
 }
 
