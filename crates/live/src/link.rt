@@ -8,15 +8,14 @@ use crate::system::MOST_TRIES;
 use std::io::{self, ErrorKind, PipeReader, PipeWriter, Read, Write};
 use std::net::TcpStream;
 use std::os::fd::{AsRawFd, OwnedFd, RawFd};
-use std::process::{ChildStdin, ChildStdout};
 
 /// What is written to and read from under an id.
 #[derive(Drop)]
 pub enum Link {
     /// The two pipes of a program.
     Program {
-        input: ChildStdin,
-        output: ChildStdout,
+        input: PipeWriter,
+        output: PipeReader,
     },
     /// The connection to a server.
     Server(TcpStream),
@@ -36,10 +35,9 @@ pub enum Look {
 impl Link {
     /// A link to a program by two pipes. An `Err` closes both.
     pub fn program(input: PipeWriter, output: PipeReader) -> io::Result<Link> {
-        Ok(Link::Program {
-            input: ChildStdin::from(without_waits(OwnedFd::from(input))?),
-            output: ChildStdout::from(without_waits(OwnedFd::from(output))?),
-        })
+        end_waits(OwnedFd::from(input.try_clone()?))?;
+        end_waits(OwnedFd::from(output.try_clone()?))?;
+        Ok(Link::Program { input, output })
     }
 
     /// A link to a server. An `Err` closes the connection.
@@ -101,10 +99,9 @@ impl Link {
     }
 }
 
-/// The same end of a pipe, whose calls don't wait. The mode belongs to what is open, and the call
-/// for sockets sets it for a pipe as well.
-fn without_waits(end: OwnedFd) -> io::Result<OwnedFd> {
-    let any = TcpStream::from(end);
-    any.set_nonblocking(true)?;
-    Ok(OwnedFd::from(any))
+/// Has the calls on an end of a pipe not wait. The mode belongs to what is open, so that a second
+/// descriptor of it, which is closed here, sets it for the first; and the call for sockets sets it
+/// for a pipe as well.
+fn end_waits(second: OwnedFd) -> io::Result<()> {
+    TcpStream::from(second).set_nonblocking(true)
 }
