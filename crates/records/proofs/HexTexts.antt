@@ -1,10 +1,8 @@
 -- Lower case hex text: what its digits are, how it is read from its front, and what it is read as.
-use Rattle.std.proofs.Common.{◌≡◌, ◌+◌, ◌*◌, ◌/◌, ◌%◌, ◌<◌, ◌≤◌, ◌&&◌, nat_lt, max, ℕ, zero, suc, Bool, true, List, [], ◌∷◌, ◌++◌, length, take, slice_index, slice_set, refl, ap, ◌∙◌, inl, inr, arith}
+use Rattle.std.proofs.Common.{◌≡◌, ◌+◌, ◌*◌, ◌/◌, ◌%◌, ◌<◌, ◌&&◌, ℕ, zero, suc, Bool, true, List, [], ◌∷◌, ◌++◌, length, take, map, slice_index, slice_set, refl, sym, ap, ◌∙◌, inl, inr, arith}
 use Rattle.std.specs.List.{list_all}
-use Rattle.std.proofs.Math.Seq.{take-append_seam}
 use Rattle.std.proofs.lemmas.Bool.{and_parts, cases_lt}
-use Rattle.std.proofs.lemmas.Bool.Decides.{nat_tests}
-use Rattle.std.proofs.lemmas.List.{append_assoc, take_all, take_more, take_more_set}
+use Rattle.std.proofs.lemmas.List.{append_assoc, get_or-map, length-map, take_more, take_more_set}
 use Rattle.std.proofs.lemmas.List.Folds.{list_all-append}
 use Rattle.hex.specs.Hex.{IsBytes, encode_lower, encode_with, lower_digits}
 use Rattle.records.specs.Record.{is_lower_digit}
@@ -71,26 +69,8 @@ take_two text place fits =
     let first = take_more text (2 * place) 0 (omega arith) in
     rw (two, second, first) (append_assoc (take (2 * place) text) _ _)
 
--- the greatest of three is small where all are
-all_small : (worst high low most : ℕ) → most ≡ max (max worst high) low →
-    nat_lt most 16 ≡ (nat_lt worst 16 && (nat_lt high 16 && (nat_lt low 16 && true)))
-all_small worst high low most is = grind (arith, nat_tests)
-
--- two digits more are lower case ones where their values are small
-pub lower_on : (text : List ℕ) (place worst high low most : ℕ) → 2 * place + 1 < length text
-    → nat_lt high 16 ≡ is_lower_digit (slice_index text (2 * place))
-    → nat_lt low 16 ≡ is_lower_digit (slice_index text (2 * place + 1))
-    → most ≡ max (max worst high) low
-    → nat_lt worst 16 ≡ list_all is_lower_digit (take (2 * place) text)
-    → nat_lt most 16 ≡ list_all is_lower_digit (take (2 * (place + 1)) text)
-lower_on text place worst high low most fits first second is so_far =
-    let two = take_two text place fits in
-    let all = list_all-append is_lower_digit (take (2 * place) text)
-    (slice_index text (2 * place) ∷ slice_index text (2 * place + 1) ∷ []) in
-    all_small worst high low most is ∙ (rw (two, all, ← so_far, ← first, ← second) refl)
-
 -- one byte more is read
-pub byte_read : (text bytes : List ℕ) (place high low byte : ℕ) → 2 * place + 1 < length text →
+byte_read : (text bytes : List ℕ) (place high low byte : ℕ) → 2 * place + 1 < length text →
     place < length bytes → high < 16 → low < 16
     → slice_index lower_digits high ≡ slice_index text (2 * place)
     → slice_index lower_digits low ≡ slice_index text (2 * place + 1)
@@ -114,25 +94,47 @@ byte_read text bytes place high low byte fits room first second hi lo is so_far 
       lo,
     ) refl)
 
--- every byte is read
-pub all_read : (text bytes : List ℕ) (place : ℕ) → length bytes ≤ place
-    → length text ≡ 2 * length bytes
-    → take (2 * place) text ≡ encode_lower (take place bytes) → text ≡ encode_lower bytes
-all_read text bytes place end twice so_far =
-    let whole = take_all (2 * place) text (omega arith) in
-    let all = take_all place bytes end in
-    rw (whole, all) at so_far
+-- one byte more is joined of two values
+pub byte_joined : (values bytes : List ℕ) (place byte : ℕ) → length values ≡ 2 * length bytes
+    → place < length bytes → ((k : ℕ) → k < length values → slice_index values k < 16)
+    → byte ≡ (slice_index values (2 * place) + slice_index values (2 * place + 1) * 256) * 4097
+    % 65536 / 256
+    → take (2 * place) (map (slice_index lower_digits) values) ≡ encode_lower (take place bytes)
+    → take (2 * (place + 1)) (map (slice_index lower_digits) values)
+    ≡ encode_lower (take (place + 1) (slice_set bytes place byte))
+byte_joined values bytes place byte twice room small is so_far =
+    let digit = slice_index lower_digits in
+    let long = length-map values digit in
+    let high = small (2 * place) (omega arith) in
+    let low = small (2 * place + 1) (omega arith) in
+    byte_read (map digit values) bytes place (slice_index values (2 * place))
+    (slice_index values (2 * place + 1)) byte (omega arith) room high low
+    (sym (get_or-map digit values (2 * place) 0 0 (omega arith)))
+    (sym (get_or-map digit values (2 * place + 1) 0 0 (omega arith))) (omega arith) so_far
 
--- bytes, one of which is written
-pub IsBytes-set : (bytes : List ℕ) (place byte : ℕ) → IsBytes bytes → byte < 256 →
-    IsBytes (slice_set bytes place byte)
-IsBytes-set [] place byte all small k = all k
-IsBytes-set (b ∷ bytes) zero byte all small zero = small
-IsBytes-set (b ∷ bytes) zero byte all small (suc k) = all (suc k)
-IsBytes-set (b ∷ bytes) (suc place) byte all small zero = all 0
-IsBytes-set (b ∷ bytes) (suc place) byte all small (suc k) =
-    IsBytes-set bytes place byte (λ j. all (suc j)) small k
+-- joined bytes
+pub IsBytes-append : (a b : List ℕ) → IsBytes a → IsBytes b → IsBytes (a ++ b)
+IsBytes-append [] b small others k = others k
+IsBytes-append (c ∷ a) b small others zero = small 0
+IsBytes-append (c ∷ a) b small others (suc k) =
+    IsBytes-append a b (λ j. small (suc j)) others k
 
--- room that is filled holds what was made
-pub filled : (made rest : List ℕ) (room : ℕ) → length made ≡ room → take room (made ++ rest) ≡ made
-filled made rest room e = rw (← e) (take-append_seam made rest)
+-- a piece of the digits of bytes has lower case digits alone
+pub lower_piece : (text done piece after bytes : List ℕ) → IsBytes bytes
+    → text ≡ encode_lower bytes → text ≡ done ++ (piece ++ after)
+    → list_all is_lower_digit piece ≡ true
+lower_piece text done piece after bytes small is whole =
+    let all = ap (list_all is_lower_digit) (sym whole ∙ is) ∙ lower_text bytes small in
+    let parts = rw (list_all-append is_lower_digit done (piece ++ after)) at all in
+    let (_, behind) = and_parts (list_all is_lower_digit done)
+    (list_all is_lower_digit (piece ++ after)) parts in
+    let others = rw (list_all-append is_lower_digit piece after) at behind in
+    (and_parts (list_all is_lower_digit piece) (list_all is_lower_digit after) others).0
+
+-- a piece more is read
+pub piece_read : (text done piece after read : List ℕ)
+    → text ≡ encode_lower done ++ (piece ++ after) → piece ≡ encode_lower read
+    → text ≡ encode_lower (done ++ read) ++ after
+piece_read text done piece after read whole is =
+    let both = encode-append lower_digits done read in
+    whole ∙ (rw (both, is) (sym (append_assoc (encode_lower done) (encode_lower read) after)))

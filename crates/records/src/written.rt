@@ -9,9 +9,9 @@ ghost use Rattle.records.specs.Entry.{AreLinesOf, AreNotes, IsNote, IsSecondReco
 ghost use Rattle.records.specs.Record.{AreLines, IsRecord, IsTold, IsWholeLine, newline};
 ghost use Rattle.records.specs.Rows.{IsRow, row_text, rows_text};
 ghost use Rattle.records.specs.Sink.{Takes};
-ghost use Rattle.records.specs.declared.written.TheConstants.{PIECE};
+ghost use Rattle.records.specs.declared.digits.TheConstants.{PIECE};
 
-use crate::digits::write_digits;
+use crate::digits::{PIECE, write_digits};
 use crate::entries::SECOND_HEADER;
 use crate::entry::Entry;
 use crate::record::HEADER;
@@ -20,9 +20,6 @@ use acts::{Answer, Id, Row};
 use itoa::Buffer;
 use std::alloc::Allocator;
 use thiserror::Error;
-
-/// How many bytes are spelled at a time.
-const PIECE: usize = 512;
 
 /// A sink failed before it had taken the whole text.
 #[derive(Clone, Copy, Debug, PartialEq, Eq, Error)]
