@@ -17,14 +17,17 @@ use std::marker::Model;
 /// The largest size of a match buffer, in bytes.
 pub const MAX_SIZE: u32 = 1_000_000;
 
+/// The least room that a buffer has beyond its size, in bytes.
+const LEAST_SPARE: usize = 16_384;
+
 /// The last bytes that arrived and were neither consumed nor forgotten, at most as many as its
 /// size; expect(1), `match_max`.
 ///
 /// Only [`new`](MatchBuf::new) and [`set_max`](MatchBuf::set_max) take memory.
 #[derive(Drop)]
 pub struct MatchBuf<A: Allocator> {
-    /// Has room for twice the size: its bytes go round the end of the block, and have to be moved
-    /// into one piece, only once for as many arriving bytes as it may hold.
+    /// Has room beyond the size, see `room_for`: its bytes go round the end of the block, and have
+    /// to be moved into one piece, only once for as many arriving bytes as that room takes.
     ring: HeapCircularBuffer<u8, A>,
     size: u32,
 }
@@ -32,7 +35,7 @@ pub struct MatchBuf<A: Allocator> {
 impl<A: Allocator> Model for MatchBuf<A> {
     ghost use Rattle.matchbuf.specs.Held.{Held, held, held_code};
     ghost use Rattle.matchbuf.specs.Size.{IsSize};
-    ghost use Rattle.std.specs.Prelude.{◌≡◌, ◌≤◌, ◌*◌, length};
+    ghost use Rattle.std.specs.Prelude.{◌≤◌, length};
 
     ghost Value = { Held };
 
@@ -41,7 +44,7 @@ impl<A: Allocator> Model for MatchBuf<A> {
     ghost view = { λ b. held b.ring.items b.size };
 
     ghost invariant = { λ b.
-        IsSize b.size × (b.ring.capacity ≡ 2 * b.size) × (length b.ring.items ≤ b.size) };
+        IsSize b.size × (b.size ≤ b.ring.capacity) × (length b.ring.items ≤ b.size) };
 }
 
 impl<A: Allocator> MatchBuf<A> {
@@ -55,7 +58,7 @@ impl<A: Allocator> MatchBuf<A> {
         ensures size { (result ≡ Err MatchBufError.Size) ↔ ¬ IsSize max }
     {
         check_size(max)?;
-        let ring = HeapCircularBuffer::with_capacity(alloc, 2 * max as usize)?;
+        let ring = HeapCircularBuffer::with_capacity(alloc, room_for(max))?;
         Ok(MatchBuf { ring, size: max })
     }
 
@@ -140,7 +143,7 @@ impl<A: Allocator + Copy> MatchBuf<A> {
         ensures size { (result ≡ Err MatchBufError.Size) ↔ ¬ IsSize max }
     {
         check_size(max)?;
-        let mut ring = HeapCircularBuffer::with_capacity(*self.ring.allocator(), 2 * max as usize)?;
+        let mut ring = HeapCircularBuffer::with_capacity(*self.ring.allocator(), room_for(max))?;
         let (first, second) = self.ring.as_slices();
         ring.extend_from_slice(first);
         ring.extend_from_slice(second);
@@ -148,6 +151,16 @@ impl<A: Allocator + Copy> MatchBuf<A> {
         *self = MatchBuf { ring, size: max };
         Ok(())
     }
+}
+
+/// How many bytes a buffer of a size has room for: as many again as it may hold, and more where
+/// that is little.
+fn room_for(size: u32) -> usize
+    requires { IsSize size }
+    ensures { size ≤ result }
+{
+    let size = size as usize;
+    size + size.max(LEAST_SPARE)
 }
 
 /// Refuses a size that no buffer can have.
