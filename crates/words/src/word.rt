@@ -210,8 +210,8 @@ fn run<A: Allocator + Copy>(
     Ok(Met::Value(bytes.finish(alloc)?))
 }
 
-/// The value of a word of one part that is a literal, or a variable that is read, as most words are;
-/// none of every other word. No word in progress is made for it, nor moved.
+/// The value of a word of one part that is a literal, or a variable that is read, as most words
+/// are; none of every other word. No word in progress is made for it, nor moved.
 fn alone<A: Allocator>(part: &Part<A>, scopes: &Scopes<A>) -> Result<Option<Value<A>>, NoMemory>
     ensures { (levels : ℕ) (s : Status) (k : Status → List ℕ → Course) →
         s.scopes ≡ scopes.now → IfOk result (λ found. IfSome found (λ value.
