@@ -20,6 +20,9 @@ pub const MAX_SIZE: u32 = 1_000_000;
 /// The least room that a buffer has beyond its size, in bytes.
 const LEAST_SPARE: usize = 16_384;
 
+/// How many bytes are moved at a time.
+const PIECE: usize = 64;
+
 /// The last bytes that arrived and were neither consumed nor forgotten, at most as many as its
 /// size; expect(1), `match_max`.
 ///
@@ -96,6 +99,7 @@ impl<A: Allocator> MatchBuf<A> {
         let size = self.max() as usize;
         self.ring.extend_from_slice(bytes);
         self.ring.truncate_front(size);
+        bring_round(&mut self.ring);
     }
 
     /// Consumes the first `n` bytes.
@@ -150,6 +154,25 @@ impl<A: Allocator + Copy> MatchBuf<A> {
         ring.truncate_front(max as usize);
         *self = MatchBuf { ring, size: max };
         Ok(())
+    }
+}
+
+/// Where the bytes go round the end of the block, puts each behind the last one in turn: then they
+/// lie in one piece near its beginning, with the room beyond their size behind them.
+fn bring_round<A: Allocator>(ring: &mut HeapCircularBuffer<u8, A>)
+    ensures { ring.new ≡ ring.old }
+{
+    let (_, second) = ring.as_slices();
+    if second.is_empty() {
+        return;
+    }
+    let mut piece = [0u8; PIECE];
+    let mut left = ring.len();
+    'pieces: while 0 < left {
+        let room = &mut piece[..left.min(PIECE)];
+        let taken = ring.read_into(room);
+        ring.extend_from_slice(room);
+        left -= taken;
     }
 }
 

@@ -1,5 +1,5 @@
-use Rattle.std.proofs.Common.{◌≡◌, ◌++◌, sym, ap, ◌∙◌, arith}
-use Rattle.circular_buffer.specs.Buffer.{keep_last}
+use Rattle.std.proofs.Common.{◌≡◌, ℕ, ◌++◌, sym, ap, ◌∙◌, arith}
+use Rattle.circular_buffer.specs.Buffer.{Buffer, keep_last}
 use Rattle.matchbuf.specs.Held.{Held, held}
 use Rattle.matchbuf.proofs.Windows.{arrived, fits_arrived}
 use Rattle.matchbuf.proofs.buffer.MatchBuf.arrive.Goals as goal
@@ -15,7 +15,8 @@ returns-clause-value g c =
     arrived c.max-size.result ring c.extend_from_slice.new.self c.truncate_front.new.self bytes
     (omega (arith, same, c.self.invariant.1)) c.extend_from_slice.ensures
     c.truncate_front.ensures in
-    ap (λ items. held items size) (kept ∙ ap (λ m. keep_last m (ring.items ++ bytes)) same)
+    ap (λ items. held items size) (ap (λ (b : Buffer ℕ). b.items) c.bring_round.ensures ∙ kept
+    ∙ ap (λ m. keep_last m (ring.items ++ bytes)) same)
     ∙ ap (λ (h : Held). held (keep_last h.max (h.bytes ++ bytes)) h.max) c.self.view_is
 
 pub returns-clause-fits : goal.returns-clause-fits
