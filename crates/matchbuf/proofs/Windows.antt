@@ -356,7 +356,7 @@ turned_on m k xs le =
     ap (λ ys. ys ++ take k (turned m xs)) (drop-append-le k (drop m xs) (take m xs) within
     ∙ ap (λ ys. ys ++ take m xs) (drop-drop k m xs))
     ∙ ap (λ ys. (drop (m + k) xs ++ take m xs) ++ ys)
-        (take-append-le k (drop m xs) (take m xs) within)
+    (take-append-le k (drop m xs) (take m xs) within)
     ∙ append_assoc (drop (m + k) xs) (take m xs) (take k (drop m xs))
     ∙ ap (λ ys. drop (m + k) xs ++ ys) front
 

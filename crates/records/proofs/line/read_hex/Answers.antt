@@ -1,10 +1,16 @@
-use Rattle.std.proofs.Common.{◌≡◌, [], ◌++◌, length, ap, sym, ◌∙◌, arith}
+use Rattle.std.proofs.Common.{◌≡◌, [], ◌++◌, ℕ, List, length, take, drop, ap, sym, ◌∙◌, arith}
 use Rattle.std.proofs.lemmas.Bool.{false≢true}
 use Rattle.std.proofs.lemmas.List.{take-append-drop}
 use Rattle.hex.specs.Hex.{encode_lower, lower_digits}
 use Rattle.hex.proofs.HexLemmas.{length-encode_with}
 use Rattle.records.proofs.HexTexts.{IsBytes-append, lower_piece, no_digits, piece_read}
 use Rattle.records.proofs.line.read_hex.Goals as goal
+
+-- what was split behind a beginning is that beginning, a piece and what is behind it
+in_pieces : {digits : List ℕ} (done rest piece after : List ℕ) (n : ℕ) → digits ≡ done ++ rest
+    → piece ≡ take n rest → after ≡ drop n rest → digits ≡ done ++ (piece ++ after)
+in_pieces done rest piece after n whole front back =
+    rw (front, back) (whole ∙ ap (λ rest. done ++ rest) (sym (take-append-drop n rest)))
 
 pub returns-then-digits-ne0 : goal.returns-then-digits-ne0
 returns-then-digits-ne0 g c = λ bytes small e.
@@ -25,10 +31,8 @@ returns-then-not-branch g c = λ bytes small e.
     let piece = c.split_at.result.0.now in
     let after = c.split_at.result.1.now in
     let done = c.loop-rest.bytes.items in
-    let parts : c.loop-rest.rest.now ≡ piece ++ after =
-    rw (c.split_at.ensures.front, c.split_at.ensures.back)
-    (sym (take-append-drop c.min.result c.loop-rest.rest.now)) in
-    let whole = c.loop-rest.invariant.read ∙ ap (λ rest. encode_lower done ++ rest) parts in
+    let whole = in_pieces (encode_lower done) c.loop-rest.rest.now piece after c.min.result
+    c.loop-rest.invariant.read c.split_at.ensures.front c.split_at.ensures.back in
     let lower = lower_piece c.args.digits.now (encode_lower done) piece after bytes small e whole in
     absurd (false≢true (sym c.if-not-branch.true ∙ c.in_ok-push_bytes.ensures.lower ∙ lower))
 
@@ -38,10 +42,8 @@ loop-rest-preserved g c =
     let piece = c.split_at.result.0.now in
     let after = c.split_at.result.1.now in
     let done = c.loop-rest.bytes.items in
-    let parts : c.loop-rest.rest.now ≡ piece ++ after =
-    rw (c.split_at.ensures.front, c.split_at.ensures.back)
-    (sym (take-append-drop c.min.result c.loop-rest.rest.now)) in
-    let whole = c.loop-rest.invariant.read ∙ ap (λ rest. encode_lower done ++ rest) parts in
+    let whole = in_pieces (encode_lower done) c.loop-rest.rest.now piece after c.min.result
+    c.loop-rest.invariant.read c.split_at.ensures.front c.split_at.ensures.back in
     let twice = ap length spelled ∙ length-encode_with lower_digits read in
     rw grown (record {
       small = IsBytes-append done read c.loop-rest.invariant.small small;
