@@ -33,27 +33,20 @@ pub enum Control {
 
 impl Control {
     /// The command of a name.
+    #[tactic(auto, using(names::proofs::Compared::compared))]
     pub fn read(name: &[u8]) -> Option<Control>
         ensures { option_map control_of result ≡ definition.named name.now }
     {
-        if name == b"catch".as_slice() {
-            Some(Control::Catch)
-        } else if name == b"eval".as_slice() {
-            Some(Control::Eval)
-        } else if name == b"expr".as_slice() {
-            Some(Control::Expr)
-        } else if name == b"for".as_slice() {
-            Some(Control::For)
-        } else if name == b"foreach".as_slice() {
-            Some(Control::Foreach)
-        } else if name == b"if".as_slice() {
-            Some(Control::If)
-        } else if name == b"switch".as_slice() {
-            Some(Control::Switch)
-        } else if name == b"while".as_slice() {
-            Some(Control::While)
-        } else {
-            None
+        match name {
+            b"catch" => Some(Control::Catch),
+            b"eval" => Some(Control::Eval),
+            b"expr" => Some(Control::Expr),
+            b"for" => Some(Control::For),
+            b"foreach" => Some(Control::Foreach),
+            b"if" => Some(Control::If),
+            b"switch" => Some(Control::Switch),
+            b"while" => Some(Control::While),
+            _ => None,
         }
     }
 }
