@@ -13,8 +13,8 @@ ghost use Rattle.state.specs.View.{FitsState, outcome_of};
 
 use crate::arguments::wrong_args;
 use crate::pair::Pair;
-use crate::turn::end_behind;
 use acts::{Fault, NoMemory};
+use conditions::turn::end_behind_body;
 use state::nesting::shared;
 use state::outcome::raised;
 use state::{Leave, Nesting, Outcome, State, Stop};
@@ -62,7 +62,7 @@ pub fn resumed<A: Allocator + Copy>(
     ensures ticks { IfOk result (λ nesting.
         TicksFirst nesting state.new.left state.old.left) }
 {
-    match end_behind(outcome) {
+    match end_behind_body(outcome) {
         Some(end) => Ok(Nesting::Has(end)),
         None => turn(alloc, state, held),
     }

@@ -11,7 +11,6 @@ mod listed;
 pub mod pair;
 pub mod switch;
 mod table;
-mod turn;
 
 pub use held::Held;
 pub use table::{Control, begin, call, resumed};
