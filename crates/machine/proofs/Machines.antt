@@ -24,10 +24,9 @@ use Rattle.expects.specs.declared.turn.Turn.{Turn}
 use Rattle.plan.specs.Plan.{Ends}
 use Rattle.runs.specs.Ending.{Over}
 use Rattle.runs.specs.Run.{initial, whole}
-use Rattle.state.specs.Budget.{again_of}
 use Rattle.state.specs.Dialogue.{Course, Dialogue, gives, raises}
 use Rattle.state.specs.Leaf.{HasOutcome, Shows, course_of}
-use Rattle.state.specs.Outcome.{Outcome, Gives, Leaves, Again, AgainRunning}
+use Rattle.state.specs.Outcome.{Outcome, Gives}
 use Rattle.state.specs.Piece.{ScriptText, ScriptTree}
 use Rattle.state.specs.Reaches.{Reaches}
 use Rattle.state.specs.Status.{Status}
@@ -191,12 +190,6 @@ lighter_without (frame.Turn turn) fs = omega arith
 pub fewer_without : {A : Type 0} (f : Frame A) (fs : List (Frame A)) (again : ℕ) →
     again + words_in fs ≤ again + (words_of_frame f + words_in fs)
 fewer_without f fs again = omega arith
-
--- an outcome of exp_continue counts as one, and every other as none
-pub again_at_most : (o : Outcome) → again_of o ≤ 1
-again_at_most (Leaves Again value) = omega arith
-again_at_most (Leaves AgainRunning value) = omega arith
-again_at_most _ = omega arith
 
 -- a whole run begins with the text's script
 pub whole_goes : {A : Type 0} (f : Frame A) (text : List ℕ) (args : List (List ℕ)) (limit : ℕ) →

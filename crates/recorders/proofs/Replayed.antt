@@ -5,6 +5,7 @@ use Rattle.acts.specs.Deed.{Deed, Reply}
 use Rattle.acts.specs.Deed as said
 use Rattle.acts.specs.History.{History, Past}
 use Rattle.records.specs.Entry.{Note}
+use Rattle.records.proofs.Records.{same_cons}
 use Rattle.std.specs.List.{list_all}
 use Rattle.recorders.specs.Laws.{AreLedAlike, EndsAtNoMore, IsReplayed, acts_of, answers_of}
 use Rattle.recorders.specs.Recorder.{entries_of, entry_of, is_row, rows_of, told_rows}
@@ -73,9 +74,6 @@ next_given : (entries : List Note) (answered : ℕ) (act : Deed) (told reply : R
 next_given entries answered act told reply before after is answers =
     due_given entries answered act told reply after (rw is at answers)
 
-same_front : (a b : Reply) (xs ys : List Reply) → a ≡ b → xs ≡ ys → a ∷ xs ≡ b ∷ ys
-same_front a b xs ys first rest = cc (first, rest)
-
 tail_of : (a b : Deed) (xs ys : List Deed) → a ∷ xs ≡ b ∷ ys → xs ≡ ys
 tail_of a b xs ys e = cc e
 
@@ -87,7 +85,7 @@ same_act a b h k alike = cc (alike 0 refl)
 led_behind : (a b : Deed × Reply) (h k : History) → a.1 ≡ b.1 → AreLedAlike (a ∷ h) (b ∷ k) →
     AreLedAlike h k
 led_behind a b h k same alike = λ n front.
-    tail_of a.0 b.0 _ _ (alike (suc n) (same_front a.1 b.1 _ _ same front))
+    tail_of a.0 b.0 _ _ (alike (suc n) (same_cons a.1 b.1 _ _ same front))
 
 -- a history that is led as one that is over is over
 over_alike : (b : Deed × Reply) (k : History) → AreLedAlike [] (b ∷ k) → ⊥

@@ -25,7 +25,9 @@ no_lines : (line rest text : List ℕ) → text ≡ line ++ 10 ∷ rest → text
 no_lines [] rest text is empty = absurd (cc (is, empty))
 no_lines (c ∷ line) rest text is empty = absurd (cc (is, empty))
 
-same_cons : (a b : Reply) (others more : List Reply) → a ≡ b → others ≡ more → a ∷ others ≡ b ∷ more
+-- lists of equal first answers and equal others are equal
+pub same_cons : (a b : Reply) (others more : List Reply) → a ≡ b → others ≡ more →
+    a ∷ others ≡ b ∷ more
 same_cons a b others more e f = cc (e, f)
 
 -- no two lists have the same lines

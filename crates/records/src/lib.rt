@@ -17,7 +17,7 @@ pub use entries::{one_list_of_entries, read_entries};
 pub use entry::Entry;
 pub use record::{RecordFault, one_record, read_record};
 pub use rows::are_rows;
-pub use sink::{Sink, put_all};
+pub use sink::{Sink, put_all, put_number};
 pub use written::{
     SinkFailed, write_entries, write_entry, write_header, write_line, write_record, write_waited,
 };

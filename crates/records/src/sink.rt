@@ -1,7 +1,9 @@
 //! Destinations of bytes that may fail.
 
-ghost use Rattle.std.specs.Prelude.{◌≡◌, ◌≤◌, ℕ, Bool, List, length, take};
+ghost use Rattle.std.specs.Prelude.{◌≡◌, ◌≤◌, ◌++◌, ℕ, Bool, List, decimal, length, take};
 ghost use Rattle.records.specs.Sink.{Takes, fails_at};
+
+use itoa::Buffer;
 
 /// A destination of bytes. It takes what it can of each text, and once it could take nothing of one
 /// it has failed.
@@ -41,4 +43,22 @@ pub fn put_all<S: Sink>(sink: &mut S, text: &[u8])
         }
         rest = &rest[taken..];
     }
+}
+
+/// Puts a number in decimal digits, between two texts, as long as the sink does not fail.
+pub fn put_number<S: Sink>(sink: &mut S, before: &[u8], number: u64, after: &[u8])
+    ensures { Takes S.adds S.has_failed sink.old
+        (before.now ++ decimal number ++ after.now) sink.new }
+{
+    put_all(sink, before);
+    put_digits(sink, number);
+    put_all(sink, after);
+}
+
+/// Puts a number in decimal digits.
+fn put_digits<S: Sink>(sink: &mut S, number: u64)
+    ensures { Takes S.adds S.has_failed sink.old (decimal number) sink.new }
+{
+    let mut buffer = Buffer::new();
+    put_all(sink, buffer.format(number).as_bytes());
 }

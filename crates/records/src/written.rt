@@ -1,6 +1,6 @@
 //! Records that are written, line by line as their answers come.
 
-ghost use Rattle.std.specs.Prelude.{◌≡◌, ◌<◌, ◌≤◌, ◌↔◌, ◌∷◌, ◌++◌, [], ℕ, List, Some, IsErr, length, codes, decimal, map, true};
+ghost use Rattle.std.specs.Prelude.{◌≡◌, ◌<◌, ◌≤◌, ◌↔◌, ◌∷◌, ◌++◌, [], ℕ, List, Some, IsErr, length, codes, map, true};
 ghost use Rattle.std.specs.List.{AllByRecursion};
 ghost use Rattle.acts.specs.Deed.{reply_of};
 ghost use Rattle.acts.specs.Deed as said;
@@ -15,9 +15,8 @@ use crate::digits::{PIECE, write_digits};
 use crate::entries::SECOND_HEADER;
 use crate::entry::Entry;
 use crate::record::HEADER;
-use crate::sink::{Sink, put_all};
+use crate::sink::{Sink, put_all, put_number};
 use acts::{Answer, Id, Row};
-use itoa::Buffer;
 use std::alloc::Allocator;
 use thiserror::Error;
 
@@ -203,24 +202,6 @@ fn put_row<S: Sink>(sink: &mut S, row: &Row)
     put_number(sink, b" exp", row.id.0, b":");
     put_number(sink, b"", row.held as u64, b":");
     put_number(sink, b"", row.max as u64, b"");
-}
-
-/// Puts a number in decimal digits, between two texts.
-fn put_number<S: Sink>(sink: &mut S, before: &[u8], number: u64, after: &[u8])
-    ensures { Takes S.adds S.has_failed sink.old
-        (before.now ++ decimal number ++ after.now) sink.new }
-{
-    put_all(sink, before);
-    put_digits(sink, number);
-    put_all(sink, after);
-}
-
-/// Puts a number in decimal digits.
-fn put_digits<S: Sink>(sink: &mut S, number: u64)
-    ensures { Takes S.adds S.has_failed sink.old (decimal number) sink.new }
-{
-    let mut buffer = Buffer::new();
-    put_all(sink, buffer.format(number).as_bytes());
 }
 
 /// Puts bytes as lower case digits, two a byte.

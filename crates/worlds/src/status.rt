@@ -1,6 +1,6 @@
 //! How a call of the program ends: its status, and its line on standard error.
 
-ghost use Rattle.std.specs.Prelude.{◌≡◌, ◌++◌, decimal};
+ghost use Rattle.std.specs.Prelude.{◌≡◌, ◌++◌};
 ghost use Rattle.records.specs.Sink.{Takes};
 ghost use Rattle.worlds.specs.declared.status.Outcome.TheVariants as outcome;
 ghost use Rattle.worlds.specs.Status.{end_outcome, fault_outcome, file_outcome, line_of, run_outcome, status_of, words_outcome};
@@ -8,8 +8,7 @@ ghost use Rattle.worlds.specs.Status.{end_outcome, fault_outcome, file_outcome, 
 use crate::input::Unread;
 use acts::NoMemory;
 use engine::End;
-use itoa::Buffer;
-use records::{RecordFault, Sink, put_all};
+use records::{RecordFault, Sink, put_all, put_number};
 use std::alloc::Allocator;
 
 /// The line of a call with other arguments.
@@ -165,13 +164,4 @@ fn put_parts<S: Sink>(sink: &mut S, first: &[u8], second: &[u8], third: &[u8])
     put_all(sink, first);
     put_all(sink, second);
     put_all(sink, third);
-}
-
-/// Puts a number into a sink, between two texts.
-fn put_number<S: Sink>(sink: &mut S, before: &[u8], number: u64, after: &[u8])
-    ensures { Takes S.adds S.has_failed sink.old
-        (before.now ++ decimal number ++ after.now) sink.new }
-{
-    let mut buffer = Buffer::new();
-    put_parts(sink, before, buffer.format(number).as_bytes(), after);
 }

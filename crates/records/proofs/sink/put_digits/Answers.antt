@@ -1,6 +1,6 @@
 use Rattle.std.proofs.Common.{◌≡◌, ◌∙◌, decimal, subst}
 use Rattle.records.specs.Sink.{Takes}
-use Rattle.records.proofs.written.put_digits.Goals as goal
+use Rattle.records.proofs.sink.put_digits.Goals as goal
 
 pub returns : goal.returns
 returns g c =

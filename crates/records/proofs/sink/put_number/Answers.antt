@@ -1,6 +1,6 @@
 use Rattle.std.proofs.Common.{◌++◌, decimal}
 use Rattle.records.proofs.Sinks.{Takes-then}
-use Rattle.records.proofs.written.put_number.Goals as goal
+use Rattle.records.proofs.sink.put_number.Goals as goal
 
 pub returns : goal.returns
 returns g c =
