@@ -8,6 +8,7 @@ pub mod play;
 pub mod program;
 pub mod record_file;
 pub mod recorded;
+mod standard;
 pub mod status;
 
 pub use input::Unread;

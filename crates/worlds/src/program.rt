@@ -12,6 +12,7 @@ use crate::input::{Unread, read_file, read_script, read_words};
 use crate::lived::lived;
 use crate::play::{finish, rerun};
 use crate::record_file::{RecordFile, create_record};
+use crate::standard::hold_closed;
 use crate::status::Outcome;
 use acts::NoMemory;
 use arguments::Arguments;
@@ -36,6 +37,7 @@ where
     O: Write + Drop,
     E: Write + Drop,
 {
+    let _standard = hold_closed(rt);
     let mut out = Counted::new(out);
     let mut err = Counted::new(err);
     match read_words(rt, rt.alloc()) {
