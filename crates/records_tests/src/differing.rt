@@ -30,18 +30,19 @@ fn wait_for(alloc: Global, rows: &[Row], timer: Timer) -> Result<Act<Global>, Fa
 
 /// The acts that the record answers. The third entry tells no rows, and answers any wait.
 fn acts(alloc: Global) -> Result<Vec<Act<Global>>, Fail> {
-    Ok(vec![in alloc;
-        Act::Spawn(Id(4), Vec::new(alloc)),
-        wait_for(alloc, &[row(4, 0, 2000, 2000)], Timer::Start(10))?,
-        wait_for(alloc, &[row(9, 9, 9, 9)], Timer::Running)?,
-        wait_for(
-            alloc,
-            &[row(4, 1, 2000, 1999), row(5, 5, 5, 3)],
-            Timer::Endless
-        )?,
-        wait_for(alloc, &[], Timer::Running)?,
-        Act::Close(Id(4)),
-    ]?)
+    let waits: [(&[Row], Timer); 4] = [
+        (&[row(4, 0, 2000, 2000)], Timer::Start(10)),
+        (&[row(9, 9, 9, 9)], Timer::Running),
+        (&[row(4, 1, 2000, 1999), row(5, 5, 5, 3)], Timer::Endless),
+        (&[], Timer::Running),
+    ];
+    let mut acts = Vec::new(alloc);
+    acts.push(Act::Spawn(Id(4), Vec::new(alloc)))?;
+    for (rows, timer) in waits {
+        acts.push(wait_for(alloc, rows, timer)?)?;
+    }
+    acts.push(Act::Close(Id(4)))?;
+    Ok(acts)
 }
 
 /// The answers to the acts, and which of them differed, where the act of this place is another one.

@@ -7,7 +7,7 @@ use rowfiles::families::Family;
 use rowfiles::{LineFault, read_rows};
 use rowrules::{Call, Prints, Report, run_call, run_rows};
 use std::fs;
-use std::io::ErrorKind;
+use std::io::{self, ErrorKind};
 use std::rt::Files;
 
 /// The paths of what a folder holds, in order.
@@ -85,16 +85,22 @@ fn args_of<R: Files + AllocGlobal>(rt: &R, folder: &str) -> Result<Vec<Vec<u8>>>
     let mut args = Vec::new(rt.alloc());
     args.push(Vec::from_slice(rt.alloc(), b"script.exp")?)?;
     let path = format!(in rt.alloc(); "{folder}/args")?;
-    match fs::read_to_string(rt, path.as_str()) {
-        Ok(text) => {
-            for line in text.lines() {
-                args.push(Vec::from_slice(rt.alloc(), line.as_bytes())?)?;
-            }
-        }
-        Err(error) if error.kind() == ErrorKind::NotFound => {}
-        Err(error) => return Err(error.into()),
+    let Some(text) = found(fs::read_to_string(rt, path.as_str()))? else {
+        return Ok(args);
+    };
+    for line in text.lines() {
+        args.push(Vec::from_slice(rt.alloc(), line.as_bytes())?)?;
     }
     Ok(args)
+}
+
+/// What was read of a file, if the file is there.
+fn found(read: io::Result<String>) -> Result<Option<String>> {
+    match read {
+        Ok(text) => Ok(Some(text)),
+        Err(error) if error.kind() == ErrorKind::NotFound => Ok(None),
+        Err(error) => Err(error.into()),
+    }
 }
 
 /// What an example has to print.

@@ -57,60 +57,69 @@ impl Product for Rx {
     }
 }
 
+/// How a session stands whose acts have been performed.
+#[derive(Clone, Copy)]
+enum Stand {
+    /// It has given its end, and gives it again.
+    AtEnd,
+    /// It has answered that memory was refused, and answers it again.
+    Refused,
+    Broken(Breach),
+}
+
 /// Performs each act that a session asks for, up to its end or to a refusal of memory.
 fn perform<A: Allocator + Copy, W: World<A>>(
     log: Global,
     mut session: Session<A>,
     world: &mut W,
 ) -> Result<Ended, AllocError> {
+    let stand = stand_of(&mut session, world);
+    ended(log, stand, &session.into_end())
+}
+
+/// What a session that stands so has come to, by the end that it has.
+fn ended<A: Allocator>(
+    log: Global,
+    stand: Stand,
+    end: &Option<engine::End<A>>,
+) -> Result<Ended, AllocError> {
+    Ok(match (stand, end) {
+        (Stand::AtEnd, Some(end)) => Ended::End(end_in(log, end)?),
+        (Stand::AtEnd, None) => Ended::Broken(Breach::EndLost),
+        (Stand::Refused, None) => Ended::NoMemory,
+        (Stand::Refused, Some(_)) => Ended::Broken(Breach::EndsRefused),
+        (Stand::Broken(breach), _) => Ended::Broken(breach),
+    })
+}
+
+/// Performs each act that a session asks for, and tells how it stands then.
+fn stand_of<A: Allocator + Copy, W: World<A>>(session: &mut Session<A>, world: &mut W) -> Stand {
     let mut answer = None;
     for _ in 0..u64::MAX {
         match session.next(answer) {
             Ok(Step::Act(act)) => answer = Some(world.act(act)),
-            Ok(Step::End(_)) => return over(log, session),
-            Err(_) => return Ok(refused(session)),
+            Ok(Step::End(_)) => return stand_at_end(session),
+            Err(_) => return stand_refused(session),
         }
     }
-    Ok(Ended::Broken(Breach::Endless))
+    Stand::Broken(Breach::Endless)
 }
 
-/// The end of a session that has given it. It is given again.
-fn over<A: Allocator + Copy>(log: Global, mut session: Session<A>) -> Result<Ended, AllocError> {
-    if !is_over(&mut session) {
-        return Ok(Ended::Broken(Breach::GoesOn));
-    }
-    match session.into_end() {
-        Some(end) => Ok(Ended::End(end_in(log, &end)?)),
-        None => Ok(Ended::Broken(Breach::EndLost)),
-    }
-}
-
-/// The refusal that a session has answered. It is answered again, and there is no end.
-fn refused<A: Allocator + Copy>(mut session: Session<A>) -> Ended {
-    if !is_refused(&mut session) {
-        return Ended::Broken(Breach::GoesOnRefused);
-    }
-    match session.into_end() {
-        None => Ended::NoMemory,
-        Some(_) => Ended::Broken(Breach::EndsRefused),
-    }
-}
-
-/// Whether a session gives an end when it is asked once more.
-fn is_over<A: Allocator + Copy>(session: &mut Session<A>) -> bool {
+/// How a session stands that has given its end, when it is asked once more.
+fn stand_at_end<A: Allocator + Copy>(session: &mut Session<A>) -> Stand {
     match session.next(None) {
-        Ok(Step::Act(_)) => false,
-        Ok(Step::End(_)) => true,
-        Err(_) => false,
+        Ok(Step::Act(_)) => Stand::Broken(Breach::GoesOn),
+        Ok(Step::End(_)) => Stand::AtEnd,
+        Err(_) => Stand::Broken(Breach::GoesOn),
     }
 }
 
-/// Whether a session answers a refusal of memory when it is asked once more.
-fn is_refused<A: Allocator + Copy>(session: &mut Session<A>) -> bool {
+/// How a session stands that has been refused memory, when it is asked once more.
+fn stand_refused<A: Allocator + Copy>(session: &mut Session<A>) -> Stand {
     match session.next(None) {
-        Ok(Step::Act(_)) => false,
-        Ok(Step::End(_)) => false,
-        Err(_) => true,
+        Ok(Step::Act(_)) => Stand::Broken(Breach::GoesOnRefused),
+        Ok(Step::End(_)) => Stand::Broken(Breach::GoesOnRefused),
+        Err(_) => Stand::Refused,
     }
 }
 

@@ -106,23 +106,40 @@ fn reads_on_after_an_interruption(rt: HostRuntime) -> Result<(), Fail> {
     Ok(())
 }
 
-/// The status of a call, and what it prints and tells.
-fn told(rt: &HostRuntime, call: &[&str]) -> Result<String<Global>, Fail> {
-    let mut words = Vec::new(rt.alloc());
-    for word in call {
-        words.push(Vec::from_slice(rt.alloc(), word.as_bytes())?)?;
-    }
+/// The status of a call, what it prints and what it tells.
+fn performed(rt: &HostRuntime, words: &[Vec<u8>]) -> (u8, Vec<u8>, Vec<u8>) {
     let mut printed = Vec::new(rt.alloc());
     let mut told = Vec::new(rt.alloc());
     let status = perform(
         rt,
-        &words,
+        words,
         &mut Counted::new(&mut printed),
         &mut Counted::new(&mut told),
     );
-    let printed = std::str::from_utf8(&printed)?;
-    let told = std::str::from_utf8(&told)?;
-    Ok(format!(in rt.alloc(); "{status} {printed}{told}")?)
+    (status, printed, told)
+}
+
+/// The status of a call, and what it prints and tells, as one text.
+fn shown(alloc: Global, status: u8, printed: &[u8], told: &[u8]) -> Result<String<Global>, Fail> {
+    let printed = std::str::from_utf8(printed)?;
+    let told = std::str::from_utf8(told)?;
+    Ok(format!(in alloc; "{status} {printed}{told}")?)
+}
+
+/// The words of a call as their bytes.
+fn words_of(alloc: Global, call: &[&str]) -> Result<Vec<Vec<u8>>, Fail> {
+    let mut words = Vec::new(alloc);
+    for word in call {
+        words.push(Vec::from_slice(alloc, word.as_bytes())?)?;
+    }
+    Ok(words)
+}
+
+/// The status of a call, and what it prints and tells.
+fn told(rt: &HostRuntime, call: &[&str]) -> Result<String<Global>, Fail> {
+    let words = words_of(rt.alloc(), call)?;
+    let (status, printed, told) = performed(rt, &words);
+    shown(rt.alloc(), status, &printed, &told)
 }
 
 /// A missing file, a folder, a file that is there and empty, and one that takes nothing.
@@ -246,19 +263,10 @@ fn runs_scripts_of_calls(rt: HostRuntime) -> Result<(), Fail> {
 
 #[test]
 fn hands_arguments_on_as_their_bytes(rt: HostRuntime) -> Result<(), Fail> {
-    let call: [&[u8]; 4] = [b"-c", b"puts -nonewline $argv", b"/dev/null", b"\xff\xfe"];
-    let mut words = Vec::new(rt.alloc());
-    for word in call {
-        words.push(Vec::from_slice(rt.alloc(), word)?)?;
-    }
-    let mut printed = Vec::new(rt.alloc());
-    let mut told = Vec::new(rt.alloc());
-    let status = perform(
-        &rt,
-        &words,
-        &mut Counted::new(&mut printed),
-        &mut Counted::new(&mut told),
-    );
+    let call = ["-c", "puts -nonewline $argv", "/dev/null"];
+    let mut words = words_of(rt.alloc(), &call)?;
+    words.push(Vec::from_slice(rt.alloc(), b"\xff\xfe")?)?;
+    let (status, printed, told) = performed(&rt, &words);
     assert_eq!(rt; status, 0);
     assert_eq!(rt; printed.as_slice(), b"\xff\xfe".as_slice());
     assert!(rt; told.is_empty());

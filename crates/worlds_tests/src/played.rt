@@ -4,7 +4,8 @@ ghost use Rattle.std.specs.Prelude.{◌≡◌, false};
 
 use acts::Limits;
 use refusal::Refusing;
-use std::alloc::Allocator;
+use std::alloc::{Allocator, Global};
+use std::process::Abort;
 use std::test::Fail;
 use worlds::play::play;
 use worlds::{Counted, Sink};
@@ -62,28 +63,40 @@ fn tells_a_writer_of_errors_that_fails(rt: HostRuntime) -> Result<(), Fail> {
     Ok(())
 }
 
-/// The status of the first dialogue, played with memory from `alloc`.
-fn status_of_first<A: Allocator + Copy, O: Sink + Drop, E: Sink + Drop>(
+/// The status of the first dialogue, played with memory from `alloc`, what it prints and what it
+/// tells.
+fn first_played<A: Allocator + Copy>(
+    rt: &impl AllocGlobal,
     alloc: A,
     limits: Limits,
-    out: O,
-    err: E,
-) -> u8
-    requires out { O.has_failed out ≡ false }
-    requires err { E.has_failed err ≡ false }
-{
+) -> (u8, Vec<u8>, Vec<u8>) {
     let args: Vec<Vec<u8, A>, A> = Vec::new(alloc);
-    let record = FIRST_RECORD.as_bytes();
-    play(
+    let mut printed = Vec::new(rt.alloc());
+    let mut told = Vec::new(rt.alloc());
+    let status = play(
         alloc,
         FIRST.as_bytes(),
         &args,
         limits,
         b"r",
-        record,
-        out,
-        err,
-    )
+        FIRST_RECORD.as_bytes(),
+        Counted::new(&mut printed),
+        Counted::new(&mut told),
+    );
+    (status, printed, told)
+}
+
+/// Tests what a run printed and told that went on to its end.
+fn is_whole(rt: &impl Abort, printed: &[u8], told: &[u8], n: u64) {
+    assert_eq!(rt; printed, b"hiok\n".as_slice(), "{n}");
+    assert!(rt; told.is_empty(), "{n}");
+}
+
+/// Tests what a run printed and told that was refused memory.
+fn is_refused(rt: &impl Abort, status: u8, printed: &[u8], told: &[u8], n: u64) {
+    assert_eq!(rt; status, 6, "{n}");
+    assert!(rt; b"hiok\n".starts_with(printed), "{n}");
+    assert_eq!(rt; told, b"rx: no memory\n".as_slice(), "{n}");
 }
 
 #[test]
@@ -91,32 +104,21 @@ fn tells_that_memory_was_refused(rt: HostRuntime) -> Result<(), Fail> {
     let heap = Refusing::new(rt.alloc());
     let limits = Limits::new(100).ok_or("ticks")?;
     for n in 1..1000u64 {
-        let mut printed = Vec::new(rt.alloc());
-        let mut told = Vec::new(rt.alloc());
         let refused = heap.refused();
         heap.refuse_nth(n);
-        let ended = status_of_first(
-            &heap,
-            limits,
-            Counted::new(&mut printed),
-            Counted::new(&mut told),
-        );
-        if heap.refused() == refused {
+        let (ended, printed, told) = first_played(&rt, &heap, limits);
+        let is_over = heap.refused() == refused;
+        // A refusal that concerns the keeping of a body alone is no error.
+        if is_over || ended == 0 {
             assert_eq!(rt; ended, 0);
-            assert_eq!(rt; printed.as_slice(), b"hiok\n".as_slice());
-            assert!(rt; told.is_empty());
+            is_whole(&rt, &printed, &told, n);
+        } else {
+            is_refused(&rt, ended, &printed, &told, n);
+        }
+        if is_over {
             assert!(rt; 10 < n);
             return Ok(());
         }
-        // A refusal that concerns the keeping of a body alone is no error.
-        if ended == 0 {
-            assert_eq!(rt; printed.as_slice(), b"hiok\n".as_slice(), "{n}");
-            assert!(rt; told.is_empty(), "{n}");
-            continue;
-        }
-        assert_eq!(rt; ended, 6, "{n}");
-        assert!(rt; b"hiok\n".starts_with(&printed), "{n}");
-        assert_eq!(rt; told.as_slice(), b"rx: no memory\n".as_slice(), "{n}");
     }
     Err(Fail::from("each request was refused"))
 }

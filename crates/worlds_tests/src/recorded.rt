@@ -2,6 +2,7 @@
 
 use acts::Limits;
 use std::alloc::Global;
+use std::process::Abort;
 use std::test::Fail;
 use worlds::play::{play, rerun};
 use worlds::{Counted, read_entries};
@@ -33,42 +34,70 @@ fn played(alloc: Global, script: &[u8], record: &[u8]) -> Result<(u8, Vec<u8>, V
     Ok((status, printed, told))
 }
 
+/// The status, what was printed and what was told, where the script runs again against a record,
+/// and the record that is made takes so many bytes.
+fn made(alloc: Global, record: &[u8], taken: &mut [u8]) -> Result<(u8, Vec<u8>, Vec<u8>), Fail> {
+    let limits = Limits::new(100).ok_or("ticks")?;
+    let entries = read_entries(alloc, record)?;
+    let mut printed = Vec::new(alloc);
+    let mut told = Vec::new(alloc);
+    let status = rerun(
+        alloc,
+        SCRIPT,
+        &[],
+        limits,
+        entries,
+        &mut Counted::new(&mut printed),
+        &mut Counted::new(&mut told),
+        &mut Some(Counted::new(taken)),
+    );
+    Ok((status, printed, told))
+}
+
+/// Tests what is made of a record where the writer has this room.
+fn leaves_rows(
+    rt: &(impl Abort + AllocGlobal),
+    record: &[u8],
+    room: &mut [u8],
+) -> Result<(), Fail> {
+    let (status, printed, told) = made(rt.alloc(), record, room)?;
+    let whole = room.len() == SECOND.len();
+    assert!(rt; SECOND.starts_with(room));
+    assert_eq!(rt; status, if whole { 0u8 } else { 4u8 });
+    assert_eq!(rt; printed.as_slice(), b"hi\n".as_slice());
+    let line = if whole { "" } else { "rx: output failed\n" };
+    assert_eq!(rt; told.as_slice(), line.as_bytes());
+    Ok(())
+}
+
 #[test]
 fn leaves_the_rows_of_each_wait(rt: HostRuntime) -> Result<(), Fail> {
-    let alloc = rt.alloc();
     for record in [FIRST, SECOND] {
         for room in 0..=SECOND.len() {
-            let mut taken = vec![in alloc; 0u8; SECOND.len()]?;
-            let mut printed = Vec::new(alloc);
-            let mut told = Vec::new(alloc);
-            let status = rerun(
-                alloc,
-                SCRIPT,
-                &[],
-                Limits::new(100).ok_or("ticks")?,
-                read_entries(alloc, record)?,
-                &mut Counted::new(&mut printed),
-                &mut Counted::new(&mut told),
-                &mut Some(Counted::new(&mut taken[..room])),
-            );
-            assert_eq!(rt; &taken[..room], &SECOND[..room]);
-            assert_eq!(rt; printed.as_slice(), b"hi\n".as_slice());
-            let whole = room == SECOND.len();
-            assert_eq!(rt; status, if whole { 0u8 } else { 4u8 }, "{room}");
-            let line = if whole { "" } else { "rx: output failed\n" };
-            assert_eq!(rt; told.as_slice(), line.as_bytes(), "{room}");
+            let mut taken = [0u8; SECOND.len()];
+            leaves_rows(&rt, record, &mut taken[..room])?;
         }
     }
+    Ok(())
+}
+
+/// Tests that a script comes to its end against a record, and prints what arrived.
+fn plays_to_its_end(
+    rt: &(impl Abort + AllocGlobal),
+    script: &[u8],
+    record: &[u8],
+) -> Result<(), Fail> {
+    let (status, printed, told) = played(rt.alloc(), script, record)?;
+    assert_eq!(rt; status, 0);
+    assert_eq!(rt; printed.as_slice(), b"hi\n".as_slice());
+    assert!(rt; told.is_empty());
     Ok(())
 }
 
 #[test]
 fn plays_records_of_both_versions(rt: HostRuntime) -> Result<(), Fail> {
     for record in [FIRST, SECOND] {
-        let (status, printed, told) = played(rt.alloc(), SCRIPT, record)?;
-        assert_eq!(rt; status, 0);
-        assert_eq!(rt; printed.as_slice(), b"hi\n".as_slice());
-        assert!(rt; told.is_empty());
+        plays_to_its_end(&rt, SCRIPT, record)?;
     }
     Ok(())
 }
@@ -86,11 +115,15 @@ fn tells_the_wait_that_differs(rt: HostRuntime) -> Result<(), Fail> {
         b"rx: wait differs at answer 3\n".as_slice()
     );
     // A record of version 1 tells no rows.
-    let (status, printed, told) = played(alloc, &script, FIRST)?;
-    assert_eq!(rt; status, 0);
-    assert_eq!(rt; printed.as_slice(), b"hi\n".as_slice());
-    assert!(rt; told.is_empty());
-    Ok(())
+    plays_to_its_end(&rt, &script, FIRST)
+}
+
+/// What is told where a record ends behind so many lines, a good one or one that is cut.
+fn line_of(alloc: Global, is_good: bool, lines: usize) -> Result<String, Fail> {
+    if is_good {
+        return Ok(String::from_str(alloc, "rx: no more answers\n")?);
+    }
+    Ok(format!(in alloc; "rx: bad record G at line {}\n", lines.saturating_add(1))?)
 }
 
 #[test]
@@ -99,11 +132,7 @@ fn tells_the_first_bad_line_of_a_record_that_is_cut(rt: HostRuntime) -> Result<(
         let front = &SECOND[..end];
         let lines = front.iter().filter(|b| **b == b'\n').count();
         let is_good = end >= 12 && front.ends_with(b"\n") && !front.ends_with(b":2000\n");
-        let line = if is_good {
-            String::from_str(rt.alloc(), "rx: no more answers\n")?
-        } else {
-            format!(in rt.alloc(); "rx: bad record G at line {}\n", lines.saturating_add(1))?
-        };
+        let line = line_of(rt.alloc(), is_good, lines)?;
         let (status, printed, told) = played(rt.alloc(), SCRIPT, front)?;
         assert_eq!(rt; status, 5, "{end}");
         assert_eq!(rt; told.as_slice(), line.as_bytes(), "{end}");
