@@ -1,0 +1,9 @@
+//! Tests of the program's calls, apart from `worlds` so that its proofs are not made twice.
+#![tactic(auto)]
+
+#[cfg(test)]
+mod calls;
+#[cfg(test)]
+mod lived;
+#[cfg(test)]
+mod status;
