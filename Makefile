@@ -1,4 +1,4 @@
-# make demo     builds rx without its proofs, which is quick, and holds the first example's dialogue,
+# make demo     builds rx without its proofs, in a few minutes, and holds the first example's dialogue,
 #               once by its record and once live: prints hiok twice
 # make rx       proves and builds the program to out/rx
 # make install  puts out/rx, its man page, documents and examples under PREFIX (PREFIX=/usr/local DESTDIR=)
