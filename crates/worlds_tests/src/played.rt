@@ -1,14 +1,12 @@
 //! Plays whose writers fail, and plays that are refused memory.
 
-ghost use Rattle.std.specs.Prelude.{◌≡◌, false};
-
 use acts::Limits;
 use refusal::Refusing;
-use std::alloc::{Allocator, Global};
+use std::alloc::Allocator;
 use std::process::Abort;
 use std::test::Fail;
+use worlds::Counted;
 use worlds::play::play;
-use worlds::{Counted, Sink};
 
 const FIRST: &str = "spawn -noecho cat; send hi; expect -ex hi; puts ok";
 
@@ -87,13 +85,13 @@ fn first_played<A: Allocator + Copy>(
 }
 
 /// Tests what a run printed and told that went on to its end.
-fn is_whole(rt: &impl Abort, printed: &[u8], told: &[u8], n: u64) {
+fn prints_all(rt: &impl Abort, printed: &[u8], told: &[u8], n: u64) {
     assert_eq!(rt; printed, b"hiok\n".as_slice(), "{n}");
     assert!(rt; told.is_empty(), "{n}");
 }
 
 /// Tests what a run printed and told that was refused memory.
-fn is_refused(rt: &impl Abort, status: u8, printed: &[u8], told: &[u8], n: u64) {
+fn prints_a_beginning(rt: &impl Abort, status: u8, printed: &[u8], told: &[u8], n: u64) {
     assert_eq!(rt; status, 6, "{n}");
     assert!(rt; b"hiok\n".starts_with(printed), "{n}");
     assert_eq!(rt; told, b"rx: no memory\n".as_slice(), "{n}");
@@ -111,9 +109,9 @@ fn tells_that_memory_was_refused(rt: HostRuntime) -> Result<(), Fail> {
         // A refusal that concerns the keeping of a body alone is no error.
         if is_over || ended == 0 {
             assert_eq!(rt; ended, 0);
-            is_whole(&rt, &printed, &told, n);
+            prints_all(&rt, &printed, &told, n);
         } else {
-            is_refused(&rt, ended, &printed, &told, n);
+            prints_a_beginning(&rt, ended, &printed, &told, n);
         }
         if is_over {
             assert!(rt; 10 < n);

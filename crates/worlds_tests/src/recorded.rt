@@ -36,7 +36,7 @@ fn played(alloc: Global, script: &[u8], record: &[u8]) -> Result<(u8, Vec<u8>, V
 
 /// The status, what was printed and what was told, where the script runs again against a record,
 /// and the record that is made takes so many bytes.
-fn made(alloc: Global, record: &[u8], taken: &mut [u8]) -> Result<(u8, Vec<u8>, Vec<u8>), Fail> {
+fn reran(alloc: Global, record: &[u8], taken: &mut [u8]) -> Result<(u8, Vec<u8>, Vec<u8>), Fail> {
     let limits = Limits::new(100).ok_or("ticks")?;
     let entries = read_entries(alloc, record)?;
     let mut printed = Vec::new(alloc);
@@ -60,13 +60,14 @@ fn leaves_rows(
     record: &[u8],
     room: &mut [u8],
 ) -> Result<(), Fail> {
-    let (status, printed, told) = made(rt.alloc(), record, room)?;
-    let whole = room.len() == SECOND.len();
-    assert!(rt; SECOND.starts_with(room));
-    assert_eq!(rt; status, if whole { 0u8 } else { 4u8 });
+    let (status, printed, told) = reran(rt.alloc(), record, room)?;
+    let size = room.len();
+    let whole = size == SECOND.len();
+    assert!(rt; SECOND.starts_with(room), "{size}");
+    assert_eq!(rt; status, if whole { 0u8 } else { 4u8 }, "{size}");
     assert_eq!(rt; printed.as_slice(), b"hi\n".as_slice());
     let line = if whole { "" } else { "rx: output failed\n" };
-    assert_eq!(rt; told.as_slice(), line.as_bytes());
+    assert_eq!(rt; told.as_slice(), line.as_bytes(), "{size}");
     Ok(())
 }
 
