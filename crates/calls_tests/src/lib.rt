@@ -6,4 +6,6 @@ mod calls;
 #[cfg(test)]
 mod lived;
 #[cfg(test)]
+mod recorded;
+#[cfg(test)]
 mod status;

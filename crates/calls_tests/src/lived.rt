@@ -55,8 +55,14 @@ const RUNS: [(&str, u64, u8, &str, &str); 10] = [
     ("puts a; puts {b", 100, 1, "a\n", "missing close-brace\n"),
 ];
 
-/// The status of a script that runs live, what it prints and what it tells.
-fn ran(rt: &HostRuntime, script: &str, limits: Limits) -> (u8, Vec<u8>, Vec<u8>) {
+/// The status of a script that runs live, what it prints and what it tells. Its record is made
+/// where there is a sink for it.
+pub fn ran<S: Sink>(
+    rt: &HostRuntime,
+    script: &str,
+    limits: Limits,
+    made: &mut Option<S>,
+) -> (u8, Vec<u8>, Vec<u8>) {
     let mut out = Vec::new(rt.alloc());
     let mut err = Vec::new(rt.alloc());
     let ended = lived(
@@ -66,7 +72,7 @@ fn ran(rt: &HostRuntime, script: &str, limits: Limits) -> (u8, Vec<u8>, Vec<u8>)
         limits,
         &mut Counted::new(&mut out),
         &mut Counted::new(&mut err),
-        &mut None::<Counted<Vec<u8>>>,
+        made,
     );
     (ended, out, err)
 }
@@ -75,7 +81,7 @@ fn ran(rt: &HostRuntime, script: &str, limits: Limits) -> (u8, Vec<u8>, Vec<u8>)
 fn runs_scripts_live(rt: HostRuntime) -> Result<(), Fail> {
     for (script, ticks, status, printed, told) in RUNS {
         let limits = Limits::new(ticks).ok_or("ticks")?;
-        let (ended, out, err) = ran(&rt, script, limits);
+        let (ended, out, err) = ran(&rt, script, limits, &mut None::<Counted<Vec<u8>>>);
         assert_eq!(rt; ended, status, "{script}");
         assert_eq!(rt; out.as_slice(), printed.as_bytes(), "{script}");
         assert_eq!(rt; err.as_slice(), told.as_bytes(), "{script}");
