@@ -2,20 +2,25 @@
 #               once by its record and once live: prints hiok twice
 # make rx       proves and builds the program to out/rx
 # make install  puts out/rx, its man page, documents and examples under PREFIX (PREFIX=/usr/local DESTDIR=)
+# make uninstall  removes what make install put there
 # make test     the gate: every proof from nothing, the must-fail edits, the tests and the programs
 # Beside the gate:
-# make house    rules of this repository that the prover does not know, in a moment
+# make house    rules of this repository that the prover does not know, and its links, in a moment
 # make rows     runs the rows, and writes how many there are to the stored output of rowtests
 # make edits    the edits of edits/ that the prover must refuse, for the crates that changed (SINCE=COMMIT)
 # make live     out/rx against programs and servers of the distribution
 # make compare  random scripts against tclsh8.6, dialogues against expect (SCRIPTS=N, DIALOGUES=N, SEED=S)
 # make bench    times of out/rx beside those of tclsh8.6 and jimsh, and dialogues beside expect
 # make soak     a long dialogue, live: whether something is lost and whether memory grows
-.PHONY: demo rx install test house rows edits live compare bench soak clean
+.PHONY: demo rx install built install-documents uninstall test house rows edits live compare bench \
+	soak clean
 
 FIRST := $(CURDIR)/examples/hello-cat
 PREFIX ?= /usr/local
 SHARE = $(DESTDIR)$(PREFIX)/share
+DOCUMENTS = $(SHARE)/doc/rx
+# The folders whose README.md is linked from the documents, beside those of the crates.
+LINKED := live bench compare rows
 SCRIPTS ?= 100000
 DIALOGUES ?= 150
 SEED ?= 1
@@ -30,19 +35,34 @@ rx:
 	mkdir -p out && cp crates/rx/out/rx out/rx
 
 # It proves nothing, so that it can be run as another user than the one that ran make rx.
-install:
-	@test -x out/rx || { echo "make install: there is no out/rx yet: make rx" >&2; exit 1; }
+install: built install-documents
 	install -D -m 755 out/rx $(DESTDIR)$(PREFIX)/bin/rx
-	install -D -m 644 rx.1 $(SHARE)/man/man1/rx.1
-	install -D -m 644 -t $(SHARE)/doc/rx README.md CHANGELOG.md
-	install -D -m 644 -t $(SHARE)/doc/rx/docs docs/*.md
-	cd examples && find . -type f -exec install -D -m 644 {} $(SHARE)/doc/rx/examples/{} \;
+	install -D -m 755 tools/rx-cut-record $(DESTDIR)$(PREFIX)/bin/rx-cut-record
+	install -d $(SHARE)/man/man1
+	sed 's|/usr/local|$(PREFIX)|g' rx.1 >$(SHARE)/man/man1/rx.1
+	chmod 644 $(SHARE)/man/man1/rx.1
+
+built:
+	@test -x out/rx || { echo "there is no out/rx yet: make rx" >&2; exit 1; }
+
+install-documents:
+	install -D -m 644 -t $(DOCUMENTS) README.md CHANGELOG.md
+	install -D -m 644 -t $(DOCUMENTS)/docs docs/*.md
+	for it in $(LINKED) $(wildcard crates/*); do \
+		test ! -f $$it/README.md || install -D -m 644 -t $(DOCUMENTS)/$$it $$it/README.md || exit 1; \
+	done
+	cd examples && find . -type f -exec install -D -m 644 {} $(DOCUMENTS)/examples/{} \;
+
+uninstall:
+	rm -f $(DESTDIR)$(PREFIX)/bin/rx $(DESTDIR)$(PREFIX)/bin/rx-cut-record $(SHARE)/man/man1/rx.1
+	rm -rf $(DOCUMENTS)
 
 test:
 	rt ci
 
 house:
 	tools/house
+	tools/links
 
 rows:
 	tools/rows
