@@ -3,6 +3,7 @@
 # make rx       proves and builds the program to out/rx
 # make install  puts out/rx, its man page, documents and examples under PREFIX (PREFIX=/usr/local DESTDIR=)
 # make uninstall  removes what make install put there
+# make deb      makes a Debian package of out/rx and all that make install puts in place: out/rx_*.deb
 # make test     the gate: every proof from nothing, the must-fail edits, the tests and the programs
 # Beside the gate:
 # make house    rules of this repository that the prover does not know, and its links, in a moment
@@ -12,7 +13,7 @@
 # make compare  random scripts against tclsh8.6, dialogues against expect (SCRIPTS=N, DIALOGUES=N, SEED=S)
 # make bench    times of out/rx beside those of tclsh8.6 and jimsh, and dialogues beside expect
 # make soak     a long dialogue, live: whether something is lost and whether memory grows
-.PHONY: demo rx install built install-documents uninstall test house rows edits live compare bench \
+.PHONY: demo rx install built install-documents uninstall deb test house rows edits live compare bench \
 	soak clean
 
 FIRST := $(CURDIR)/examples/hello-cat
@@ -56,6 +57,9 @@ install-documents:
 uninstall:
 	rm -f $(DESTDIR)$(PREFIX)/bin/rx $(DESTDIR)$(PREFIX)/bin/rx-cut-record $(SHARE)/man/man1/rx.1
 	rm -rf $(DOCUMENTS)
+
+deb:
+	tools/deb
 
 test:
 	rt ci
