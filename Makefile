@@ -1,5 +1,5 @@
-# make demo     builds rx without its proofs, in a few minutes, and holds the first example's dialogue,
-#               once by its record and once live: prints hiok twice
+# make demo     builds rx without its proofs, in a few minutes, and holds two dialogues of the examples,
+#               one by its record and live, the other by its record
 # make rx       proves and builds the program to out/rx
 # make install  puts out/rx, its man page, documents and examples under PREFIX (PREFIX=/usr/local DESTDIR=)
 # make uninstall  removes what make install put there
@@ -26,9 +26,13 @@ SCRIPTS ?= 100000
 DIALOGUES ?= 150
 SEED ?= 1
 
+# A case of tools/demo is a script, which is standard input, with its words and what it has to print.
 demo:
-	@cd crates/rx && rt try --data record=$(FIRST)/record --data script.exp=$(FIRST)/script.exp -- --replay record script.exp
-	@cd crates/rx && rt try --data script.exp=$(FIRST)/script.exp -- script.exp
+	@echo "Builds rx without its proofs, which takes a few minutes, and then holds three dialogues of the"
+	@echo "examples: hello-cat by its record, hello-cat live with cat, installer-prompts by its record."
+	@echo "A line for each says whether it printed what it has to (output=expected)."
+	@cd crates/rx && rt try --cases $(CURDIR)/tools/demo --data hello=$(FIRST)/record \
+		--data installer=$(CURDIR)/examples/installer-prompts/record
 
 # rt builds only what it has proved, and runs it once on the first example.
 rx:
