@@ -7,13 +7,14 @@
 # make test     the gate: every proof from nothing, the must-fail edits, the tests and the programs
 # Beside the gate:
 # make house    rules of this repository that the prover does not know, and its links, in a moment
+# make guide    runs what the README, the guide and the man page show, and compares (RX=out/rx)
 # make rows     runs the rows, and writes how many there are to the stored output of rowtests
 # make edits    the edits of edits/ that the prover must refuse, for the crates that changed (SINCE=COMMIT)
 # make live     out/rx against programs and servers of the distribution
 # make compare  random scripts against tclsh8.6, dialogues against expect (SCRIPTS=N, DIALOGUES=N, SEED=S)
 # make bench    times of out/rx beside those of tclsh8.6 and jimsh, and dialogues beside expect
 # make soak     a long dialogue, live: whether something is lost and whether memory grows
-.PHONY: demo rx install built install-documents uninstall deb test house rows edits live compare bench \
+.PHONY: demo rx install built install-documents uninstall deb test house guide rows edits live compare bench \
 	soak clean
 
 FIRST := $(CURDIR)/examples/hello-cat
@@ -22,6 +23,7 @@ SHARE = $(DESTDIR)$(PREFIX)/share
 DOCUMENTS = $(SHARE)/doc/rx
 # The folders whose README.md is linked from the documents, beside those of the crates.
 LINKED := live bench compare rows
+RX ?= out/rx
 SCRIPTS ?= 100000
 DIALOGUES ?= 150
 SEED ?= 1
@@ -71,6 +73,10 @@ test:
 house:
 	tools/house
 	tools/links
+
+# The program is not built here, so that another one can be tried, as an installed one.
+guide:
+	tools/guide --program $(RX)
 
 rows:
 	tools/rows
