@@ -14,5 +14,6 @@ pub mod Others
 pub mod Peers
 pub mod Readings
 pub mod Refused
+pub mod Rising
 pub mod RowsMade
 pub mod Vains

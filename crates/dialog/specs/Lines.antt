@@ -1,5 +1,5 @@
 -- What contracts see of the table of open ids.
-use Rattle.std.specs.Prelude.{◌≡◌, ℕ, ◌+◌, ◌-◌, ◌/◌, ◌==◌, ◌^◌, not, nat_lt, nat_le, Bool, List, [], ◌∷◌, ◌++◌, length, filter, drop, sum_by, Option, Some, None, if◌then◌else◌}
+use Rattle.std.specs.Prelude.{◌≡◌, ℕ, ◌+◌, ◌-◌, ◌/◌, ◌==◌, ◌^◌, not, nat_lt, nat_le, ◌<◌, Bool, List, [], ◌∷◌, ◌++◌, length, map, filter, drop, sum_by, Option, Some, None, if◌then◌else◌}
 use Rattle.std.specs.Option.{option_map}
 use Rattle.circular_buffer.specs.Buffer.{keep_last}
 use Rattle.acts.specs.declared.id.Id.{Id}
@@ -21,6 +21,25 @@ pub record Listing : Type 0 where
   pub lines : List Line
   pub next : Option ℕ
 
+-- each of these numbers is beyond that one
+abbrev pub AllBeyond : ℕ → List ℕ → Type 0
+AllBeyond n [] = Unit {0}
+AllBeyond n (m ∷ ms) = (n < m) × AllBeyond n ms
+
+-- the numbers rise
+abbrev pub Rise : List ℕ → Type 0
+Rise [] = Unit {0}
+Rise (n ∷ ns) = AllBeyond n ns × Rise ns
+
+-- the numbers of ids
+abbrev pub numbers : List Line → List ℕ
+numbers lines = map (λ l. l.id.0) lines
+
+-- the next number, where one is left
+abbrev pub upcoming : Option ℕ → List ℕ
+upcoming None = []
+upcoming (Some n) = n ∷ []
+
 -- a table of these ids, whose next number is that one
 abbrev pub listing : List Line → Option ℕ → Listing
 listing lines next = record { lines = lines; next = next }
@@ -40,11 +59,12 @@ abbrev pub without : Id → List Line → List Line
 without i [] = []
 without i (l ∷ ls) = if l.id.0 == i.0 then ls else l ∷ without i ls
 
--- the line of the id that was opened first is taken out
+-- the line of the id that was opened first is taken out, whose number is the least
 pub record IsFirstOut (id : Id) (old new : List Line) : Type 0 where
   pub line : Line
   pub split : old ≡ line ∷ new
   pub same : line.id ≡ id
+  pub least : AllBeyond line.id.0 (numbers new)
 
 -- the lesser of two ids
 abbrev pub lesser : Id → Id → Id

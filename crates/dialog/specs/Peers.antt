@@ -38,6 +38,10 @@ abbrev pub opened : List Peer → List Peer
 opened [] = []
 opened (p ∷ ps) = if p.is_open then p ∷ opened ps else opened ps
 
+-- the numbers of ids
+abbrev pub numbers_of : List Peer → List ℕ
+numbers_of ps = map (λ p. p.id.0) ps
+
 -- the id is that one, and open
 abbrev pub is_open_at : Id → Peer → Bool
 is_open_at i p = p.is_open && (p.id.0 == i.0)

@@ -162,6 +162,7 @@ impl<A: Allocator + Copy> Entry<A> {
         requires { IfSome found (λ f. f.end ≤ length self.old.held.bytes) }
         ensures bytes { IfOk result (λ bytes. bytes.items ≡ front_of found self.old.held.bytes) }
         ensures line { OnOk result (self.new ≡ shortened_to (share_by stays found) self.old) }
+        ensures id { self.new.id ≡ self.old.id }
         ensures unchanged { OnErr result (self.new ≡ self.old) }
     {
         let end = match found {
@@ -181,6 +182,7 @@ impl<A: Allocator + Copy> Entry<A> {
     /// `Size` where `max` is no size of a buffer, and `NoMemory`. The entry is then as it was.
     pub(crate) fn set_max(&mut self, max: u32) -> Result<(), MatchBufError>
         ensures line { OnOk result (self.new ≡ resized max self.old) }
+        ensures id { self.new.id ≡ self.old.id }
         ensures unchanged { OnErr result (self.new ≡ self.old) }
         ensures size { (result ≡ Err MatchBufError.Size) ↔ ¬ IsSize max }
     {

@@ -1,11 +1,15 @@
-//! Laws of the definitions: after a trigger there is exactly one choice among pairs, and words come
-//! to exactly one outcome.
+//! Laws of the definitions: after a trigger there is exactly one choice among pairs, words come to
+//! exactly one outcome, and open ids stand in rising order.
 ghost use Rattle.std.specs.Prelude.{◌≡◌, ℕ, List, Option};
 ghost use Rattle.dialog.specs.Branches.{Pair};
 ghost use Rattle.dialog.specs.Choice.{Chosen, Chooses};
-ghost use Rattle.dialog.specs.Lines.{Line};
+ghost use Rattle.dialog.specs.Lines.{Line, Rise};
+ghost use Rattle.dialog.specs.Peers.{Peer, FitsPeers, numbers_of, opened};
 ghost use Rattle.dialog.specs.Reads.{Place, Outcome, IsRead};
 ghost use Rattle.dialog.specs.declared.choice.Trigger.{Trigger};
+
+use crate::table::Table;
+use std::alloc::Allocator;
 
 /// Among pairs there is a choice after a trigger, which may be none, and there is no second one.
 pub fn one_choice()
@@ -22,3 +26,11 @@ pub fn one_reading()
     ensures alone { (at : Place) (words : List (List ℕ)) (a b : Outcome) →
         IsRead at words a → IsRead at words b → a ≡ b }
 {}
+
+/// In each list of ids of the definition that fits a table, the numbers of the open ones rise.
+pub fn open_ids_rise<A: Allocator>(table: &Table<A>)
+    ensures { (ps : List Peer) → FitsPeers table.now.lines ps → Rise (numbers_of (opened ps)) }
+{
+    // What holds of every table is known once it is looked at.
+    let _entries = &table.entries;
+}

@@ -1,6 +1,7 @@
 //! What a wait tells of the ids that it waits for.
-ghost use Rattle.std.specs.Prelude.{◌≡◌, ◌+◌, ◌<◌, ◌≤◌, ◌++◌, ◌∷◌, [], length, IfOk, OnOk, OnErr, vec_capacity};
+ghost use Rattle.std.specs.Prelude.{◌≡◌, ◌+◌, ◌<◌, ◌≤◌, ◌++◌, ◌∷◌, [], List, length, IfOk, OnOk, OnErr, vec_capacity};
 ghost use Rattle.std.specs.Option.{option_map};
+ghost use Rattle.acts.specs.declared.row.Row.{Row};
 ghost use Rattle.dialog.specs.Lines.{line_of, row_of_line, row_anew, rows_of, rows_anew};
 
 use crate::table::Table;
@@ -21,10 +22,13 @@ impl<A: Allocator> Table<A> {
     /// again.
     ///
     /// # Errors
-    /// `NoMemory`, only where the room was smaller than there are ids.
+    /// `NoMemory`, only where the room was smaller than there are ids. The vector then has the
+    /// first rows, as far as they were written.
     pub fn fill(&self, rows: &mut Vec<Row, A>, ids: &[Id]) -> Result<(), NoMemory>
         ensures rows { OnOk result (rows.new.items ≡ rows_of self.now.lines ids.now) }
         ensures refused { OnErr result (vec_capacity rows.old < length ids.now) }
+        ensures begun { OnErr result ((rest : List Row)
+            × (rows.new.items ++ rest ≡ rows_of self.now.lines ids.now)) }
     {
         rows.clear();
         for id in ids {
@@ -50,6 +54,7 @@ impl<A: Allocator> Table<A> {
         ensures longer { OnOk result (length rows.new.items ≤ length rows.old.items + 1) }
         ensures room { vec_capacity rows.old ≤ vec_capacity rows.new }
         ensures refused { OnErr result (vec_capacity rows.old ≤ length rows.old.items) }
+        ensures unchanged { OnErr result (rows.new.items ≡ rows.old.items) }
     {
         let Some(row) = self.row(id) else {
             return Ok(());

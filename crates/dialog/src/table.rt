@@ -34,14 +34,16 @@ pub struct Table<A: Allocator> {
 }
 
 impl<A: Allocator> Model for Table<A> {
-    ghost use Rattle.std.specs.Prelude.{◌≤◌, length};
-    ghost use Rattle.dialog.specs.Lines.{Listing, listing};
+    ghost use Rattle.std.specs.Prelude.{◌≤◌, ◌++◌, length};
+    ghost use Rattle.dialog.specs.Lines.{Listing, Rise, listing, numbers, upcoming};
 
     ghost Value = { Listing };
 
     ghost view = { λ t. listing t.entries.items t.next };
 
-    ghost invariant = { λ t. length t.entries.items ≤ 64 };
+    // The ids rise in the order in which they were opened, and the next one is beyond them.
+    ghost invariant = { λ t. (length t.entries.items ≤ 64)
+        × Rise (numbers t.entries.items ++ upcoming t.next) };
 }
 
 impl<A: Allocator> Table<A> {
@@ -197,10 +199,7 @@ impl<A: Allocator> Table<A> {
         ensures lines { self.new.lines ≡ self.old.lines }
         ensures next { self.new.next ≡ number_after self.old.next }
     {
-        self.next = match self.next {
-            Some(number) => number.checked_add(1),
-            None => None,
-        };
+        self.next = number_after(self.next);
     }
 }
 
@@ -233,20 +232,10 @@ impl<A: Allocator + Copy> Table<A> {
             return Err(OpenError::TooMany);
         };
         let buffer = empty_buffer(alloc, max)?;
-        self.add(Entry::new(alloc, id, kind, buffer, drops_nulls)?)?;
-        self.skip();
+        let entry = Entry::new(alloc, id, kind, buffer, drops_nulls)?;
+        push_entry(&mut self.entries, entry)?;
+        self.next = number_after(self.next);
         Ok(id)
-    }
-
-    /// Puts an entry behind all others. On `Err` the table is unchanged.
-    fn add(&mut self, entry: Entry<A>) -> Result<(), NoMemory>
-        requires { length self.old.lines < 64 }
-        ensures lines { OnOk result (self.new.lines ≡ self.old.lines ++ entry ∷ []) }
-        ensures next { self.new.next ≡ self.old.next }
-        ensures unchanged { OnErr result (self.new ≡ self.old) }
-    {
-        self.entries.push(entry)?;
-        Ok(())
     }
 
     /// Sets the size of the buffer of an open id (expect(1), match_max).
@@ -266,6 +255,25 @@ impl<A: Allocator + Copy> Table<A> {
             unreachable!()
         };
         self.entries[place].set_max(max)
+    }
+}
+
+/// Puts an entry behind all others. On `Err` they are unchanged.
+fn push_entry<A: Allocator>(entries: &mut Vec<Entry<A>, A>, entry: Entry<A>) -> Result<(), NoMemory>
+    ensures items { OnOk result (entries.new.items ≡ entries.old.items ++ entry ∷ []) }
+    ensures unchanged { OnErr result (entries.new.items ≡ entries.old.items) }
+{
+    entries.push(entry)?;
+    Ok(())
+}
+
+/// The number behind one, where one is left.
+fn number_after(next: Option<u64>) -> Option<u64>
+    ensures { result ≡ number_after next }
+{
+    match next {
+        Some(number) => number.checked_add(1),
+        None => None,
     }
 }
 

@@ -2,6 +2,7 @@ use Rattle.std.proofs.Common.{ap, sym}
 use Rattle.dialog.specs.Lines.{reached}
 use Rattle.dialog.proofs.Changes.{fits_arrival}
 use Rattle.dialog.proofs.Lines.{put_in, absent_in}
+use Rattle.dialog.proofs.Rising.{sound_set}
 use Rattle.dialog.proofs.table.Table.arrive.Goals as goal
 
 pub returns-in-Some-clause-lines : goal.returns-in-Some-clause-lines
@@ -22,3 +23,9 @@ returns-in_default-clause-lines g c =
 pub returns-in_default-clause-fits : goal.returns-in_default-clause-fits
 returns-in_default-clause-fits g c =
     fits_arrival c.args.bytes.now c.args.id c.args.self.now.lines _ (returns-in_default-clause-lines g c)
+
+pub invariant_of-self : goal.invariant_of-self
+invariant_of-self g c =
+    sound_set c.self.inside.entries.items c.self.inside.next c.in-Some.place
+    c.index_mut.result.now c.arrive.new.self c.index_mut.ensures.value (ap (λ l. l.id) c.arrive.ensures)
+    c.self.invariant

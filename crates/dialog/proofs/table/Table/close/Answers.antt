@@ -1,6 +1,7 @@
-use Rattle.std.proofs.Common.{◌∙◌, ap, sym}
+use Rattle.std.proofs.Common.{◌∙◌, ap, subst, sym}
 use Rattle.dialog.proofs.Changes.{fits_closed}
 use Rattle.dialog.proofs.Lines.{gone_in, absent_in}
+use Rattle.dialog.proofs.Rising.{IsSound, sound_without}
 use Rattle.dialog.proofs.table.Table.close.Goals as goal
 
 pub returns-in-Some-clause-lines : goal.returns-in-Some-clause-lines
@@ -20,3 +21,9 @@ returns-in_default-clause-lines g c =
 pub returns-in_default-clause-fits : goal.returns-in_default-clause-fits
 returns-in_default-clause-fits g c =
     fits_closed c.args.id c.args.self.now.lines _ (returns-in_default-clause-lines g c)
+
+pub invariant_of-self : goal.invariant_of-self
+invariant_of-self g c =
+    subst (λ ls. IsSound ls c.self.inside.next) (sym (returns-in-Some-clause-lines g c))
+    (sound_without c.args.id c.args.self.now.lines c.self.inside.next
+    (subst (λ t. IsSound t.lines c.self.inside.next) c.self.view_is c.self.invariant))

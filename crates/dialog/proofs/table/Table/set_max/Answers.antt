@@ -3,6 +3,7 @@ use Rattle.dialog.specs.Lines.{listing, resized}
 use Rattle.dialog.proofs.Changes.{fits_size}
 use Rattle.dialog.proofs.Lines.{put_in, put_back, absent_in}
 use Rattle.dialog.proofs.Refused.{ok_from, err_from}
+use Rattle.dialog.proofs.Rising.{sound_set}
 use Rattle.dialog.proofs.table.Table.set_max.Goals as goal
 
 pub unreachable-requires : goal.unreachable-requires
@@ -28,3 +29,9 @@ returns-clause-unchanged g c =
     err_from c.set_max.result (λ new. ap (λ ls. listing ls c.self.inside.next)
     (put_back c.self.inside.entries.items c.in-Some.place c.index_mut.result.now
     c.set_max.new.self c.index_mut.ensures.value new) ∙ c.self.view_is) c.set_max.ensures.unchanged
+
+pub invariant_of-self : goal.invariant_of-self
+invariant_of-self g c =
+    sound_set c.self.inside.entries.items c.self.inside.next c.in-Some.place
+    c.index_mut.result.now c.set_max.new.self c.index_mut.ensures.value c.set_max.ensures.id
+    c.self.invariant

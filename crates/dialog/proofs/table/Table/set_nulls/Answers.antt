@@ -2,6 +2,7 @@ use Rattle.std.proofs.Common.{ap, sym}
 use Rattle.dialog.specs.Lines.{dropping}
 use Rattle.dialog.proofs.Changes.{fits_setting}
 use Rattle.dialog.proofs.Lines.{put_in, absent_in}
+use Rattle.dialog.proofs.Rising.{sound_set}
 use Rattle.dialog.proofs.table.Table.set_nulls.Goals as goal
 
 pub returns-in-Some-clause-lines : goal.returns-in-Some-clause-lines
@@ -22,3 +23,9 @@ returns-in_default-clause-lines g c =
 pub returns-in_default-clause-fits : goal.returns-in_default-clause-fits
 returns-in_default-clause-fits g c =
     fits_setting c.args.drops c.args.id c.args.self.now.lines _ (returns-in_default-clause-lines g c)
+
+pub invariant_of-self : goal.invariant_of-self
+invariant_of-self g c =
+    sound_set c.self.inside.entries.items c.self.inside.next c.in-Some.place
+    c.index_mut.result.now c.set_nulls.new.self c.index_mut.ensures.value (ap (λ l. l.id) c.set_nulls.ensures)
+    c.self.invariant

@@ -3,6 +3,7 @@ use Rattle.dialog.specs.Choice.{chosen, share_at, shortened_to, taken_at}
 use Rattle.dialog.specs.Lines.{listing}
 use Rattle.dialog.proofs.Lines.{at_in, put_in, absent_in, put_back}
 use Rattle.dialog.proofs.Refused.{on_err}
+use Rattle.dialog.proofs.Rising.{sound_set}
 use Rattle.dialog.proofs.table.Table.take.Goals as goal
 
 pub returns-in_default-clause-taken : goal.returns-in_default-clause-taken
@@ -46,3 +47,9 @@ returns-clause-lines g c =
     (shortened_to (share_at (chosen c.args.pair.now c.args.found)))
     (ap (λ t. t.lines) c.self.view_is) (rw c.id.ensures at c.in-Some.ensures)
     c.index_mut.ensures.value (rw c.stays.ensures at c.in_ok-buffer.ensures.line)
+
+pub invariant_of-self-2 : goal.invariant_of-self-2
+invariant_of-self-2 g c =
+    sound_set c.self.inside.entries.items c.self.inside.next c.in-Some.place
+    c.index_mut.result.now c.hand_out.new.self c.index_mut.ensures.value c.hand_out.ensures.id
+    c.self.invariant
