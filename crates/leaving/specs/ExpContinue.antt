@@ -1,7 +1,9 @@
 -- What exp_continue does.
-use Rattle.std.specs.Prelude.{ℕ, Bool, List, [], ◌∷◌, codes, if◌then◌else◌}
+use Rattle.std.specs.Prelude.{ℕ, ◌&&◌, Bool, not, List, [], ◌∷◌, codes, if◌then◌else◌}
 use Rattle.std.specs.Str.{bytes_eq}
+use Rattle.acts.specs.Flaw.{Flaw}
 use Rattle.acts.specs.Flaw as flaw
+use Rattle.state.specs.Arguments.{is_flag}
 use Rattle.state.specs.Dialogue.{Course, leaves, raises}
 use Rattle.state.specs.Outcome.{Again, AgainRunning}
 use Rattle.state.specs.Status.{Status}
@@ -16,8 +18,20 @@ by_word w s =
     if is_continue_timer w then leaves AgainRunning [] s
     else raises (flaw.BadArgument w (codes "exp_continue")) s
 
+-- the error of a word for which there is no room: where it would be a flag and is none, it is told
+-- for itself, else there are too many words (this project's own rule)
+abbrev pub misplaced : List ℕ → Flaw
+misplaced w =
+    if not (is_continue_timer w) && is_flag w then flaw.BadArgument w (codes "exp_continue")
+    else flaw.WrongArgs (codes "exp_continue")
+
+-- the error of two words or more, of which the first at most has room: that of the first word that
+-- has none (this project's own rule)
+abbrev pub surplus : List ℕ → List ℕ → Flaw
+surplus w v = if is_continue_timer w then misplaced v else misplaced w
+
 -- exp_continue ?-continue_timer? (expect(1), exp_continue)
 abbrev pub exp_continue : List (List ℕ) → Status → Course
 exp_continue [] s = leaves Again [] s
 exp_continue (w ∷ []) s = by_word w s
-exp_continue _ s = raises (flaw.WrongArgs (codes "exp_continue")) s
+exp_continue (w ∷ v ∷ vs) s = raises (surplus w v) s

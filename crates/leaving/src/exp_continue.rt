@@ -2,14 +2,16 @@
 #![tactic(auto, using(state::proofs::Reaches::same_reaches))]
 
 ghost use Rattle.std.specs.Prelude.{◌≡◌, ◌≤◌, IfOk};
+ghost use Rattle.acts.specs.Flaw.{text_of};
 ghost use Rattle.leaving.specs.ExpContinue as definition;
 ghost use Rattle.state.specs.NoWaits.{next_of};
-ghost use Rattle.state.specs.Leaf.{Shows};
+ghost use Rattle.state.specs.Leaf.{HasOutcome, Shows};
+ghost use Rattle.state.specs.Outcome.{Error, Leaves};
 ghost use Rattle.state.specs.Status.{Status};
 ghost use Rattle.state.specs.View.{FitsState};
 
 use acts::NoMemory;
-use state::arguments::{bad_argument, wrong_args};
+use state::arguments::{bad_argument, is_flag, wrong_args};
 use state::leaf::leaves;
 use state::{Code, Leaf, NoWaits, State};
 use std::alloc::Allocator;
@@ -28,7 +30,7 @@ pub fn begin<A: Allocator + Copy>(
     match args {
         [] => Ok(leaves(Code::Again, Value::empty())),
         [word] => exp_continue_by(alloc, state, word.as_slice()),
-        _ => wrong_args(alloc, b"exp_continue"),
+        [first, second, ..] => surplus(alloc, first.as_slice(), second.as_slice()),
     }
 }
 
@@ -52,5 +54,34 @@ fn exp_continue_by<A: Allocator + Copy>(
         Ok(leaves(Code::AgainRunning, Value::empty()))
     } else {
         bad_argument(alloc, word, b"exp_continue")
+    }
+}
+
+/// Refuses two words or more, of which the first at most has room, for the first that has none.
+fn surplus<A: Allocator + Copy>(
+    alloc: A,
+    first: &[u8],
+    second: &[u8],
+) -> Result<Leaf<A, NoWaits>, NoMemory>
+    ensures { IfOk result (λ leaf.
+        HasOutcome leaf (Leaves Error (text_of (definition.surplus first.now second.now)))) }
+{
+    if is_continue_timer(first) {
+        misplaced(alloc, second)
+    } else {
+        misplaced(alloc, first)
+    }
+}
+
+/// Refuses a word for which there is no room: where it would be a flag and is none, it is told for
+/// itself.
+fn misplaced<A: Allocator + Copy>(alloc: A, word: &[u8]) -> Result<Leaf<A, NoWaits>, NoMemory>
+    ensures { IfOk result (λ leaf.
+        HasOutcome leaf (Leaves Error (text_of (definition.misplaced word.now)))) }
+{
+    if !is_continue_timer(word) && is_flag(word) {
+        bad_argument(alloc, word, b"exp_continue")
+    } else {
+        wrong_args(alloc, b"exp_continue")
     }
 }
