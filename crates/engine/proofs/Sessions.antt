@@ -1,10 +1,12 @@
 -- A session among the runs of its script.
-use Rattle.std.proofs.Common.{◌≡◌, ◌∙◌, ℕ, ◌+◌, ◌*◌, ◌^◌, ◌<◌, ◌≤◌, ◌↔◌, ◌⊎◌, inl, inr, List, [], ◌∷◌, ◌++◌, length, Option, Some, None, refl, sym, ap, subst, arith}
+use Rattle.std.proofs.Common.{◌≡◌, ◌∙◌, ℕ, ◌+◌, ◌*◌, ◌^◌, ◌<◌, ◌≤◌, ◌↔◌, ◌⊎◌, inl, inr, List, [], ◌∷◌, ◌++◌, length, Option, Some, None, sum_by, refl, sym, ap, subst, arith}
 use Rattle.std.proofs.lemmas.List.{append-nil, length-append}
 use Rattle.acts.specs.Deed.{Deed, Reply, deed_of, reply_of}
+use Rattle.acts.specs.Deed as said
 use Rattle.acts.specs.History.{History}
 use Rattle.acts.specs.declared.act.Act.{Act}
 use Rattle.acts.specs.declared.answer.Answer.{Answer}
+use Rattle.acts.specs.declared.row.Row.{Row}
 use Rattle.machine.specs.Frames.{stack}
 use Rattle.machine.specs.Phases.{IsPlan, IsTold, Stands, after_acts, deed_in, paired}
 use Rattle.engine.specs.Session.{IsAt, AsksFirst, EndsSo, Tells}
@@ -24,16 +26,31 @@ use Rattle.plan.specs.Runs.{Runs, ends}
 use Rattle.plan.proofs.Exact as exact
 use Rattle.plan.proofs.Exact.{then_same}
 use Rattle.plan.proofs.Finished.{each_plan_runs}
+use Rattle.plan.proofs.Kept.{throughout_at}
 use Rattle.runs.specs.Bounds.{BeginsRun, most_acts}
 use Rattle.runs.specs.Ending.{Ending, Over, numbered}
 use Rattle.runs.specs.Run.{Run, whole}
 use Rattle.runs.specs.Scripts.{plan_of}
-use Rattle.runs.proofs.AllRuns.{acts_are_bounded}
+use Rattle.runs.proofs.AllRuns.{acts_are_bounded, waits_hold}
 use Rattle.runs.proofs.Finite.{finite}
 use Rattle.state.specs.Dialogue.{Dialogue}
 use Rattle.state.specs.Piece.{IsTree}
+use Rattle.state.specs.Rows.{HoldTogether, Holds, RowsHold}
 use Rattle.state.specs.Status.{Status}
 use Rattle.state.specs.declared.state.State.{State}
+
+-- rows that hold at most their sizes hold together at most the sum of these
+rows_together : (rows : List Row) → RowsHold rows →
+    sum_by (λ r. r.held) rows ≤ sum_by (λ r. r.max) rows
+rows_together [] hold = omega arith
+rows_together (row ∷ rows) hold =
+    let here = hold.0 in
+    let rest = rows_together rows hold.1 in
+    omega (arith, here, rest)
+
+hold_together : (deed : Deed) → Holds deed → HoldTogether deed
+hold_together (said.Wait rows timer) hold = rows_together rows hold
+hold_together _ hold = tt
 
 -- the runs that are left of a script's are those of a plan
 abbrev pub IsLeft : Dialogue Over → List ℕ → List (List ℕ) → ℕ → History → Type 0
@@ -99,22 +116,36 @@ module _ (text : List ℕ) (args : List (List ℕ)) (limit : ℕ) (past : Histor
     left_behind (phase.Refused refusal) answer frames s answers plan is left = absurd is
 
   -- each run that is left begins with the act at hand
+  act_is_first : (plan : Dialogue Over) (deed : Deed) (next : Reply → Dialogue Over) →
+      plan ≡ Asks deed next → IsLeft plan text args limit past →
+      (h : History) (e : Ending) → Run text args limit (past ++ h) e →
+      Begins deed (λ reply rest. Run text args limit (past ++ (deed, reply) ∷ rest) e) h
+  act_is_first plan deed next is left h e run =
+      let on : Runs plan_of IsTree (Asks deed next) h run.over =
+      subst (λ p. Runs plan_of IsTree p h run.over) is (left.back h run.over run.runs) in
+      let first = exact.act_comes_first plan_of IsTree deed next h run.over on in
+      record {
+        reply = first.reply;
+        rest = first.rest;
+        is = first.is;
+        follows = subst (λ k. Run text args limit (past ++ k) e) first.is run;
+      }
+
   asks_first : (plan : Dialogue Over) (deed : Deed) (next : Reply → Dialogue Over) →
       plan ≡ Asks deed next → IsLeft plan text args limit past →
       AsksFirst deed text args limit past
-  asks_first plan deed next is left = record {
-    goes = left_goes plan left;
-    first = λ h e run.
-        let on : Runs plan_of IsTree (Asks deed next) h run.over =
-        subst (λ p. Runs plan_of IsTree p h run.over) is (left.back h run.over run.runs) in
-        let first = exact.act_comes_first plan_of IsTree deed next h run.over on in
-        record {
-          reply = first.reply;
-          rest = first.rest;
-          is = first.is;
-          follows = subst (λ k. Run text args limit (past ++ k) e) first.is run;
-        };
-  }
+  asks_first plan deed next is left =
+      let goes = left_goes plan left in
+      let first = act_is_first plan deed next is left goes.rest goes.ending goes.run in
+      let throughout = waits_hold text args limit (past ++ (deed, first.reply) ∷ first.rest)
+      goes.ending first.follows in
+      let holds = throughout_at Holds past (deed, first.reply) first.rest throughout in
+      record {
+        goes = goes;
+        first = act_is_first plan deed next is left;
+        holds = holds;
+        together = hold_together deed holds;
+      }
 
   -- the run that is left is over
   ends_so : (plan : Dialogue Over) (over : Over) (ending : Ending) (answers : ℕ) →

@@ -22,6 +22,7 @@ use Rattle.runs.specs.Run.{Run, whole}
 use Rattle.runs.specs.Scripts.{plan_of}
 use Rattle.state.specs.Dialogue.{Dialogue}
 use Rattle.state.specs.Piece.{IsTree}
+use Rattle.state.specs.Rows.{HoldTogether, Holds}
 use Rattle.state.specs.Status.{Status}
 use Rattle.state.specs.View.{FitsState}
 
@@ -43,12 +44,15 @@ pub record IsAt {A : Type 0} (session : Session A) (text : List ℕ) (args : Lis
 abbrev pub answered_so : {A : Type 0} → Session A → Option (Answer A) → History
 answered_so session answer = paired (deed_in session.phase) answer
 
--- each run that is left begins with this act, and there is one
+-- each run that is left begins with this act, and there is one; at a wait each buffer holds at most
+-- its size, and all together at most the sum of their sizes
 pub record AsksFirst (deed : Deed) (text : List ℕ) (args : List (List ℕ)) (limit : ℕ)
     (past : History) : Type 0 where
   pub goes : BeginsRun text args limit past
   pub first : (h : History) (e : Ending) → Run text args limit (past ++ h) e →
       Begins deed (λ reply rest. Run text args limit (past ++ (deed, reply) ∷ rest) e) h
+  pub holds : Holds deed
+  pub together : HoldTogether deed
 
 -- the run that is left has no act, and this end
 abbrev pub EndsSo : Ending → List ℕ → List (List ℕ) → ℕ → History → Type 0

@@ -6,5 +6,6 @@ pub mod Kept
 pub mod Finite
 pub mod Whole
 pub mod Cut
+pub mod Closed
 pub mod Numbered
 pub mod AllRuns

@@ -2,12 +2,21 @@
 use Rattle.std.specs.Prelude.{◌≡◌, ℕ, ◌≤◌, List, [], ◌∷◌, ◌++◌, length}
 use Rattle.acts.specs.Deed.{Deed, Reply}
 use Rattle.acts.specs.History.{History}
+use Rattle.dialog.specs.Lines.{Rise}
+use Rattle.dialog.specs.Peers.{numbers_of, opened}
 use Rattle.plan.specs.Answers.{GoAlike, answers}
 use Rattle.plan.specs.Last.{ClosesAt}
+use Rattle.plan.specs.Runs.{Runs}
 use Rattle.runs.specs.Bounds.{BeginsRun, most_acts}
-use Rattle.runs.specs.Ending.{Ending}
+use Rattle.runs.specs.Closed.{closed_by}
+use Rattle.runs.specs.Closing.{closing}
+use Rattle.runs.specs.Ending.{Ending, Over}
 use Rattle.runs.specs.Run.{Run, HoldsThroughout}
+use Rattle.runs.specs.Scripts.{plan_of}
 use Rattle.state.specs.Cut.{CutsOff}
+use Rattle.state.specs.Outcome.{Outcome}
+use Rattle.state.specs.Piece.{IsTree}
+use Rattle.state.specs.Status.{Status}
 
 -- in all runs of one script, its arguments and a limit each event depends on the answers before it
 -- alone
@@ -34,6 +43,14 @@ abbrev pub WaitsHold : Type 0
 WaitsHold =
     (text : List ℕ) (args : List (List ℕ)) (limit : ℕ) (h : History) (e : Ending) →
     Run text args limit h e → HoldsThroughout h
+
+-- once a script is over, what is open is closed in rising order of ids, where those that are open
+-- stand in that order (expect(1), close)
+abbrev pub ClosesRise : Type 0
+ClosesRise =
+    (s : Status) (outcome : Outcome) (h : History) (over : Over) →
+    Rise (numbers_of (opened s.ids.peers)) → Runs plan_of IsTree (closing s outcome) h over →
+    Rise (closed_by h)
 
 -- behind an answer that does not fit its act, and where there are no more answers, there is no act
 abbrev pub NothingFollows : Type 0

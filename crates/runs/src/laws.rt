@@ -1,6 +1,6 @@
 //! What holds of all runs.
 
-ghost use Rattle.runs.specs.Laws.{ActsAreBounded, AnswersDecide, AnswersLead, AnyAnswerLeadsOn, EachScriptRuns, NothingFollows, WaitsHold};
+ghost use Rattle.runs.specs.Laws.{ActsAreBounded, AnswersDecide, AnswersLead, AnyAnswerLeadsOn, ClosesRise, EachScriptRuns, NothingFollows, WaitsHold};
 
 /// In all runs of one script, its arguments and a limit, the first n answers decide the first n + 1
 /// events, an event being an act or the end: the n-th act, and whether there is one, depends on the
@@ -18,6 +18,13 @@ pub fn acts_are_bounded()
 /// At every wait of a run each buffer holds at most its size.
 pub fn waits_hold()
     ensures { WaitsHold }
+{}
+
+/// Once a script is over, what is open is closed in rising order of ids, where those that are open
+/// stand in that order. They do in each state of the definition that a table of open ids fits
+/// (`dialog::laws::open_ids_rise`).
+pub fn closes_rise()
+    ensures { ClosesRise }
 {}
 
 /// An answer that does not fit its act is the last one of its run; so is that there are no more.

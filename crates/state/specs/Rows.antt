@@ -1,5 +1,5 @@
 -- Waits whose rows hold.
-use Rattle.std.specs.Prelude.{◌≤◌, List, [], ◌∷◌}
+use Rattle.std.specs.Prelude.{◌≤◌, List, [], ◌∷◌, sum_by}
 use Rattle.acts.specs.declared.row.Row.{Row}
 use Rattle.acts.specs.Deed.{Deed}
 use Rattle.acts.specs.Deed as said
@@ -13,3 +13,8 @@ RowsHold (row ∷ rows) = (row.held ≤ row.max) × RowsHold rows
 abbrev pub Holds : Deed → Type 0
 Holds (said.Wait rows timer) = RowsHold rows
 Holds _ = Unit {0}
+
+-- the rows of a wait together hold at most the sum of their sizes (expect(1), match_max)
+abbrev pub HoldTogether : Deed → Type 0
+HoldTogether (said.Wait rows timer) = sum_by (λ r. r.held) rows ≤ sum_by (λ r. r.max) rows
+HoldTogether _ = Unit {0}
