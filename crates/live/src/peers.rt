@@ -1,18 +1,23 @@
 //! The programs and servers that are open, under their ids.
 
-ghost use Rattle.std.specs.Prelude.{◌≤◌, length};
-ghost use Rattle.live.specs.Early.{most_early};
+ghost use Rattle.std.specs.Prelude.{◌-◌, ◌≤◌, length, max};
+ghost use Rattle.std.specs.Io.{StartsWith};
+ghost use Rattle.live.specs.Early.{HandsOn, most_early};
 ghost use Rattle.live.specs.Look.{IsWithin};
 
 use crate::link::{Link, Look};
 use crate::waiting::Waiting;
 use acts::Id;
 use std::alloc::{AllocError, Global};
-use std::io;
+use std::collections::VecDeque;
+use std::io::{self, Read, Write};
 use std::net::Net;
 
-/// The most bytes that are kept of what comes from an id while it is sent something.
-const MOST_EARLY: usize = 1_000_000;
+/// The most bytes that are kept of what comes from an id while it is sent a text without bytes.
+const LEAST_EARLY: usize = 1_000_000;
+
+/// How many more are kept for each byte of the text.
+const EARLY_FOR_EACH: usize = 2;
 
 /// The most bytes that one read takes: as many as a pipe holds.
 const MOST_READ: usize = 65_536;
@@ -22,67 +27,55 @@ const MOST_READ: usize = 65_536;
 pub struct Peer {
     pub id: Id,
     pub link: Link,
-    /// What came while something was sent, until all of it was handed on.
-    early: Vec<u8>,
-    /// How many bytes of that were handed on already, from its start.
-    handed_on: usize,
+    /// What came while something was sent and was not handed on yet.
+    early: VecDeque<u8>,
 }
 
 impl Peer {
     /// Looks once for bytes, and puts them at the start of the room: what was kept comes first.
     pub fn look(&mut self, room: &mut [u8]) -> Look
-        ensures { IsWithin result (length room.new) }
+        ensures within { IsWithin result (length room.new) }
+        ensures early { HandsOn self.old.early.items self.new.early.items result room.new }
     {
         if self.early.is_empty() {
             return self.link.look(room);
         }
-        let from = self.handed_on.min(self.early.len());
-        let rest = &self.early[from..];
-        let most = room.len().min(rest.len());
-        if most == 0 {
-            return Look::Silence;
+        match self.early.read(room) {
+            Ok(0) | Err(_) => Look::Silence,
+            Ok(count) => Look::Bytes(count),
         }
-        room[..most].copy_from_slice(&rest[..most]);
-        if most == rest.len() {
-            self.early.clear();
-            self.handed_on = 0;
-        } else {
-            self.handed_on = from + most;
-        }
-        Look::Bytes(most)
     }
 
-    /// Keeps what has come already, up to a bound, and says whether that was anything. Where memory
-    /// is refused, what came is lost.
-    pub fn keep(&mut self, room: &mut [u8]) -> Result<bool, AllocError>
-        ensures bound { length self.old.early.items ≤ most_early
-            → length self.new.early.items ≤ most_early }
+    /// Keeps what has come already while a text of this size is sent, up to a bound, and says
+    /// what it found: silence, too, where there is no room for more. The room is made before
+    /// anything is read, so that nothing is lost where memory is refused.
+    pub fn keep(&mut self, room: &mut [u8], size: usize) -> io::Result<Look>
+        ensures bound { length self.new.early.items
+            ≤ max (length self.old.early.items) (most_early size) }
+        ensures all { StartsWith self.new.early.items self.old.early.items }
     {
-        self.forget();
-        let most = MOST_EARLY.saturating_sub(self.early.len()).min(room.len());
+        let most = self.room_left(size).min(room.len());
         let room = &mut room[..most];
-        match self.link.look(room) {
-            Look::Bytes(count) => {
-                self.early.extend_from_slice(&room[..count])?;
-                Ok(true)
-            }
-            Look::Silence | Look::End => Ok(false),
+        self.early.reserve(most)?;
+        let found = self.link.look(room);
+        if let Look::Bytes(count) = found {
+            self.early.write(&room[..count])?;
         }
+        Ok(found)
     }
 
-    /// Drops the bytes that were handed on, and moves the rest of what was kept to the start. A
-    /// look does not, so that it costs no more than the bytes that it hands on.
-    fn forget(&mut self)
-        ensures { length self.new.early.items ≤ length self.old.early.items }
+    /// Whether no more is kept while a text of this size is sent.
+    pub fn is_full(&self, size: usize) -> bool {
+        self.room_left(size) == 0
+    }
+
+    /// How many more bytes may be kept while a text of this size is sent.
+    fn room_left(&self, size: usize) -> usize
+        ensures { result ≤ most_early size - length self.now.early.items }
     {
-        if self.handed_on == 0 {
-            return;
-        }
-        let from = self.handed_on.min(self.early.len());
-        let rest = self.early.len() - from;
-        self.early.copy_within(from.., 0);
-        self.early.truncate(rest);
-        self.handed_on = 0;
+        LEAST_EARLY
+            .saturating_add(size.saturating_mul(EARLY_FOR_EACH))
+            .saturating_sub(self.early.len())
     }
 }
 
@@ -118,14 +111,9 @@ impl Peers {
 
     /// Adds a link that is watched, under an id. An `Err` closes the link.
     pub fn open(&mut self, id: Id, link: Link) -> Result<(), AllocError> {
-        let early = Vec::new(self.alloc);
+        let early = VecDeque::new(self.alloc);
         self.list
-            .push(Peer {
-                id,
-                link,
-                early,
-                handed_on: 0,
-            })
+            .push(Peer { id, link, early })
             .map_err(AllocError::from)
     }
 

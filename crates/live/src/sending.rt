@@ -5,6 +5,7 @@ ghost use Rattle.std.specs.Io.{WritesAtMost};
 ghost use Rattle.acts.specs.Deed.{reply_of};
 ghost use Rattle.acts.specs.Fits as table;
 
+use crate::link::Look;
 use crate::peers::{Peer, Peers};
 use crate::system::MOST_TRIES;
 use crate::waiting::Waiting;
@@ -35,7 +36,7 @@ fn send_to(peer: &mut Peer, waiting: &mut Waiting, room: &mut [u8], text: &[u8])
         if rest.is_empty() {
             return Answer::Done;
         }
-        match send_some(peer, waiting, room, rest) {
+        match send_some(peer, waiting, room, text.len(), rest) {
             Ok(count) => rest = &rest[count..],
             Err(error) if error.kind() == ErrorKind::OutOfMemory => return Answer::NoMore,
             Err(_) => break 'text,
@@ -44,28 +45,42 @@ fn send_to(peer: &mut Peer, waiting: &mut Waiting, room: &mut [u8], text: &[u8])
     Answer::Failed(text.len().saturating_sub(rest.len()) as u64)
 }
 
-/// Sends some bytes from the front of a text that has some, and says how many; none where it could
-/// not go on, and what came was kept, or the system's wait ended.
+/// Sends some bytes from the front of what is left of a text of this size, and says how many;
+/// none where it could not go on, and what came was kept, or the system's wait ended.
 fn send_some(
     peer: &mut Peer,
     waiting: &mut Waiting,
     room: &mut [u8],
-    text: &[u8],
+    size: usize,
+    rest: &[u8],
 ) -> io::Result<usize>
-    ensures { WritesAtMost result text.now }
+    ensures { WritesAtMost result rest.now }
 {
-    match peer.link.write(text) {
+    match peer.link.write(rest) {
         Ok(0) => Err(io::Error::from(ErrorKind::WriteZero)),
         Ok(count) => Ok(count),
         Err(error) => match error.kind() {
             ErrorKind::Interrupted => Ok(0),
             ErrorKind::WouldBlock => {
-                if !peer.keep(room)? {
-                    waiting.pause_to_write(&peer.link)?;
-                }
+                hear(peer, waiting, room, size)?;
                 Ok(0)
             }
             _ => Err(error),
         },
+    }
+}
+
+/// Hears a program or a server that takes nothing now: keeps what has come from it, and where
+/// nothing has, waits until something does or something is taken. It fails where more has come
+/// than is kept, since what is not read holds the other side, which then takes nothing ever.
+fn hear(peer: &mut Peer, waiting: &mut Waiting, room: &mut [u8], size: usize) -> io::Result<()> {
+    let found = match peer.keep(room, size)? {
+        Look::Bytes(_) => return Ok(()),
+        Look::Silence if peer.is_full(size) => waiting.peek(&peer.link)?,
+        found => found,
+    };
+    match found {
+        Look::Bytes(_) => Err(io::Error::from(ErrorKind::WriteZero)),
+        Look::Silence | Look::End => waiting.pause_to_write(&peer.link, found),
     }
 }

@@ -4,14 +4,15 @@ ghost use Rattle.std.specs.Prelude.{◌≡◌, true, IfOk};
 ghost use Rattle.acts.specs.Fits.{runs_out};
 ghost use Rattle.live.specs.declared.waiting.Left.TheVariants.{Nothing};
 
-use crate::link::Link;
+use crate::link::{Link, Look};
 use acts::Timer;
+use mio::event::Event;
 use mio::unix::SourceFd;
 use mio::{Events, Interest, Poll, Token};
 use std::alloc::Global;
-use std::io;
-use std::net::Net;
-use std::os::fd::AsRawFd;
+use std::io::{self, ErrorKind};
+use std::net::{Net, TcpStream};
+use std::os::fd::{AsRawFd, RawFd};
 use std::rt::Clock;
 use std::time::{Duration, Instant};
 
@@ -36,6 +37,8 @@ pub enum Left {
 #[derive(Drop)]
 pub struct Waiting {
     poll: Poll,
+    /// It is asked about one end of a pipe at a time, so that `poll` still tells what is new.
+    single: Poll,
     events: Events<Global>,
     /// None where that time lies beyond what the clock can tell, or no timer was started.
     deadline: Option<Instant>,
@@ -46,6 +49,7 @@ impl Waiting {
     pub fn new<R: Net + AllocGlobal>(rt: &R) -> io::Result<Waiting> {
         Ok(Waiting {
             poll: Poll::new(rt)?,
+            single: Poll::new(rt)?,
             events: Events::with_capacity(rt.alloc(), MOST_EVENTS)?,
             deadline: None,
         })
@@ -90,8 +94,9 @@ impl Waiting {
         self.poll.poll(&mut self.events, time)
     }
 
-    /// Waits until the link can be written, or something new can be read from any.
-    pub fn pause_to_write(&mut self, link: &Link) -> io::Result<()> {
+    /// Waits until the link can be written, or something new can be read from any. One that was
+    /// found at its end is not waited for to be read, since that would never be new.
+    pub fn pause_to_write(&mut self, link: &Link, found: Look) -> io::Result<()> {
         match link {
             Link::Program { input, .. } => {
                 let mut source = SourceFd(&input.as_raw_fd());
@@ -104,8 +109,11 @@ impl Waiting {
             }
             Link::Server(stream) => {
                 let mut source = SourceFd(&stream.as_raw_fd());
-                let both = Interest::READABLE | Interest::WRITABLE;
-                self.poll.registry().reregister(&mut source, ANY, both)?;
+                let wanted = match found {
+                    Look::End => Interest::WRITABLE,
+                    Look::Bytes(_) | Look::Silence => Interest::READABLE | Interest::WRITABLE,
+                };
+                self.poll.registry().reregister(&mut source, ANY, wanted)?;
                 let ended = self.pause(None);
                 self.poll
                     .registry()
@@ -113,5 +121,45 @@ impl Waiting {
                 ended
             }
         }
+    }
+
+    /// What a read of one byte would find now.
+    pub fn peek(&mut self, link: &Link) -> io::Result<Look> {
+        match link {
+            Link::Program { output, .. } => self.peek_pipe(output.as_raw_fd()),
+            Link::Server(stream) => Ok(peek_stream(stream)),
+        }
+    }
+
+    /// The same of an end of a pipe.
+    fn peek_pipe(&mut self, end: RawFd) -> io::Result<Look> {
+        let mut source = SourceFd(&end);
+        let registry = self.single.registry();
+        registry.register(&mut source, ANY, Interest::READABLE)?;
+        let asked = self.single.poll(&mut self.events, Some(Duration::ZERO));
+        self.single.registry().deregister(&mut source)?;
+        asked?;
+        Ok(self.events.iter().next().map_or(Look::Silence, told))
+    }
+}
+
+/// What an event tells of an end of a pipe: the end only behind all bytes.
+fn told(event: &Event) -> Look {
+    if event.is_readable() {
+        Look::Bytes(1)
+    } else {
+        Look::End
+    }
+}
+
+/// What a read of one byte from a connection would find now.
+fn peek_stream(stream: &TcpStream) -> Look {
+    match stream.peek(&mut [0u8]) {
+        Ok(0) => Look::End,
+        Ok(count) => Look::Bytes(count),
+        Err(error) => match error.kind() {
+            ErrorKind::WouldBlock | ErrorKind::Interrupted => Look::Silence,
+            _ => Look::End,
+        },
     }
 }
