@@ -2,9 +2,7 @@
 //! connection and does with it what its arguments say.
 #![tactic(auto)]
 
-mod part;
-
-use part::Part;
+use serving::{Part, serve};
 use std::net::{Net, TcpListener, TcpStream};
 use std::process::ExitCode;
 use std::rt::Env;
@@ -16,14 +14,14 @@ const USAGE: u8 = 2;
 /// Ends with 0 once its part is done, with 2 for other arguments, and with 1 where the system
 /// refuses something.
 fn main(rt: HostRuntime) -> ExitCode {
-    match serve(&rt) {
+    match played(&rt) {
         Ok(status) => ExitCode::from(status),
         Err(_) => ExitCode::FAILURE,
     }
 }
 
-/// Prints the port that the system picks, and does its part with the first one that connects.
-fn serve<R>(rt: &R) -> io::Result<u8>
+/// Plays the part that the arguments name, and gives the status.
+fn played<R>(rt: &R) -> io::Result<u8>
 where
     R: Env + Net<Listener = TcpListener, Stream = TcpStream> + Print + AllocGlobal,
 {
@@ -31,10 +29,6 @@ where
     let Some(part) = Part::read(&words) else {
         return Ok(USAGE);
     };
-    let listener = TcpListener::bind(rt, "127.0.0.1:0")?;
-    let port = listener.local_addr()?.port();
-    println!(rt; "{port}")?;
-    let (stream, _) = listener.accept()?;
-    part.play(stream)?;
+    serve(rt, part)?;
     Ok(0)
 }

@@ -1,6 +1,6 @@
 //! What comes from outside: the words of a call, and the bytes of files.
 
-ghost use Rattle.std.specs.Prelude.{◌≡◌, ◌<◌, ◌≤◌, IfOk, IfSome, length, take};
+ghost use Rattle.std.specs.Prelude.{◌≡◌, ◌<◌, ◌≤◌, ◌↔◌, IfOk, IfSome, IsTrue, codes, length, take};
 ghost use Rattle.std.specs.Io.KnownBytes.{Consumes, IsAtEnd};
 ghost use Rattle.worlds.specs.declared.input.Unread.TheVariants as unread;
 
@@ -82,13 +82,20 @@ fn read_word<R: Env, A: Allocator>(
     Err(Unread::Refused)
 }
 
+/// Whether a script of this name is read from standard input: `-`.
+pub fn is_standard_input(name: &[u8]) -> bool
+    ensures { IsTrue result ↔ (name.now ≡ codes "-") }
+{
+    name == b"-".as_slice()
+}
+
 /// The text of a script; the name `-` is standard input.
 pub fn read_script<R: Files + Input, A: Allocator + Copy>(
     rt: &R,
     alloc: A,
     name: &[u8],
 ) -> Result<Vec<u8, A>, Unread> {
-    if name == b"-".as_slice() {
+    if is_standard_input(name) {
         read_all(alloc, &mut rt.reader())
     } else {
         read_file(rt, alloc, name)

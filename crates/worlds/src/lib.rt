@@ -8,11 +8,16 @@ pub mod play;
 pub mod program;
 pub mod record_file;
 pub mod recorded;
+mod same_file;
 mod standard;
 pub mod status;
 
 pub use input::Unread;
+pub use live::Live;
 pub use recorders::Recorder;
-pub use records::{Counted, Entry, RecordFault, Sink, Writer, put_all, read_entries, read_record};
+pub use records::{
+    Counted, Entry, RecordFault, Sink, Writer, put_all, read_entries, read_record, write_entries,
+    write_record,
+};
 pub use replays::Replay;
 pub use status::Outcome;

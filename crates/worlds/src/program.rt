@@ -8,10 +8,11 @@ ghost use Rattle.worlds.specs.Play.{Declines};
 ghost use Rattle.worlds.specs.Program.{IsLack, IsText, LacksFile, Performs, Runs, RunsUnder};
 ghost use Rattle.worlds.specs.declared.status.Outcome.TheVariants.{Usage};
 
-use crate::input::{Unread, read_file, read_script, read_words};
+use crate::input::{Unread, is_standard_input, read_file, read_script, read_words};
 use crate::lived::lived;
 use crate::play::{finish, rerun};
 use crate::record_file::{RecordFile, create_record};
+use crate::same_file::is_same_file;
 use crate::standard::hold_closed;
 use crate::status::Outcome;
 use acts::NoMemory;
@@ -235,8 +236,34 @@ fn made_of<'a, R: Files<File = File> + AllocGlobal>(
     let Some(name) = call.made else {
         return Ok(None);
     };
-    match create_record(rt, name) {
+    match made_file(rt, call, name) {
         Ok(file) => Ok(Some(file)),
         Err(fault) => Err(Outcome::of_file(name, fault)),
     }
+}
+
+/// The file of a record of this name. One that the call reads is refused before anything of it is
+/// lost.
+fn made_file<R: Files<File = File> + AllocGlobal>(
+    rt: &R,
+    call: &Arguments<'_, Global>,
+    name: &[u8],
+) -> Result<Counted<RecordFile<File>>, Unread> {
+    if is_read(rt, call, name) {
+        return Err(Unread::Refused);
+    }
+    create_record(rt, name)
+}
+
+/// Whether a call reads the file of this name, as its script or its record.
+fn is_read<R: Files>(rt: &R, call: &Arguments<'_, Global>, name: &[u8]) -> bool {
+    let is_script = match call.script.first() {
+        Some(script) => !is_standard_input(script) && is_same_file(rt, script, name),
+        None => false,
+    };
+    let is_record = match call.replay {
+        Some(record) => is_same_file(rt, record, name),
+        None => false,
+    };
+    is_script || is_record
 }
