@@ -50,7 +50,17 @@ rows_together (row ∷ rows) hold =
 
 hold_together : (deed : Deed) → Holds deed → HoldTogether deed
 hold_together (said.Wait rows timer) hold = rows_together rows hold
-hold_together _ hold = tt
+hold_together (said.Out bytes) hold = tt
+hold_together (said.Err bytes) hold = tt
+hold_together (said.Log bytes) hold = tt
+hold_together (said.Send id bytes) hold = tt
+hold_together (said.Spawn id words) hold = tt
+hold_together (said.Connect id host port) hold = tt
+hold_together (said.OpenLog name mode) hold = tt
+hold_together (said.Close id) hold = tt
+hold_together (said.Sleep seconds) hold = tt
+hold_together said.CloseLog hold = tt
+hold_together (said.Reap id) hold = tt
 
 -- the runs that are left of a script's are those of a plan
 abbrev pub IsLeft : Dialogue Over → List ℕ → List (List ℕ) → ℕ → History → Type 0
