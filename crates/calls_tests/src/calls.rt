@@ -143,7 +143,7 @@ fn told(rt: &HostRuntime, call: &[&str]) -> Result<String<Global>, Fail> {
 }
 
 /// A missing file, a folder, a file that is there and empty, and one that takes nothing.
-const FILES: [(&[&str], &str); 18] = [
+const FILES: [(&[&str], &str); 20] = [
     (&["missing"], "2 rx: cannot open missing\n"),
     (&["-f", "-missing", "a"], "2 rx: cannot open -missing\n"),
     (&["--limit", "1", "."], "2 rx: cannot open .\n"),
@@ -189,6 +189,11 @@ const FILES: [(&[&str], &str); 18] = [
         "4 a\nrx: output failed\n",
     ),
     (&["--record", "/dev/null", "-c", "puts a"], "0 a\n"),
+    (&["--record", "/dev/null", "/dev/null"], "0 "),
+    (
+        &["--record", "-", "--replay", "-", "-c", "puts a"],
+        "2 rx: cannot open -\n",
+    ),
 ];
 
 #[test]

@@ -4,6 +4,8 @@
 #[cfg(test)]
 mod calls;
 #[cfg(test)]
+mod handed_on;
+#[cfg(test)]
 mod lived;
 #[cfg(test)]
 mod recorded;

@@ -55,6 +55,14 @@ impl Link {
         }
     }
 
+    /// What is written to.
+    pub fn write_end(&self) -> RawFd {
+        match self {
+            Link::Program { input, .. } => input.as_raw_fd(),
+            Link::Server(stream) => stream.as_raw_fd(),
+        }
+    }
+
     /// Writes some bytes from the front of a text, and says how many; `WouldBlock` where it would
     /// wait.
     pub fn write(&mut self, bytes: &[u8]) -> io::Result<usize>

@@ -71,8 +71,9 @@ fn send_some(
 }
 
 /// Hears a program or a server that takes nothing now: keeps what has come from it, and where
-/// nothing has, waits until something does or something is taken. It fails where more has come
-/// than is kept, since what is not read holds the other side, which then takes nothing ever.
+/// nothing has, waits until something does or something is taken. It fails where more has come than
+/// is kept and nothing is taken within a second: what is not read holds the other side, which may
+/// take nothing ever.
 fn hear(peer: &mut Peer, waiting: &mut Waiting, room: &mut [u8], size: usize) -> io::Result<()> {
     let found = match peer.keep(room, size)? {
         Look::Bytes(_) => return Ok(()),
@@ -80,6 +81,7 @@ fn hear(peer: &mut Peer, waiting: &mut Waiting, room: &mut [u8], size: usize) ->
         found => found,
     };
     match found {
+        Look::Bytes(_) if waiting.takes_soon(&peer.link)? => Ok(()),
         Look::Bytes(_) => Err(io::Error::from(ErrorKind::WriteZero)),
         Look::Silence | Look::End => waiting.pause_to_write(&peer.link, found),
     }

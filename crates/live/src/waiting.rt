@@ -37,7 +37,7 @@ pub enum Left {
 #[derive(Drop)]
 pub struct Waiting {
     poll: Poll,
-    /// It is asked about one end of a pipe at a time, so that `poll` still tells what is new.
+    /// It is asked about one end at a time, so that `poll` still tells what is new.
     single: Poll,
     events: Events<Global>,
     /// None where that time lies beyond what the clock can tell, or no timer was started.
@@ -133,18 +133,29 @@ impl Waiting {
 
     /// The same of an end of a pipe.
     fn peek_pipe(&mut self, end: RawFd) -> io::Result<Look> {
+        let event = self.ask(end, Interest::READABLE, Duration::ZERO)?;
+        Ok(event.map_or(Look::Silence, told))
+    }
+
+    /// Whether a link that takes nothing now does so within a second, or has gone.
+    pub fn takes_soon(&mut self, link: &Link) -> io::Result<bool> {
+        let event = self.ask(link.write_end(), Interest::WRITABLE, Duration::from_secs(1))?;
+        Ok(event.is_some())
+    }
+
+    /// Asks about one end alone, and gives what is told of it within a time, if anything is.
+    fn ask(&mut self, end: RawFd, kind: Interest, time: Duration) -> io::Result<Option<Event>> {
         let mut source = SourceFd(&end);
-        let registry = self.single.registry();
-        registry.register(&mut source, ANY, Interest::READABLE)?;
-        let asked = self.single.poll(&mut self.events, Some(Duration::ZERO));
+        self.single.registry().register(&mut source, ANY, kind)?;
+        let asked = self.single.poll(&mut self.events, Some(time));
         self.single.registry().deregister(&mut source)?;
         asked?;
-        Ok(self.events.iter().next().map_or(Look::Silence, told))
+        Ok(self.events.iter().next().copied())
     }
 }
 
 /// What an event tells of an end of a pipe: the end only behind all bytes.
-fn told(event: &Event) -> Look {
+fn told(event: Event) -> Look {
     if event.is_readable() {
         Look::Bytes(1)
     } else {
