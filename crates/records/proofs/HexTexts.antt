@@ -1,8 +1,8 @@
 -- Lower case hex text: what its digits are, how it is read from its front, and what it is read as.
-use Rattle.std.proofs.Common.{◌≡◌, ◌+◌, ◌*◌, ◌/◌, ◌%◌, ◌<◌, ◌&&◌, ℕ, zero, suc, Bool, true, List, [], ◌∷◌, ◌++◌, length, take, map, slice_index, slice_set, refl, sym, ap, ◌∙◌, inl, inr, arith}
+use Rattle.std.proofs.Common.{◌≡◌, ◌+◌, ◌*◌, ◌/◌, ◌%◌, ◌<◌, ◌&&◌, ℕ, zero, suc, Bool, true, List, [], ◌∷◌, ◌++◌, length, take, slice_index, slice_set, refl, ap, ◌∙◌, inl, inr, arith}
 use Rattle.std.specs.List.{list_all}
 use Rattle.std.proofs.lemmas.Bool.{and_parts, cases_lt}
-use Rattle.std.proofs.lemmas.List.{append_assoc, get_or-map, length-map, take_more, take_more_set}
+use Rattle.std.proofs.lemmas.List.{append_assoc, take_more, take_more_set}
 use Rattle.std.proofs.lemmas.List.Folds.{list_all-append}
 use lib.Lanes.{put_chunk}
 use Rattle.hex.specs.Hex.{IsBytes, encode_lower, encode_with, lower_digits}
@@ -95,13 +95,6 @@ byte_read text bytes place high low byte fits room first second hi lo is so_far 
       lo,
     ) refl)
 
--- joined bytes
-pub IsBytes-append : (a b : List ℕ) → IsBytes a → IsBytes b → IsBytes (a ++ b)
-IsBytes-append [] b small others k = others k
-IsBytes-append (c ∷ a) b small others zero = small 0
-IsBytes-append (c ∷ a) b small others (suc k) =
-    IsBytes-append a b (λ j. small (suc j)) others k
-
 -- bytes of which one is written
 pub IsBytes-set : (bytes : List ℕ) (k b : ℕ) → IsBytes bytes → b < 256
     → IsBytes (slice_set bytes k b)
@@ -135,23 +128,3 @@ lower_two text place fits first second so_far =
     ap (list_all is_lower_digit) (take_two text place fits)
     ∙ list_all-append is_lower_digit (take (2 * place) text) pair
     ∙ (rw (so_far, first, second) refl)
-
--- a piece of the digits of bytes has lower case digits alone
-pub lower_piece : (text done piece after bytes : List ℕ) → IsBytes bytes
-    → text ≡ encode_lower bytes → text ≡ done ++ (piece ++ after)
-    → list_all is_lower_digit piece ≡ true
-lower_piece text done piece after bytes small is whole =
-    let all = ap (list_all is_lower_digit) (sym whole ∙ is) ∙ lower_text bytes small in
-    let parts = rw (list_all-append is_lower_digit done (piece ++ after)) at all in
-    let (_, behind) = and_parts (list_all is_lower_digit done)
-    (list_all is_lower_digit (piece ++ after)) parts in
-    let others = rw (list_all-append is_lower_digit piece after) at behind in
-    (and_parts (list_all is_lower_digit piece) (list_all is_lower_digit after) others).0
-
--- a piece more is read
-pub piece_read : (text done piece after read : List ℕ)
-    → text ≡ encode_lower done ++ (piece ++ after) → piece ≡ encode_lower read
-    → text ≡ encode_lower (done ++ read) ++ after
-piece_read text done piece after read whole is =
-    let both = encode-append lower_digits done read in
-    whole ∙ (rw (both, is) (sym (append_assoc (encode_lower done) (encode_lower read) after)))

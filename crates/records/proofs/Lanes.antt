@@ -1,6 +1,6 @@
 -- What the lanes of a step hold: the digits of bytes, and the bytes and values of digits.
-use Rattle.std.proofs.Common.{◌≡◌, ℕ, ◌+◌, ◌-◌, ◌*◌, ◌/◌, ◌%◌, ◌^◌, ◌<◌, ◌≤◌, ◌&&◌, ◌||◌, zero, suc, Bool, true, false, not, cond, ltb, leb, List, [], ◌∷◌, ◌++◌, length, map, get_or, take, drop, slice_index, nat_eq, replicate, bit_or, Fits, w8, refl, sym, ap, ap₂, ◌∙◌, arith, inl, inr}
-use Rattle.std.proofs.lemmas.Bool.{agree_below, agree_below_at, and_parts, cases_lt, eqb-true, false≢true, ne_eqb, ltb-true, ltb-false, leb-true, leb-false}
+use Rattle.std.proofs.Common.{◌≡◌, ℕ, ◌+◌, ◌-◌, ◌*◌, ◌/◌, ◌%◌, ◌^◌, ◌<◌, ◌≤◌, ◌&&◌, ◌||◌, zero, suc, Bool, true, false, not, cond, ltb, leb, List, [], ◌∷◌, ◌++◌, length, map, get_or, take, drop, slice_index, nat_eq, replicate, bit_or, Fits, w8, refl, sym, ap, ap₂, ◌∙◌, arith}
+use Rattle.std.proofs.lemmas.Bool.{agree_below, agree_below_at, and_parts, eqb-true, false≢true, ne_eqb, ltb-true}
 use Rattle.std.proofs.lemmas.Bool.Decides.{nat_tests}
 use Rattle.std.proofs.lemmas.List.{append-nil, append_assoc, drop_all, length-drop, take_all, take-append-drop, length-append, get_or_append_left, get_or-append_right, length-map, get_or-map, map-append}
 use Rattle.std.proofs.lemmas.List.Folds.{list_all-append}

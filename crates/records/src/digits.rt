@@ -9,7 +9,7 @@ ghost use Rattle.records.specs.declared.digits.TheConstants.{LANES};
 
 use std::simd::prelude::*;
 
-/// How many bytes callers have spelled or read by one call.
+/// How many bytes are spelled into one room.
 pub const PIECE: usize = 512;
 
 /// How many bytes are taken at a time where there are so many.

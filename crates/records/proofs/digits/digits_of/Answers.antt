@@ -1,5 +1,5 @@
 use Rattle.std.proofs.Common.{refl}
-use Rattle.std.proofs.lemmas.Simd.{splat_is_map, zip2_of_maps, zip2_splat, map-map}
+use Rattle.std.proofs.lemmas.Simd.{splat_is_map, zip2_of_maps, zip2_splat}
 use Rattle.records.proofs.Lanes.{chosen, itself, same_digits}
 use Rattle.records.proofs.digits.digits_of.Goals as goal
 
