@@ -1,9 +1,10 @@
 -- Lower case hex text: what its digits are, how it is read from its front, and what it is read as.
-use Rattle.std.proofs.Common.{◌≡◌, ◌+◌, ◌*◌, ◌/◌, ◌%◌, ◌<◌, ◌&&◌, ℕ, zero, suc, Bool, true, List, [], ◌∷◌, ◌++◌, length, take, map, slice_index, slice_set, refl, sym, ap, ◌∙◌, inl, inr, arith}
+use Rattle.std.proofs.Common.{◌≡◌, ◌+◌, ◌*◌, ◌/◌, ◌%◌, ◌<◌, ◌&&◌, ℕ, zero, suc, Bool, true, List, [], ◌∷◌, ◌++◌, length, take, slice_index, slice_set, refl, ap, ◌∙◌, inl, inr, arith}
 use Rattle.std.specs.List.{list_all}
 use Rattle.std.proofs.lemmas.Bool.{and_parts, cases_lt}
-use Rattle.std.proofs.lemmas.List.{append_assoc, get_or-map, length-map, take_more, take_more_set}
+use Rattle.std.proofs.lemmas.List.{append_assoc, take_more, take_more_set}
 use Rattle.std.proofs.lemmas.List.Folds.{list_all-append}
+use lib.Lanes.{put_chunk}
 use Rattle.hex.specs.Hex.{IsBytes, encode_lower, encode_with, lower_digits}
 use Rattle.records.specs.Record.{is_lower_digit}
 
@@ -70,7 +71,7 @@ take_two text place fits =
     rw (two, second, first) (append_assoc (take (2 * place) text) _ _)
 
 -- one byte more is read
-byte_read : (text bytes : List ℕ) (place high low byte : ℕ) → 2 * place + 1 < length text →
+pub byte_read : (text bytes : List ℕ) (place high low byte : ℕ) → 2 * place + 1 < length text →
     place < length bytes → high < 16 → low < 16
     → slice_index lower_digits high ≡ slice_index text (2 * place)
     → slice_index lower_digits low ≡ slice_index text (2 * place + 1)
@@ -94,47 +95,36 @@ byte_read text bytes place high low byte fits room first second hi lo is so_far 
       lo,
     ) refl)
 
--- one byte more is joined of two values
-pub byte_joined : (values bytes : List ℕ) (place byte : ℕ) → length values ≡ 2 * length bytes
-    → place < length bytes → ((k : ℕ) → k < length values → slice_index values k < 16)
-    → byte ≡ (slice_index values (2 * place) + slice_index values (2 * place + 1) * 256) * 4097
-    % 65536 / 256
-    → take (2 * place) (map (slice_index lower_digits) values) ≡ encode_lower (take place bytes)
-    → take (2 * (place + 1)) (map (slice_index lower_digits) values)
-    ≡ encode_lower (take (place + 1) (slice_set bytes place byte))
-byte_joined values bytes place byte twice room small is so_far =
-    let digit = slice_index lower_digits in
-    let long = length-map values digit in
-    let high = small (2 * place) (omega arith) in
-    let low = small (2 * place + 1) (omega arith) in
-    byte_read (map digit values) bytes place (slice_index values (2 * place))
-    (slice_index values (2 * place + 1)) byte (omega arith) room high low
-    (sym (get_or-map digit values (2 * place) 0 0 (omega arith)))
-    (sym (get_or-map digit values (2 * place + 1) 0 0 (omega arith))) (omega arith) so_far
+-- bytes of which one is written
+pub IsBytes-set : (bytes : List ℕ) (k b : ℕ) → IsBytes bytes → b < 256
+    → IsBytes (slice_set bytes k b)
+IsBytes-set [] k b small below i = small i
+IsBytes-set (c ∷ bytes) zero b small below zero = below
+IsBytes-set (c ∷ bytes) zero b small below (suc i) = small (suc i)
+IsBytes-set (c ∷ bytes) (suc k) b small below zero = small 0
+IsBytes-set (c ∷ bytes) (suc k) b small below (suc i) =
+    IsBytes-set bytes k b (λ j. small (suc j)) below i
 
--- joined bytes
-pub IsBytes-append : (a b : List ℕ) → IsBytes a → IsBytes b → IsBytes (a ++ b)
-IsBytes-append [] b small others k = others k
-IsBytes-append (c ∷ a) b small others zero = small 0
-IsBytes-append (c ∷ a) b small others (suc k) =
-    IsBytes-append a b (λ j. small (suc j)) others k
+-- bytes of which some are written
+pub IsBytes-put : (bytes block : List ℕ) (k : ℕ) → IsBytes bytes → IsBytes block
+    → IsBytes (put_chunk k bytes block)
+IsBytes-put [] block k small others i = small i
+IsBytes-put (b ∷ bytes) [] zero small others i = small i
+IsBytes-put (b ∷ bytes) (c ∷ block) zero small others zero = others 0
+IsBytes-put (b ∷ bytes) (c ∷ block) zero small others (suc i) =
+    IsBytes-put bytes block zero (λ j. small (suc j)) (λ j. others (suc j)) i
+IsBytes-put (b ∷ bytes) block (suc k) small others zero = small 0
+IsBytes-put (b ∷ bytes) block (suc k) small others (suc i) =
+    IsBytes-put bytes block k (λ j. small (suc j)) others i
 
--- a piece of the digits of bytes has lower case digits alone
-pub lower_piece : (text done piece after bytes : List ℕ) → IsBytes bytes
-    → text ≡ encode_lower bytes → text ≡ done ++ (piece ++ after)
-    → list_all is_lower_digit piece ≡ true
-lower_piece text done piece after bytes small is whole =
-    let all = ap (list_all is_lower_digit) (sym whole ∙ is) ∙ lower_text bytes small in
-    let parts = rw (list_all-append is_lower_digit done (piece ++ after)) at all in
-    let (_, behind) = and_parts (list_all is_lower_digit done)
-    (list_all is_lower_digit (piece ++ after)) parts in
-    let others = rw (list_all-append is_lower_digit piece after) at behind in
-    (and_parts (list_all is_lower_digit piece) (list_all is_lower_digit after) others).0
-
--- a piece more is read
-pub piece_read : (text done piece after read : List ℕ)
-    → text ≡ encode_lower done ++ (piece ++ after) → piece ≡ encode_lower read
-    → text ≡ encode_lower (done ++ read) ++ after
-piece_read text done piece after read whole is =
-    let both = encode-append lower_digits done read in
-    whole ∙ (rw (both, is) (sym (append_assoc (encode_lower done) (encode_lower read) after)))
+-- two digits more are lower case ones
+pub lower_two : (text : List ℕ) (place : ℕ) → 2 * place + 1 < length text
+    → is_lower_digit (slice_index text (2 * place)) ≡ true
+    → is_lower_digit (slice_index text (2 * place + 1)) ≡ true
+    → list_all is_lower_digit (take (2 * place) text) ≡ true
+    → list_all is_lower_digit (take (2 * (place + 1)) text) ≡ true
+lower_two text place fits first second so_far =
+    let pair = slice_index text (2 * place) ∷ slice_index text (2 * place + 1) ∷ [] in
+    ap (list_all is_lower_digit) (take_two text place fits)
+    ∙ list_all-append is_lower_digit (take (2 * place) text) pair
+    ∙ (rw (so_far, first, second) refl)

@@ -1,6 +1,7 @@
 mod Cuts
 mod Faults
 mod HexTexts
+mod Lanes
 mod Lines
 pub mod Notes
 pub mod Records

@@ -1,4 +1,5 @@
 pub mod Cut
+pub mod Digits
 pub mod Entry
 pub mod Fault
 pub mod Record

@@ -1,17 +1,37 @@
 //! Bytes as lower case hexadecimal digits, two a byte.
 
-ghost use Rattle.std.specs.Prelude.{◌≡◌, ◌*◌, ◌<◌, ◌≤◌, ℕ, length, map, slice_index, true, nat_lt};
+ghost use Rattle.std.specs.Prelude.{◌≡◌, ◌*◌, ◌<◌, ◌++◌, length, map, slice_index, true, nat_lt};
 ghost use Rattle.std.specs.List.{list_all};
 ghost use Rattle.hex.specs.Hex.{IsBytes, encode_lower, lower_digits};
+ghost use Rattle.records.specs.Digits.{is_value};
 ghost use Rattle.records.specs.Record.{is_lower_digit};
-ghost use Rattle.records.specs.declared.digits.TheConstants.{PIECE};
+ghost use Rattle.records.specs.declared.digits.TheConstants.{LANES};
 
-/// How many bytes are spelled or read at a time.
+use std::simd::prelude::*;
+
+/// How many bytes are spelled into one room.
 pub const PIECE: usize = 512;
 
-/// Writes the two digits of each byte. The loop has no table, so that the compiler can take many
-/// bytes at a time.
+/// How many bytes are taken at a time where there are so many.
+const LANES: usize = 16;
+
+/// Writes the two digits of each byte, by `LANES` bytes at a time as long as there are so many.
 pub fn write_digits(bytes: &[u8], digits: &mut [u8])
+    requires { length digits.old ≡ 2 * length bytes.now }
+    ensures { digits.new ≡ encode_lower bytes.now }
+{
+    let mut done = 0;
+    while LANES <= bytes.len() - done {
+        let (first, second) = spell(u8x16::from_slice(&bytes[done..]));
+        first.copy_to_slice(&mut digits[2 * done..]);
+        second.copy_to_slice(&mut digits[2 * done + LANES..]);
+        done += LANES;
+    }
+    write_rest(&bytes[done..], &mut digits[2 * done..]);
+}
+
+/// Writes the two digits of each byte, one byte at a time.
+fn write_rest(bytes: &[u8], digits: &mut [u8])
     requires { length digits.old ≡ 2 * length bytes.now }
     ensures { digits.new ≡ encode_lower bytes.now }
 {
@@ -21,53 +41,94 @@ pub fn write_digits(bytes: &[u8], digits: &mut [u8])
     }
 }
 
-/// Reads at most `PIECE` bytes from their two digits each, and says whether all were lower case
-/// digits. Like that of the writing, its loops take no branch by what they read.
+/// The digits of 16 bytes: those of the first eight, and those of the others.
+fn spell(bytes: u8x16) -> (u8x16, u8x16)
+    ensures halves { length result.0 ≡ LANES }
+    ensures digits { result.0 ++ result.1 ≡ encode_lower bytes }
+{
+    let high = digits_of(bytes >> u8x16::splat(4));
+    let low = digits_of(bytes & u8x16::splat(15));
+    high.interleave(low)
+}
+
+/// The digit of each value.
+fn digits_of(values: u8x16) -> u8x16
+    requires { list_all is_value values ≡ true }
+    ensures { result ≡ map (slice_index lower_digits) values }
+{
+    let small = values.simd_lt(u8x16::splat(10));
+    values + small.select(u8x16::splat(b'0'), u8x16::splat(b'a' - 10))
+}
+
+/// Reads bytes from their two digits each, by `LANES` bytes at a time as long as there are so many,
+/// and says whether all were lower case digits.
 pub fn read_digits(digits: &[u8], bytes: &mut [u8]) -> bool
-    requires twice { length digits.now ≡ 2 * length bytes.old }
-    requires piece { length bytes.old ≤ PIECE }
+    requires { length digits.now ≡ 2 * length bytes.old }
     ensures lower { result ≡ list_all is_lower_digit digits.now }
     ensures bytes { result ≡ true → digits.now ≡ encode_lower bytes.new }
     ensures small { IsBytes bytes.new }
 {
-    let mut room = [0u8; 2 * PIECE];
-    let values = &mut room[..digits.len()];
-    if !read_values(digits, values) {
-        return false;
+    let mut done = 0;
+    while LANES <= bytes.len() - done {
+        let first = values_of(u8x16::from_slice(&digits[2 * done..]));
+        let second = values_of(u8x16::from_slice(&digits[2 * done + LANES..]));
+        if !are_values(first, second) {
+            return false;
+        }
+        join(first, second).copy_to_slice(&mut bytes[done..]);
+        done += LANES;
     }
-    join_values(values, bytes);
+    read_rest(&digits[2 * done..], &mut bytes[done..])
+}
+
+/// Reads bytes from their two digits each, one byte at a time.
+fn read_rest(digits: &[u8], bytes: &mut [u8]) -> bool
+    requires { length digits.now ≡ 2 * length bytes.old }
+    ensures lower { result ≡ list_all is_lower_digit digits.now }
+    ensures bytes { result ≡ true → digits.now ≡ encode_lower bytes.new }
+    ensures small { IsBytes bytes.new }
+{
+    for place in 0..bytes.len() {
+        let high = value_of(digits[2 * place]);
+        let low = value_of(digits[2 * place + 1]);
+        if 16 <= high || 16 <= low {
+            return false;
+        }
+        bytes[place] = high * 16 + low;
+    }
     true
 }
 
-/// Reads the value of each digit, and says whether all were lower case digits.
-fn read_values(digits: &[u8], values: &mut [u8]) -> bool
-    requires { length digits.now ≡ length values.old }
-    ensures lower { result ≡ list_all is_lower_digit digits.now }
-    ensures values { result ≡ true → digits.now ≡ map (slice_index lower_digits) values.new }
-    ensures small { result ≡ true
-        → (k : ℕ) → k < length values.new → slice_index values.new k < 16 }
+/// The value of each lower case digit, and more than any of them for another byte.
+fn values_of(digits: u8x16) -> u8x16
+    ensures lower { list_all is_lower_digit digits ≡ list_all is_value result }
+    ensures values { list_all is_lower_digit digits ≡ true
+        → digits ≡ map (slice_index lower_digits) result }
 {
-    let mut worst = 0u8;
-    for place in 0..digits.len() {
-        let value = value_of(digits[place]);
-        worst = worst.max(value);
-        values[place] = value;
-    }
-    worst < 16
+    let numeral = digits - u8x16::splat(b'0');
+    let letter = digits - u8x16::splat(b'a');
+    let others = letter
+        .simd_lt(u8x16::splat(6))
+        .select(letter + u8x16::splat(10), u8x16::splat(u8::MAX));
+    numeral.simd_lt(u8x16::splat(10)).select(numeral, others)
 }
 
-/// Joins the values of two digits each to a byte. Two of them that lie side by side are one number
-/// of 16 bits, which the compiler reads at once, and many of them at a time.
-fn join_values(values: &[u8], bytes: &mut [u8])
-    requires twice { length values.now ≡ 2 * length bytes.old }
-    requires small { (k : ℕ) → k < length values.now → slice_index values.now k < 16 }
-    ensures { map (slice_index lower_digits) values.now ≡ encode_lower bytes.new }
+/// Whether each of these is the value of a digit.
+fn are_values(first: u8x16, second: u8x16) -> bool
+    ensures { result ≡ list_all is_value (first ++ second) }
 {
-    for place in 0..bytes.len() {
-        let pair = values[2 * place] as u16 + values[2 * place + 1] as u16 * 256;
-        // The first one times 16, and the second one, stand in its upper half.
-        bytes[place] = (pair.wrapping_mul(4097) / 256) as u8;
-    }
+    let larger = first.simd_max(second);
+    larger.simd_ge(u8x16::splat(16)).to_bitmask() == 0
+}
+
+/// The bytes of values, two a byte.
+fn join(first: u8x16, second: u8x16) -> u8x16
+    requires { list_all is_value (first ++ second) ≡ true }
+    ensures digits { map (slice_index lower_digits) (first ++ second) ≡ encode_lower result }
+    ensures small { IsBytes result }
+{
+    let (high, low) = first.deinterleave(second);
+    (high << u8x16::splat(4)) | low
 }
 
 /// The digit of a value.

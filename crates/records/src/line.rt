@@ -1,17 +1,15 @@
 //! The lines of records.
 
-ghost use Rattle.std.specs.Prelude.{◌≡◌, ◌≢◌, ◌*◌, ◌%◌, ◌^◌, ◌<◌, ◌≤◌, ◌∷◌, ◌++◌, ℕ, List, length, true, codes, decimal, MatchOption, IfOk, IfSome, IfNone};
-ghost use Rattle.std.specs.List.{list_all};
+ghost use Rattle.std.specs.Prelude.{◌≡◌, ◌≢◌, ◌^◌, ◌<◌, ◌≤◌, ◌++◌, ℕ, List, codes, decimal, MatchOption, IfOk, IfSome, IfNone};
 ghost use Rattle.acts.specs.Deed.{Reply, reply_of};
 ghost use Rattle.acts.specs.Fits.{greatest_status};
 ghost use Rattle.acts.specs.Id.{id_text};
 ghost use Rattle.hex.specs.Hex.{IsBytes, encode_lower};
 ghost use Rattle.records.specs.Cut.{Lacks};
-ghost use Rattle.records.specs.Record.{IsLine, is_lower_digit};
-ghost use Rattle.records.specs.declared.digits.TheConstants.{PIECE};
+ghost use Rattle.records.specs.Record.{IsLine};
 
 use crate::cut::cut_at;
-use crate::digits::{PIECE, read_digits};
+use crate::digits::read_digits;
 use acts::decimal::read_decimal;
 use acts::{Answer, Id, NoMemory};
 use std::alloc::Allocator;
@@ -127,33 +125,9 @@ fn read_hex<A: Allocator>(alloc: A, digits: &[u8]) -> Result<Option<Vec<u8, A>>,
     if digits.len() % 2 != 0 {
         return Ok(None);
     }
-    let mut bytes = Vec::with_capacity(alloc, digits.len() / 2)?;
-    let mut rest = digits;
-    while !rest.is_empty() {
-        let (piece, after) = rest.split_at(rest.len().min(2 * PIECE));
-        if !push_bytes(&mut bytes, piece)? {
-            return Ok(None);
-        }
-        rest = after;
+    let mut bytes = vec![in alloc; 0u8; digits.len() / 2]?;
+    if !read_digits(digits, &mut bytes) {
+        return Ok(None);
     }
     Ok(Some(bytes))
-}
-
-/// Puts the bytes of at most `PIECE` pairs of digits at the end of others, and says whether all
-/// were lower case digits. Without that, or where memory is refused, the others stay as they are.
-fn push_bytes<A: Allocator>(bytes: &mut Vec<u8, A>, digits: &[u8]) -> Result<bool, NoMemory>
-    requires pairs { length digits.now % 2 ≡ 0 }
-    requires piece { length digits.now ≤ 2 * PIECE }
-    ensures lower { IfOk result (λ lower. lower ≡ list_all is_lower_digit digits.now) }
-    ensures bytes { IfOk result (λ lower. lower ≡ true → (read : List ℕ) × IsBytes read
-        × (digits.now ≡ encode_lower read) × (bytes.new.items ≡ bytes.old.items ++ read)) }
-    ensures kept { result ≢ Ok true → bytes.new.items ≡ bytes.old.items }
-{
-    let mut room = [0u8; PIECE];
-    let read = &mut room[..digits.len() / 2];
-    if !read_digits(digits, read) {
-        return Ok(false);
-    }
-    bytes.extend_from_slice(read)?;
-    Ok(true)
 }

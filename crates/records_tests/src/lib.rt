@@ -11,6 +11,8 @@ mod cuts;
 #[cfg(test)]
 mod differing;
 #[cfg(test)]
+mod digits;
+#[cfg(test)]
 mod entries;
 #[cfg(test)]
 mod recorded;

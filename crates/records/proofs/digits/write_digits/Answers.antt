@@ -1,15 +1,11 @@
 use Rattle.std.proofs.Common.{arith}
-use Rattle.hex.specs.Hex.{lower_digits}
-use Rattle.hex.proofs.Pairs.{encode_done, encode_step}
+use Rattle.records.proofs.Lanes.{more_spelled}
 use Rattle.records.proofs.digits.write_digits.Goals as goal
 
-pub loop-place-preserved : goal.loop-place-preserved
-loop-place-preserved c =
-    encode_step lower_digits c.args.bytes.now c.loop-place.digits c.loop-place.place _ _
-    (omega arith) (omega arith) c.digit_of.ensures c.digit_of-in-loop-place.ensures
-    c.loop-place.invariant
-
-pub returns : goal.returns
-returns c =
-    encode_done lower_digits c.args.bytes.now c.loop-place.digits c.loop-place.place (omega arith)
-    (omega arith) c.loop-place.invariant
+pub loop-done-preserved : goal.loop-done-preserved
+loop-done-preserved c = record {
+  within = omega arith;
+  spelled = more_spelled 16 c.loop-done.done c.args.bytes.now c.loop-done.digits (omega arith)
+      (omega arith) c.spell.result.0 c.spell.result.1 c.spell.ensures.halves
+      c.spell.ensures.digits c.loop-done.invariant.spelled;
+}
