@@ -28,12 +28,19 @@ SCRIPTS ?= 100000
 DIALOGUES ?= 150
 SEED ?= 1
 
-# A case of tools/demo is a script, which is standard input, with its words and what it has to print.
+# A case is a script of the examples, which is standard input, with its words (tools/demo) and what it has to print.
+DEMO := $(CURDIR)/out/demo
+CASES := hello-by-its-record=hello-cat hello-live=hello-cat installer-by-its-record=installer-prompts
 demo:
 	@echo "Builds rx without its proofs, which takes a few minutes, and then holds three dialogues of the"
 	@echo "examples: hello-cat by its record, hello-cat live with cat, installer-prompts by its record."
 	@echo "A line for each says whether it printed what it has to (output=expected)."
-	@cd crates/rx && rt try --cases $(CURDIR)/tools/demo --data hello=$(FIRST)/record \
+	@rm -rf $(DEMO) && mkdir -p $(DEMO) && cp tools/demo/*.args $(DEMO)
+	@for case in $(CASES); do \
+		cp examples/$${case#*=}/script.exp $(DEMO)/$${case%=*} && \
+		cp examples/$${case#*=}/stdout $(DEMO)/$${case%=*}.stdout || exit 1; \
+	done
+	@cd crates/rx && rt try --cases $(DEMO) --data hello=$(FIRST)/record \
 		--data installer=$(CURDIR)/examples/installer-prompts/record
 
 # rt builds only what it has proved, and runs it once on the first example.
