@@ -1,6 +1,7 @@
 -- A session among the runs of its script.
 use Rattle.std.proofs.Common.{◌≡◌, ◌∙◌, ℕ, ◌+◌, ◌*◌, ◌^◌, ◌<◌, ◌≤◌, ◌↔◌, ◌⊎◌, inl, inr, List, [], ◌∷◌, ◌++◌, length, Option, Some, None, sum_by, refl, sym, ap, subst, arith}
 use Rattle.std.proofs.lemmas.List.{append-nil, length-append}
+use Rattle.std.proofs.lemmas.List.Sums.{sum_by-cons}
 use Rattle.acts.specs.Deed.{Deed, Reply, deed_of, reply_of}
 use Rattle.acts.specs.Deed as said
 use Rattle.acts.specs.History.{History}
@@ -46,7 +47,9 @@ rows_together [] hold = omega arith
 rows_together (row ∷ rows) hold =
     let here = hold.0 in
     let rest = rows_together rows hold.1 in
-    omega (arith, here, rest)
+    let held = sum_by-cons (λ r. r.held) row rows in
+    let allowed = sum_by-cons (λ r. r.max) row rows in
+    omega (arith, here, rest, held, allowed)
 
 hold_together : (deed : Deed) → Holds deed → HoldTogether deed
 hold_together (said.Wait rows timer) hold = rows_together rows hold
