@@ -68,10 +68,12 @@ fn sets_no_size(rt: HostRuntime) -> Result<(), Fail> {
     let heap = Refusing::new(rt.alloc());
     let mut table = three_ids(&heap)?;
     heap.refuse_all();
+    assert!(&rt; table.is_open(Id(4)));
     let refused = table.set_max(Id(4), 3);
     heap.refuse_none();
     assert!(&rt; matches!(refused, Err(MatchBufError::NoMemory(_))));
     assert!(&rt; is_as_made(&heap, &table)?);
+    assert!(&rt; table.is_open(Id(4)));
     assert_eq!(&rt; table.set_max(Id(4), 0), Err(MatchBufError::Size));
     assert!(&rt; is_as_made(&heap, &table)?);
     Ok(())
