@@ -11,9 +11,8 @@ ghost use Rattle.state.specs.Reaches.{Reaches};
 ghost use Rattle.state.specs.Status.{Status};
 
 use crate::formula::read;
-use acts::{Fault, NoMemory};
+use acts::{Fault, NoMemory, Raise};
 use evaluation::{Evaluated, OpenFormula, begin};
-use meanings::MeaningFault;
 use operators::truth;
 use std::alloc::Allocator;
 use std::rc::Rc;
@@ -64,8 +63,8 @@ pub(crate) fn of_evaluated<A: Allocator + Copy>(
     match evaluated {
         Evaluated::Value(value) => match truth(alloc, &value) {
             Ok(holds) => Ok(Test::Holds(holds)),
-            Err(MeaningFault::Fault(fault)) => Ok(Test::Fault(fault)),
-            Err(MeaningFault::NoMemory(refusal)) => Err(refusal),
+            Err(Raise::Fault(fault)) => Ok(Test::Fault(fault)),
+            Err(Raise::NoMemory(refusal)) => Err(refusal),
         },
         Evaluated::Script(commands, formula) => Ok(Test::Script(commands, formula)),
         Evaluated::Fault(fault) => Ok(Test::Fault(fault)),

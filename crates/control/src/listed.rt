@@ -4,8 +4,8 @@ ghost use Rattle.std.specs.Prelude.{IfOk};
 ghost use Rattle.control.specs.Looping.{Comes};
 ghost use Rattle.state.specs.Listed.{with_list};
 
-use acts::{Fault, NoMemory};
-use meanings::{MeaningFault, elements};
+use acts::{Fault, NoMemory, Raise};
+use meanings::elements;
 use std::alloc::Allocator;
 use tcltext::Value;
 
@@ -18,7 +18,7 @@ pub(crate) fn elements_of<A: Allocator + Copy>(
 {
     match elements(alloc, text) {
         Ok(elements) => Ok(Ok(elements)),
-        Err(MeaningFault::Fault(fault)) => Ok(Err(fault)),
-        Err(MeaningFault::NoMemory(refusal)) => Err(refusal),
+        Err(Raise::Fault(fault)) => Ok(Err(fault)),
+        Err(Raise::NoMemory(refusal)) => Err(refusal),
     }
 }

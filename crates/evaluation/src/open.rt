@@ -14,9 +14,8 @@ ghost use Rattle.evaluation.specs.Scripts.{MeetsFewer, scripts_around, scripts_i
 ghost use Rattle.evaluation.specs.View.{IsDirect, IsStopped, after, behind, course_of};
 
 use crate::pending::Pending;
-use acts::{Fault, NoMemory};
+use acts::{Fault, NoMemory, Raise};
 use formulas::{Choice, Formula, Row};
-use meanings::MeaningFault;
 use operators::{Operand, unary};
 use std::alloc::Allocator;
 use std::collections::VecDeque;
@@ -79,7 +78,7 @@ pub enum Evaluated<A: Allocator> {
 
 /// What an operator or a function of values comes to, as what the formula comes to.
 pub fn answered<A: Allocator>(
-    answer: Result<Operand<A>, MeaningFault<A>>,
+    answer: Result<Operand<A>, Raise<A>>,
 ) -> Result<Evaluated<A>, NoMemory>
     ensures reaches { (meaning : Meaning) (levels : ℕ) (s : Status)
         (next : Status → List ℕ → Course) → Answers meaning answer → IfOk result (λ it.
@@ -88,8 +87,8 @@ pub fn answered<A: Allocator>(
 {
     match answer {
         Ok(value) => Ok(Evaluated::Value(value)),
-        Err(MeaningFault::Fault(fault)) => Ok(Evaluated::Fault(fault)),
-        Err(MeaningFault::NoMemory(refusal)) => Err(refusal),
+        Err(Raise::Fault(fault)) => Ok(Evaluated::Fault(fault)),
+        Err(Raise::NoMemory(refusal)) => Err(refusal),
     }
 }
 

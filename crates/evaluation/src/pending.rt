@@ -12,8 +12,7 @@ ghost use Rattle.evaluation.specs.View.{IsDirect, course_of};
 ghost use Rattle.evaluation.specs.Pending.{TruthIs, course_of_opened, settled as settled_as};
 
 use crate::open::{Evaluated, answered};
-use acts::{Fault, NoMemory};
-use meanings::MeaningFault;
+use acts::{Fault, NoMemory, Raise};
 use operators::{Operand, binary, truth};
 use std::alloc::Allocator;
 use tclparse::{Binary, Infix};
@@ -47,8 +46,8 @@ pub fn tested<A: Allocator + Copy>(
 {
     match truth(alloc, &operand) {
         Ok(holds) => Ok(Ok(holds)),
-        Err(MeaningFault::Fault(fault)) => Ok(Err(fault)),
-        Err(MeaningFault::NoMemory(refusal)) => Err(refusal),
+        Err(Raise::Fault(fault)) => Ok(Err(fault)),
+        Err(Raise::NoMemory(refusal)) => Err(refusal),
     }
 }
 
@@ -82,7 +81,7 @@ fn settled<A: Allocator + Copy>(
     alloc: A,
     pending: Pending<A>,
     right: &Operand<A>,
-) -> Result<Operand<A>, MeaningFault<A>>
+) -> Result<Operand<A>, Raise<A>>
     ensures { Answers (settled_as pending right.now) result }
 {
     match pending {

@@ -3,10 +3,8 @@
 #![tactic(auto)]
 
 mod boolean;
-mod fault;
 pub mod laws;
 mod list;
 
 pub use boolean::truth;
-pub use fault::MeaningFault;
 pub use list::{elements, list_of, no_list};

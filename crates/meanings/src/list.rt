@@ -7,8 +7,7 @@ ghost use Rattle.tcltext.specs.Canonical.{IsListOf};
 ghost use Rattle.tcltext.specs.Elements.{IsList};
 ghost use Rattle.tcltext.specs.Seen.{flaw_of};
 
-use crate::fault::MeaningFault;
-use acts::Fault;
+use acts::{Fault, Raise};
 use std::alloc::Allocator;
 use tcltext::{ListFault, Value, split_values};
 
@@ -16,10 +15,7 @@ use tcltext::{ListFault, Value, split_values};
 ///
 /// # Errors
 /// The script's error where the text is no list. `NoMemory` where memory is refused.
-pub fn elements<A: Allocator + Copy>(
-    alloc: A,
-    text: &[u8],
-) -> Result<Vec<Value<A>, A>, MeaningFault<A>>
+pub fn elements<A: Allocator + Copy>(alloc: A, text: &[u8]) -> Result<Vec<Value<A>, A>, Raise<A>>
     ensures list { IfOk result (λ elements. IsList elements.items text.now) }
     ensures fault { IfErr result (IsNoList text.now) }
 {
@@ -33,7 +29,7 @@ pub fn elements<A: Allocator + Copy>(
 ///
 /// # Errors
 /// Those of [`elements`].
-pub fn list_of<A: Allocator + Copy>(alloc: A, text: &Value<A>) -> Result<Value<A>, MeaningFault<A>>
+pub fn list_of<A: Allocator + Copy>(alloc: A, text: &Value<A>) -> Result<Value<A>, Raise<A>>
     ensures list { IfOk result (IsListOf text.now) }
     ensures fault { IfErr result (IsNoList text.now) }
 {
@@ -45,7 +41,7 @@ pub fn list_of<A: Allocator + Copy>(alloc: A, text: &Value<A>) -> Result<Value<A
 
 /// Why a text is no list, as the script's error (Tcl_SplitList(3)); `NoMemory` where memory was
 /// refused.
-pub fn no_list<A: Allocator>(fault: ListFault) -> MeaningFault<A>
+pub fn no_list<A: Allocator>(fault: ListFault) -> Raise<A>
     ensures { Tells result (option_map flaw_of_list (flaw_of fault)) }
 {
     let told = match fault {
@@ -54,7 +50,7 @@ pub fn no_list<A: Allocator>(fault: ListFault) -> MeaningFault<A>
         ListFault::AfterBrace => Fault::ListAfterBrace,
         ListFault::AfterQuote => Fault::ListAfterQuote,
         ListFault::EscapeNotHere => Fault::EscapeNotHere,
-        ListFault::NoMemory(refusal) => return MeaningFault::NoMemory(refusal),
+        ListFault::NoMemory(refusal) => return Raise::NoMemory(refusal),
     };
-    MeaningFault::Fault(told)
+    Raise::Fault(told)
 }

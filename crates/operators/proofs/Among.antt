@@ -4,7 +4,7 @@ use Rattle.std.proofs.Math.Seq.{drop-cons}
 use Rattle.std.specs.List.{fold}
 use Rattle.meanings.specs.Meaning.{Meaning}
 use Rattle.meanings.specs.View.{Answers}
-use Rattle.meanings.specs.declared.fault.MeaningFault.{MeaningFault}
+use Rattle.acts.specs.declared.raise.Raise.{Raise}
 use Rattle.operators.specs.declared.functions.Extreme.{Extreme}
 use Rattle.operators.specs.Function.{among, chosen}
 use Rattle.operators.specs.Number.{number_of, follows, with_number, with_all, told}
@@ -31,7 +31,7 @@ module _ (first : List ℕ) (texts : List (List ℕ)) (which : Extreme) (i : ℕ
           ∙ ap (λ n. x ∷ drop n texts) (sym (add-one i)))
 
       -- it is no number
-      pub stops : {A : Type 0} (fault : MeaningFault A) → IsNoNumber x fault →
+      pub stops : {A : Type 0} (fault : Raise A) → IsNoNumber x fault →
           Answers (with_all (first ∷ texts) (among which)) (Err fault)
       stops fault none =
           subst (λ (m : Meaning). Answers m (Err fault)) (sym at) (none next)
@@ -44,7 +44,7 @@ module _ (first : List ℕ) (texts : List (List ℕ)) (which : Extreme) (i : ℕ
       goes_on n number = at ∙ ap (λ o. follows o x next) number
 
     -- none is left
-    pub ends : {A : Type 0} (r : Result (List ℕ) (MeaningFault A)) → drop i texts ≡ [] →
+    pub ends : {A : Type 0} (r : Result (List ℕ) (Raise A)) → drop i texts ≡ [] →
         Answers (told best) r → Answers (with_all (first ∷ texts) (among which)) r
     ends r none says =
         subst (λ (m : Meaning). Answers m r)

@@ -10,7 +10,7 @@ use crate::numbers::{number, told};
 use crate::operand::Operand;
 use crate::ordering::{order, same_bytes};
 use crate::truths::truth;
-use meanings::MeaningFault;
+use acts::Raise;
 use std::alloc::Allocator;
 use tclparse::{Binary, Unary};
 
@@ -23,7 +23,7 @@ pub fn unary<A: Allocator + Copy>(
     alloc: A,
     operator: Unary,
     operand: &Operand<A>,
-) -> Result<Operand<A>, MeaningFault<A>>
+) -> Result<Operand<A>, Raise<A>>
     ensures { Answers (unary operator operand.now) result }
 {
     match operator {
@@ -46,7 +46,7 @@ pub fn binary<A: Allocator + Copy>(
     operator: Binary,
     left: &Operand<A>,
     right: &Operand<A>,
-) -> Result<Operand<A>, MeaningFault<A>>
+) -> Result<Operand<A>, Raise<A>>
     ensures { Answers (binary operator left.now right.now) result }
 {
     match operator {

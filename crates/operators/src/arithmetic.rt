@@ -8,7 +8,7 @@ use crate::division::{divide, modulo};
 use crate::numbers::{numbers, told};
 use crate::operand::Operand;
 use crate::shifts::{shift_left, shift_right};
-use meanings::MeaningFault;
+use acts::Raise;
 use std::alloc::Allocator;
 
 /// An operator that asks for two numbers (expr(n), operators).
@@ -32,7 +32,7 @@ pub fn on_numbers<A: Allocator + Copy>(
     operation: Arithmetic,
     left: &Operand<A>,
     right: &Operand<A>,
-) -> Result<Operand<A>, MeaningFault<A>>
+) -> Result<Operand<A>, Raise<A>>
     ensures { Answers (with_both left.now right.now (meant.computed operation)) result }
 {
     let (x, y) = numbers(alloc, left, right)?;
@@ -40,11 +40,7 @@ pub fn on_numbers<A: Allocator + Copy>(
 }
 
 /// What an operation makes of two numbers (expr(n), operators).
-fn computed<A: Allocator>(
-    operation: Arithmetic,
-    x: i64,
-    y: i64,
-) -> Result<Operand<A>, MeaningFault<A>>
+fn computed<A: Allocator>(operation: Arithmetic, x: i64, y: i64) -> Result<Operand<A>, Raise<A>>
     ensures { Answers (meant.computed operation x y) result }
 {
     match operation {

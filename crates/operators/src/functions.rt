@@ -7,8 +7,7 @@ ghost use Rattle.operators.specs.Number.{with_all};
 
 use crate::numbers::{number, told};
 use crate::operand::Operand;
-use acts::Fault;
-use meanings::MeaningFault;
+use acts::{Fault, Raise};
 use std::alloc::Allocator;
 use tclparse::Function;
 
@@ -28,22 +27,19 @@ pub fn call<A: Allocator + Copy>(
     alloc: A,
     function: Function,
     operands: &[Operand<A>],
-) -> Result<Operand<A>, MeaningFault<A>>
+) -> Result<Operand<A>, Raise<A>>
     ensures { Answers (meant.call function operands.now) result }
 {
     match (function, operands) {
         (Function::Abs, [operand]) => absolute(alloc, operand),
         (Function::Min, [first, rest @ ..]) => among(alloc, Extreme::Least, first, rest),
         (Function::Max, [first, rest @ ..]) => among(alloc, Extreme::Greatest, first, rest),
-        _ => Err(MeaningFault::Fault(Fault::BadExpression)),
+        _ => Err(Raise::Fault(Fault::BadExpression)),
     }
 }
 
 /// The absolute value of the number that an operand is (mathfunc(n), abs).
-fn absolute<A: Allocator + Copy>(
-    alloc: A,
-    operand: &Operand<A>,
-) -> Result<Operand<A>, MeaningFault<A>>
+fn absolute<A: Allocator + Copy>(alloc: A, operand: &Operand<A>) -> Result<Operand<A>, Raise<A>>
     ensures { Answers (meant.absolute operand.now) result }
 {
     let n = number(alloc, operand)?;
@@ -56,7 +52,7 @@ fn among<A: Allocator + Copy>(
     which: Extreme,
     first: &Operand<A>,
     rest: &[Operand<A>],
-) -> Result<Operand<A>, MeaningFault<A>>
+) -> Result<Operand<A>, Raise<A>>
     ensures { Answers (with_all (first.now ∷ rest.now) (meant.among which)) result }
 {
     let mut best = number(alloc, first)?;

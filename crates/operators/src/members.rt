@@ -6,8 +6,9 @@ ghost use Rattle.operators.specs.Member as meant;
 ghost use Rattle.operators.specs.Member.{IsFound};
 
 use crate::operand::Operand;
+use acts::Raise;
 use itoa::Buffer;
-use meanings::{MeaningFault, elements};
+use meanings::elements;
 use std::alloc::Allocator;
 use tcltext::Value;
 
@@ -16,7 +17,7 @@ pub fn is_in<A: Allocator + Copy>(
     alloc: A,
     text: &Operand<A>,
     list: &Operand<A>,
-) -> Result<Operand<A>, MeaningFault<A>>
+) -> Result<Operand<A>, Raise<A>>
     ensures { Answers (meant.is_in text.now list.now) result }
 {
     let found = is_found(alloc, text, list)?;
@@ -28,7 +29,7 @@ pub fn is_not_in<A: Allocator + Copy>(
     alloc: A,
     text: &Operand<A>,
     list: &Operand<A>,
-) -> Result<Operand<A>, MeaningFault<A>>
+) -> Result<Operand<A>, Raise<A>>
     ensures { Answers (meant.is_not_in text.now list.now) result }
 {
     let found = is_found(alloc, text, list)?;
@@ -40,7 +41,7 @@ fn is_found<A: Allocator + Copy>(
     alloc: A,
     text: &Operand<A>,
     list: &Operand<A>,
-) -> Result<bool, MeaningFault<A>>
+) -> Result<bool, Raise<A>>
     ensures ok { IfOk result (IsFound text.now list.now) }
     ensures fault { IfErr result (IsNoList list.now) }
 {

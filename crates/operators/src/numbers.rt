@@ -7,13 +7,12 @@ ghost use Rattle.operators.specs.Number as meant;
 ghost use Rattle.operators.specs.View.{IsNoNumber, AreNumbers, AreNoNumbers};
 
 use crate::operand::Operand;
-use acts::Fault;
+use acts::{Fault, Raise};
 use itoa::Buffer;
-use meanings::MeaningFault;
 use std::alloc::Allocator;
 
 /// The number that an operand is (expr(n), operators).
-pub fn number<A: Allocator + Copy>(alloc: A, operand: &Operand<A>) -> Result<i64, MeaningFault<A>>
+pub fn number<A: Allocator + Copy>(alloc: A, operand: &Operand<A>) -> Result<i64, Raise<A>>
     ensures ok { IfOk result (λ n. meant.number_of operand.now ≡ Some n) }
     ensures fault { IfErr result (IsNoNumber operand.now) }
 {
@@ -22,7 +21,7 @@ pub fn number<A: Allocator + Copy>(alloc: A, operand: &Operand<A>) -> Result<i64
     }
     let mut buffer = Buffer::new();
     let text = Vec::from_slice(alloc, operand.bytes(&mut buffer))?;
-    Err(MeaningFault::Fault(Fault::NotANumber(text)))
+    Err(Raise::Fault(Fault::NotANumber(text)))
 }
 
 /// The numbers that two operands are; the left one is looked at first (expr(n), operators).
@@ -30,7 +29,7 @@ pub fn numbers<A: Allocator + Copy>(
     alloc: A,
     left: &Operand<A>,
     right: &Operand<A>,
-) -> Result<(i64, i64), MeaningFault<A>>
+) -> Result<(i64, i64), Raise<A>>
     ensures ok { IfOk result (AreNumbers left.now right.now) }
     ensures fault { IfErr result (AreNoNumbers left.now right.now) }
 {
@@ -40,11 +39,11 @@ pub fn numbers<A: Allocator + Copy>(
 }
 
 /// A number that 64 bits hold, or the error that they do not (expr(n)).
-pub fn told<A: Allocator>(number: Option<i64>) -> Result<Operand<A>, MeaningFault<A>>
+pub fn told<A: Allocator>(number: Option<i64>) -> Result<Operand<A>, Raise<A>>
     ensures { (n : ℤ) → SomeIff number (FitsSigned w64 n) n → Answers (meant.told n) result }
 {
     match number {
         Some(n) => Ok(Operand::number(n)),
-        None => Err(MeaningFault::Fault(Fault::OutOfRange)),
+        None => Err(Raise::Fault(Fault::OutOfRange)),
     }
 }

@@ -5,27 +5,26 @@ ghost use Rattle.operators.specs.Shift as meant;
 
 use crate::numbers::told;
 use crate::operand::Operand;
-use acts::Fault;
+use acts::{Fault, Raise};
 use integers::shifts::{over_power, times_power};
-use meanings::MeaningFault;
 use std::alloc::Allocator;
 
 /// `a << n` (expr(n), operators).
-pub fn shift_left<A: Allocator>(a: i64, count: i64) -> Result<Operand<A>, MeaningFault<A>>
+pub fn shift_left<A: Allocator>(a: i64, count: i64) -> Result<Operand<A>, Raise<A>>
     ensures { Answers (meant.shift_left a count) result }
 {
     match u64::try_from(count) {
         Ok(n) => told(times_power(a, n)),
-        Err(_) => Err(MeaningFault::Fault(Fault::NegativeShift)),
+        Err(_) => Err(Raise::Fault(Fault::NegativeShift)),
     }
 }
 
 /// `a >> n` (expr(n), operators).
-pub fn shift_right<A: Allocator>(a: i64, count: i64) -> Result<Operand<A>, MeaningFault<A>>
+pub fn shift_right<A: Allocator>(a: i64, count: i64) -> Result<Operand<A>, Raise<A>>
     ensures { Answers (meant.shift_right a count) result }
 {
     match u64::try_from(count) {
         Ok(n) => told(Some(over_power(a, n))),
-        Err(_) => Err(MeaningFault::Fault(Fault::NegativeShift)),
+        Err(_) => Err(Raise::Fault(Fault::NegativeShift)),
     }
 }

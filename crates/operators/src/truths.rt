@@ -6,9 +6,8 @@ ghost use Rattle.operators.specs.Truth as meant;
 ghost use Rattle.operators.specs.View.{IsNoTruth};
 
 use crate::operand::Operand;
-use acts::Fault;
+use acts::{Fault, Raise};
 use itoa::Buffer;
-use meanings::MeaningFault;
 use std::alloc::Allocator;
 
 /// Whether an operand is true: a number that is not 0, or one of the words `true`, `yes` and `on`;
@@ -16,7 +15,7 @@ use std::alloc::Allocator;
 ///
 /// # Errors
 /// Where it is neither a number nor one of the six words. `NoMemory` where memory is refused.
-pub fn truth<A: Allocator + Copy>(alloc: A, operand: &Operand<A>) -> Result<bool, MeaningFault<A>>
+pub fn truth<A: Allocator + Copy>(alloc: A, operand: &Operand<A>) -> Result<bool, Raise<A>>
     ensures ok { IfOk result (λ holds. meant.truth_of operand.now ≡ Ok holds) }
     ensures fault { IfErr result (IsNoTruth operand.now) }
 {
@@ -27,7 +26,7 @@ pub fn truth<A: Allocator + Copy>(alloc: A, operand: &Operand<A>) -> Result<bool
     let text = operand.bytes(&mut buffer);
     match of_word(text) {
         Some(holds) => Ok(holds),
-        None => Err(MeaningFault::Fault(Fault::NotATruth(Vec::from_slice(alloc, text)?))),
+        None => Err(Raise::Fault(Fault::NotATruth(Vec::from_slice(alloc, text)?))),
     }
 }
 

@@ -5,8 +5,7 @@ ghost use Rattle.meanings.specs.View.{Answers};
 ghost use Rattle.operators.specs.Value as meant;
 
 use crate::operand::{Operand, number_in};
-use acts::Fault;
-use meanings::MeaningFault;
+use acts::{Fault, Raise};
 use memory::NoMemory;
 use std::alloc::Allocator;
 use tcltext::Value;
@@ -15,11 +14,11 @@ use tcltext::Value;
 ///
 /// # Errors
 /// Where its number is not within 64 bits.
-pub fn written<A: Allocator>(spelling: Value<A>) -> Result<Operand<A>, MeaningFault<A>>
+pub fn written<A: Allocator>(spelling: Value<A>) -> Result<Operand<A>, Raise<A>>
     ensures { Answers (meant.written spelling) result }
 {
     if number_in(spelling.as_slice()).is_none() {
-        return Err(MeaningFault::Fault(Fault::OutOfRange));
+        return Err(Raise::Fault(Fault::OutOfRange));
     }
     Ok(Operand::text(spelling))
 }

@@ -12,8 +12,8 @@ ghost use Rattle.state.specs.Status.{Status};
 ghost use Rattle.tclparse.specs.Variable.{named};
 ghost use Rattle.tclstate.specs.Formals as meant;
 
-use acts::{Fault, NoMemory};
-use meanings::{MeaningFault, no_list};
+use acts::{Fault, NoMemory, Raise};
+use meanings::no_list;
 use std::alloc::Allocator;
 use tclparse::variable_name;
 use tclstate::{Formal, Formals, FormalsError};
@@ -29,8 +29,8 @@ pub fn formals_of<A: Allocator + Copy>(
     match Formals::read(alloc, text) {
         Ok(formals) => checked(alloc, text, formals),
         Err(FormalsError::NotAList(fault)) => match no_list(fault) {
-            MeaningFault::Fault(fault) => Ok(Err(fault)),
-            MeaningFault::NoMemory(refusal) => Err(refusal),
+            Raise::Fault(fault) => Ok(Err(fault)),
+            Raise::NoMemory(refusal) => Err(refusal),
         },
         Err(FormalsError::BadFormal) => Ok(Err(bad_formals(alloc, text)?)),
         Err(FormalsError::NoMemory(refusal)) => Err(refusal),

@@ -11,7 +11,7 @@ use crate::llength::llength;
 use crate::lrange::lrange;
 use crate::split::split;
 use crate::string::string;
-use meanings::MeaningFault;
+use acts::Raise;
 use std::alloc::Allocator;
 use tcltext::Value;
 
@@ -55,7 +55,7 @@ impl Pure {
         self,
         alloc: A,
         words: &[Value<A>],
-    ) -> Result<Value<A>, MeaningFault<A>>
+    ) -> Result<Value<A>, Raise<A>>
         ensures { Answers (meant.says self words.now) result }
     {
         match self {

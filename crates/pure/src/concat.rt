@@ -5,16 +5,13 @@ ghost use Rattle.pure.specs.Concat as meant;
 ghost use Rattle.meanings.specs.View.{Answers};
 
 use crate::trim::{WHITE, trim};
-use meanings::MeaningFault;
+use acts::Raise;
 use memory::NoMemory;
 use std::alloc::Allocator;
 use tcltext::Value;
 
 /// Gives the words without white at their ends, with a blank between them.
-pub fn concat<A: Allocator + Copy>(
-    alloc: A,
-    words: &[Value<A>],
-) -> Result<Value<A>, MeaningFault<A>>
+pub fn concat<A: Allocator + Copy>(alloc: A, words: &[Value<A>]) -> Result<Value<A>, Raise<A>>
     ensures { Answers (meant.concat words.now) result }
 {
     let text = concatenated(alloc, words)?;

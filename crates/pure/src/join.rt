@@ -7,13 +7,14 @@ ghost use Rattle.meanings.specs.Meaning.{Splits};
 ghost use Rattle.meanings.specs.View.{Answers};
 
 use crate::words::wrong_args;
-use meanings::{MeaningFault, elements};
+use acts::Raise;
+use meanings::elements;
 use memory::NoMemory;
 use std::alloc::Allocator;
 use tcltext::Value;
 
 /// The elements of a list as one text.
-pub fn join<A: Allocator + Copy>(alloc: A, words: &[Value<A>]) -> Result<Value<A>, MeaningFault<A>>
+pub fn join<A: Allocator + Copy>(alloc: A, words: &[Value<A>]) -> Result<Value<A>, Raise<A>>
     ensures { Answers (meant.join words.now) result }
 {
     match words {
@@ -28,7 +29,7 @@ fn text_of<A: Allocator + Copy>(
     alloc: A,
     list: &[u8],
     separator: &[u8],
-) -> Result<Value<A>, MeaningFault<A>>
+) -> Result<Value<A>, Raise<A>>
     ensures { Answers (Splits list.now (meant.text_of separator.now)) result }
 {
     let elements = elements(alloc, list)?;

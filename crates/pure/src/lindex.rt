@@ -6,15 +6,13 @@ ghost use Rattle.meanings.specs.View.{Answers};
 
 use crate::place::{item_at, place_of};
 use crate::words::{bad_argument, wrong_args};
-use meanings::{MeaningFault, elements};
+use acts::Raise;
+use meanings::elements;
 use std::alloc::Allocator;
 use tcltext::Value;
 
 /// An element of a list; without an index the list as it stands.
-pub fn lindex<A: Allocator + Copy>(
-    alloc: A,
-    words: &[Value<A>],
-) -> Result<Value<A>, MeaningFault<A>>
+pub fn lindex<A: Allocator + Copy>(alloc: A, words: &[Value<A>]) -> Result<Value<A>, Raise<A>>
     ensures { Answers (meant.lindex words.now) result }
 {
     match words {
@@ -25,7 +23,7 @@ pub fn lindex<A: Allocator + Copy>(
 }
 
 /// The list as it stands, where it is one.
-fn whole<A: Allocator + Copy>(alloc: A, list: &Value<A>) -> Result<Value<A>, MeaningFault<A>>
+fn whole<A: Allocator + Copy>(alloc: A, list: &Value<A>) -> Result<Value<A>, Raise<A>>
     ensures { Answers (meant.lindex (list.now ∷ [])) result }
 {
     elements(alloc, list.as_slice())?;
@@ -33,7 +31,7 @@ fn whole<A: Allocator + Copy>(alloc: A, list: &Value<A>) -> Result<Value<A>, Mea
 }
 
 /// The element at the place that an index word names.
-fn at<A: Allocator + Copy>(alloc: A, list: &[u8], index: &[u8]) -> Result<Value<A>, MeaningFault<A>>
+fn at<A: Allocator + Copy>(alloc: A, list: &[u8], index: &[u8]) -> Result<Value<A>, Raise<A>>
     ensures { Answers (meant.lindex (list.now ∷ index.now ∷ [])) result }
 {
     let elements = elements(alloc, list)?;
@@ -45,7 +43,7 @@ fn element<A: Allocator + Copy>(
     alloc: A,
     index: &[u8],
     elements: &[Value<A>],
-) -> Result<Value<A>, MeaningFault<A>>
+) -> Result<Value<A>, Raise<A>>
     ensures { Answers (meant.element index.now elements.now) result }
 {
     let Some(place) = place_of(index, elements.len()) else {

@@ -5,15 +5,13 @@ ghost use Rattle.pure.specs.Llength as meant;
 ghost use Rattle.meanings.specs.View.{Answers};
 
 use crate::words::{number, wrong_args};
-use meanings::{MeaningFault, elements};
+use acts::Raise;
+use meanings::elements;
 use std::alloc::Allocator;
 use tcltext::Value;
 
 /// The number of the elements of a list.
-pub fn llength<A: Allocator + Copy>(
-    alloc: A,
-    words: &[Value<A>],
-) -> Result<Value<A>, MeaningFault<A>>
+pub fn llength<A: Allocator + Copy>(alloc: A, words: &[Value<A>]) -> Result<Value<A>, Raise<A>>
     ensures { Answers (meant.llength words.now) result }
 {
     match words {
@@ -23,7 +21,7 @@ pub fn llength<A: Allocator + Copy>(
 }
 
 /// The number of the elements of the list that a word is.
-fn count<A: Allocator + Copy>(alloc: A, list: &[u8]) -> Result<Value<A>, MeaningFault<A>>
+fn count<A: Allocator + Copy>(alloc: A, list: &[u8]) -> Result<Value<A>, Raise<A>>
     ensures { Answers (meant.llength (list.now ∷ [])) result }
 {
     let elements = elements(alloc, list)?;

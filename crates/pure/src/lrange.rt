@@ -6,15 +6,13 @@ ghost use Rattle.meanings.specs.View.{Answers};
 
 use crate::place::{items_from, place_of};
 use crate::words::{bad_argument, wrong_args};
-use meanings::{MeaningFault, elements};
+use acts::Raise;
+use meanings::elements;
 use std::alloc::Allocator;
 use tcltext::Value;
 
 /// A part of a list.
-pub fn lrange<A: Allocator + Copy>(
-    alloc: A,
-    words: &[Value<A>],
-) -> Result<Value<A>, MeaningFault<A>>
+pub fn lrange<A: Allocator + Copy>(alloc: A, words: &[Value<A>]) -> Result<Value<A>, Raise<A>>
     ensures { Answers (meant.lrange words.now) result }
 {
     match words {
@@ -31,7 +29,7 @@ fn part_of<A: Allocator + Copy>(
     list: &[u8],
     first: &[u8],
     last: &[u8],
-) -> Result<Value<A>, MeaningFault<A>>
+) -> Result<Value<A>, Raise<A>>
     ensures { Answers (meant.lrange (list.now ∷ first.now ∷ last.now ∷ [])) result }
 {
     let elements = elements(alloc, list)?;
@@ -44,7 +42,7 @@ fn part<A: Allocator + Copy>(
     first: &[u8],
     last: &[u8],
     elements: &[Value<A>],
-) -> Result<Value<A>, MeaningFault<A>>
+) -> Result<Value<A>, Raise<A>>
     ensures { Answers (meant.part first.now last.now elements.now) result }
 {
     let Some(from) = place_of(first, elements.len()) else {

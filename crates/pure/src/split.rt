@@ -8,13 +8,13 @@ ghost use Rattle.meanings.specs.View.{Answers};
 ghost use Rattle.tcltext.specs.Canonical.{canonical, written};
 
 use crate::words::wrong_args;
-use meanings::MeaningFault;
+use acts::Raise;
 use memory::NoMemory;
 use std::alloc::Allocator;
 use tcltext::{Value, push_element};
 
 /// The list of the pieces of a text.
-pub fn split<A: Allocator + Copy>(alloc: A, words: &[Value<A>]) -> Result<Value<A>, MeaningFault<A>>
+pub fn split<A: Allocator + Copy>(alloc: A, words: &[Value<A>]) -> Result<Value<A>, Raise<A>>
     ensures { Answers (meant.split words.now) result }
 {
     let list = match words {

@@ -13,10 +13,10 @@ mod search;
 mod trimming;
 
 use crate::words::{bad_argument, wrong_args};
+use acts::Raise;
 use case::{tolower, toupper};
 use compare::{compare, equal};
 use matching::matches;
-use meanings::MeaningFault;
 use part::{index, length, range};
 use search::{first, last};
 use std::alloc::Allocator;
@@ -58,11 +58,7 @@ impl Subcommand {
     }
 
     /// What the subcommand does with the words behind its name.
-    fn apply<A: Allocator + Copy>(
-        self,
-        alloc: A,
-        words: &[Value<A>],
-    ) -> Result<Value<A>, MeaningFault<A>>
+    fn apply<A: Allocator + Copy>(self, alloc: A, words: &[Value<A>]) -> Result<Value<A>, Raise<A>>
         ensures { Answers (meant.does self words.now) result }
     {
         match self {
@@ -84,10 +80,7 @@ impl Subcommand {
 }
 
 /// A subcommand by its name, and what it does with the words behind it.
-pub fn string<A: Allocator + Copy>(
-    alloc: A,
-    words: &[Value<A>],
-) -> Result<Value<A>, MeaningFault<A>>
+pub fn string<A: Allocator + Copy>(alloc: A, words: &[Value<A>]) -> Result<Value<A>, Raise<A>>
     ensures { Answers (meant.string words.now) result }
 {
     let [name, words @ ..] = words else {

@@ -5,21 +5,17 @@ ghost use Rattle.acts.specs.Flaw as flaw;
 ghost use Rattle.meanings.specs.Meaning.{Raises};
 ghost use Rattle.meanings.specs.View.{Answers};
 
-use acts::Fault;
-use meanings::MeaningFault;
+use acts::{Fault, Raise};
 use memory::NoMemory;
 use std::alloc::Allocator;
 use tcltext::{Value, print_nat};
 
 /// The error of a command that was given another number of words than it takes.
-pub fn wrong_args<A: Allocator + Copy>(
-    alloc: A,
-    command: &[u8],
-) -> Result<Value<A>, MeaningFault<A>>
+pub fn wrong_args<A: Allocator + Copy>(alloc: A, command: &[u8]) -> Result<Value<A>, Raise<A>>
     ensures { Answers (Raises (flaw.WrongArgs command.now)) result }
 {
     let command = Vec::from_slice(alloc, command)?;
-    Err(MeaningFault::Fault(Fault::WrongArgs(command)))
+    Err(Raise::Fault(Fault::WrongArgs(command)))
 }
 
 /// The error of a command that does not take a word.
@@ -27,12 +23,12 @@ pub fn bad_argument<A: Allocator + Copy>(
     alloc: A,
     word: &[u8],
     command: &[u8],
-) -> Result<Value<A>, MeaningFault<A>>
+) -> Result<Value<A>, Raise<A>>
     ensures { Answers (Raises (flaw.BadArgument word.now command.now)) result }
 {
     let word = Vec::from_slice(alloc, word)?;
     let command = Vec::from_slice(alloc, command)?;
-    Err(MeaningFault::Fault(Fault::BadArgument { word, command }))
+    Err(Raise::Fault(Fault::BadArgument { word, command }))
 }
 
 /// The text of a number.

@@ -3,7 +3,7 @@ use Rattle.std.proofs.Common.{◌≡◌, ℕ, List, [], Result, Ok, Err, MatchRe
 use Rattle.acts.specs.declared.fault.Fault.{Fault}
 use Rattle.acts.specs.Flaw.{flaw_of}
 use Rattle.acts.specs.Flaw as acts
-use Rattle.meanings.specs.declared.fault.MeaningFault.TheVariants as fault
+use Rattle.acts.specs.declared.raise.Raise.TheVariants as raise
 use Rattle.meanings.specs.Meaning.{Answer, Comes, Gives, IsSplit, flaw_of_list}
 use Rattle.meanings.specs.View.{IsNoList}
 use Rattle.state.proofs.Reaches.{same_reaches}
@@ -32,7 +32,7 @@ module _ (text : List ℕ) (s : Status) (next : List (List ℕ) → Course) wher
       reads {text = ListText text} (Err why) is (same_reaches (ap (λ f. raises f s) (sym told)))
 
   -- it is none, for a reason that is told
-  pub no_list_reaches : {A : Type 0} (why : Fault A) → IsNoList text (fault.Fault why) →
+  pub no_list_reaches : {A : Type 0} (why : Fault A) → IsNoList text (raise.Fault why) →
       Reaches (with_list text s next) (raises (flaw_of why) s)
   no_list_reaches why is =
       let none = is (λ elements. Gives []) in unsplit_reaches (flaw_of why) none.0 none.1 none.2

@@ -6,8 +6,8 @@ use Rattle.acts.specs.declared.fault.Fault.{Fault}
 use Rattle.memory.specs.declared.NoMemory.{NoMemory}
 use Rattle.meanings.specs.Meaning.{Answer, Comes, Meaning, Gives, Raises, Splits, Matches, flaw_of_list}
 use Rattle.meanings.specs.View.{Answers}
-use Rattle.meanings.specs.declared.fault.MeaningFault.{MeaningFault}
-use Rattle.meanings.specs.declared.fault.MeaningFault.TheVariants as fault
+use Rattle.acts.specs.declared.raise.Raise.{Raise}
+use Rattle.acts.specs.declared.raise.Raise.TheVariants as raise
 use Rattle.plan.specs.Plan.{Ends}
 use Rattle.state.proofs.Reaches.{same_reaches, then_reaches}
 use Rattle.state.proofs.Shown.{over_after}
@@ -58,15 +58,15 @@ meaning_reaches (Matches pattern text more) answer s next comes =
     (meaning_reaches (more comes.0) answer s next comes.2)
 
 -- the same, of an answer of the code
-pub value_reaches : {A : Type 0} (meaning : Meaning) (it : Result (List ℕ) (MeaningFault A))
+pub value_reaches : {A : Type 0} (meaning : Meaning) (it : Result (List ℕ) (Raise A))
     (value : List ℕ) (s : Status) (next : List ℕ → Course) → it ≡ Ok value → Answers meaning it →
     Reaches (on_meaning meaning s next) (next value)
 value_reaches meaning it value s next is answers =
     meaning_reaches meaning (Ok value) s next (subst (λ a. Answers meaning a) is answers)
 
-pub fault_reaches : {A : Type 0} (meaning : Meaning) (it : Result (List ℕ) (MeaningFault A))
-    (why : MeaningFault A) (told : Fault A) (s : Status) (next : List ℕ → Course) → it ≡ Err why →
-    why ≡ fault.Fault told → Answers meaning it →
+pub fault_reaches : {A : Type 0} (meaning : Meaning) (it : Result (List ℕ) (Raise A))
+    (why : Raise A) (told : Fault A) (s : Status) (next : List ℕ → Course) → it ≡ Err why →
+    why ≡ raise.Fault told → Answers meaning it →
     Reaches (on_meaning meaning s next) (raises (flaw_of told) s)
 fault_reaches meaning it why told s next is also answers =
     meaning_reaches meaning (Err (flaw_of told)) s next

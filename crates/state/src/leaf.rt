@@ -9,8 +9,7 @@ ghost use Rattle.state.specs.View as definition;
 ghost use Rattle.state.specs.View.{code_of, stop_of};
 
 use crate::outcome::{Code, Leave, Outcome, Stop, raised};
-use acts::{Act, Fault, NoMemory};
-use meanings::MeaningFault;
+use acts::{Act, Fault, NoMemory, Raise};
 use std::alloc::Allocator;
 use tcltext::Value;
 
@@ -62,15 +61,15 @@ pub fn raises<A: Allocator + Copy, W: Drop>(
 /// The command is over with what a function of texts came to: its value, or its error.
 pub fn answers<A: Allocator + Copy, W: Drop>(
     alloc: A,
-    answer: Result<Value<A>, MeaningFault<A>>,
+    answer: Result<Value<A>, Raise<A>>,
 ) -> Result<Leaf<A, W>, NoMemory>
     ensures { (meaning : Meaning) → Answers meaning answer →
         IfOk result (λ leaf. IsMeant leaf meaning) }
 {
     match answer {
         Ok(value) => Ok(gives(value)),
-        Err(MeaningFault::Fault(fault)) => raises(alloc, &fault),
-        Err(MeaningFault::NoMemory(refusal)) => Err(refusal),
+        Err(Raise::Fault(fault)) => raises(alloc, &fault),
+        Err(Raise::NoMemory(refusal)) => Err(refusal),
     }
 }
 

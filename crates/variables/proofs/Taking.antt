@@ -3,7 +3,7 @@ use Rattle.std.proofs.Common.{◌≡◌, ◌∙◌, ℕ, List, [], ◌∷◌, �
 use Rattle.std.proofs.lemmas.List.{append-nil}
 use Rattle.std.specs.Prelude.{◌↔◌, IsTrue}
 use Rattle.std.specs.declared.vec.Vec.{Vec}
-use Rattle.meanings.specs.declared.fault.MeaningFault.{MeaningFault}
+use Rattle.acts.specs.declared.raise.Raise.{Raise}
 use Rattle.state.proofs.Reaches.{same_reaches, then_reaches}
 use Rattle.state.specs.Dialogue.{Course}
 use Rattle.state.specs.Piece.{TestText}
@@ -62,7 +62,7 @@ module _ (pattern : List Item) (texts : List (List ℕ)) where
       ∙ ap next (append-nil found)))
 
 -- the indexes of an array that a pattern takes, where all of them are at hand
-pub matched_indexes : {A : Type 0} (r : Result (Vec (List ℕ) A) (MeaningFault A)) (name : List ℕ)
+pub matched_indexes : {A : Type 0} (r : Result (Vec (List ℕ) A) (Raise A)) (name : List ℕ)
     (index : Option (List ℕ)) (word : List ℕ) (texts : List (List ℕ)) (pattern : Option (List ℕ))
     (s : Status) (scopes : Scopes) → s.scopes ≡ scopes → texts ≡ indexes_of scopes name index →
     pattern ≡ Some word → Finds r (matched word texts s) s →

@@ -12,8 +12,8 @@ ghost use Rattle.variables.specs.Lists.{HoldsList};
 ghost use Rattle.state.specs.NoWaits.{next_of};
 
 use crate::held::{self, held, release};
-use acts::{Fault, NoMemory};
-use meanings::{MeaningFault, list_of};
+use acts::{Fault, NoMemory, Raise};
+use meanings::list_of;
 use state::arguments::wrong_args;
 use state::leaf::raises;
 use state::{Leaf, NoWaits, State};
@@ -55,8 +55,8 @@ fn extend<A: Allocator + Copy>(
 {
     match list_in(alloc, state, name, index) {
         Ok(list) => put(alloc, state, name, index, list, more),
-        Err(MeaningFault::Fault(fault)) => raises(alloc, &fault),
-        Err(MeaningFault::NoMemory(refusal)) => Err(refusal),
+        Err(Raise::Fault(fault)) => raises(alloc, &fault),
+        Err(Raise::NoMemory(refusal)) => Err(refusal),
     }
 }
 
@@ -67,7 +67,7 @@ fn list_in<A: Allocator + Copy>(
     state: &State<A>,
     name: &[u8],
     index: Option<&[u8]>,
-) -> Result<Value<A>, MeaningFault<A>>
+) -> Result<Value<A>, Raise<A>>
     ensures list { (s : Status) → FitsState state.now s →
         HoldsList result name.now (option_copied index.entry) s }
     ensures canonical { IfOk result IsCanonical }
@@ -75,7 +75,7 @@ fn list_in<A: Allocator + Copy>(
     match held(alloc, state, name, index)? {
         Ok(Some(text)) => list_of(alloc, &text),
         Ok(None) => Ok(Value::empty()),
-        Err(fault) => Err(MeaningFault::Fault(fault)),
+        Err(fault) => Err(Raise::Fault(fault)),
     }
 }
 

@@ -13,8 +13,8 @@ ghost use Rattle.words.specs.Scripts.{HasFewer, scripts_left, scripts_of};
 ghost use Rattle.words.specs.View.{course_of_met};
 
 use crate::word::{Met, OpenWord, begin as begin_word};
-use acts::{Fault, NoMemory};
-use meanings::{MeaningFault, elements};
+use acts::{Fault, NoMemory, Raise};
+use meanings::elements;
 use std::alloc::Allocator;
 use std::rc::Rc;
 use tclparse::{Command, Word};
@@ -62,8 +62,8 @@ fn add_words<A: Allocator + Copy>(
             values.append(&mut elements)?;
             Ok(None)
         }
-        Err(MeaningFault::Fault(fault)) => Ok(Some(fault)),
-        Err(MeaningFault::NoMemory(refusal)) => Err(refusal),
+        Err(Raise::Fault(fault)) => Ok(Some(fault)),
+        Err(Raise::NoMemory(refusal)) => Err(refusal),
     }
 }
 

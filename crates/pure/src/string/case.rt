@@ -6,15 +6,12 @@ ghost use Rattle.pure.specs.Strings.Case as meant;
 ghost use Rattle.meanings.specs.View.{Answers};
 
 use crate::words::wrong_args;
-use meanings::MeaningFault;
+use acts::Raise;
 use std::alloc::{AllocError, Allocator};
 use tcltext::Value;
 
 /// A string with its ASCII letters in lower case.
-pub fn tolower<A: Allocator + Copy>(
-    alloc: A,
-    words: &[Value<A>],
-) -> Result<Value<A>, MeaningFault<A>>
+pub fn tolower<A: Allocator + Copy>(alloc: A, words: &[Value<A>]) -> Result<Value<A>, Raise<A>>
     ensures { Answers (meant.tolower words.now) result }
 {
     match words {
@@ -24,10 +21,7 @@ pub fn tolower<A: Allocator + Copy>(
 }
 
 /// A string with its ASCII letters in upper case.
-pub fn toupper<A: Allocator + Copy>(
-    alloc: A,
-    words: &[Value<A>],
-) -> Result<Value<A>, MeaningFault<A>>
+pub fn toupper<A: Allocator + Copy>(alloc: A, words: &[Value<A>]) -> Result<Value<A>, Raise<A>>
     ensures { Answers (meant.toupper words.now) result }
 {
     match words {

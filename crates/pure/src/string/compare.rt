@@ -5,13 +5,14 @@ ghost use Rattle.pure.specs.Strings.Compare as meant;
 ghost use Rattle.meanings.specs.View.{Answers};
 
 use crate::words::wrong_args;
-use meanings::{MeaningFault, truth};
+use acts::Raise;
+use meanings::truth;
 use std::alloc::Allocator;
 use std::cmp::Ordering;
 use tcltext::Value;
 
 /// Whether two strings have the same bytes.
-pub fn equal<A: Allocator + Copy>(alloc: A, words: &[Value<A>]) -> Result<Value<A>, MeaningFault<A>>
+pub fn equal<A: Allocator + Copy>(alloc: A, words: &[Value<A>]) -> Result<Value<A>, Raise<A>>
     ensures { Answers (meant.equal words.now) result }
 {
     match words {
@@ -21,10 +22,7 @@ pub fn equal<A: Allocator + Copy>(alloc: A, words: &[Value<A>]) -> Result<Value<
 }
 
 /// How two strings are ordered: -1, 0 or 1.
-pub fn compare<A: Allocator + Copy>(
-    alloc: A,
-    words: &[Value<A>],
-) -> Result<Value<A>, MeaningFault<A>>
+pub fn compare<A: Allocator + Copy>(alloc: A, words: &[Value<A>]) -> Result<Value<A>, Raise<A>>
     ensures { Answers (meant.compare words.now) result }
 {
     match words {

@@ -4,16 +4,13 @@ ghost use Rattle.pure.specs.Strings.Match as meant;
 ghost use Rattle.meanings.specs.View.{Answers};
 
 use crate::words::wrong_args;
-use acts::Fault;
-use meanings::{MeaningFault, truth};
+use acts::{Fault, Raise};
+use meanings::truth;
 use std::alloc::Allocator;
 use tcltext::{Pattern, PatternError, Value};
 
 /// Whether a pattern takes a whole string.
-pub fn matches<A: Allocator + Copy>(
-    alloc: A,
-    words: &[Value<A>],
-) -> Result<Value<A>, MeaningFault<A>>
+pub fn matches<A: Allocator + Copy>(alloc: A, words: &[Value<A>]) -> Result<Value<A>, Raise<A>>
     ensures { Answers (meant.matches words.now) result }
 {
     match words {
@@ -23,16 +20,12 @@ pub fn matches<A: Allocator + Copy>(
 }
 
 /// Whether the pattern with this text takes a whole string.
-fn takes<A: Allocator + Copy>(
-    alloc: A,
-    pattern: &[u8],
-    string: &[u8],
-) -> Result<Value<A>, MeaningFault<A>>
+fn takes<A: Allocator + Copy>(alloc: A, pattern: &[u8], string: &[u8]) -> Result<Value<A>, Raise<A>>
     ensures { Answers (meant.takes pattern.now string.now) result }
 {
     match Pattern::plain(alloc, pattern) {
         Ok(pattern) => Ok(truth(alloc, pattern.whole(string))?),
-        Err(PatternError::TooLong) => Err(MeaningFault::Fault(Fault::PatternTooLong)),
-        Err(PatternError::NoMemory(refusal)) => Err(MeaningFault::NoMemory(refusal)),
+        Err(PatternError::TooLong) => Err(Raise::Fault(Fault::PatternTooLong)),
+        Err(PatternError::NoMemory(refusal)) => Err(Raise::NoMemory(refusal)),
     }
 }

@@ -7,15 +7,12 @@ ghost use Rattle.meanings.specs.View.{Answers};
 
 use crate::place::{item_at, items_from, place_of};
 use crate::words::{bad_argument, number, wrong_args};
-use meanings::MeaningFault;
+use acts::Raise;
 use std::alloc::Allocator;
 use tcltext::Value;
 
 /// The number of the bytes of a string.
-pub fn length<A: Allocator + Copy>(
-    alloc: A,
-    words: &[Value<A>],
-) -> Result<Value<A>, MeaningFault<A>>
+pub fn length<A: Allocator + Copy>(alloc: A, words: &[Value<A>]) -> Result<Value<A>, Raise<A>>
     ensures { Answers (lengths.length words.now) result }
 {
     match words {
@@ -25,7 +22,7 @@ pub fn length<A: Allocator + Copy>(
 }
 
 /// A byte of a string.
-pub fn index<A: Allocator + Copy>(alloc: A, words: &[Value<A>]) -> Result<Value<A>, MeaningFault<A>>
+pub fn index<A: Allocator + Copy>(alloc: A, words: &[Value<A>]) -> Result<Value<A>, Raise<A>>
     ensures { Answers (bytes.index words.now) result }
 {
     match words {
@@ -35,11 +32,7 @@ pub fn index<A: Allocator + Copy>(alloc: A, words: &[Value<A>]) -> Result<Value<
 }
 
 /// The byte at the place that an index names, or the empty text where it lies outside.
-fn byte_at<A: Allocator + Copy>(
-    alloc: A,
-    string: &[u8],
-    index: &[u8],
-) -> Result<Value<A>, MeaningFault<A>>
+fn byte_at<A: Allocator + Copy>(alloc: A, string: &[u8], index: &[u8]) -> Result<Value<A>, Raise<A>>
     ensures { Answers (bytes.byte_at string.now index.now) result }
 {
     let Some(place) = place_of(index, string.len()) else {
@@ -52,7 +45,7 @@ fn byte_at<A: Allocator + Copy>(
 }
 
 /// A part of a string.
-pub fn range<A: Allocator + Copy>(alloc: A, words: &[Value<A>]) -> Result<Value<A>, MeaningFault<A>>
+pub fn range<A: Allocator + Copy>(alloc: A, words: &[Value<A>]) -> Result<Value<A>, Raise<A>>
     ensures { Answers (ranges.range words.now) result }
 {
     match words {
@@ -69,7 +62,7 @@ fn part<A: Allocator + Copy>(
     string: &[u8],
     first: &[u8],
     last: &[u8],
-) -> Result<Value<A>, MeaningFault<A>>
+) -> Result<Value<A>, Raise<A>>
     ensures { Answers (ranges.part string.now first.now last.now) result }
 {
     let Some(from) = place_of(first, string.len()) else {

@@ -5,14 +5,14 @@ ghost use Rattle.pure.specs.Strings.Search as meant;
 ghost use Rattle.meanings.specs.View.{Answers};
 
 use crate::words::{number, wrong_args};
-use meanings::MeaningFault;
+use acts::Raise;
 use memchr::memmem;
 use memory::NoMemory;
 use std::alloc::Allocator;
 use tcltext::Value;
 
 /// The least place at which a text stands in a string.
-pub fn first<A: Allocator + Copy>(alloc: A, words: &[Value<A>]) -> Result<Value<A>, MeaningFault<A>>
+pub fn first<A: Allocator + Copy>(alloc: A, words: &[Value<A>]) -> Result<Value<A>, Raise<A>>
     ensures { Answers (meant.first words.now) result }
 {
     match words {
@@ -25,7 +25,7 @@ pub fn first<A: Allocator + Copy>(alloc: A, words: &[Value<A>]) -> Result<Value<
 }
 
 /// The greatest place at which a text stands in a string.
-pub fn last<A: Allocator + Copy>(alloc: A, words: &[Value<A>]) -> Result<Value<A>, MeaningFault<A>>
+pub fn last<A: Allocator + Copy>(alloc: A, words: &[Value<A>]) -> Result<Value<A>, Raise<A>>
     ensures { Answers (meant.last words.now) result }
 {
     match words {

@@ -6,7 +6,7 @@ ghost use Rattle.meanings.specs.View.{Answers};
 
 use crate::trim;
 use crate::words::wrong_args;
-use meanings::MeaningFault;
+use acts::Raise;
 use std::alloc::Allocator;
 use tcltext::Value;
 
@@ -14,10 +14,7 @@ use tcltext::Value;
 const BYTES: &[u8] = b"\0\t\n\x0b\x0c\r ";
 
 /// A string without white, or the named bytes, at both its ends.
-pub fn at_both_ends<A: Allocator + Copy>(
-    alloc: A,
-    words: &[Value<A>],
-) -> Result<Value<A>, MeaningFault<A>>
+pub fn at_both_ends<A: Allocator + Copy>(alloc: A, words: &[Value<A>]) -> Result<Value<A>, Raise<A>>
     ensures { Answers (meant.trimmed side.trim words.now) result }
 {
     let part = match words {
@@ -29,10 +26,7 @@ pub fn at_both_ends<A: Allocator + Copy>(
 }
 
 /// A string without white, or the named bytes, in front.
-pub fn in_front<A: Allocator + Copy>(
-    alloc: A,
-    words: &[Value<A>],
-) -> Result<Value<A>, MeaningFault<A>>
+pub fn in_front<A: Allocator + Copy>(alloc: A, words: &[Value<A>]) -> Result<Value<A>, Raise<A>>
     ensures { Answers (meant.trimmed side.trim_left words.now) result }
 {
     let part = match words {
@@ -44,10 +38,7 @@ pub fn in_front<A: Allocator + Copy>(
 }
 
 /// A string without white, or the named bytes, at the end.
-pub fn at_the_end<A: Allocator + Copy>(
-    alloc: A,
-    words: &[Value<A>],
-) -> Result<Value<A>, MeaningFault<A>>
+pub fn at_the_end<A: Allocator + Copy>(alloc: A, words: &[Value<A>]) -> Result<Value<A>, Raise<A>>
     ensures { Answers (meant.trimmed side.trim_right words.now) result }
 {
     let part = match words {

@@ -10,8 +10,7 @@ ghost use Rattle.variables.specs.Array.Get as definition;
 ghost use Rattle.variables.specs.Finds.{Finds};
 
 use super::indexes::indexes;
-use acts::{Fault, NoMemory};
-use meanings::MeaningFault;
+use acts::{Fault, NoMemory, Raise};
 use state::arguments::wrong_args;
 use state::leaf::{gives, raises};
 use state::variables::trouble;
@@ -67,8 +66,8 @@ fn list<A: Allocator + Copy>(
 {
     match indexes(alloc, state, name, index, pattern) {
         Ok(indexes) => list_values(alloc, state, name, &indexes),
-        Err(MeaningFault::Fault(fault)) => raises(alloc, &fault),
-        Err(MeaningFault::NoMemory(refusal)) => Err(refusal),
+        Err(Raise::Fault(fault)) => raises(alloc, &fault),
+        Err(Raise::NoMemory(refusal)) => Err(refusal),
     }
 }
 
@@ -84,8 +83,8 @@ fn list_values<A: Allocator + Copy>(
 {
     match values(alloc, state, name, indexes) {
         Ok(elements) => Ok(gives(Value::list(alloc, &elements)?)),
-        Err(MeaningFault::Fault(fault)) => raises(alloc, &fault),
-        Err(MeaningFault::NoMemory(refusal)) => Err(refusal),
+        Err(Raise::Fault(fault)) => raises(alloc, &fault),
+        Err(Raise::NoMemory(refusal)) => Err(refusal),
     }
 }
 
@@ -95,7 +94,7 @@ fn values<A: Allocator + Copy>(
     state: &State<A>,
     name: &[u8],
     indexes: &[Value<A>],
-) -> Result<Vec<Value<A>, A>, MeaningFault<A>>
+) -> Result<Vec<Value<A>, A>, Raise<A>>
     ensures { (s : Status) → FitsState state.now s →
         Finds result (definition.with_values name.now indexes.now s) s }
 {
@@ -105,7 +104,7 @@ fn values<A: Allocator + Copy>(
             Ok(value) => push_element(&mut elements, index, value)?,
             Err(error) => {
                 let fault = trouble(alloc, error, name, Some(index.as_slice()))?;
-                return Err(MeaningFault::Fault(fault));
+                return Err(Raise::Fault(fault));
             }
         }
     }

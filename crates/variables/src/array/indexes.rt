@@ -9,8 +9,7 @@ ghost use Rattle.state.specs.View.{FitsState};
 ghost use Rattle.variables.specs.Array.Indexes as definition;
 ghost use Rattle.variables.specs.Finds.{Finds};
 
-use acts::{Fault, NoMemory};
-use meanings::MeaningFault;
+use acts::{Fault, NoMemory, Raise};
 use state::State;
 use std::alloc::Allocator;
 use tcltext::{Pattern, PatternError, Value};
@@ -26,7 +25,7 @@ pub fn indexes<A: Allocator + Copy>(
     name: &[u8],
     index: Option<&[u8]>,
     pattern: Option<&[u8]>,
-) -> Result<Vec<Value<A>, A>, MeaningFault<A>>
+) -> Result<Vec<Value<A>, A>, Raise<A>>
     ensures { (s : Status) → FitsState state.now s → Finds result (definition.with_indexes
         name.now (option_copied index.entry) (option_copied pattern.entry) s) s }
 {
@@ -59,13 +58,13 @@ fn matched<A: Allocator + Copy>(
     alloc: A,
     word: &[u8],
     texts: &[Value<A>],
-) -> Result<Vec<Value<A>, A>, MeaningFault<A>>
+) -> Result<Vec<Value<A>, A>, Raise<A>>
     ensures { (s : Status) → Finds result (definition.matched word.now texts.now s) s }
 {
     match Pattern::plain(alloc, word) {
         Ok(pattern) => Ok(taken(alloc, &pattern, texts)?),
-        Err(PatternError::TooLong) => Err(MeaningFault::Fault(Fault::PatternTooLong)),
-        Err(PatternError::NoMemory(refusal)) => Err(MeaningFault::NoMemory(refusal)),
+        Err(PatternError::TooLong) => Err(Raise::Fault(Fault::PatternTooLong)),
+        Err(PatternError::NoMemory(refusal)) => Err(Raise::NoMemory(refusal)),
     }
 }
 

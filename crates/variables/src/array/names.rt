@@ -9,8 +9,7 @@ ghost use Rattle.state.specs.View.{FitsState};
 ghost use Rattle.variables.specs.Array.Names as definition;
 
 use super::indexes::indexes;
-use acts::{Fault, NoMemory};
-use meanings::MeaningFault;
+use acts::{Fault, NoMemory, Raise};
 use state::arguments::wrong_args;
 use state::leaf::{gives, raises};
 use state::{Leaf, NoWaits, State};
@@ -50,7 +49,7 @@ fn list<A: Allocator + Copy>(
     };
     match indexes(alloc, state, name, index, pattern) {
         Ok(indexes) => Ok(gives(Value::list(alloc, &indexes)?)),
-        Err(MeaningFault::Fault(fault)) => raises(alloc, &fault),
-        Err(MeaningFault::NoMemory(refusal)) => Err(refusal),
+        Err(Raise::Fault(fault)) => raises(alloc, &fault),
+        Err(Raise::NoMemory(refusal)) => Err(refusal),
     }
 }

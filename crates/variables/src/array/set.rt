@@ -9,8 +9,8 @@ ghost use Rattle.state.specs.Status.{Status};
 ghost use Rattle.state.specs.View.{FitsState};
 ghost use Rattle.variables.specs.Array.Set as definition;
 
-use acts::{Fault, NoMemory};
-use meanings::{MeaningFault, elements};
+use acts::{Fault, NoMemory, Raise};
+use meanings::elements;
 use state::arguments::{bad_argument, wrong_args};
 use state::leaf::{empty, raises};
 use state::variables::{store, trouble};
@@ -70,8 +70,8 @@ fn set_list<A: Allocator + Copy>(
 {
     match elements(alloc, list) {
         Ok(elements) => fill_evenly(alloc, state, name, list, &elements),
-        Err(MeaningFault::Fault(fault)) => raises(alloc, &fault),
-        Err(MeaningFault::NoMemory(refusal)) => Err(refusal),
+        Err(Raise::Fault(fault)) => raises(alloc, &fault),
+        Err(Raise::NoMemory(refusal)) => Err(refusal),
     }
 }
 

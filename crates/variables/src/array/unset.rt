@@ -12,8 +12,7 @@ ghost use Rattle.variables.specs.Array.Unset as definition;
 use super::exists::is_array;
 use super::indexes::indexes;
 use crate::unset::remove;
-use acts::{Fault, NoMemory};
-use meanings::MeaningFault;
+use acts::{Fault, NoMemory, Raise};
 use state::arguments::wrong_args;
 use state::leaf::{empty, raises};
 use state::{Leaf, NoWaits, State};
@@ -95,8 +94,8 @@ fn remove_matched<A: Allocator + Copy>(
 {
     match indexes(alloc, state, name, index, Some(pattern)) {
         Ok(indexes) => remove_all(alloc, state, name, indexes),
-        Err(MeaningFault::Fault(fault)) => raises(alloc, &fault),
-        Err(MeaningFault::NoMemory(refusal)) => Err(refusal),
+        Err(Raise::Fault(fault)) => raises(alloc, &fault),
+        Err(Raise::NoMemory(refusal)) => Err(refusal),
     }
 }
 

@@ -1,5 +1,5 @@
 use Rattle.std.proofs.Common.{◌≡◌, ◌++◌, true, false, sym, ap, subst, rules}
-use Rattle.meanings.specs.declared.fault.MeaningFault.TheVariants as meant
+use Rattle.acts.specs.declared.raise.Raise.TheVariants as meant
 use Rattle.meanings.specs.View.{IsNoList}
 use Rattle.tcltext.specs.Elements.{IsList}
 use Rattle.words.specs.Words.{expanded}
