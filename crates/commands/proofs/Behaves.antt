@@ -3,8 +3,13 @@ use Rattle.std.proofs.Common.{ℕ, ◌+◌, List, [], ◌∷◌, Option, Some, N
 use Rattle.commands.specs.Builtin as builtin
 use Rattle.commands.specs.Builtin.{Builtin}
 use Rattle.commands.specs.Commands.{named, does, called, command}
-use Rattle.commands.specs.LeftOut.{is_left_out}
-use Rattle.leaving.proofs.Behaves.{breaks_behaves, continues_behaves, returns_behaves, error_behaves, exit_behaves, exp_continue_behaves}
+use Rattle.kinds.proofs.Behaves.{exits_behave, talks_behave}
+use Rattle.leaving.specs.Breaks.{breaks}
+use Rattle.leaving.specs.Continues.{continues}
+use Rattle.leaving.specs.Error.{error}
+use Rattle.leaving.specs.Exit.{exit}
+use Rattle.leaving.specs.ExpContinue.{exp_continue}
+use Rattle.leaving.specs.Returns.{returns}
 use Rattle.lists.proofs.Behaves.{list_behaves}
 use Rattle.logs.proofs.Behaves.{log_file_behaves, log_user_behaves, send_error_behaves, send_log_behaves, send_user_behaves}
 use Rattle.peers.proofs.Behaves.{close_behaves, match_max_behaves, remove_nulls_behaves, wait_behaves}
@@ -12,8 +17,8 @@ use Rattle.procedures.proofs.Behaves.{proc_behaves}
 use Rattle.processes.proofs.SleepBehaves.{sleep_behaves}
 use Rattle.processes.proofs.SocketBehaves.{socket_behaves}
 use Rattle.processes.proofs.SpawnBehaves.{spawn_behaves}
-use Rattle.sending.proofs.SendBehaves.{send_behaves}
-use Rattle.state.proofs.Behaves.{if_behaves, more_behaves}
+use Rattle.sending.specs.Send.{send}
+use Rattle.state.proofs.Behaves.{more_behaves}
 use Rattle.state.specs.Dialogue.{Course}
 use Rattle.state.specs.Behaves.{Behaves, worth}
 use Rattle.state.specs.Status.{Status}
@@ -32,14 +37,12 @@ does_behaves : (builtin : Builtin) (args : List (List ℕ)) (s : Status) →
     Behaves s.left (worth s + 4) (does builtin args s)
 does_behaves builtin.Puts args s = puts_behaves args s
 does_behaves builtin.List args s = three s (does builtin.List args s) (list_behaves args s)
-does_behaves builtin.Break args s = three s (does builtin.Break args s) (breaks_behaves args s)
-does_behaves builtin.Continue args s =
-    three s (does builtin.Continue args s) (continues_behaves args s)
-does_behaves builtin.Return args s = three s (does builtin.Return args s) (returns_behaves args s)
-does_behaves builtin.Error args s = three s (does builtin.Error args s) (error_behaves args s)
-does_behaves builtin.Exit args s = three s (does builtin.Exit args s) (exit_behaves args s)
-does_behaves builtin.ExpContinue args s =
-    three s (does builtin.ExpContinue args s) (exp_continue_behaves args s)
+does_behaves builtin.Break args s = exits_behave (breaks args) s
+does_behaves builtin.Continue args s = exits_behave (continues args) s
+does_behaves builtin.Return args s = exits_behave (returns args) s
+does_behaves builtin.Error args s = exits_behave (error args) s
+does_behaves builtin.Exit args s = exits_behave (exit args) s
+does_behaves builtin.ExpContinue args s = exits_behave (exp_continue args) s
 does_behaves builtin.Set args s = three s (does builtin.Set args s) (set_behaves args s)
 does_behaves builtin.Append args s = three s (does builtin.Append args s) (append_behaves args s)
 does_behaves builtin.Incr args s = three s (does builtin.Incr args s) (incr_behaves args s)
@@ -50,7 +53,7 @@ does_behaves builtin.Array args s = three s (does builtin.Array args s) (array_b
 does_behaves builtin.Info args s = three s (does builtin.Info args s) (info_behaves args s)
 does_behaves builtin.Proc args s = three s (does builtin.Proc args s) (proc_behaves args s)
 does_behaves builtin.Spawn args s = spawn_behaves args s
-does_behaves builtin.Send args s = send_behaves args s
+does_behaves builtin.Send args s = talks_behave (send args s) s
 does_behaves builtin.Sleep args s = sleep_behaves args s
 does_behaves builtin.Socket args s = socket_behaves args s
 does_behaves builtin.Close args s = close_behaves args s
@@ -68,9 +71,7 @@ does_behaves (builtin.Text command) args s =
 called_behaves : (o : Option Builtin) (name : List ℕ) (args : List (List ℕ)) (s : Status) →
     Behaves s.left (worth s + 4) (called o name args s)
 called_behaves (Some found) name args s = does_behaves found args s
-called_behaves None name args s =
-    if_behaves s.left (worth s + 4) (is_left_out name) _ _
-    (omega arith, omega arith) (omega arith, omega arith)
+called_behaves None name args s = (omega arith, omega arith)
 
 pub command_behaves : (s : Status) (words : List (List ℕ)) →
     Behaves s.left (worth s + 4) (command s words)

@@ -1,6 +1,7 @@
 -- Which command a name has, and what it does.
 use Rattle.std.specs.Prelude.{ℕ, List, [], ◌∷◌, codes, Option, Some, None, option_map, if◌then◌else◌}
 use Rattle.std.specs.Option.{option_or}
+use Rattle.acts.specs.Flaw.{Flaw}
 use Rattle.acts.specs.Flaw as flaw
 use Rattle.commands.specs.Builtin as builtin
 use Rattle.commands.specs.Builtin.{Builtin}
@@ -8,6 +9,8 @@ use Rattle.commands.specs.LeftOut.{is_left_out}
 use Rattle.names.specs.Tables.{Table, found}
 use Rattle.state.specs.Dialogue.{Course, gives, raises}
 use Rattle.state.specs.Status.{Status}
+use Rattle.kinds.specs.Exchange.{talks}
+use Rattle.kinds.specs.Kinds.{exits}
 use Rattle.leaving.specs.Breaks.{breaks}
 use Rattle.leaving.specs.Continues.{continues}
 use Rattle.leaving.specs.Error.{error}
@@ -84,12 +87,12 @@ named name = option_or (found builtins name) (option_map builtin.Text (pure.name
 abbrev pub does : Builtin → List (List ℕ) → Status → Course
 does builtin.Puts args s = puts args s
 does builtin.List args s = list args s
-does builtin.Break args s = breaks args s
-does builtin.Continue args s = continues args s
-does builtin.Return args s = returns args s
-does builtin.Error args s = error args s
-does builtin.Exit args s = exit args s
-does builtin.ExpContinue args s = exp_continue args s
+does builtin.Break args s = exits (breaks args) s
+does builtin.Continue args s = exits (continues args) s
+does builtin.Return args s = exits (returns args) s
+does builtin.Error args s = exits (error args) s
+does builtin.Exit args s = exits (exit args) s
+does builtin.ExpContinue args s = exits (exp_continue args) s
 does builtin.Set args s = set args s
 does builtin.Append args s = append args s
 does builtin.Incr args s = incr args s
@@ -100,7 +103,7 @@ does builtin.Array args s = array args s
 does builtin.Info args s = info args s
 does builtin.Proc args s = proc args s
 does builtin.Spawn args s = spawn args s
-does builtin.Send args s = send args s
+does builtin.Send args s = talks (send args s) s
 does builtin.Sleep args s = sleep args s
 does builtin.Socket args s = socket args s
 does builtin.Close args s = close args s
@@ -114,17 +117,15 @@ does builtin.LogUser args s = log_user args s
 does builtin.LogFile args s = log_file args s
 does (builtin.Text command) args s = text command args s
 
--- a name that no command has is the script's error, which tells the names of commands that this
--- profile leaves out from all others (Tcl(n), rule 2)
-abbrev pub unknown : List ℕ → Status → Course
-unknown name s =
-    if is_left_out name then raises (flaw.NotInProfile name) s
-    else raises (flaw.InvalidCommand name) s
+-- the error of a name that no command has, which tells the names of commands that this profile
+-- leaves out from all others (Tcl(n), rule 2)
+abbrev pub unknown : List ℕ → Flaw
+unknown name = if is_left_out name then flaw.NotInProfile name else flaw.InvalidCommand name
 
 -- the command that a name has (Tcl(n), rule 2)
 abbrev pub called : Option Builtin → List ℕ → List (List ℕ) → Status → Course
 called (Some found) name args s = does found args s
-called None name args s = unknown name s
+called None name args s = raises (unknown name) s
 
 -- a command by its words, of which the first names it; where there are none, nothing is done
 -- (Tcl(n), rules 1, 2 and 5)

@@ -94,8 +94,8 @@ impl<A: Allocator> Branch<A> {
 /// A branch for one id (expect(1), expect, `-i`).
 #[derive(Drop)]
 pub struct Pair<A: Allocator> {
-    id: Id,
-    branch: Rc<Branch<A>, A>,
+    pub(crate) id: Id,
+    pub(crate) branch: Rc<Branch<A>, A>,
 }
 
 impl<A: Allocator> Model for Pair<A> {

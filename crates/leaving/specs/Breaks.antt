@@ -1,11 +1,10 @@
 -- What break does.
-use Rattle.std.specs.Prelude.{ℕ, List, [], codes}
+use Rattle.std.specs.Prelude.{ℕ, List, [], codes, Result, Ok, Err}
+use Rattle.acts.specs.Flaw.{Flaw}
 use Rattle.acts.specs.Flaw as flaw
-use Rattle.state.specs.Dialogue.{Course, leaves, raises}
-use Rattle.state.specs.Outcome.{Break}
-use Rattle.state.specs.Status.{Status}
+use Rattle.state.specs.Outcome.{Outcome, Leaves, Break}
 
 -- break (break(n))
-abbrev pub breaks : List (List ℕ) → Status → Course
-breaks [] s = leaves Break [] s
-breaks _ s = raises (flaw.WrongArgs (codes "break")) s
+abbrev pub breaks : List (List ℕ) → Result Outcome Flaw
+breaks [] = Ok (Leaves Break [])
+breaks _ = Err (flaw.WrongArgs (codes "break"))

@@ -1,11 +1,11 @@
 -- What error does.
-use Rattle.std.specs.Prelude.{ℕ, List, [], ◌∷◌, codes}
+use Rattle.std.specs.Prelude.{ℕ, List, [], ◌∷◌, codes, Result, Ok, Err}
+use Rattle.acts.specs.Flaw.{Flaw}
 use Rattle.acts.specs.Flaw as flaw
-use Rattle.state.specs.Dialogue.{Course, leaves, raises}
 use Rattle.state.specs.Outcome as code
-use Rattle.state.specs.Status.{Status}
+use Rattle.state.specs.Outcome.{Outcome, Leaves}
 
 -- error t (error(n))
-abbrev pub error : List (List ℕ) → Status → Course
-error (t ∷ []) s = leaves code.Error t s
-error _ s = raises (flaw.WrongArgs (codes "error")) s
+abbrev pub error : List (List ℕ) → Result Outcome Flaw
+error (t ∷ []) = Ok (Leaves code.Error t)
+error _ = Err (flaw.WrongArgs (codes "error"))

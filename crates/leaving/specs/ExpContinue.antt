@@ -1,22 +1,20 @@
 -- What exp_continue does.
-use Rattle.std.specs.Prelude.{ℕ, ◌&&◌, Bool, not, List, [], ◌∷◌, codes, if◌then◌else◌}
+use Rattle.std.specs.Prelude.{ℕ, ◌&&◌, Bool, not, List, [], ◌∷◌, codes, Result, Ok, Err, if◌then◌else◌}
 use Rattle.std.specs.Str.{bytes_eq}
 use Rattle.acts.specs.Flaw.{Flaw}
 use Rattle.acts.specs.Flaw as flaw
 use Rattle.state.specs.Arguments.{is_flag}
-use Rattle.state.specs.Dialogue.{Course, leaves, raises}
-use Rattle.state.specs.Outcome.{Again, AgainRunning}
-use Rattle.state.specs.Status.{Status}
+use Rattle.state.specs.Outcome.{Outcome, Leaves, Again, AgainRunning}
 
 -- the flag that keeps the timer running (expect(1), exp_continue)
 abbrev pub is_continue_timer : List ℕ → Bool
 is_continue_timer w = bytes_eq w (codes "-continue_timer")
 
 -- its one word is the flag (expect(1), exp_continue)
-abbrev pub by_word : List ℕ → Status → Course
-by_word w s =
-    if is_continue_timer w then leaves AgainRunning [] s
-    else raises (flaw.BadArgument w (codes "exp_continue")) s
+abbrev pub by_word : List ℕ → Result Outcome Flaw
+by_word w =
+    if is_continue_timer w then Ok (Leaves AgainRunning [])
+    else Err (flaw.BadArgument w (codes "exp_continue"))
 
 -- the error of a word for which there is no room: where it would be a flag and is none, it is told
 -- for itself, else there are too many words (this project's own rule)
@@ -30,8 +28,12 @@ misplaced w =
 abbrev pub surplus : List ℕ → List ℕ → Flaw
 surplus w v = if is_continue_timer w then misplaced v else misplaced w
 
+-- the first word, and those after it (expect(1), exp_continue)
+abbrev pub by_words : List ℕ → List (List ℕ) → Result Outcome Flaw
+by_words w [] = by_word w
+by_words w (v ∷ vs) = Err (surplus w v)
+
 -- exp_continue ?-continue_timer? (expect(1), exp_continue)
-abbrev pub exp_continue : List (List ℕ) → Status → Course
-exp_continue [] s = leaves Again [] s
-exp_continue (w ∷ []) s = by_word w s
-exp_continue (w ∷ v ∷ vs) s = raises (surplus w v) s
+abbrev pub exp_continue : List (List ℕ) → Result Outcome Flaw
+exp_continue [] = Ok (Leaves Again [])
+exp_continue (w ∷ ws) = by_words w ws

@@ -1,32 +1,21 @@
 //! `error t` (error(n)).
-#![tactic(auto, using(state::proofs::Reaches::same_reaches))]
 
-ghost use Rattle.std.specs.Prelude.{◌≡◌, ◌≤◌, IfOk};
+ghost use Rattle.acts.specs.Raise.{Answers};
 ghost use Rattle.leaving.specs.Error as definition;
-ghost use Rattle.state.specs.NoWaits.{next_of};
-ghost use Rattle.state.specs.Leaf.{Shows};
-ghost use Rattle.state.specs.Status.{Status};
-ghost use Rattle.state.specs.View.{FitsState};
+ghost use Rattle.state.specs.View.{outcome_of};
 
-use acts::NoMemory;
-use state::arguments::wrong_args;
-use state::leaf::leaves;
-use state::{Code, Leaf, NoWaits, State};
+use acts::Raise;
+use acts::raise::wrong_args;
+use state::{Code, Leave, Outcome};
 use std::alloc::Allocator;
 use tcltext::Value;
 
 /// Ends with an error of this text.
-pub fn begin<A: Allocator + Copy>(
-    alloc: A,
-    state: &mut State<A>,
-    args: &[Value<A>],
-) -> Result<Leaf<A, NoWaits>, NoMemory>
-    ensures shows { (s : Status) → FitsState state.old s →
-        IfOk result (λ leaf. Shows next_of leaf state.new (definition.error args.now s)) }
-    ensures left { state.new.left ≤ state.old.left }
+pub fn begin<A: Allocator + Copy>(alloc: A, args: &[Value<A>]) -> Result<Outcome<A>, Raise<A>>
+    ensures { Answers outcome_of (definition.error args.now) result }
 {
     match args {
-        [text] => Ok(leaves(Code::Error, text.share()?)),
-        _ => wrong_args(alloc, b"error"),
+        [text] => Ok(Err(Leave::Coded(Code::Error, text.share()?))),
+        _ => Err(wrong_args(alloc, b"error")),
     }
 }

@@ -6,5 +6,4 @@ pub mod continues;
 pub mod error;
 pub mod exit;
 pub mod exp_continue;
-pub mod laws;
 pub mod returns;

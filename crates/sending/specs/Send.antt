@@ -1,41 +1,35 @@
 -- What send does.
-use Rattle.std.specs.Prelude.{ℕ, Bool, List, [], ◌∷◌, codes, Option, Some, None, if◌then◌else◌}
+use Rattle.std.specs.Prelude.{ℕ, Bool, List, [], ◌∷◌, codes, Option, Some, None, Result, Ok, Err, if◌then◌else◌}
 use Rattle.std.specs.Str.{bytes_eq}
 use Rattle.acts.specs.declared.id.Id.{Id}
 use Rattle.acts.specs.Deed.{Deed, Reply}
 use Rattle.acts.specs.Deed as said
+use Rattle.acts.specs.Flaw.{Flaw}
 use Rattle.acts.specs.Flaw as flaw
-use Rattle.dialog.specs.Channels.{named}
+use Rattle.acts.specs.Raise.{bind}
+use Rattle.kinds.specs.Exchange.{Exchange, Performs, gives, fails, course}
+use Rattle.kinds.specs.Ids.{chosen_id}
 use Rattle.state.specs.Arguments.{begins_with_dash}
-use Rattle.state.specs.Dialogue.{Course, gives, raises, ask}
-use Rattle.state.specs.Status.{Status, lines}
-use Rattle.state.specs.Variables.{on_open, with_current}
+use Rattle.state.specs.Dialogue.{Course}
+use Rattle.state.specs.Status.{Status}
 use Rattle.sending.specs.declared.send.Waits.{Waits}
 use Rattle.sending.specs.declared.send.Waits.TheVariants as waits
 
--- what an answer to a send comes to (expect(1), send)
-abbrev pub sent : Id → Status → Reply → Course
-sent i s (said.Failed n) = raises (flaw.SendFailed i n) s
-sent i s _ = gives [] s
+-- what follows the answer to a send (expect(1), send)
+abbrev pub sent : Id → Reply → Exchange 3
+sent i (said.Failed n) = fails (flaw.SendFailed i n)
+sent i _ = gives []
 
 -- a text is sent to an id; where there are no bytes, nothing is (this project's own rule)
-abbrev pub sends : List ℕ → Status → Id → Course
-sends [] s i = gives [] s
-sends (b ∷ bs) s i = ask (said.Send i (b ∷ bs)) s (sent i)
+abbrev pub sends : List ℕ → Id → Exchange 4
+sends [] i = gives []
+sends (b ∷ bs) i = Performs (said.Send i (b ∷ bs)) tt (λ s reply. sent i reply)
 
--- send was given another number of words than it takes (expect(1), send)
-abbrev pub wrong_words : Status → Course
-wrong_words s = raises (flaw.WrongArgs (codes "send")) s
-
--- on with the open id of a name, or where there is none with the id in force (expect(1), send)
-abbrev pub with_target : Option (List ℕ) → Status → (Id → Course) → Course
-with_target None s next = with_current s next
-with_target (Some name) s next = on_open (named (lines s) name) name s next
-
--- a text that stands alone is sent (expect(1), send)
-abbrev pub sends_alone : Option (List ℕ) → List (List ℕ) → Status → Course
-sends_alone to (t ∷ []) s = with_target to s (sends t s)
-sends_alone to _ s = wrong_words s
+-- a text that stands alone is sent to the id of a name, or else to the id in force (expect(1),
+-- send)
+abbrev pub sends_alone : Option (List ℕ) → List (List ℕ) → Status → Result (Exchange 4) Flaw
+sends_alone to (t ∷ []) s = bind (chosen_id to s) (λ i. Ok (sends t i))
+sends_alone to _ s = Err (flaw.WrongArgs (codes "send"))
 
 -- the flag behind which an id stands (expect(1), send)
 abbrev pub is_id_flag : List ℕ → Bool
@@ -47,21 +41,25 @@ ends_flags w = bytes_eq w (codes "--")
 
 -- the text, behind the flag that ends the flags where it is there; else no text begins with a dash,
 -- and no second id is named (expect(1), send)
-abbrev pub sends_text : Option (List ℕ) → List (List ℕ) → Status → Course
-sends_text to [] s = wrong_words s
+abbrev pub sends_text : Option (List ℕ) → List (List ℕ) → Status → Result (Exchange 4) Flaw
+sends_text to [] s = Err (flaw.WrongArgs (codes "send"))
 sends_text to (w ∷ ws) s =
     if ends_flags w then sends_alone to ws s
-    else if is_id_flag w then wrong_words s
-    else if begins_with_dash w then raises (flaw.BadFlag w) s
+    else if is_id_flag w then Err (flaw.WrongArgs (codes "send"))
+    else if begins_with_dash w then Err (flaw.BadFlag w)
     else sends_alone to (w ∷ ws) s
 
 -- send ?-i id? ?--? t (expect(1), send)
-abbrev pub send : List (List ℕ) → Status → Course
-send [] s = wrong_words s
+abbrev pub send : List (List ℕ) → Status → Result (Exchange 4) Flaw
+send [] s = Err (flaw.WrongArgs (codes "send"))
 send (w ∷ []) s = sends_text None (w ∷ []) s
 send (w ∷ v ∷ vs) s =
     if is_id_flag w then sends_text (Some v) vs s else sends_text None (w ∷ v ∷ vs) s
 
 -- what follows the answer to its act (expect(1), send)
+abbrev pub follows : Waits → Reply → Exchange 3
+follows (waits.Sent id) = sent id
+
+-- the same, as a part of a run
 abbrev pub next_of : Waits → Deed → Status → Reply → Course
-next_of (waits.Sent id) deed = sent id
+next_of waits deed s reply = course (follows waits reply) s

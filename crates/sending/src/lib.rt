@@ -1,5 +1,4 @@
 //! The command that writes to programs and servers.
 #![tactic(auto)]
 
-pub mod laws;
 pub mod send;

@@ -1,21 +1,18 @@
 //! `send ?-i id? ?--? t` (expect(1), send).
-#![tactic(auto, using(state::proofs::Reaches::same_reaches))]
 
-ghost use Rattle.std.specs.Prelude.{◌≡◌, ◌≤◌, IfOk, Some, option_copied};
-ghost use Rattle.acts.specs.Deed.{deed_of, reply_of};
-ghost use Rattle.acts.specs.Flaw as flaw;
-ghost use Rattle.acts.specs.Flaw.{text_of};
+ghost use Rattle.std.specs.Prelude.{◌≡◌, IfOk, option_copied};
+ghost use Rattle.acts.specs.Deed.{reply_of};
+ghost use Rattle.kinds.specs.Answers.{Goes, GoesOn, Talks};
 ghost use Rattle.sending.specs.Send as definition;
-ghost use Rattle.sending.specs.Targets.{Targets};
-ghost use Rattle.state.specs.Leaf.{HasOutcome, Shows};
-ghost use Rattle.state.specs.Outcome.{Leaves, Error};
 ghost use Rattle.state.specs.Status.{Status};
 ghost use Rattle.state.specs.View.{FitsState};
+ghost use Rattle.state.specs.declared.state.State.{State as Kept};
 
-use acts::{Act, Answer, Fault, Id, NoMemory};
-use state::arguments::{begins_with_dash, wrong_args};
-use state::leaf::{empty, raises};
-use state::variables::current_id;
+use acts::raise::{bad_flag, wrong_args};
+use acts::{Act, Answer, Fault, Id, NoMemory, Raise};
+use kinds::ids::chosen_id;
+use state::arguments::begins_with_dash;
+use state::leaf::empty;
 use state::{Leaf, State};
 use std::alloc::Allocator;
 use tcltext::Value;
@@ -30,12 +27,11 @@ pub enum Waits {
 /// Begins to send a text to the id that stands behind the flag, or to the id in force.
 pub fn begin<A: Allocator + Copy>(
     alloc: A,
-    state: &mut State<A>,
+    state: &State<A>,
     args: &[Value<A>],
-) -> Result<Leaf<A, Waits>, NoMemory>
-    ensures shows { (s : Status) → FitsState state.old s → IfOk result (λ leaf.
-        Shows definition.next_of leaf state.new (definition.send args.now s)) }
-    ensures left { state.new.left ≤ state.old.left }
+) -> Result<Leaf<A, Waits>, Raise<A>>
+    ensures { (s : Status) → FitsState state.now s →
+        Talks definition.next_of (definition.send args.now s) s result state.now }
 {
     match args {
         [flag, name, words @ ..] if is_id_flag(flag.as_slice()) => {
@@ -47,20 +43,16 @@ pub fn begin<A: Allocator + Copy>(
 
 /// Goes on with the answer to the send.
 pub fn answered<A: Allocator + Copy>(
-    alloc: A,
-    state: &mut State<A>,
-    act: Act<A>,
+    state: &State<A>,
     waits: Waits,
     answer: Answer<A>,
-) -> Result<Leaf<A, Waits>, NoMemory>
-    ensures shows { (s : Status) → FitsState state.old s → IfOk result (λ leaf.
-        Shows definition.next_of leaf state.new
-        (definition.next_of waits (deed_of act) s (reply_of answer))) }
-    ensures left { state.new.left ≤ state.old.left }
+) -> Result<Leaf<A, Waits>, Raise<A>>
+    ensures { (s : Status) → FitsState state.now s → GoesOn definition.next_of
+        (definition.follows waits (reply_of answer)) s result state.now }
 {
     let Waits::Sent(id) = waits;
     match answer {
-        Answer::Failed(sent) => raises(alloc, &Fault::SendFailed { id, sent }),
+        Answer::Failed(sent) => Err(Raise::Fault(Fault::SendFailed { id, sent })),
         _ => Ok(empty()),
     }
 }
@@ -85,97 +77,50 @@ fn send_text<A: Allocator + Copy>(
     state: &State<A>,
     target: Option<&[u8]>,
     words: &[Value<A>],
-) -> Result<Leaf<A, Waits>, NoMemory>
-    ensures { (s : Status) → FitsState state.now s → IfOk result (λ leaf.
-        Shows definition.next_of leaf state.now
-        (definition.sends_text (option_copied target.entry) words.now s)) }
+) -> Result<Leaf<A, Waits>, Raise<A>>
+    ensures { (s : Status) → FitsState state.now s → Talks definition.next_of
+        (definition.sends_text (option_copied target.entry) words.now s) s result state.now }
 {
     let [word, more @ ..] = words else {
-        return wrong_args(alloc, b"send");
+        return Err(wrong_args(alloc, b"send"));
     };
     if ends_flags(word.as_slice()) {
         return send_alone(alloc, state, target, more);
     }
     if is_id_flag(word.as_slice()) {
-        return wrong_args(alloc, b"send");
+        return Err(wrong_args(alloc, b"send"));
     }
     if begins_with_dash(word.as_slice()) {
-        return bad_flag(alloc, word.as_slice());
+        return Err(bad_flag(alloc, word.as_slice()));
     }
     send_alone(alloc, state, target, words)
 }
 
-/// Refuses a word that would be a flag and is none.
-fn bad_flag<A: Allocator + Copy>(alloc: A, word: &[u8]) -> Result<Leaf<A, Waits>, NoMemory>
-    ensures { IfOk result (λ leaf.
-        HasOutcome leaf (Leaves Error (text_of (flaw.BadFlag word.now)))) }
-{
-    raises(alloc, &Fault::BadFlag(Vec::from_slice(alloc, word)?))
-}
-
-/// Sends a text that stands alone.
+/// Sends a text that stands alone to the id of a name, or else to the id in force.
 fn send_alone<A: Allocator + Copy>(
     alloc: A,
     state: &State<A>,
     target: Option<&[u8]>,
     words: &[Value<A>],
-) -> Result<Leaf<A, Waits>, NoMemory>
-    ensures { (s : Status) → FitsState state.now s → IfOk result (λ leaf.
-        Shows definition.next_of leaf state.now
-        (definition.sends_alone (option_copied target.entry) words.now s)) }
+) -> Result<Leaf<A, Waits>, Raise<A>>
+    ensures { (s : Status) → FitsState state.now s → Talks definition.next_of
+        (definition.sends_alone (option_copied target.entry) words.now s) s result state.now }
 {
     let [text] = words else {
-        return wrong_args(alloc, b"send");
+        return Err(wrong_args(alloc, b"send"));
     };
-    match target_id(alloc, state, target)? {
-        Ok(id) => send_bytes(alloc, state, id, text.as_slice()),
-        Err(leaf) => Ok(leaf),
-    }
-}
-
-/// The open id of a name, or where there is none the id in force, or else the error that it is not
-/// open.
-fn target_id<A: Allocator + Copy>(
-    alloc: A,
-    state: &State<A>,
-    target: Option<&[u8]>,
-) -> Result<Result<Id, Leaf<A, Waits>>, NoMemory>
-    ensures { (s : Status) → FitsState state.now s → IfOk result (λ r.
-        Targets r (option_copied target.entry) s) }
-{
-    match target {
-        Some(name) => named_id(alloc, state, name),
-        None => current_id(alloc, state),
-    }
-}
-
-/// The open id of a name, or the error that it is not open.
-fn named_id<A: Allocator + Copy>(
-    alloc: A,
-    state: &State<A>,
-    name: &[u8],
-) -> Result<Result<Id, Leaf<A, Waits>>, NoMemory>
-    ensures { (s : Status) → FitsState state.now s → IfOk result (λ r.
-        Targets r (Some name.now) s) }
-{
-    match state.ids.table.named(name) {
-        Some(id) => Ok(Ok(id)),
-        None => {
-            let name = Vec::from_slice(alloc, name)?;
-            Ok(Err(raises(alloc, &Fault::NotOpen(Some(name)))?))
-        }
-    }
+    let id = chosen_id(alloc, state, target)?;
+    Ok(send_bytes(alloc, id, text.as_slice())?)
 }
 
 /// Sends a text to an id; where there are no bytes, nothing is sent.
 fn send_bytes<A: Allocator + Copy>(
     alloc: A,
-    state: &State<A>,
     id: Id,
     text: &[u8],
 ) -> Result<Leaf<A, Waits>, NoMemory>
-    ensures { (s : Status) → FitsState state.now s → IfOk result (λ leaf.
-        Shows definition.next_of leaf state.now (definition.sends text.now s id)) }
+    ensures { (s : Status) (state : Kept A) → FitsState state s →
+        IfOk result (λ leaf. Goes definition.next_of (definition.sends text.now id) s leaf state) }
 {
     if text.is_empty() {
         return Ok(empty());

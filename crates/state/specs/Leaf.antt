@@ -35,3 +35,9 @@ HasOutcome (leaf.Asks act waits) o = ⊥
 -- it has ended with what a function of texts comes to (Tcl(n), rule 2)
 abbrev pub IsMeant : {A W : Type 0} → Leaf A W → Meaning → Type 0
 IsMeant l meaning = (answer : Answer) × Comes meaning answer × HasOutcome l (told answer)
+
+-- it is as far as the other, and what waits in the one is told otherwise in the other
+abbrev pub Maps : {A W V : Type 0} → (W → V → Type 0) → Leaf A W → Leaf A V → Type 0
+Maps P (leaf.Has outcome) (leaf.Has same) = outcome ≡ same
+Maps P (leaf.Asks act own) (leaf.Asks same other) = (act ≡ same) × P own other
+Maps P one other = ⊥

@@ -3,7 +3,7 @@
 ghost use Rattle.std.specs.Prelude.{◌≡◌, [], IfOk};
 ghost use Rattle.meanings.specs.Meaning.{Meaning};
 ghost use Rattle.meanings.specs.View.{Answers};
-ghost use Rattle.state.specs.Leaf.{HasOutcome, IsMeant};
+ghost use Rattle.state.specs.Leaf.{HasOutcome, IsMeant, Maps};
 ghost use Rattle.state.specs.Outcome as outcome;
 ghost use Rattle.state.specs.View as definition;
 ghost use Rattle.state.specs.View.{code_of, stop_of};
@@ -21,6 +21,19 @@ pub enum Leaf<A: Allocator, W: Drop> {
     Has(Outcome<A>),
     /// An act waits for its answer.
     Asks(Act<A>, W),
+}
+
+impl<A: Allocator, W: Drop> Leaf<A, W> {
+    /// The same, where what waits is told otherwise.
+    pub fn map<V: Drop, F: FnOnce(W) -> V>(self, waits: F) -> Leaf<A, V>
+        requires { F.IsAlwaysCallable waits }
+        ensures { Maps (F.post waits) self result }
+    {
+        match self {
+            Leaf::Has(outcome) => Leaf::Has(outcome),
+            Leaf::Asks(act, own) => Leaf::Asks(act, waits(own)),
+        }
+    }
 }
 
 /// What waits in a command that makes no act: nothing does.

@@ -1,9 +1,7 @@
--- How many ids are open once one was opened.
-use Rattle.std.proofs.Common.{◌≡◌, ◌+◌, Bool, true, false, List, [], ◌∷◌, ◌++◌, length, if◌then◌else◌, refl, arith}
-use Rattle.acts.specs.declared.id.Id.{Id}
-use Rattle.dialog.specs.Kinds.{Kind}
+-- What there is to be closed once something was opened.
+use Rattle.std.proofs.Common.{◌≡◌, ◌+◌, ◌≤◌, Bool, true, false, List, [], ◌∷◌, ◌++◌, length, if◌then◌else◌, refl, arith}
 use Rattle.dialog.specs.Peers.{Peer, fresh, opened}
-use Rattle.processes.specs.Numbers.{opened_as}
+use Rattle.kinds.specs.Edits.{Opening, OpensId, OpensLog, opened_by}
 use Rattle.state.specs.Behaves.{worth}
 use Rattle.state.specs.Status.{Status}
 
@@ -18,8 +16,9 @@ count_more p (q ∷ ps) is = by q.is_open (count_more p ps is)
     by true rest = omega (arith, rest)
     by false rest = rest
 
--- one more id is open, which one act more closes
-pub worth_opened : (kind : Kind) (s : Status) (i : Id) → worth (opened_as kind s i) ≡ worth s + 1
-worth_opened kind s i =
+-- one act more closes what was opened
+pub worth_opened : (opening : Opening) (s : Status) → worth (opened_by opening s) ≤ worth s + 1
+worth_opened (OpensId i kind) s =
     let more = count_more (fresh i kind s.ids.size s.ids.drops_nulls) s.ids.peers refl in
     omega (arith, more)
+worth_opened (OpensLog all) s = omega arith

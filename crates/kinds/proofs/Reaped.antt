@@ -4,7 +4,7 @@ use Rattle.acts.specs.declared.id.Id.{Id}
 use Rattle.dialog.proofs.Peers.{have}
 use Rattle.dialog.specs.Lines.{Line}
 use Rattle.dialog.specs.Peers.{Peer, opened, line, HaveJournals, FitsPeers}
-use Rattle.peers.specs.Wait.{reaped}
+use Rattle.kinds.specs.Edits.{reaped}
 use Rattle.state.specs.Ids.{Unreaped, unreaped}
 use Rattle.state.specs.View.{unreaped_of}
 use Rattle.state.specs.declared.ids.Unreaped as reapable

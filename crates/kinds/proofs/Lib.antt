@@ -1,0 +1,4 @@
+pub mod Behaves
+pub mod Comes
+pub mod Opened
+pub mod Reaped

@@ -1,0 +1,39 @@
+-- What a command does that runs no script: its acts, the changes that it makes, and how it ends.
+use Rattle.std.specs.Prelude.{ℕ, suc, List, Result, Ok, Err}
+use Rattle.acts.specs.Deed.{Deed, Reply}
+use Rattle.acts.specs.Flaw.{Flaw, text_of}
+use Rattle.plan.specs.Plan.{Ends}
+use Rattle.kinds.specs.Edits.{Edit, Opening, edited, opened_by}
+use Rattle.state.specs.Dialogue.{Course, ask, raises}
+use Rattle.state.specs.Outcome.{Outcome, Gives, Leaves, Error}
+use Rattle.state.specs.Rows.{Holds}
+use Rattle.state.specs.Status.{Status}
+
+-- so many acts and openings at most: it is over; a change is made, and on; something is opened, and
+-- on; an act is asked, and on with its answer from the state at that time
+pub data Exchange : ℕ → Type 0 where
+  Over : {n : ℕ} → (outcome : Outcome) → Exchange n
+  Edits : {n : ℕ} → (edit : Edit) → Exchange n → Exchange n
+  Opens : {n : ℕ} → (opening : Opening) → Exchange n → Exchange (suc n)
+  Performs : {n : ℕ} → (deed : Deed) → (holds : Holds deed) → (Status → Reply → Exchange n) →
+      Exchange (suc n)
+
+-- it is over with a value
+abbrev pub gives : {n : ℕ} → List ℕ → Exchange n
+gives value = Over (Gives value)
+
+-- it is over with an error
+abbrev pub fails : {n : ℕ} → Flaw → Exchange n
+fails flaw = Over (Leaves Error (text_of flaw))
+
+-- it as a part of a run; it takes no tick
+abbrev pub course : {n : ℕ} → Exchange n → Status → Course
+course (Over outcome) s = Ends (s, outcome)
+course (Edits edit rest) s = course rest (edited edit s)
+course (Opens opening rest) s = course rest (opened_by opening s)
+course (Performs deed holds next) s = ask deed s (λ t reply. course (next t reply) t)
+
+-- a command that acts, by the words that it was given, or the error of the words (expect(1), send)
+abbrev pub talks : {n : ℕ} → Result (Exchange n) Flaw → Status → Course
+talks (Ok exchange) s = course exchange s
+talks (Err flaw) s = raises flaw s

@@ -1,0 +1,31 @@
+-- The open ids that commands are about.
+use Rattle.std.specs.Prelude.{ℕ, List, codes, Option, Some, None, Result, Ok, Err}
+use Rattle.acts.specs.declared.id.Id.{Id}
+use Rattle.acts.specs.Flaw.{Flaw}
+use Rattle.acts.specs.Flaw as flaw
+use Rattle.dialog.specs.Channels.{named}
+use Rattle.state.specs.Status.{Status, lines}
+use Rattle.state.specs.Variables.{consulted}
+
+-- an id that is open, or the error that the text spells none
+abbrev pub spelled : Option Id → List ℕ → Result Id Flaw
+spelled (Some id) text = Ok id
+spelled None text = Err (flaw.NotOpen (Some text))
+
+-- the open id that a text spells; one that is not open is named as it stands (expect(1), spawn)
+abbrev pub named_id : List ℕ → Status → Result Id Flaw
+named_id text s = spelled (named (lines s) text) text
+
+-- the open id that a variable names, where it is set (expect(1), spawn)
+abbrev pub said_by : Option (List ℕ) → Status → Result Id Flaw
+said_by None s = Err (flaw.NotOpen None)
+said_by (Some text) s = named_id text s
+
+-- the id in force, which the variable spawn_id names (expect(1), spawn)
+abbrev pub current_id : Status → Result Id Flaw
+current_id s = said_by (consulted s.scopes (codes "spawn_id")) s
+
+-- the open id of a name, or else the one in force (expect(1), spawn)
+abbrev pub chosen_id : Option (List ℕ) → Status → Result Id Flaw
+chosen_id None s = current_id s
+chosen_id (Some name) s = named_id name s

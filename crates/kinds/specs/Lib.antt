@@ -1,0 +1,7 @@
+pub mod Words
+pub mod Ids
+pub mod Variables
+pub mod Edits
+pub mod Exchange
+pub mod Kinds
+pub mod Answers

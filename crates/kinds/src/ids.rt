@@ -1,0 +1,63 @@
+//! The open ids that commands are about.
+
+ghost use Rattle.std.specs.Prelude.{option_copied};
+ghost use Rattle.acts.specs.Raise.{Answers};
+ghost use Rattle.kinds.specs.Ids as definition;
+ghost use Rattle.state.specs.Status.{Status};
+ghost use Rattle.state.specs.View.{FitsState};
+
+use acts::raise::not_open;
+use acts::{Fault, Id, Raise};
+use state::State;
+use state::variables::{SPAWN_ID, consulted};
+use std::alloc::Allocator;
+
+/// The open id that a text spells (expect(1), spawn).
+///
+/// # Errors
+/// No id that is open is spelled so; or memory is refused for the error.
+pub fn named_id<A: Allocator + Copy>(
+    alloc: A,
+    state: &State<A>,
+    text: &[u8],
+) -> Result<Id, Raise<A>>
+    ensures { (s : Status) → FitsState state.now s →
+        Answers (λ id. id) (definition.named_id text.now s) result }
+{
+    match state.ids.table.named(text) {
+        Some(id) => Ok(id),
+        None => Err(not_open(alloc, text)),
+    }
+}
+
+/// The id in force: the one that the variable `spawn_id` names (expect(1), spawn).
+///
+/// # Errors
+/// The variable is not set, or names no id that is open; or memory is refused for the error.
+pub fn current_id<A: Allocator + Copy>(alloc: A, state: &State<A>) -> Result<Id, Raise<A>>
+    ensures { (s : Status) → FitsState state.now s →
+        Answers (λ id. id) (definition.current_id s) result }
+{
+    match consulted(state, SPAWN_ID) {
+        Some(text) => named_id(alloc, state, text.as_slice()),
+        None => Err(Raise::Fault(Fault::NotOpen(None))),
+    }
+}
+
+/// The open id of a name, or else the one in force (expect(1), spawn).
+///
+/// # Errors
+/// The id is not open; or memory is refused for the error.
+pub fn chosen_id<A: Allocator + Copy>(
+    alloc: A,
+    state: &State<A>,
+    name: Option<&[u8]>,
+) -> Result<Id, Raise<A>>
+    ensures { (s : Status) → FitsState state.now s →
+        Answers (λ id. id) (definition.chosen_id (option_copied name.entry) s) result }
+{
+    match name {
+        Some(name) => named_id(alloc, state, name),
+        None => current_id(alloc, state),
+    }
+}

@@ -1,0 +1,22 @@
+//! What is asked of the words of a command.
+
+ghost use Rattle.acts.specs.Raise.{Answers};
+ghost use Rattle.kinds.specs.Words as definition;
+
+use acts::Raise;
+use acts::raise::not_a_number;
+use state::arguments::whole_number;
+use std::alloc::Allocator;
+
+/// The whole number within 64 bits that a word is (expr(n), operands).
+///
+/// # Errors
+/// The word is none; or memory is refused for the error.
+pub fn number_of<A: Allocator + Copy>(alloc: A, word: &[u8]) -> Result<i64, Raise<A>>
+    ensures { Answers (λ n. n) (definition.number word.now) result }
+{
+    match whole_number(word) {
+        Some(number) => Ok(number),
+        None => Err(not_a_number(alloc, word)),
+    }
+}
