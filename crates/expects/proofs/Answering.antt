@@ -6,8 +6,9 @@ use Rattle.acts.specs.Deed.{Reply}
 use Rattle.acts.specs.Flaw as flaw
 use Rattle.acts.specs.Flaw.{text_of}
 use Rattle.acts.specs.declared.act.Timer.{Timer}
-use Rattle.acts.specs.declared.fault.Fault.{Fault}
 use Rattle.acts.specs.declared.id.Id.{Id}
+use Rattle.acts.specs.declared.raise.Raise.{Raise}
+use Rattle.acts.specs.declared.raise.Raise.TheVariants as raise
 use Rattle.acts.specs.declared.row.Row.{Row}
 use Rattle.dialog.specs.Branches.{Branches}
 use Rattle.dialog.specs.Lines.{Line, rows_of}
@@ -16,6 +17,7 @@ use Rattle.dialog.specs.LogState.{goes_out, is_logged}
 use Rattle.dialog.specs.Standing.{Effective, all_of, pruned}
 use Rattle.dialog.specs.declared.choice.Choice.{Choice}
 use Rattle.dialog.specs.declared.choice.Trigger.TheVariants as after
+use Rattle.kinds.specs.Answers.{IsFailure}
 use Rattle.plan.specs.Plan.{Ends, Calls}
 use Rattle.state.proofs.Nestings.{inside_over, text_reaches}
 use Rattle.state.proofs.Reaches.{same_reaches, then_reaches}
@@ -26,7 +28,7 @@ use Rattle.state.specs.Outcome.{Outcome, Leaves, Error}
 use Rattle.state.specs.Piece.{ArgumentText, BranchText, ChoiceText, Script, TurnTree}
 use Rattle.state.specs.Reaches.{Reaches, here, reads}
 use Rattle.state.specs.Status.{Status, lines, shut}
-use Rattle.state.specs.View.{outcome_of, raised}
+use Rattle.state.specs.View.{outcome_of}
 use Rattle.state.specs.declared.outcome.Leave.{Leave}
 use Rattle.state.specs.declared.state.State.{State}
 use Rattle.tclparse.specs.Grammar.{IsArgument, IsScript}
@@ -184,14 +186,17 @@ words_reach form levels s ws ls current standing said a b c is =
     reads {text = BranchText (place_in form s) ws} said (subst (λ p. IsRead p ws said) at is) here
 
 pub misread_reaches : {A : Type 0} (form : Form) (levels : ℕ) (s : Status) (ws : List (List ℕ))
-    (ls : List Line) (current : Option Id) (standing : Bool) (o : Option Flaw) (fault : Fault A)
+    (ls : List Line) (current : Option Id) (standing : Bool) (o : Option Flaw) (why : Raise A)
     (r : Result (List ℕ) (Leave A)) → lines s ≡ ls →
-    current ≡ open_by (id_named s) s → standing ≡ stands form → Tells o fault s →
-    IfSome o (λ why. IsRead (place ls current standing) ws (Err why)) →
-    outcome_of r ≡ raised fault →
+    current ≡ open_by (id_named s) s → standing ≡ stands form → Tells o why s →
+    IfSome o (λ flaw. IsRead (place ls current standing) ws (Err flaw)) → IsFailure why r →
     Reaches (by_words form levels s ws) (let end : Course = Ends (s, outcome_of r) in end)
-misread_reaches form levels s ws ls current standing None fault r a b c tells is over = absurd tells
-misread_reaches form levels s ws ls current standing (Some why) fault r a b c tells is over =
-    then_reaches (words_reach form levels s ws ls current standing (Err why) a b c is)
-    (same_reaches (over_is r (Leaves Error (text_of (told why s))) s (raises (told why s) s)
+misread_reaches form levels s ws ls current standing o (raise.NoMemory refusal) r a b c tells is
+    over = absurd over
+misread_reaches form levels s ws ls current standing None (raise.Fault fault) r a b c tells is
+    over = absurd tells
+misread_reaches form levels s ws ls current standing (Some flaw) (raise.Fault fault) r a b c tells is
+    over =
+    then_reaches (words_reach form levels s ws ls current standing (Err flaw) a b c is)
+    (same_reaches (over_is r (Leaves Error (text_of (told flaw s))) s (raises (told flaw s) s)
     (over ∙ ap (λ f. Leaves Error (text_of f)) tells) refl))

@@ -1,12 +1,11 @@
 -- What a turn of expect keeps to.
-use Rattle.std.proofs.Common.{◌≡◌, ℕ, zero, suc, ◌+◌, ◌*◌, ◌-◌, ◌<◌, ◌≤◌, ◌==◌, ℤ, Bool, true, false, List, [], ◌∷◌, map, Option, Some, None, Result, Ok, Err, if◌then◌else◌, refl, arith}
-use Rattle.std.specs.Prelude.{codes}
+use Rattle.std.proofs.Common.{◌≡◌, ℕ, zero, suc, ◌+◌, ◌*◌, ◌-◌, ◌<◌, ◌≤◌, ◌==◌, Bool, true, false, List, [], ◌∷◌, map, Option, Some, None, Result, Ok, Err, if◌then◌else◌, refl, arith}
 use Rattle.acts.specs.declared.act.Timer.{Timer}
-use Rattle.acts.specs.declared.act.Timer.TheVariants as timer
 use Rattle.acts.specs.declared.id.Id.{Id}
 use Rattle.acts.specs.declared.row.Row.{Row}
 use Rattle.acts.specs.Deed.{Deed, Reply}
 use Rattle.acts.specs.Deed as said
+use Rattle.acts.specs.Flaw.{Flaw}
 use Rattle.acts.specs.Fits.{fits}
 use Rattle.dialog.specs.Choice.{Chosen, Share, Nothing, Front, Whole, Taken, consumed_to, share_of}
 use Rattle.dialog.specs.Lines.{line_of, with_row, rows_of}
@@ -29,10 +28,10 @@ use Rattle.state.specs.Placed.{noted, shown}
 use Rattle.state.specs.Proceeds.{Proceeds}
 use Rattle.state.specs.Rows.{Holds, RowsHold}
 use Rattle.state.specs.Status.{Status, at_id, lines, shut}
-use Rattle.state.specs.Variables.{consulted, spelled, stored, whole_of}
-use Rattle.tclstate.specs.Scopes.{Scopes, Trouble, written as written_in}
-use Rattle.expects.specs.Clock.{later, on_clock, on_seconds, on_start, on_timeout, timer_of}
-use Rattle.expects.specs.Report.{Element, elements, reports, sets}
+use Rattle.tclstate.specs.Scopes.{Scopes}
+use Rattle.expects.specs.Clock.{clock_of, later}
+use Rattle.expects.specs.Report.{Written, on_written, reported}
+use Rattle.kinds.specs.Kinds.{on_ok}
 use Rattle.expects.specs.Turn.{again, arrives, begins_again, begun_by, behind, comes, consumed, consumed_by, does, ends, leaving, renewed, settled, selects, taken_by, timed, times_out, turns, waited, waits, waits_by}
 
 -- the rows of a wait hold
@@ -109,31 +108,13 @@ written_proceeds : (most had : ℕ) (s : Status) (next : Status → Course) (rep
 written_proceeds most had s next (said.Failed sent) le paid proceeds = (omega (arith, le), paid)
 written_proceeds most had s next _ le paid proceeds = proceeds
 
-module _ (most had : ℕ) where
-  stored_proceeds : (r : Result Scopes Trouble) (name : List ℕ) (s : Status)
-      (next : Status → Course) → 2 * s.left ≤ most → worth s ≤ had →
-      ((scopes : Scopes) → Proceeds most had (next (record s { scopes = scopes }))) →
-      Proceeds most had (stored r name s next)
-  stored_proceeds (Ok scopes) name s next le paid each = each scopes
-  stored_proceeds (Err trouble) name s next le paid each = (omega (arith, le), paid)
-
-  -- elements that are set
-  sets_proceed : (es : List Element) (s : Status) (next : Status → Course) →
-      2 * s.left ≤ most → worth s ≤ had →
-      ((scopes : Scopes) → Proceeds most had (next (record s { scopes = scopes }))) →
-      Proceeds most had (sets es s next)
-  sets_proceed [] s next le paid each = each s.scopes
-  sets_proceed (e ∷ es) s next le paid each =
-      stored_proceeds (written_in s.scopes (codes "expect_out") (Some e.0) e.1)
-      (spelled (codes "expect_out") (Some e.0)) s (λ t. sets es t next) le paid
-      (λ scopes. sets_proceed es (record s { scopes = scopes }) next le paid each)
-
-  reports_proceed : (taken : Option Taken) (s : Status) (next : Status → Course) →
-      2 * s.left ≤ most → worth s ≤ had →
-      ((scopes : Scopes) → Proceeds most had (next (record s { scopes = scopes }))) →
-      Proceeds most had (reports taken s next)
-  reports_proceed None s next le paid each = each s.scopes
-  reports_proceed (Some t) s next le paid each = sets_proceed (elements t) s next le paid each
+-- what follows writes of variables
+writes_proceed : (most had : ℕ) (w : Written) (s : Status) (next : Status → Course) →
+    2 * s.left ≤ most → worth s ≤ had →
+    ((scopes : Scopes) → Proceeds most had (next (record s { scopes = scopes }))) →
+    Proceeds most had (on_written w s next)
+writes_proceed most had (scopes, None) s next le paid each = each scopes
+writes_proceed most had (scopes, Some flaw) s next le paid each = (omega (arith, le), paid)
 
 -- what follows a body
 module _ (turn : TurnTree) (levels : ℕ) where
@@ -179,7 +160,7 @@ module _ (turn : TurnTree) (levels : ℕ) where
   does_proceeds : (most had : ℕ) (taken : Option Taken) (body : List ℕ) (s : Status) →
       2 * s.left < most → worth s ≤ had → Proceeds most had (does turn levels taken body s)
   does_proceeds most had taken body s below paid =
-      reports_proceed most had taken s (λ t. within levels body t (behind turn levels))
+      writes_proceed most had (reported taken s.scopes) s (λ t. within levels body t (behind turn levels))
       (omega (arith, below)) paid
       (λ scopes tree is.
       inside_proceeds most had levels tree (record s { scopes = scopes }) below paid)
@@ -286,31 +267,11 @@ waits_proceed turn levels (suc left) clock s is =
     (λ reply. waited_proceeds (timed (later clock) turn) levels (2 * s.left + 1) (worth s - 1) t
     reply (omega (arith, is)) (omega (arith, is)))
 
-module _ (s : Status) where
-  seconds_proceed : (o : Option ℤ) (text : List ℕ) (next : Timer → Course) →
-      ((clock : Timer) → Proceeds (2 * s.left + 1) (worth s) (next clock)) →
-      Proceeds (2 * s.left + 1) (worth s) (on_seconds o text s next)
-  seconds_proceed None text next each = (omega arith, omega arith)
-  seconds_proceed (Some n) text next each = each (timer_of n)
-
-  timeout_proceeds : (o : Option (List ℕ)) (next : Timer → Course) →
-      ((clock : Timer) → Proceeds (2 * s.left + 1) (worth s) (next clock)) →
-      Proceeds (2 * s.left + 1) (worth s) (on_timeout o s next)
-  timeout_proceeds None next each = each (timer.Start 10)
-  timeout_proceeds (Some text) next each = seconds_proceed (whole_of text) text next each
-
-  start_proceeds : (o : Option ℤ) (next : Timer → Course) →
-      ((clock : Timer) → Proceeds (2 * s.left + 1) (worth s) (next clock)) →
-      Proceeds (2 * s.left + 1) (worth s) (on_start o s next)
-  start_proceeds (Some n) next each = each (timer_of n)
-  start_proceeds None next each =
-      timeout_proceeds (consulted s.scopes (codes "timeout")) next each
-
-  clock_proceeds : (o : Option Timer) (seconds : Option ℤ) (next : Timer → Course) →
-      ((clock : Timer) → Proceeds (2 * s.left + 1) (worth s) (next clock)) →
-      Proceeds (2 * s.left + 1) (worth s) (on_clock o seconds s next)
-  clock_proceeds (Some clock) seconds next each = each clock
-  clock_proceeds None seconds next each = start_proceeds seconds next each
+clock_proceeds : (s : Status) (r : Result Timer Flaw) (next : Timer → Course) →
+    ((clock : Timer) → Proceeds (2 * s.left + 1) (worth s) (next clock)) →
+    Proceeds (2 * s.left + 1) (worth s) (on_ok r s next)
+clock_proceeds s (Ok clock) next each = each clock
+clock_proceeds s (Err flaw) next each = (omega arith, omega arith)
 
 -- a turn leaves no more than it had, pays for its acts, and its waits hold
 pub turns_proceed : (turn : TurnTree) (levels : ℕ) (s : Status) →
@@ -318,5 +279,5 @@ pub turns_proceed : (turn : TurnTree) (levels : ℕ) (s : Status) →
 turns_proceed turn levels s =
     selects_proceed turn levels (2 * s.left + 1) (worth s) turn.trigger s (waits turn levels)
     (omega arith) (omega arith)
-    (clock_proceeds s turn.clock turn.seconds (λ clock. waits_by clock turn levels s)
+    (clock_proceeds s (clock_of turn.clock turn.seconds s) (λ clock. waits_by clock turn levels s)
     (λ clock. waits_proceed turn levels s.left clock s refl))

@@ -1,48 +1,82 @@
 -- What a choice sets (expect(1), expect_out).
-use Rattle.std.specs.Prelude.{ℕ, ◌-ℤ◌, pos, Bool, true, false, List, [], ◌∷◌, ◌++◌, drop, codes, decimal, Option, Some, None}
+use Rattle.std.specs.Prelude.{ℕ, ◌-ℤ◌, pos, Bool, true, false, List, drop, codes, decimal, Option, Some, None, Result, Ok, Err}
 use Rattle.std.specs.Fmt.{signed_decimal}
+use Rattle.acts.specs.declared.id.Id.{Id}
+use Rattle.acts.specs.Flaw.{Flaw}
 use Rattle.acts.specs.Id.{id_text}
 use Rattle.dialog.specs.Choice.{Taken}
-use Rattle.state.specs.Dialogue.{Course}
+use Rattle.kinds.specs.Variables as variables
+use Rattle.state.specs.Dialogue.{Course, raises}
 use Rattle.state.specs.Status.{Status}
-use Rattle.state.specs.Variables.{writes}
+use Rattle.tclstate.specs.Scopes.{Scopes}
 use Rattle.tcltext.specs.declared.pattern.search.Found.{Found}
 
--- an element of expect_out, and its value
-abbrev pub Element : Type 0
-Element = List ℕ × List ℕ
+-- the variables that writes leave, and the error of the first that could not be made, if there was
+-- one; those before it stay
+abbrev pub Written : Type 0
+Written = Scopes × Option Flaw
 
--- the places of the first byte of a match and of its last one, counted from the beginning of the
--- window; an empty match ends before it begins (expect(1), -indices)
-abbrev pub places : Found → List Element
-places f =
-    (codes "0,start", decimal f.start) ∷ (codes "0,end", signed_decimal (pos f.end -ℤ pos 1)) ∷ []
+-- on with the next write, where there was no error
+abbrev pub and_then : Written → (Scopes → Written) → Written
+and_then (v, None) next = next v
+and_then (v, Some flaw) next = (v, Some flaw)
 
--- they are told where the branch says so
-abbrev pub places_told : Bool → Found → List Element
-places_told false f = []
-places_told true f = places f
+-- one write that was made, or was not
+abbrev pub one_written : Scopes → Result Scopes Flaw → Written
+one_written old (Ok new) = (new, None)
+one_written old (Err flaw) = (old, Some flaw)
+
+-- an element of expect_out is written (expect(1), expect_out)
+abbrev pub sets : List ℕ → List ℕ → Scopes → Written
+sets index value v =
+    one_written v (variables.put (codes "expect_out") (Some index) value v)
+
+-- the place of the first byte of a match, counted from the beginning of the window (expect(1),
+-- -indices)
+abbrev pub tells_start : Found → Scopes → Written
+tells_start f v = sets (codes "0,start") (decimal f.start) v
+
+-- the place of its last byte; an empty match ends before it begins (expect(1), -indices)
+abbrev pub tells_end : Found → Scopes → Written
+tells_end f v = sets (codes "0,end") (signed_decimal (pos f.end -ℤ pos 1)) v
+
+-- both places (expect(1), -indices)
+abbrev pub tells_both_places : Found → Scopes → Written
+tells_both_places f v = and_then (tells_start f v) (tells_end f)
+
+-- the places, where the branch tells them (expect(1), -indices)
+abbrev pub tells_places : Bool → Found → Scopes → Written
+tells_places false f v = (v, None)
+tells_places true f v = tells_both_places f v
 
 -- what tells a match: its places, and its bytes, which end the buffer; a keyword has none
 -- (expect(1), expect_out(0,string))
-abbrev pub match_told : Bool → Option Found → List ℕ → List Element
-match_told tells None buffer = []
-match_told tells (Some f) buffer =
-    places_told tells f ++ (codes "0,string", drop f.start buffer) ∷ []
+abbrev pub tells_match : Bool → Option Found → List ℕ → Scopes → Written
+tells_match tells None buffer v = (v, None)
+tells_match tells (Some f) buffer v =
+    and_then (tells_places tells f v) (sets (codes "0,string") (drop f.start buffer))
+
+-- the id (expect(1), expect_out(spawn_id))
+abbrev pub tells_id : Id → Scopes → Written
+tells_id i v = sets (codes "spawn_id") (id_text i.0) v
 
 -- all that a choice sets, in this order: the match, the id, the buffer (expect(1), expect_out; the
 -- order is this project's own)
-abbrev pub elements : Taken → List Element
-elements t =
-    match_told t.tells_places t.found t.buffer
-    ++ (codes "spawn_id", id_text t.id.0) ∷ (codes "buffer", t.buffer) ∷ []
+abbrev pub tells : Taken → Scopes → Written
+tells t v =
+    and_then (tells_match t.tells_places t.found t.buffer v)
+    (λ w. and_then (tells_id t.id w) (sets (codes "buffer") t.buffer))
 
--- elements of expect_out are written one after the other, and on where all could be
-abbrev pub sets : List Element → Status → (Status → Course) → Course
-sets [] s next = next s
-sets (e ∷ es) s next = writes (codes "expect_out") (Some e.0) e.1 s (λ t. sets es t next)
+-- what a choice has for expect_out; after a timeout it has nothing
+abbrev pub reported : Option Taken → Scopes → Written
+reported None v = (v, None)
+reported (Some t) v = tells t v
 
--- what a choice has for expect_out is set, and on; after a timeout it has nothing
+-- on once variables are written, or with the error
+abbrev pub on_written : Written → Status → (Status → Course) → Course
+on_written (v, None) s next = next (record s { scopes = v })
+on_written (v, Some flaw) s next = raises flaw (record s { scopes = v })
+
+-- what a choice has for expect_out is set, and on (expect(1), expect_out)
 abbrev pub reports : Option Taken → Status → (Status → Course) → Course
-reports None s next = next s
-reports (Some t) s next = sets (elements t) s next
+reports taken s next = on_written (reported taken s.scopes) s next

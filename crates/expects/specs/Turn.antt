@@ -13,8 +13,9 @@ use Rattle.dialog.specs.Peers.{arrived}
 use Rattle.dialog.specs.Standing.{Effective, pruned}
 use Rattle.dialog.specs.declared.choice.Trigger.{Trigger}
 use Rattle.dialog.specs.declared.choice.Trigger.TheVariants as after
-use Rattle.expects.specs.Clock.{later, on_clock}
+use Rattle.expects.specs.Clock.{clock_of, later}
 use Rattle.expects.specs.Report.{reports}
+use Rattle.kinds.specs.Kinds.{on_ok}
 use Rattle.plan.specs.Plan.{Reads, goes}
 use Rattle.state.specs.Dialogue.{Course, gives, leaves, raises, stops, ask, tick, within}
 use Rattle.state.specs.Outcome.{Outcome, Gives, Leaves, Stops, Again, AgainRunning}
@@ -148,7 +149,7 @@ waits_by clock turn levels s =
 -- a wait, once its timer is known (expect(1), expect and timeout)
 abbrev pub waits : TurnTree → ℕ → Status → Course
 waits turn levels s =
-    on_clock turn.clock turn.seconds s (λ clock. waits_by clock turn levels s)
+    on_ok (clock_of turn.clock turn.seconds s) s (λ clock. waits_by clock turn levels s)
 
 -- a turn: where nothing is chosen there is a wait (expect(1), expect)
 abbrev pub turns : TurnTree → ℕ → Status → Course

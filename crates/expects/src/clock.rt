@@ -1,14 +1,14 @@
 //! The timer of a wait (expect(1), timeout).
 
-ghost use Rattle.std.specs.Prelude.{◌≡◌, None, is_some, IfOk, IsOk, IsTrue};
+ghost use Rattle.std.specs.Prelude.{◌≡◌, is_some, IsOk, IsTrue};
+ghost use Rattle.acts.specs.Raise.{Answers};
 ghost use Rattle.expects.specs.Clock as definition;
-ghost use Rattle.expects.specs.Parts.{Timed};
 ghost use Rattle.state.specs.Status.{Status};
 ghost use Rattle.state.specs.View.{FitsState};
 
-use acts::{Fault, NoMemory, Timer};
+use acts::{Raise, Timer};
+use kinds::words::number_of;
 use state::State;
-use state::arguments::whole_number;
 use state::variables::consulted;
 use std::alloc::Allocator;
 
@@ -18,21 +18,22 @@ const TIMEOUT: &[u8] = b"timeout";
 /// For how many seconds a wait goes on where no variable says so (expect(1), timeout).
 const SECONDS: u64 = 10;
 
-/// The timer of a wait: the one that was started before, else one that is started now; or the error
-/// that what the variable `timeout` holds is no number.
+/// The timer of a wait: the one that was started before, else one that is started now.
+///
+/// # Errors
+/// What the variable `timeout` holds is no number; or memory is refused for the error.
 pub(crate) fn clock_of<A: Allocator + Copy>(
     alloc: A,
     state: &State<A>,
     clock: Option<Timer>,
     seconds: Option<i64>,
-) -> Result<Result<Timer, Fault<A>>, NoMemory>
-    ensures timed { (s : Status) → FitsState state.now s → IfOk result (λ r.
-        Timed r s (definition.on_clock clock seconds s)) }
-    ensures refused { IsTrue (is_some clock) → IsOk result }
-    ensures running { IsTrue (is_some clock) → IfOk result (λ r. IsOk r) }
+) -> Result<Timer, Raise<A>>
+    ensures clock { (s : Status) → FitsState state.now s →
+        Answers (λ timer. timer) (definition.clock_of clock seconds s) result }
+    ensures running { IsTrue (is_some clock) → IsOk result }
 {
     match clock {
-        Some(clock) => Ok(Ok(clock)),
+        Some(clock) => Ok(clock),
         None => started(alloc, state, seconds),
     }
 }
@@ -42,32 +43,17 @@ fn started<A: Allocator + Copy>(
     alloc: A,
     state: &State<A>,
     seconds: Option<i64>,
-) -> Result<Result<Timer, Fault<A>>, NoMemory>
-    ensures { (s : Status) → FitsState state.now s → IfOk result (λ r.
-        Timed r s (definition.on_start seconds s)) }
+) -> Result<Timer, Raise<A>>
+    ensures { (s : Status) → FitsState state.now s →
+        Answers (λ timer. timer) (definition.started seconds s) result }
 {
-    match seconds {
-        Some(seconds) => Ok(Ok(timer_of(seconds))),
-        None => by_variable(alloc, state),
+    if let Some(seconds) = seconds {
+        return Ok(timer_of(seconds));
     }
-}
-
-/// The timer that the variable asks for.
-fn by_variable<A: Allocator + Copy>(
-    alloc: A,
-    state: &State<A>,
-) -> Result<Result<Timer, Fault<A>>, NoMemory>
-    ensures { (s : Status) → FitsState state.now s → IfOk result (λ r.
-        Timed r s (definition.on_start None s)) }
-{
-    let Some(text) = consulted(state, TIMEOUT) else {
-        return Ok(Ok(Timer::Start(SECONDS)));
-    };
-    let Some(seconds) = whole_number(text.as_slice()) else {
-        let text = Vec::from_slice(alloc, text.as_slice())?;
-        return Ok(Err(Fault::NotANumber(text)));
-    };
-    Ok(Ok(timer_of(seconds)))
+    match consulted(state, TIMEOUT) {
+        Some(text) => Ok(timer_of(number_of(alloc, text.as_slice())?)),
+        None => Ok(Timer::Start(SECONDS)),
+    }
 }
 
 /// The timer of so many seconds; fewer than none are no timer.

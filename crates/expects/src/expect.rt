@@ -2,7 +2,7 @@
 
 ghost use Rattle.std.specs.Prelude.{◌≡◌, ◌≤◌, ℕ, IfOk, MatchOption};
 ghost use Rattle.acts.specs.Flaw as flaw;
-ghost use Rattle.acts.specs.Flaw.{flaw_of};
+ghost use Rattle.acts.specs.Raise.{Raises};
 ghost use Rattle.dialog.specs.Misreads as misread;
 ghost use Rattle.expects.specs.Expect as definition;
 ghost use Rattle.expects.specs.Parts.{Tells};
@@ -13,9 +13,12 @@ ghost use Rattle.state.specs.Status.{Status};
 ghost use Rattle.state.specs.View.{FitsState};
 
 use crate::form::{Form, is_braced};
+use crate::resuming::shut;
 use crate::turn::{Begun, Opening, Turn};
-use acts::{Fault, Id, NoMemory};
+use acts::raise::{bad_flag, not_open};
+use acts::{Fault, Id, NoMemory, Raise};
 use dialog::{BranchError, Branches, Effective, Trigger};
+use kinds::failed;
 use state::State;
 use state::faults::no_script;
 use state::outcome::raised;
@@ -89,7 +92,7 @@ pub fn by_words<A: Allocator + Copy>(
     let current = id_in_force(state);
     match Branches::read(alloc, words, current, form.stands(), &state.ids.table) {
         Ok(branches) => on_branches(alloc, state, form, &branches, levels),
-        Err(error) => Ok(Opening::Has(raised(alloc, &told(alloc, state, error)?)?)),
+        Err(error) => Ok(Opening::Has(failed(alloc, told(alloc, state, error))?)),
     }
 }
 
@@ -139,37 +142,29 @@ fn on_branches<A: Allocator + Copy>(
 }
 
 /// Why words say no branches, as the script's error.
-fn told<A: Allocator + Copy>(
-    alloc: A,
-    state: &State<A>,
-    error: BranchError<'_>,
-) -> Result<Fault<A>, NoMemory>
-    ensures { (s : Status) → FitsState state.now s → IfOk result (λ fault.
-        Tells (misread.flaw_of error.entry) fault s) }
+fn told<A: Allocator + Copy>(alloc: A, state: &State<A>, error: BranchError<'_>) -> Raise<A>
+    ensures { (s : Status) → FitsState state.now s →
+        Tells (misread.flaw_of error.entry) result s }
 {
     match error {
-        BranchError::NotIds(text) => {
-            let text = Vec::from_slice(alloc, text)?;
-            Ok(Fault::NotOpen(Some(text)))
-        }
-        BranchError::NotOpen(id) => Ok(Fault::NotOpen(Some(id.text(alloc)?))),
+        BranchError::NotIds(text) => not_open(alloc, text),
+        BranchError::NotOpen(id) => shut(alloc, Some(id)),
         BranchError::NoneInForce => not_in_force(alloc, state),
-        BranchError::NoPattern => Ok(Fault::MissingWord),
-        BranchError::RegexNotHere => Ok(Fault::RegexNotHere),
-        BranchError::BadFlag(word) => Ok(Fault::BadFlag(Vec::from_slice(alloc, word)?)),
-        BranchError::TooLong => Ok(Fault::PatternTooLong),
-        BranchError::NoMemory(refusal) => Err(refusal),
+        BranchError::NoPattern => Raise::Fault(Fault::MissingWord),
+        BranchError::RegexNotHere => Raise::Fault(Fault::RegexNotHere),
+        BranchError::BadFlag(word) => bad_flag(alloc, word),
+        BranchError::TooLong => Raise::Fault(Fault::PatternTooLong),
+        BranchError::NoMemory(refusal) => refusal.into(),
     }
 }
 
 /// The error that what the variable `spawn_id` holds names no open id.
-fn not_in_force<A: Allocator + Copy>(alloc: A, state: &State<A>) -> Result<Fault<A>, NoMemory>
-    ensures { (s : Status) → FitsState state.now s → IfOk result (λ fault.
-        flaw_of fault ≡ flaw.NotOpen (definition.id_named s)) }
+fn not_in_force<A: Allocator + Copy>(alloc: A, state: &State<A>) -> Raise<A>
+    ensures { (s : Status) → FitsState state.now s →
+        Raises (flaw.NotOpen (definition.id_named s)) result }
 {
-    let Some(text) = consulted(state, SPAWN_ID) else {
-        return Ok(Fault::NotOpen(None));
-    };
-    let text = Vec::from_slice(alloc, text.as_slice())?;
-    Ok(Fault::NotOpen(Some(text)))
+    match consulted(state, SPAWN_ID) {
+        Some(text) => not_open(alloc, text.as_slice()),
+        None => Raise::Fault(Fault::NotOpen(None)),
+    }
 }

@@ -1,119 +1,147 @@
 //! What a choice sets (expect(1), expect_out).
 
-ghost use Rattle.std.specs.Prelude.{◌≡◌, ◌-ℤ◌, ◌∷◌, [], drop, pos, IfOk};
+ghost use Rattle.std.specs.Prelude.{◌≡◌, ◌-ℤ◌, drop, pos, IfOk};
 ghost use Rattle.std.specs.Fmt.{signed_decimal};
-ghost use Rattle.acts.specs.Id.{id_text};
 ghost use Rattle.dialog.specs.Selects.{taken_by};
-ghost use Rattle.expects.specs.Parts.{Reports, Sets, taken_of};
+ghost use Rattle.expects.specs.Parts.{Writes, taken_of};
 ghost use Rattle.expects.specs.Report as definition;
-ghost use Rattle.state.specs.Status.{Status};
-ghost use Rattle.state.specs.View.{FitsState};
 
-use acts::{Fault, NoMemory};
+use acts::{Id, NoMemory, Raise};
 use dialog::Taken;
-use state::State;
-use state::variables::store;
+use kinds::variables::put;
 use std::alloc::Allocator;
+use tclstate::Scopes;
 use tcltext::{Found, Value, print_int, print_nat};
 
 /// The array whose elements a choice sets (expect(1), expect).
 const EXPECT_OUT: &[u8] = b"expect_out";
 
-/// Sets what a choice has for `expect_out`, if it has something, or answers the script's error
-/// where an element can't be set.
+/// Sets what a choice has for `expect_out`, if it has something.
+///
+/// # Errors
+/// An element can't be set; those before it are. Or memory is refused.
 pub(crate) fn report<A: Allocator + Copy>(
     alloc: A,
-    state: &mut State<A>,
+    scopes: &mut Scopes<A>,
     taken: Option<Taken<A>>,
-) -> Result<Result<(), Fault<A>>, NoMemory>
-    ensures reports { (s : Status) → FitsState state.old s → IfOk result (λ r.
-        Reports r state.new s (taken_by taken)) }
-    ensures left { state.new.left ≡ state.old.left }
+) -> Result<(), Raise<A>>
+    ensures { Writes (definition.reported (taken_by taken) scopes.old) result scopes.new }
 {
     match taken {
-        Some(taken) => set_all(alloc, state, taken),
-        None => Ok(Ok(())),
+        Some(taken) => tell(alloc, scopes, taken),
+        None => Ok(()),
     }
 }
 
 /// Sets all elements: the match, the id, the buffer, in this order.
-fn set_all<A: Allocator + Copy>(
+fn tell<A: Allocator + Copy>(
     alloc: A,
-    state: &mut State<A>,
+    scopes: &mut Scopes<A>,
     taken: Taken<A>,
-) -> Result<Result<(), Fault<A>>, NoMemory>
-    ensures sets { (s : Status) → FitsState state.old s → IfOk result (λ r.
-        Sets r state.new s (definition.elements (taken_of taken))) }
-    ensures left { state.new.left ≡ state.old.left }
+) -> Result<(), Raise<A>>
+    ensures { Writes (definition.tells (taken_of taken) scopes.old) result scopes.new }
 {
-    let buffer = &taken.buffer;
-    if let Err(fault) = report_match(alloc, state, taken.found, taken.tells_places, buffer)? {
-        return Ok(Err(fault));
-    }
-    let name = Value::new(alloc, taken.id.text(alloc)?)?;
-    if let Err(fault) = set(alloc, state, b"spawn_id", name)? {
-        return Ok(Err(fault));
-    }
+    tell_match(
+        alloc,
+        scopes,
+        taken.found,
+        taken.tells_places,
+        &taken.buffer,
+    )?;
+    tell_id(alloc, scopes, taken.id)?;
     let buffer = Value::new(alloc, taken.buffer)?;
-    set(alloc, state, b"buffer", buffer)
+    Ok(set(alloc, scopes, b"buffer", buffer)?)
+}
+
+/// Sets the id.
+fn tell_id<A: Allocator + Copy>(alloc: A, scopes: &mut Scopes<A>, id: Id) -> Result<(), Raise<A>>
+    ensures { Writes (definition.tells_id id scopes.old) result scopes.new }
+{
+    let name = Value::new(alloc, id.text(alloc)?)?;
+    Ok(set(alloc, scopes, b"spawn_id", name)?)
 }
 
 /// Sets what tells a match, if there is one: its places, where the branch says so, and its bytes.
-fn report_match<A: Allocator + Copy>(
+fn tell_match<A: Allocator + Copy>(
     alloc: A,
-    state: &mut State<A>,
+    scopes: &mut Scopes<A>,
     found: Option<Found>,
     tells_places: bool,
     buffer: &[u8],
-) -> Result<Result<(), Fault<A>>, NoMemory>
-    ensures sets { (s : Status) → FitsState state.old s → IfOk result (λ r.
-        Sets r state.new s (definition.match_told tells_places found buffer.now)) }
-    ensures left { state.new.left ≡ state.old.left }
+) -> Result<(), Raise<A>>
+    ensures { Writes (definition.tells_match tells_places found buffer.now scopes.old)
+        result scopes.new }
 {
     let Some(found) = found else {
-        return Ok(Ok(()));
+        return Ok(());
     };
-    if let Err(fault) = report_places(alloc, state, tells_places, found)? {
-        return Ok(Err(fault));
-    }
+    tell_places(alloc, scopes, tells_places, found)?;
     let matched = Value::from_slice(alloc, behind(buffer, found.start))?;
-    set(alloc, state, b"0,string", matched)
+    Ok(set(alloc, scopes, b"0,string", matched)?)
 }
 
 /// Sets the places of the first byte of a match and of its last one, where the branch says so.
-fn report_places<A: Allocator + Copy>(
+fn tell_places<A: Allocator + Copy>(
     alloc: A,
-    state: &mut State<A>,
+    scopes: &mut Scopes<A>,
     tells_places: bool,
     found: Found,
-) -> Result<Result<(), Fault<A>>, NoMemory>
-    ensures sets { (s : Status) → FitsState state.old s → IfOk result (λ r.
-        Sets r state.new s (definition.places_told tells_places found)) }
-    ensures left { state.new.left ≡ state.old.left }
+) -> Result<(), Raise<A>>
+    ensures { Writes (definition.tells_places tells_places found scopes.old) result scopes.new }
 {
-    if !tells_places {
-        return Ok(Ok(()));
-    }
-    let start = Value::new(alloc, print_nat(alloc, found.start as u64)?)?;
-    let end = Value::new(alloc, last_place(alloc, found.end)?)?;
-    match set(alloc, state, b"0,start", start)? {
-        Ok(()) => set(alloc, state, b"0,end", end),
-        Err(fault) => Ok(Err(fault)),
+    if tells_places {
+        tell_both_places(alloc, scopes, found)
+    } else {
+        Ok(())
     }
 }
 
-/// Sets an element, or answers the script's error where it can't be set.
+/// Sets the places of the first byte of a match and of its last one.
+fn tell_both_places<A: Allocator + Copy>(
+    alloc: A,
+    scopes: &mut Scopes<A>,
+    found: Found,
+) -> Result<(), Raise<A>>
+    ensures { Writes (definition.tells_both_places found scopes.old) result scopes.new }
+{
+    tell_start(alloc, scopes, found)?;
+    Ok(tell_end(alloc, scopes, found)?)
+}
+
+/// Sets the place of the first byte of a match.
+fn tell_start<A: Allocator + Copy>(
+    alloc: A,
+    scopes: &mut Scopes<A>,
+    found: Found,
+) -> Result<(), Raise<A>>
+    ensures { Writes (definition.tells_start found scopes.old) result scopes.new }
+{
+    let start = Value::new(alloc, print_nat(alloc, found.start as u64)?)?;
+    Ok(set(alloc, scopes, b"0,start", start)?)
+}
+
+/// Sets the place of the last byte of a match.
+fn tell_end<A: Allocator + Copy>(
+    alloc: A,
+    scopes: &mut Scopes<A>,
+    found: Found,
+) -> Result<(), Raise<A>>
+    ensures { Writes (definition.tells_end found scopes.old) result scopes.new }
+{
+    let end = Value::new(alloc, last_place(alloc, found.end)?)?;
+    Ok(set(alloc, scopes, b"0,end", end)?)
+}
+
+/// Sets an element.
 fn set<A: Allocator + Copy>(
     alloc: A,
-    state: &mut State<A>,
+    scopes: &mut Scopes<A>,
     index: &[u8],
     value: Value<A>,
-) -> Result<Result<(), Fault<A>>, NoMemory>
-    ensures sets { (s : Status) → FitsState state.old s → IfOk result (λ r.
-        Sets r state.new s ((index.now, value) ∷ [])) }
-    ensures left { state.new.left ≡ state.old.left }
+) -> Result<(), Raise<A>>
+    ensures { Writes (definition.sets index.now value scopes.old) result scopes.new }
 {
-    store(alloc, state, EXPECT_OUT, Some(index), value)
+    put(alloc, scopes, EXPECT_OUT, Some(index), value)
 }
 
 /// The place before an end, in digits: an empty match at the beginning ends before it.

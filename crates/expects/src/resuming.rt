@@ -2,7 +2,7 @@
 
 ghost use Rattle.std.specs.Prelude.{◌≡◌, ◌≤◌, IfOk};
 ghost use Rattle.acts.specs.Flaw as flaw;
-ghost use Rattle.acts.specs.Flaw.{flaw_of};
+ghost use Rattle.acts.specs.Raise.{Raises};
 ghost use Rattle.expects.specs.Turn as definition;
 ghost use Rattle.expects.specs.View.{Comes, IsPlainOpening, TurnsBehind, course_of_opening, turn_of};
 ghost use Rattle.state.specs.Outcome.{Leaves};
@@ -10,9 +10,9 @@ ghost use Rattle.state.specs.Status.{Status};
 ghost use Rattle.state.specs.View.{FitsState, code_of, outcome_of};
 
 use crate::turn::{Opening, Turn};
-use acts::{Fault, Id, NoMemory, Timer};
+use acts::{Fault, Id, NoMemory, Raise, Timer};
 use dialog::Trigger;
-use state::outcome::raised;
+use kinds::failed;
 use state::{Code, Leave, Outcome, State};
 use std::alloc::Allocator;
 use tcltext::Value;
@@ -83,19 +83,22 @@ fn again<A: Allocator + Copy>(
     let first = first_of(turn.effective.ids());
     turn.effective.prune(&state.ids.table);
     if turn.effective.ids().is_empty() {
-        return Ok(Opening::Has(raised(alloc, &shut(alloc, first)?)?));
+        return Ok(Opening::Has(failed(alloc, shut(alloc, first))?));
     }
     turn.begin_again(clock);
     Ok(Opening::Turns(turn))
 }
 
 /// The error that an id is not open.
-fn shut<A: Allocator>(alloc: A, id: Option<Id>) -> Result<Fault<A>, NoMemory>
-    ensures { IfOk result (λ fault. flaw_of fault ≡ flaw.NotOpen (definition.named_by id)) }
+pub(crate) fn shut<A: Allocator + Copy>(alloc: A, id: Option<Id>) -> Raise<A>
+    ensures { Raises (flaw.NotOpen (definition.named_by id)) result }
 {
-    match id {
-        Some(id) => Ok(Fault::NotOpen(Some(id.text(alloc)?))),
-        None => Ok(Fault::NotOpen(None)),
+    let Some(id) = id else {
+        return Raise::Fault(Fault::NotOpen(None));
+    };
+    match id.text(alloc) {
+        Ok(text) => Raise::Fault(Fault::NotOpen(Some(text))),
+        Err(refusal) => refusal.into(),
     }
 }
 

@@ -26,6 +26,7 @@ use crate::report::report;
 use crate::turn::{Turn, Turned, Waits};
 use acts::{Act, Fault, NoMemory, Timer};
 use dialog::{Choice, Effective, Trigger};
+use kinds::failed;
 use state::outcome::raised;
 use state::{Leave, State, Stop};
 use std::alloc::Allocator;
@@ -108,9 +109,9 @@ fn does<A: Allocator + Copy>(
     ensures plain { IfOk result (λ turned. IsPlain turned) }
 {
     let Choice { body, taken } = choice;
-    match report(alloc, state, taken)? {
+    match report(alloc, &mut state.scopes, taken) {
         Ok(()) => run(alloc, state, turn, &body),
-        Err(fault) => Ok(Turned::Has(raised(alloc, &fault)?)),
+        Err(why) => Ok(Turned::Has(failed(alloc, why)?)),
     }
 }
 
@@ -148,9 +149,9 @@ fn wait<A: Allocator + Copy>(
     ensures refused { IsTrue (is_some turn.value.clock) →
         OnErr result (vec_capacity turn.value.rows < length turn.value.effective.ids) }
 {
-    match clock_of(alloc, state, turn.clock, turn.seconds)? {
+    match clock_of(alloc, state, turn.clock, turn.seconds) {
         Ok(clock) => wait_by(alloc, state, turn, clock),
-        Err(fault) => Ok(Turned::Has(raised(alloc, &fault)?)),
+        Err(why) => Ok(Turned::Has(failed(alloc, why)?)),
     }
 }
 

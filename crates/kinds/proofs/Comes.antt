@@ -1,5 +1,5 @@
 -- What a command of a kind answers is as far as its course.
-use Rattle.std.proofs.Common.{◌≡◌, ℕ, List, Result, Ok, Err, IfOk, IsOkAnd, sym, ap, ◌∙◌}
+use Rattle.std.proofs.Common.{◌≡◌, ℕ, List, Result, Ok, Err, IfOk, IsOkAnd, refl, sym, ap, ◌∙◌}
 use Rattle.acts.specs.Deed.{Deed, Reply, deed_of}
 use Rattle.acts.specs.Flaw.{Flaw, flaw_of, text_of}
 use Rattle.acts.specs.Raise.{Fails, Raises}
@@ -9,8 +9,11 @@ use Rattle.kinds.specs.Answers.{Comes, EndsWith, Goes, GoesOn, Settles, Talks}
 use Rattle.kinds.specs.Edits.{edited, opened_by}
 use Rattle.kinds.specs.Exchange.{Exchange, Over, Edits, Opens, Performs, course, talks}
 use Rattle.kinds.specs.Kinds.{exits, locals}
+use Rattle.meanings.specs.Meaning.{Meaning}
+use Rattle.meanings.specs.View.{Answers as IsMeant}
 use Rattle.memory.specs.declared.NoMemory.{NoMemory}
 use Rattle.plan.specs.Plan.{Ends, Asks}
+use Rattle.state.proofs.Meant.{comes_reaches}
 use Rattle.state.proofs.Reaches.{same_reaches, then_reaches}
 use Rattle.state.proofs.Shown.{over_after}
 use Rattle.state.specs.declared.leaf.Leaf.{Leaf}
@@ -21,6 +24,7 @@ use Rattle.state.specs.declared.outcome.Leave.TheVariants as leave
 use Rattle.state.specs.declared.state.State.{State}
 use Rattle.state.specs.Dialogue.{Course, raises, replied}
 use Rattle.state.specs.Leaf.{Maps, Shows, course_of}
+use Rattle.state.specs.Meant.{meant}
 use Rattle.state.specs.Outcome.{Outcome}
 use Rattle.state.specs.Status.{Status}
 use Rattle.state.specs.View.{FitsState, outcome_of}
@@ -181,3 +185,18 @@ module _ {A W : Type 0} (next : W → Deed → Status → Reply → Course) (sta
     reaches = same_reaches (ap (λ m. locals m s) is);
   }
   local_fails meant s (raise.NoMemory refusal) is fits = tt
+
+  -- a function of its words
+  pub meant_shows : (m : Meaning) (s : Status) (value : List ℕ) → IsMeant {A = A} m (Ok value) →
+      FitsState state s → Shows next (leaf.Has (Ok value)) state (meant m s)
+  meant_shows m s value is fits =
+      over_after next (leaf.Has (Ok value)) refl fits (comes_reaches m (Ok value) s is)
+
+  pub meant_fails : (m : Meaning) (s : Status) (why : Raise A) → IsMeant m (Err why) →
+      FitsState state s → Comes next (meant m s) (Err why) state
+  meant_fails m s (raise.Fault why) is fits = record {
+    status = s;
+    fits = fits;
+    reaches = comes_reaches m (Err (flaw_of why)) s is;
+  }
+  meant_fails m s (raise.NoMemory refusal) is fits = tt

@@ -12,6 +12,7 @@ use Rattle.kinds.specs.Exchange.{Exchange, Over, Edits, Opens, Performs, course}
 use Rattle.state.specs.declared.leaf.Leaf.{Leaf}
 use Rattle.state.specs.declared.leaf.Leaf.TheVariants as leaf
 use Rattle.state.specs.declared.outcome.Code.TheVariants as code
+use Rattle.state.specs.declared.outcome.Leave.{Leave}
 use Rattle.state.specs.declared.outcome.Leave.TheVariants as leave
 use Rattle.state.specs.declared.state.State.{State}
 use Rattle.state.specs.Dialogue.{Course}
@@ -102,3 +103,8 @@ abbrev pub Settles : {A W : Type 0} → Result (Leaf A W) (Raise A) → Leaf A W
 Settles (Ok l) settled = settled ≡ l
 Settles (Err (raise.Fault why)) settled = HasOutcome settled (raised why)
 Settles (Err (raise.NoMemory refusal)) settled = ⊥
+
+-- the command ends with this error
+abbrev pub IsFailure : {A : Type 0} → Raise A → Result (List ℕ) (Leave A) → Type 0
+IsFailure (raise.Fault why) outcome = outcome_of outcome ≡ raised why
+IsFailure (raise.NoMemory refusal) outcome = ⊥

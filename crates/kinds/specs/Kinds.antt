@@ -16,3 +16,8 @@ exits (Err flaw) s = raises flaw s
 abbrev pub locals : Result (Scopes × List ℕ) Flaw → Status → Course
 locals (Ok done) s = gives done.1 (record s { scopes = done.0 })
 locals (Err flaw) s = raises flaw s
+
+-- on with a value; an error ends the command (Tcl(n), return codes)
+abbrev pub on_ok : {X : Type 0} → Result X Flaw → Status → (X → Course) → Course
+on_ok (Ok x) s next = next x
+on_ok (Err flaw) s next = raises flaw s

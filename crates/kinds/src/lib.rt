@@ -6,4 +6,4 @@ mod settled;
 pub mod variables;
 pub mod words;
 
-pub use settled::settle;
+pub use settled::{failed, settle};

@@ -1,11 +1,12 @@
 //! How a command ends that answers an error.
 
 ghost use Rattle.std.specs.Prelude.{IfOk};
-ghost use Rattle.kinds.specs.Answers.{Settles};
+ghost use Rattle.kinds.specs.Answers.{IsFailure, Settles};
 
 use acts::{NoMemory, Raise};
-use state::Leaf;
 use state::leaf::raises;
+use state::outcome::raised;
+use state::{Leaf, Outcome};
 use std::alloc::Allocator;
 
 /// How far a command has come: its error, where it answers one, is how it ends.
@@ -22,5 +23,18 @@ pub fn settle<A: Allocator + Copy, W: Drop>(
         Ok(leaf) => Ok(leaf),
         Err(Raise::Fault(fault)) => raises(alloc, &fault),
         Err(Raise::NoMemory(refusal)) => Err(refusal),
+    }
+}
+
+/// How a command ends with an error.
+///
+/// # Errors
+/// `NoMemory` where the command was refused memory, or the text of its error is.
+pub fn failed<A: Allocator + Copy>(alloc: A, why: Raise<A>) -> Result<Outcome<A>, NoMemory>
+    ensures { IfOk result (λ outcome. IsFailure why outcome) }
+{
+    match why {
+        Raise::Fault(fault) => raised(alloc, &fault),
+        Raise::NoMemory(refusal) => Err(refusal),
     }
 }

@@ -14,12 +14,12 @@ returns-in-Ok-clause-comes g c = λ s fits.
     (c.id_in_force-current.ensures s fits) c.stands.ensures c.in-Ok.ensures.branches)
     (c.on_branches.ensures.comes s fits)
 
-pub returns-in_ok-raised-in-Err-clause-comes : goal.returns-in_ok-raised-in-Err-clause-comes
-returns-in_ok-raised-in-Err-clause-comes g c = λ s fits.
+pub returns-in_ok-failed-in-Err-clause-comes : goal.returns-in_ok-failed-in-Err-clause-comes
+returns-in_ok-failed-in-Err-clause-comes g c = λ s fits.
     let form = form_of c.args.form in
     comes_reading course_of_opening _ _ s _ fits
     (misread_reaches form c.args.levels s c.args.words.now c.args.state.now.ids.table.lines
     c.id_in_force-current.result c.stands.result (flaw_of c.in-Err.error)
-    c.in_ok-told-in-Err.field-0 c.in_ok-raised-in-Err.field-0 fits.ids.peers.lines
-    (c.id_in_force-current.ensures s fits) c.stands.ensures (c.in_ok-told-in-Err.ensures s fits)
-    c.in-Err.ensures.flaw c.in_ok-raised-in-Err.ensures)
+    c.told.result c.in_ok-failed-in-Err.field-0 fits.ids.peers.lines
+    (c.id_in_force-current.ensures s fits) c.stands.ensures (c.told.ensures s fits)
+    c.in-Err.ensures.flaw c.in_ok-failed-in-Err.ensures)

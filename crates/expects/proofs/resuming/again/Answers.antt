@@ -1,12 +1,13 @@
-use Rattle.std.proofs.Common.{◌≡◌, ◌∙◌, ◌==◌, true, false, length, sym, ap}
+use Rattle.std.proofs.Common.{◌≡◌, ◌∙◌, ◌==◌, true, false, length, sym, ap, subst}
 use Rattle.acts.specs.Flaw as flaw
-use Rattle.acts.specs.Flaw.{flaw_of, text_of}
+use Rattle.acts.specs.Raise.{Raises}
 use Rattle.dialog.specs.Standing.{pruned}
 use Rattle.expects.proofs.Answering.{again_on, again_over}
-use Rattle.expects.proofs.Comings.{begins_as, comes_as, over_is}
+use Rattle.expects.proofs.Comings.{begins_as, comes_as}
+use Rattle.expects.proofs.Reporting.{failed_is}
 use Rattle.expects.specs.Turn.{first_of, leaving, named_by, renewed}
 use Rattle.expects.specs.View.{course_of_opening, turn_of}
-use Rattle.state.specs.Outcome.{Leaves, Error}
+use Rattle.state.specs.Dialogue.{raises}
 use Rattle.state.specs.Status.{lines}
 use Rattle.expects.proofs.resuming.again.Goals as goal
 
@@ -24,14 +25,15 @@ returns-then-is_empty-clause-comes g c = λ s fits.
     let first : c.first_of-first.result ≡ first_of t.effective.ids =
     c.first_of-first.ensures
     ∙ ap first_of (c.ids.ensures ∙ ap (λ u. u.effective.ids) c.deref.ensures)
-    in let told : flaw_of c.in_ok-shut.field-0
-    ≡ flaw.NotOpen (named_by (first_of t.effective.ids)) =
-    c.in_ok-shut.ensures ∙ ap (λ i. flaw.NotOpen (named_by i)) first in
+    in
     comes_as course_of_opening _ _ s _ fits
-    (over_is c.in_ok-raised.field-0
-    (Leaves Error (text_of (flaw.NotOpen (named_by (first_of t.effective.ids))))) s _
-    (c.in_ok-raised.ensures ∙ ap (λ f. Leaves Error (text_of f)) told)
-    (again_over c.args.clock (turn_of t) t.levels s c.prune.new.self left none))
+    (failed_is c.shut.result c.in_ok-failed.field-0 s _ c.in_ok-failed.ensures
+    (λ fault is.
+    again_over c.args.clock (turn_of t) t.levels s c.prune.new.self left none
+    ∙ ap (λ i. raises (flaw.NotOpen (named_by i)) s) (sym first)
+    ∙ ap (λ f. raises f s)
+    (sym (subst (λ why. Raises (flaw.NotOpen (named_by c.first_of-first.result)) why) is
+    c.shut.ensures))))
 
 pub returns-clause-comes : goal.returns-clause-comes
 returns-clause-comes g c = λ s fits.
