@@ -42,10 +42,7 @@ pub fn begin<A: Allocator + Copy>(
     Ok(Leaf::Asks(Act::Close(id), Waits { id }))
 }
 
-/// Goes on once the connection is closed.
-///
-/// # Errors
-/// None.
+/// Goes on once the connection is closed; there is no error.
 pub fn answered<A: Allocator + Copy>(
     state: &mut State<A>,
     waits: Waits,
