@@ -1,4 +1,1 @@
-pub mod Named
-pub mod Reaped
 pub mod Changed
-pub mod Behaves

@@ -1,9 +1,8 @@
 pub mod Words
+pub mod Channels
 pub mod Close
 pub mod Requests
-pub mod Settings
 pub mod MatchMax
 pub mod RemoveNulls
 pub mod Wait
 pub mod View
-pub mod Found

@@ -1,14 +1,10 @@
 -- The words of a command that reads a setting of ids, or sets it.
-use Rattle.std.specs.Prelude.{ℕ, Bool, true, false, List, [], ◌∷◌, codes, Option, Some, None, Result, Ok, Err, if◌then◌else◌}
+use Rattle.std.specs.Prelude.{ℕ, ◌==◌, ◌||◌, Bool, true, false, not, List, [], ◌∷◌, length, codes, Option, Some, None, Result, Ok, Err, if◌then◌else◌}
 use Rattle.std.specs.Str.{bytes_eq}
-use Rattle.acts.specs.declared.id.Id.{Id}
 use Rattle.acts.specs.Flaw.{Flaw}
 use Rattle.acts.specs.Flaw as flaw
-use Rattle.peers.specs.Words.{is_id_flag, misplaced, with_named}
+use Rattle.peers.specs.Words.{is_id_flag, misplaced}
 use Rattle.state.specs.Arguments.{is_flag}
-use Rattle.state.specs.Dialogue.{Course, raises}
-use Rattle.state.specs.Status.{Status}
-use Rattle.state.specs.Variables.{with_current}
 
 -- whose setting it is: that of later ids, or that of the id of a name, or else of the id in force
 -- (expect(1), match_max and remove_nulls)
@@ -37,9 +33,9 @@ no_room w command = if is_later_flag w then flaw.WrongArgs command else misplace
 -- the value behind the flags, if there is one (expect(1), match_max and remove_nulls)
 abbrev pub behind_flags : List ℕ → Whose → List (List ℕ) → Result Request Flaw
 behind_flags command whose [] = Ok (request_by whose None)
-behind_flags command whose (w ∷ []) =
-    if is_flag w then Err (no_room w command) else Ok (request_by whose (Some w))
-behind_flags command whose (w ∷ v ∷ vs) = Err (no_room w command)
+behind_flags command whose (w ∷ ws) =
+    if not (length ws == 0) || is_flag w then Err (no_room w command)
+    else Ok (request_by whose (Some w))
 
 -- the id of a name, which is not looked at for the setting of later ids (expect(1), match_max)
 abbrev pub whose_name : Bool → Option (List ℕ) → Whose
@@ -64,13 +60,3 @@ request command [] = behind_later command false []
 request command (w ∷ ws) =
     if is_later_flag w then behind_later command true ws
     else behind_later command false (w ∷ ws)
-
--- on with what is asked for, or with the error of the words
-abbrev pub on_request : Result Request Flaw → Status → (Request → Course) → Course
-on_request (Ok request) s next = next request
-on_request (Err flaw) s next = raises flaw s
-
--- on with the open id of a name, or else with the one in force (expect(1), spawn)
-abbrev pub with_id : Option (List ℕ) → Status → (Id → Course) → Course
-with_id None s next = with_current s next
-with_id (Some name) s next = with_named name s next

@@ -1,14 +1,9 @@
 -- The words of a command that takes an id behind a flag.
-use Rattle.std.specs.Prelude.{ℕ, Bool, List, codes, if◌then◌else◌}
+use Rattle.std.specs.Prelude.{ℕ, ◌&&◌, Bool, not, List, codes, if◌then◌else◌}
 use Rattle.std.specs.Str.{bytes_eq}
-use Rattle.acts.specs.declared.id.Id.{Id}
 use Rattle.acts.specs.Flaw.{Flaw}
 use Rattle.acts.specs.Flaw as flaw
-use Rattle.dialog.specs.Channels.{named}
 use Rattle.state.specs.Arguments.{is_flag}
-use Rattle.state.specs.Dialogue.{Course}
-use Rattle.state.specs.Status.{Status, lines}
-use Rattle.state.specs.Variables.{on_open}
 
 -- the flag behind which an id stands (expect(1), close and wait)
 abbrev pub is_id_flag : List ℕ → Bool
@@ -18,15 +13,10 @@ is_id_flag w = bytes_eq w (codes "-i")
 -- told for itself, else there are too many words (this project's own rule)
 abbrev pub misplaced : List ℕ → List ℕ → Flaw
 misplaced w command =
-    if is_id_flag w then flaw.WrongArgs command
-    else if is_flag w then flaw.BadArgument w command
+    if not (is_id_flag w) && is_flag w then flaw.BadArgument w command
     else flaw.WrongArgs command
 
 -- the error of three words or more, where one id at most stands behind the flag: that of the first
 -- word that has no room (this project's own rule)
 abbrev pub surplus : List ℕ → List ℕ → List ℕ → Flaw
 surplus w v command = if is_id_flag w then misplaced v command else misplaced w command
-
--- on with the open id of a name (expect(1), close)
-abbrev pub with_named : List ℕ → Status → (Id → Course) → Course
-with_named name s next = on_open (named (lines s) name) name s next

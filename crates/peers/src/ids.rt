@@ -1,90 +1,84 @@
-//! Changes of ids.
+//! The changes of what is kept of ids.
 
-ghost use Rattle.std.specs.Prelude.{◌≡◌, ◌==◌, not, filter, IfOk, OnOk, map, option_map};
-ghost use Rattle.dialog.specs.Peers.{set_nulls, sized};
-ghost use Rattle.peers.specs.Settings.{with_later, with_setting};
-ghost use Rattle.peers.specs.View.{setting_seen};
-ghost use Rattle.peers.specs.Wait.{among, without_unreaped};
-ghost use Rattle.state.specs.Ids as definition;
-ghost use Rattle.state.specs.View.{FitsIds, unreaped_of};
+ghost use Rattle.std.specs.Prelude.{◌≡◌, ◌==◌, not, filter, OnErr, OnOk};
+ghost use Rattle.kinds.specs.Edits.{DropsNulls, DropsNullsLater, Reaps, Shuts, Sizes, SizesLater, edited};
+ghost use Rattle.state.specs.Status.{Status};
+ghost use Rattle.state.specs.View.{FitsState};
 
-use crate::settings::Setting;
 use acts::{Id, NoMemory};
 use matchbuf::MatchBufError;
-use state::{Ids, Size, Unreaped};
+use state::{Size, State, Unreaped};
 use std::alloc::Allocator;
 
-/// Puts a setting at an id, if it is open.
-pub(crate) fn put<A: Allocator + Copy>(
-    ids: &mut Ids<A>,
+/// Sets the size of the buffer of an id, if it is open (expect(1), match_max). On `Err` nothing
+/// changes.
+///
+/// # Errors
+/// Memory is refused.
+pub(crate) fn resize<A: Allocator + Copy>(
+    state: &mut State<A>,
     id: Id,
-    setting: Setting,
+    size: Size,
 ) -> Result<(), NoMemory>
-    ensures { (meant : definition.Ids) → FitsIds ids.old meant → OnOk result
-        (FitsIds ids.new (definition.with_peer (with_setting (setting_seen setting)) id meant)) }
+    ensures sizes { (s : Status) → FitsState state.old s →
+        OnOk result (FitsState state.new (edited (Sizes id size.bytes) s)) }
+    ensures unchanged { OnErr result (state.new ≡ state.old) }
+    ensures left { state.new.left ≡ state.old.left }
 {
-    match setting {
-        Setting::Size(size) => resize(ids, id, size),
-        Setting::Nulls(drops) => {
-            reset(ids, id, drops);
-            Ok(())
-        }
-    }
-}
-
-/// Sets the size of the buffer of an id, if it is open (expect(1), match_max).
-fn resize<A: Allocator + Copy>(ids: &mut Ids<A>, id: Id, size: Size) -> Result<(), NoMemory>
-    ensures { (meant : definition.Ids) → FitsIds ids.old meant →
-        OnOk result (FitsIds ids.new (definition.with_peer (sized size.bytes) id meant)) }
-{
-    if !ids.table.is_open(id) {
+    if !state.ids.table.is_open(id) {
         return Ok(());
     }
-    match ids.table.set_max(id, size.bytes) {
+    match state.ids.table.set_max(id, size.bytes) {
         Ok(()) => Ok(()),
         Err(MatchBufError::NoMemory(refusal)) => Err(refusal),
         Err(MatchBufError::Size) => unreachable!(),
     }
 }
 
+/// Sets the size of the buffers of later ids (expect(1), match_max -d).
+pub(crate) fn resize_later<A: Allocator>(state: &mut State<A>, size: Size)
+    ensures sizes { (s : Status) → FitsState state.old s →
+        FitsState state.new (edited (SizesLater size.bytes) s) }
+    ensures left { state.new.left ≡ state.old.left }
+{
+    state.ids.size = size;
+}
+
 /// Sets whether nulls are removed from what arrives at an id, if it is open (expect(1),
 /// remove_nulls).
-fn reset<A: Allocator>(ids: &mut Ids<A>, id: Id, drops: bool)
-    ensures { (meant : definition.Ids) → FitsIds ids.old meant →
-        FitsIds ids.new (definition.with_peer (set_nulls drops) id meant) }
+pub(crate) fn reset<A: Allocator>(state: &mut State<A>, id: Id, drops: bool)
+    ensures drops { (s : Status) → FitsState state.old s →
+        FitsState state.new (edited (DropsNulls id drops) s) }
+    ensures left { state.new.left ≡ state.old.left }
 {
-    ids.table.set_nulls(id, drops);
+    state.ids.table.set_nulls(id, drops);
 }
 
-/// Keeps a setting of later ids.
-pub(crate) fn keep<A: Allocator>(ids: &mut Ids<A>, setting: Setting)
-    ensures { (meant : definition.Ids) → FitsIds ids.old meant →
-        FitsIds ids.new (with_later (setting_seen setting) meant) }
+/// Sets whether nulls are removed from what arrives at later ids (expect(1), remove_nulls -d).
+pub(crate) fn reset_later<A: Allocator>(state: &mut State<A>, drops: bool)
+    ensures drops { (s : Status) → FitsState state.old s →
+        FitsState state.new (edited (DropsNullsLater drops) s) }
+    ensures left { state.new.left ≡ state.old.left }
 {
-    match setting {
-        Setting::Size(size) => ids.size = size,
-        Setting::Nulls(drops) => ids.drops_nulls = drops,
-    }
+    state.ids.drops_nulls = drops;
 }
 
-/// The id, not yet waited for, that a text spells (expect(1), wait).
-pub(crate) fn unreaped_among(unreaped: &[Unreaped], text: &[u8]) -> Option<Unreaped>
-    ensures { option_map unreaped_of result ≡ among (map unreaped_of unreaped.now) text.now }
+/// Closes an id, if it is open, and takes its standing pairs away (expect(1), close).
+pub(crate) fn shut<A: Allocator + Copy>(state: &mut State<A>, id: Id)
+    ensures shuts { (s : Status) → FitsState state.old s →
+        FitsState state.new (edited (Shuts id) s) }
+    ensures left { state.new.left ≡ state.old.left }
 {
-    for other in unreaped {
-        if other.id.is_named(b"exp", text) {
-            return Some(*other);
-        }
-    }
-    None
+    state.ids.close(id);
 }
 
 /// Notes that an id, open or closed, was waited for (expect(1), wait).
-pub(crate) fn reap<A: Allocator>(ids: &mut Ids<A>, id: Id)
-    ensures { (meant : definition.Ids) → FitsIds ids.old meant →
-        FitsIds ids.new (without_unreaped id meant) }
+pub(crate) fn reap<A: Allocator>(state: &mut State<A>, id: Id)
+    ensures reaps { (s : Status) → FitsState state.old s →
+        FitsState state.new (edited (Reaps id) s) }
+    ensures left { state.new.left ≡ state.old.left }
 {
-    remove_unreaped(&mut ids.unreaped, id);
+    remove_unreaped(&mut state.ids.unreaped, id);
 }
 
 /// Removes an id from those that may be waited for.

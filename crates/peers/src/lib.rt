@@ -1,12 +1,11 @@
 //! The commands that close ids, wait for processes, and read and set what is kept of ids.
 #![tactic(auto)]
 
+mod channels;
 pub mod close;
 mod ids;
-pub mod laws;
 pub mod match_max;
 pub mod remove_nulls;
 pub mod requests;
-pub mod settings;
 pub mod wait;
 mod words;

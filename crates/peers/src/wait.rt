@@ -1,21 +1,20 @@
 //! `wait ?-i id?` (expect(1), wait).
-#![tactic(auto, using(state::proofs::Reaches::same_reaches))]
 
-ghost use Rattle.std.specs.Prelude.{◌≡◌, ◌++◌, ◌≤◌, codes, IfOk, OnOk};
-ghost use Rattle.acts.specs.Deed.{deed_of, reply_of};
-ghost use Rattle.dialog.specs.Views.{kind_of};
+ghost use Rattle.std.specs.Prelude.{◌≡◌, ◌++◌, ◌≤◌, IfOk, OnOk, map, option_map};
+ghost use Rattle.acts.specs.Deed.{reply_of};
+ghost use Rattle.acts.specs.Raise.{Answers};
+ghost use Rattle.kinds.specs.Answers.{GoesOn, Talks};
 ghost use Rattle.peers.specs.Wait as definition;
-ghost use Rattle.state.specs.Leaf.{Shows};
 ghost use Rattle.state.specs.Status.{Status};
-ghost use Rattle.state.specs.Variables as variables;
-ghost use Rattle.state.specs.View.{FitsState};
+ghost use Rattle.state.specs.View.{FitsState, unreaped_of};
 
-use crate::ids::{reap, unreaped_among};
+use crate::ids::reap;
 use crate::words::{is_id_flag, misplaced, surplus};
 use acts::decimal::push_decimal;
-use acts::{Act, Answer, Fault, Id, NoMemory};
+use acts::raise::not_open;
+use acts::{Act, Answer, Fault, Id, NoMemory, Raise};
 use dialog::Kind;
-use state::leaf::{gives, raises};
+use state::leaf::gives;
 use state::variables::{SPAWN_ID, consulted};
 use state::{Leaf, State, Unreaped};
 use std::alloc::Allocator;
@@ -29,42 +28,49 @@ pub struct Waits {
     pub pid: u64,
 }
 
-/// Begins to wait for the id in force, or the one that stands behind the flag.
+/// Begins to wait for the id in force, or the one that stands behind the flag; a connection is over
+/// at once.
+///
+/// # Errors
+/// The words are others, or the id was waited for; or memory is refused.
 pub fn begin<A: Allocator + Copy>(
     alloc: A,
     state: &mut State<A>,
     args: &[Value<A>],
-) -> Result<Leaf<A, Waits>, NoMemory>
-    ensures shows { (s : Status) → FitsState state.old s → IfOk result (λ leaf.
-        Shows definition.next_of leaf state.new (definition.wait args.now s)) }
+) -> Result<Leaf<A, Waits>, Raise<A>>
+    ensures shows { (s : Status) → FitsState state.old s →
+        Talks definition.next_of (definition.wait args.now s) s result state.new }
     ensures left { state.new.left ≤ state.old.left }
 {
-    match args {
-        [] => wait_current(alloc, state),
-        [word] => raises(alloc, &misplaced(alloc, word.as_slice(), b"wait")?),
-        [flag, name] => wait_by_flag(alloc, state, flag.as_slice(), name.as_slice()),
-        [flag, _, word, ..] => {
-            let fault = surplus(alloc, flag.as_slice(), word.as_slice(), b"wait")?;
-            raises(alloc, &fault)
+    let Unreaped { id, kind } = unreaped_said(alloc, state, args)?;
+    match kind {
+        Kind::Process(pid) => Ok(Leaf::Asks(Act::Reap(id), Waits { id, pid })),
+        Kind::Socket => {
+            let report = report(alloc, 0, id, Some(0))?;
+            reap(state, id);
+            Ok(gives(report))
         }
     }
 }
 
 /// Goes on with the answer to the wait.
+///
+/// # Errors
+/// Memory is refused.
 pub fn answered<A: Allocator + Copy>(
     alloc: A,
     state: &mut State<A>,
-    act: Act<A>,
     waits: Waits,
     answer: Answer<A>,
-) -> Result<Leaf<A, Waits>, NoMemory>
-    ensures shows { (s : Status) → FitsState state.old s → IfOk result (λ leaf.
-        Shows definition.next_of leaf state.new
-        (definition.next_of waits (deed_of act) s (reply_of answer))) }
+) -> Result<Leaf<A, Waits>, Raise<A>>
+    ensures shows { (s : Status) → FitsState state.old s → GoesOn definition.next_of
+        (definition.follows waits (reply_of answer)) s result state.new }
     ensures left { state.new.left ≤ state.old.left }
 {
     let Waits { id, pid } = waits;
-    finish(alloc, state, id, pid, status_in(&answer))
+    let report = report(alloc, pid, id, status_in(&answer))?;
+    reap(state, id);
+    Ok(gives(report))
 }
 
 /// The status with which a process ended, or none after a signal.
@@ -77,89 +83,77 @@ fn status_in<A: Allocator>(answer: &Answer<A>) -> Option<u8>
     }
 }
 
-/// Waits for the id that the variable names, where it is set.
-fn wait_current<A: Allocator + Copy>(
+/// The id, not yet waited for, that the words are about.
+fn unreaped_said<A: Allocator + Copy>(
     alloc: A,
-    state: &mut State<A>,
-) -> Result<Leaf<A, Waits>, NoMemory>
-    ensures shows { (s : Status) → FitsState state.old s → IfOk result (λ leaf.
-        Shows definition.next_of leaf state.new
-        (definition.waits_current (variables.consulted s.scopes (codes "spawn_id")) s)) }
-    ensures left { state.new.left ≡ state.old.left }
+    state: &State<A>,
+    args: &[Value<A>],
+) -> Result<Unreaped, Raise<A>>
+    ensures { (s : Status) → FitsState state.now s →
+        Answers unreaped_of (definition.unreaped_said args.now s) result }
 {
-    let text = match consulted(state, SPAWN_ID) {
-        Some(text) => text.share()?,
-        None => return raises(alloc, &Fault::NotOpen(None)),
-    };
-    wait_named(alloc, state, text.as_slice())
+    match args {
+        [] => unreaped_current(alloc, state),
+        [word] => Err(misplaced(alloc, word.as_slice(), b"wait")),
+        [flag, name, more @ ..] => by_flag(alloc, state, flag.as_slice(), name.as_slice(), more),
+    }
 }
 
-/// Waits for the id that stands behind the flag.
-fn wait_by_flag<A: Allocator + Copy>(
+/// The id, not yet waited for, that the variable names, where it is set.
+fn unreaped_current<A: Allocator + Copy>(alloc: A, state: &State<A>) -> Result<Unreaped, Raise<A>>
+    ensures { (s : Status) → FitsState state.now s →
+        Answers unreaped_of (definition.unreaped_current s) result }
+{
+    match consulted(state, SPAWN_ID) {
+        Some(text) => unreaped_named(alloc, state, text.as_slice()),
+        None => Err(Raise::Fault(Fault::NotOpen(None))),
+    }
+}
+
+/// The id, not yet waited for, that stands behind the flag, where nothing stands behind it.
+fn by_flag<A: Allocator + Copy>(
     alloc: A,
-    state: &mut State<A>,
+    state: &State<A>,
     flag: &[u8],
     name: &[u8],
-) -> Result<Leaf<A, Waits>, NoMemory>
-    ensures shows { (s : Status) → FitsState state.old s → IfOk result (λ leaf.
-        Shows definition.next_of leaf state.new (definition.by_flag flag.now name.now s)) }
-    ensures left { state.new.left ≡ state.old.left }
+    more: &[Value<A>],
+) -> Result<Unreaped, Raise<A>>
+    ensures { (s : Status) → FitsState state.now s →
+        Answers unreaped_of (definition.by_flag flag.now name.now more.now s) result }
 {
-    if is_id_flag(flag) {
-        wait_named(alloc, state, name)
-    } else {
-        raises(alloc, &misplaced(alloc, flag, b"wait")?)
+    match more {
+        [] if is_id_flag(flag) => unreaped_named(alloc, state, name),
+        [] => Err(misplaced(alloc, flag, b"wait")),
+        [word, ..] => Err(surplus(alloc, flag, word.as_slice(), b"wait")),
     }
 }
 
-/// Waits for the id that a text spells, where it was not waited for yet.
-fn wait_named<A: Allocator + Copy>(
+/// The id, not yet waited for, that a text spells.
+fn unreaped_named<A: Allocator + Copy>(
     alloc: A,
-    state: &mut State<A>,
+    state: &State<A>,
     text: &[u8],
-) -> Result<Leaf<A, Waits>, NoMemory>
-    ensures shows { (s : Status) → FitsState state.old s → IfOk result (λ leaf.
-        Shows definition.next_of leaf state.new (definition.waits_named text.now s)) }
-    ensures left { state.new.left ≡ state.old.left }
+) -> Result<Unreaped, Raise<A>>
+    ensures { (s : Status) → FitsState state.now s →
+        Answers unreaped_of (definition.unreaped_named text.now s) result }
 {
     match unreaped_among(&state.ids.unreaped, text) {
-        Some(Unreaped { id, kind }) => wait_by(alloc, state, kind, id),
-        None => raises(alloc, &Fault::NotOpen(Some(Vec::from_slice(alloc, text)?))),
+        Some(unreaped) => Ok(unreaped),
+        None => Err(not_open(alloc, text)),
     }
 }
 
-/// Waits for a process; a connection is over at once.
-fn wait_by<A: Allocator + Copy>(
-    alloc: A,
-    state: &mut State<A>,
-    kind: Kind,
-    id: Id,
-) -> Result<Leaf<A, Waits>, NoMemory>
-    ensures shows { (s : Status) → FitsState state.old s → IfOk result (λ leaf.
-        Shows definition.next_of leaf state.new (definition.waits_by (kind_of kind) id s)) }
-    ensures left { state.new.left ≡ state.old.left }
+/// The id, not yet waited for, that a text spells, where there is one.
+fn unreaped_among(unreaped: &[Unreaped], text: &[u8]) -> Option<Unreaped>
+    ensures { option_map unreaped_of result
+        ≡ definition.among (map unreaped_of unreaped.now) text.now }
 {
-    match kind {
-        Kind::Process(pid) => Ok(Leaf::Asks(Act::Reap(id), Waits { id, pid })),
-        Kind::Socket => finish(alloc, state, id, 0, Some(0)),
+    for other in unreaped {
+        if other.id.is_named(b"exp", text) {
+            return Some(*other);
+        }
     }
-}
-
-/// The id was waited for, and the command is over.
-fn finish<A: Allocator + Copy>(
-    alloc: A,
-    state: &mut State<A>,
-    id: Id,
-    pid: u64,
-    status: Option<u8>,
-) -> Result<Leaf<A, Waits>, NoMemory>
-    ensures shows { (s : Status) → FitsState state.old s → IfOk result (λ leaf.
-        Shows definition.next_of leaf state.new (definition.over id pid status s)) }
-    ensures left { state.new.left ≡ state.old.left }
-{
-    let report = report(alloc, pid, id, status)?;
-    reap(&mut state.ids, id);
-    Ok(gives(report))
+    None
 }
 
 /// What is given of an id that was waited for: the number of its process, the id, and how it ended.

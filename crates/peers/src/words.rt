@@ -1,10 +1,11 @@
 //! The words of a command that takes an id behind a flag.
 
-ghost use Rattle.std.specs.Prelude.{◌≡◌, IfOk};
-ghost use Rattle.acts.specs.Flaw.{flaw_of};
+ghost use Rattle.std.specs.Prelude.{◌≡◌};
+ghost use Rattle.acts.specs.Raise.{Raises};
 ghost use Rattle.peers.specs.Words as definition;
 
-use acts::{Fault, NoMemory};
+use acts::Raise;
+use acts::raise::{bad_argument, wrong_args};
 use state::arguments::is_flag;
 use std::alloc::Allocator;
 
@@ -15,37 +16,26 @@ pub(crate) fn is_id_flag(word: &[u8]) -> bool
     word == b"-i".as_slice()
 }
 
-/// The error of a word for which a command has no room: where it would be a flag and is none, it is
+/// Refuses a word for which a command has no room: where it would be a flag and is none, it is
 /// told for itself.
-pub(crate) fn misplaced<A: Allocator + Copy>(
-    alloc: A,
-    word: &[u8],
-    command: &[u8],
-) -> Result<Fault<A>, NoMemory>
-    ensures { IfOk result (λ fault.
-        flaw_of fault ≡ definition.misplaced word.now command.now) }
+pub(crate) fn misplaced<A: Allocator + Copy>(alloc: A, word: &[u8], command: &[u8]) -> Raise<A>
+    ensures { Raises (definition.misplaced word.now command.now) result }
 {
-    let command = Vec::from_slice(alloc, command)?;
-    if is_id_flag(word) {
-        return Ok(Fault::WrongArgs(command));
+    if !is_id_flag(word) && is_flag(word) {
+        bad_argument(alloc, word, command)
+    } else {
+        wrong_args(alloc, command)
     }
-    if is_flag(word) {
-        let word = Vec::from_slice(alloc, word)?;
-        return Ok(Fault::BadArgument { word, command });
-    }
-    Ok(Fault::WrongArgs(command))
 }
 
-/// The error of three words or more, by the first and the third: one id at most stands behind the
-/// flag.
+/// Refuses three words or more, by the first and the third: one id at most stands behind the flag.
 pub(crate) fn surplus<A: Allocator + Copy>(
     alloc: A,
     first: &[u8],
     third: &[u8],
     command: &[u8],
-) -> Result<Fault<A>, NoMemory>
-    ensures { IfOk result (λ fault.
-        flaw_of fault ≡ definition.surplus first.now third.now command.now) }
+) -> Raise<A>
+    ensures { Raises (definition.surplus first.now third.now command.now) result }
 {
     if is_id_flag(first) {
         misplaced(alloc, third, command)

@@ -1,7 +1,7 @@
 use Rattle.std.proofs.Common.{◌≡◌, drop, map}
 use Rattle.peers.specs.Wait.{among}
 use Rattle.state.specs.View.{unreaped_of}
-use Rattle.peers.proofs.ids.unreaped_among.Given as goal
+use Rattle.peers.proofs.wait.unreaped_among.Given as goal
 
 -- none so far is it
 abbrev pub invariant-loop-other : goal.invariant-loop-other
