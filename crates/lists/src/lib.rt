@@ -1,5 +1,0 @@
-//! The commands on lists.
-#![tactic(auto)]
-
-pub mod laws;
-pub mod list;
