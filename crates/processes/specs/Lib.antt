@@ -1,6 +1,2 @@
-pub mod View
-pub mod Numbers
-pub mod Socket
-pub mod Launch
-pub mod Spawn
 pub mod Sleep
+pub mod Numbers

@@ -1,9 +1,5 @@
 //! The commands that start programs and call servers, and let time pass.
 #![tactic(auto)]
 
-mod launch;
-pub mod laws;
 mod numbers;
 pub mod sleep;
-pub mod socket;
-pub mod spawn;
