@@ -1,2 +1,4 @@
 pub mod Sleep
 pub mod Numbers
+pub mod Onward
+pub mod Socket

@@ -3,3 +3,4 @@
 
 mod numbers;
 pub mod sleep;
+pub mod socket;
