@@ -1,0 +1,14 @@
+-- How the code's words stand to those of the definition.
+use Rattle.std.specs.Prelude.{ℕ, List, [], map}
+use Rattle.std.specs.declared.vec.Vec.{Vec}
+use Rattle.acts.specs.Deed.{Deed}
+use Rattle.acts.specs.Deed as said
+
+-- the words of a program that is to be started
+abbrev pub words_of : {A : Type 0} → List (Vec ℕ A) → List (List ℕ)
+words_of words = map (λ w. w.items) words
+
+-- the words that an act starts a program by
+abbrev pub words_spawned : Deed → List (List ℕ)
+words_spawned (said.Spawn id words) = words
+words_spawned _ = []

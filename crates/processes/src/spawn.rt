@@ -1,0 +1,205 @@
+//! `spawn ?-noecho? word ..`, `spawn ?-noecho? -open channel` (expect(1), spawn).
+
+ghost use Rattle.std.specs.Prelude.{◌≡◌, ◌≤◌, IfOk};
+ghost use Rattle.acts.specs.Deed.{deed_of, reply_of};
+ghost use Rattle.acts.specs.Raise.{Answers, Raises};
+ghost use Rattle.kinds.specs.Answers.{Goes, GoesOn, Talks};
+ghost use Rattle.processes.specs.Launch.{notes, starts};
+ghost use Rattle.processes.specs.Onward.{written};
+ghost use Rattle.processes.specs.Spawn as definition;
+ghost use Rattle.processes.specs.View.{words_of};
+ghost use Rattle.state.specs.Status.{Status};
+ghost use Rattle.state.specs.View.{FitsState};
+
+use crate::launch::{enter, launch, note, started};
+use acts::raise::{bad_argument, wrong_args};
+use acts::{Act, Answer, Fault, Id, NoMemory, Raise};
+use state::arguments::is_flag;
+use state::leaf::stops;
+use state::{Leaf, State, Stop};
+use std::alloc::Allocator;
+use tcltext::Value;
+
+/// What waits for the answer to an act.
+#[derive(Debug, Drop)]
+pub enum Waits<A: Allocator> {
+    /// The echo is on standard output, goes to the log where what arrives does, and a program of
+    /// these words is started under this id.
+    Shown(Id, Vec<Vec<u8, A>, A>),
+    /// The echo is in the log, and a program of these words is started under this id.
+    Noted(Id, Vec<Vec<u8, A>, A>),
+    /// The program is started, and its id is opened.
+    Started,
+}
+
+/// Begins to start a program, and echoes the command first unless `-noecho` stands before it, or
+/// puts the id of an open channel in force.
+///
+/// # Errors
+/// No word stands behind the flags, or a flag that is none; the channel is not open, or a word
+/// stands behind it; no id is left; the variable `spawn_id` is not written; or memory is refused.
+pub fn begin<A: Allocator + Copy>(
+    alloc: A,
+    state: &mut State<A>,
+    args: &[Value<A>],
+) -> Result<Leaf<A, Waits<A>>, Raise<A>>
+    ensures shows { (s : Status) → FitsState state.old s →
+        Talks definition.next_of (definition.spawn args.now s) s result state.new }
+    ensures left { state.new.left ≤ state.old.left }
+{
+    match args {
+        [flag, words @ ..] if is_noecho(flag.as_slice()) => spawn(alloc, state, false, words),
+        _ => spawn(alloc, state, true, args),
+    }
+}
+
+/// Goes on with the answer to a write of the echo or to the start of the program.
+///
+/// # Errors
+/// The program could not be started, no id is left, or the variable `spawn_id` is not written; or
+/// memory is refused.
+pub fn answered<A: Allocator + Copy>(
+    alloc: A,
+    state: &mut State<A>,
+    act: Act<A>,
+    waits: Waits<A>,
+    answer: Answer<A>,
+) -> Result<Leaf<A, Waits<A>>, Raise<A>>
+    ensures shows { (s : Status) → FitsState state.old s → GoesOn definition.next_of
+        (definition.follows waits (deed_of act) s (reply_of answer)) s result state.new }
+    ensures left { state.new.left ≤ state.old.left }
+{
+    match waits {
+        Waits::Shown(id, words) => Ok(shown(alloc, state, id, words, &answer)?),
+        Waits::Noted(id, words) => Ok(noted(state, id, words, &answer)),
+        Waits::Started => started(alloc, state, &act, &answer),
+    }
+}
+
+/// Whether a word is the flag that keeps the command from being echoed.
+fn is_noecho(word: &[u8]) -> bool
+    ensures { result ≡ definition.is_noecho word.now }
+{
+    word == b"-noecho".as_slice()
+}
+
+/// Whether a word is the flag behind which an open channel stands.
+fn is_open_flag(word: &[u8]) -> bool
+    ensures { result ≡ definition.is_open_flag word.now }
+{
+    word == b"-open".as_slice()
+}
+
+/// Puts the id of a channel in force, or starts a program, by the words behind the first flag.
+fn spawn<A: Allocator + Copy>(
+    alloc: A,
+    state: &mut State<A>,
+    echo: bool,
+    words: &[Value<A>],
+) -> Result<Leaf<A, Waits<A>>, Raise<A>>
+    ensures shows { (s : Status) → FitsState state.old s →
+        Talks definition.next_of (definition.spawns echo words.now s) s result state.new }
+    ensures left { state.new.left ≡ state.old.left }
+{
+    let [first, more @ ..] = words else {
+        return Err(wrong_args(alloc, b"spawn"));
+    };
+    if is_open_flag(first.as_slice()) {
+        return enter_channel(alloc, state, more);
+    }
+    if is_flag(first.as_slice()) {
+        return Err(misplaced(alloc, first.as_slice()));
+    }
+    launch(alloc, state, echo, words)
+}
+
+/// Puts the id of an open channel in force, and gives 0, as no process is started.
+fn enter_channel<A: Allocator + Copy>(
+    alloc: A,
+    state: &mut State<A>,
+    words: &[Value<A>],
+) -> Result<Leaf<A, Waits<A>>, Raise<A>>
+    ensures shows { (s : Status) → FitsState state.old s →
+        Talks definition.next_of (definition.by_channel words.now s) s result state.new }
+    ensures left { state.new.left ≡ state.old.left }
+{
+    let id = channel_said(alloc, state, words)?;
+    let zero = Value::new(alloc, Vec::from_slice(alloc, b"0")?)?;
+    Ok(enter(alloc, state, id, zero)?)
+}
+
+/// The open connection of the one word behind the flag.
+fn channel_said<A: Allocator + Copy>(
+    alloc: A,
+    state: &State<A>,
+    words: &[Value<A>],
+) -> Result<Id, Raise<A>>
+    ensures { (s : Status) → FitsState state.now s →
+        Answers (λ id. id) (definition.channel_said words.now s) result }
+{
+    match words {
+        [channel] => channel_id(alloc, state, channel.as_slice()),
+        _ => Err(wrong_args(alloc, b"spawn")),
+    }
+}
+
+/// The open connection whose channel a text spells.
+fn channel_id<A: Allocator + Copy>(
+    alloc: A,
+    state: &State<A>,
+    text: &[u8],
+) -> Result<Id, Raise<A>>
+    ensures { (s : Status) → FitsState state.now s →
+        Answers (λ id. id) (definition.channel_id text.now s) result }
+{
+    match state.ids.table.connection(text) {
+        Some(id) => Ok(id),
+        None => Err(Raise::Fault(Fault::NoChannel(Vec::from_slice(alloc, text)?))),
+    }
+}
+
+/// Refuses a flag where a program is due.
+fn misplaced<A: Allocator + Copy>(alloc: A, word: &[u8]) -> Raise<A>
+    ensures { Raises (definition.misplaced word.now) result }
+{
+    if is_noecho(word) {
+        wrong_args(alloc, b"spawn")
+    } else {
+        bad_argument(alloc, word, b"spawn")
+    }
+}
+
+/// After the echo is on standard output, it goes to the log where what arrives does.
+fn shown<A: Allocator + Copy>(
+    alloc: A,
+    state: &State<A>,
+    id: Id,
+    words: Vec<Vec<u8, A>, A>,
+    answer: &Answer<A>,
+) -> Result<Leaf<A, Waits<A>>, NoMemory>
+    ensures { (s : Status) → FitsState state.now s → IfOk result (λ leaf.
+        Goes definition.next_of (written (notes {n = 0} id (words_of words.items) s)
+        (reply_of answer.now)) s leaf state.now) }
+{
+    match answer {
+        Answer::Failed(_) => Ok(stops(Stop::WriterFailed)),
+        _ => note(alloc, state, id, words),
+    }
+}
+
+/// After the echo is in the log, the program is started.
+fn noted<A: Allocator>(
+    state: &State<A>,
+    id: Id,
+    words: Vec<Vec<u8, A>, A>,
+    answer: &Answer<A>,
+) -> Leaf<A, Waits<A>>
+    ensures { (s : Status) → FitsState state.now s → Goes definition.next_of
+        (written (starts {n = 1} id (words_of words.items)) (reply_of answer.now))
+        s result state.now }
+{
+    match answer {
+        Answer::Failed(_) => stops(Stop::WriterFailed),
+        _ => Leaf::Asks(Act::Spawn(id, words), Waits::Started),
+    }
+}
