@@ -1,52 +1,66 @@
 -- What socket does.
-use Rattle.std.specs.Prelude.{ℕ, nat_le, ◌&&◌, Bool, ℤ, pos, negsuc, List, [], ◌∷◌, codes, Option, Some, None, if◌then◌else◌}
+use Rattle.std.specs.Prelude.{ℕ, nat_le, ◌&&◌, Bool, ℤ, pos, negsuc, List, [], ◌∷◌, codes, Result, Ok, Err, if◌then◌else◌}
 use Rattle.acts.specs.declared.id.Id.{Id}
 use Rattle.acts.specs.Deed.{Deed, Reply}
 use Rattle.acts.specs.Deed as said
 use Rattle.acts.specs.Flaw.{Flaw}
 use Rattle.acts.specs.Flaw as flaw
+use Rattle.acts.specs.Raise.{bind}
 use Rattle.dialog.specs.Channels.{channel_text}
 use Rattle.dialog.specs.Kinds.{Socket}
-use Rattle.state.specs.Dialogue.{Course, gives, raises, ask}
+use Rattle.kinds.specs.Edits.{OpensId, Skips}
+use Rattle.kinds.specs.Exchange.{Exchange, Edits, Opens, Performs, course, fails, gives}
+use Rattle.kinds.specs.Words.{number}
+use Rattle.state.specs.Dialogue.{Course}
 use Rattle.state.specs.Status.{Status}
-use Rattle.state.specs.Variables.{whole_of}
-use Rattle.processes.specs.Numbers.{with_next, opens, refused}
+use Rattle.processes.specs.Numbers.{next_id}
+use Rattle.processes.specs.Onward.{settled}
 use Rattle.processes.specs.declared.socket.Waits.{Waits}
 
--- what an answer to a call of a server comes to: the connection is open, and its channel is given
--- (socket(n))
-abbrev pub connected : Flaw → Status → Reply → Course
-connected why s said.Done = opens Socket s (λ i. gives (channel_text i.0))
-connected why s _ = raises why (refused s)
+-- the id of a connection is open, and its channel is given (socket(n))
+abbrev pub opens : Id → Exchange 3
+opens i = Opens (OpensId i Socket) (gives (channel_text i.0))
 
--- a server is called under the next number (socket(n))
-abbrev pub connects : List ℕ → ℕ → Status → Id → Course
-connects host port s i =
-    ask (said.Connect i host port) s (connected (flaw.CannotConnect host port))
+-- a server was reached (socket(n))
+abbrev pub reached : Status → Exchange 3
+reached s = settled (bind (next_id s) (λ i. Ok (opens i)))
+
+-- what an answer to a call of a server comes to (socket(n))
+abbrev pub connected : Flaw → Status → Reply → Exchange 3
+connected why s said.Done = reached s
+connected why s _ = Edits Skips (fails why)
+
+-- a server is called under a number (socket(n))
+abbrev pub connects : List ℕ → ℕ → Id → Exchange 4
+connects host port i =
+    Performs (said.Connect i host port) tt (connected (flaw.CannotConnect host port))
 
 -- a number is that of a port (socket(n))
 abbrev pub is_port : ℕ → Bool
 is_port n = nat_le 1 n && nat_le n 65535
 
--- the word is no port, as a word alone
-abbrev pub wrong_port : List ℕ → Status → Course
-wrong_port word s = raises (flaw.BadArgument word (codes "socket")) s
+-- the port of a number, or the error of the word (socket(n))
+abbrev pub port_of : List ℕ → ℤ → Result ℕ Flaw
+port_of word (pos n) = if is_port n then Ok n else Err (flaw.BadArgument word (codes "socket"))
+port_of word (negsuc n) = Err (flaw.BadArgument word (codes "socket"))
 
--- a server is called at the port of a number (socket(n))
-abbrev pub at_port : ℤ → List ℕ → List ℕ → Status → Course
-at_port (pos port) host word s =
-    if is_port port then with_next s (connects host port s) else wrong_port word s
-at_port (negsuc n) host word s = wrong_port word s
+-- the port that a word says (socket(n))
+abbrev pub port_said : List ℕ → Result ℕ Flaw
+port_said word = bind (number word) (port_of word)
 
--- a server is called at the port that a word says, where it is a number (socket(n))
-abbrev pub on_port : Option ℤ → List ℕ → List ℕ → Status → Course
-on_port (Some n) host word s = at_port n host word s
-on_port None host word s = raises (flaw.NotANumber word) s
+-- the word of a host and that of a port, which stand alone (socket(n))
+abbrev pub two_words : List (List ℕ) → Result (List ℕ × List ℕ) Flaw
+two_words (host ∷ word ∷ []) = Ok (host, word)
+two_words _ = Err (flaw.WrongArgs (codes "socket"))
+
+-- a server is called at the port that a word says, under the next number (socket(n))
+abbrev pub calls : List ℕ → List ℕ → Status → Result (Exchange 4) Flaw
+calls host word s =
+    bind (port_said word) (λ port. bind (next_id s) (λ i. Ok (connects host port i)))
 
 -- socket host port (socket(n))
-abbrev pub socket : List (List ℕ) → Status → Course
-socket (host ∷ word ∷ []) s = on_port (whole_of word) host word s
-socket _ s = raises (flaw.WrongArgs (codes "socket")) s
+abbrev pub socket : List (List ℕ) → Status → Result (Exchange 4) Flaw
+socket args s = bind (two_words args) (λ words. calls words.0 words.1 s)
 
 -- the error of a server that an act could not reach
 abbrev pub refusal_of : Deed → Flaw
@@ -54,5 +68,9 @@ refusal_of (said.Connect i host port) = flaw.CannotConnect host port
 refusal_of _ = flaw.CannotConnect [] 0
 
 -- what follows the answer to its act (socket(n))
+abbrev pub follows : Deed → Status → Reply → Exchange 3
+follows deed = connected (refusal_of deed)
+
+-- the same, as a part of a run
 abbrev pub next_of : Waits → Deed → Status → Reply → Course
-next_of waits deed = connected (refusal_of deed)
+next_of waits deed s reply = course (follows deed s reply) s

@@ -1,14 +1,18 @@
 -- What spawn does.
-use Rattle.std.specs.Prelude.{ℕ, Bool, true, false, List, [], ◌∷◌, codes, if◌then◌else◌}
+use Rattle.std.specs.Prelude.{ℕ, Bool, true, false, List, [], ◌∷◌, codes, Option, Some, None, Result, Ok, Err, if◌then◌else◌}
 use Rattle.std.specs.Str.{bytes_eq}
+use Rattle.acts.specs.declared.id.Id.{Id}
 use Rattle.acts.specs.Deed.{Deed, Reply}
+use Rattle.acts.specs.Flaw.{Flaw}
 use Rattle.acts.specs.Flaw as flaw
+use Rattle.acts.specs.Raise.{bind}
+use Rattle.dialog.specs.Channels.{connection}
+use Rattle.kinds.specs.Exchange.{Exchange, course}
 use Rattle.state.specs.Arguments.{is_flag}
-use Rattle.state.specs.Channels.{with_connection}
-use Rattle.state.specs.Dialogue.{Course, raises, written}
-use Rattle.state.specs.Status.{Status}
+use Rattle.state.specs.Dialogue.{Course}
+use Rattle.state.specs.Status.{Status, lines}
 use Rattle.processes.specs.Launch.{enters, launches, notes, started, starts}
-use Rattle.processes.specs.Numbers.{with_next}
+use Rattle.processes.specs.Onward.{written}
 use Rattle.processes.specs.View.{words_of, words_spawned}
 use Rattle.processes.specs.declared.spawn.Waits.{Waits}
 use Rattle.processes.specs.declared.spawn.Waits.TheVariants as waits
@@ -21,39 +25,52 @@ is_noecho w = bytes_eq w (codes "-noecho")
 abbrev pub is_open_flag : List ℕ → Bool
 is_open_flag w = bytes_eq w (codes "-open")
 
--- spawn was given another number of words than it takes (expect(1), spawn)
-abbrev pub wrong_words : Status → Course
-wrong_words s = raises (flaw.WrongArgs (codes "spawn")) s
-
 -- a flag stands where a program is due: -noecho a second time is a word too many, another flag is
 -- told for itself (this project's own rule)
-abbrev pub misplaced : List ℕ → Status → Course
-misplaced w s =
-    if is_noecho w then wrong_words s else raises (flaw.BadArgument w (codes "spawn")) s
+abbrev pub misplaced : List ℕ → Flaw
+misplaced w =
+    if is_noecho w then flaw.WrongArgs (codes "spawn") else flaw.BadArgument w (codes "spawn")
+
+-- an open connection, or the error that the text spells the channel of none
+abbrev pub joined : Option Id → List ℕ → Result Id Flaw
+joined (Some i) text = Ok i
+joined None text = Err (flaw.NoChannel text)
+
+-- the open connection whose channel a text spells; one that is not open is named as it stands
+-- (expect(1), spawn)
+abbrev pub channel_id : List ℕ → Status → Result Id Flaw
+channel_id text s = joined (connection (lines s) text) text
+
+-- the open connection of the one word behind the flag (expect(1), spawn)
+abbrev pub channel_said : List (List ℕ) → Status → Result Id Flaw
+channel_said (w ∷ []) s = channel_id w s
+channel_said _ s = Err (flaw.WrongArgs (codes "spawn"))
 
 -- the id of an open channel is in force, and 0 is given, as no process is started; no word may
 -- stand behind the channel (expect(1), spawn)
-abbrev pub by_channel : List (List ℕ) → Status → Course
-by_channel [] s = wrong_words s
-by_channel (w ∷ []) s = with_connection w s (λ i. enters (codes "0") i s)
-by_channel (w ∷ v ∷ vs) s = wrong_words s
+abbrev pub by_channel : List (List ℕ) → Status → Result (Exchange 4) Flaw
+by_channel words s = bind (channel_said words s) (λ i. enters (codes "0") i s.scopes)
 
 -- the words behind the first flag: those of a channel, or those of a program, of which the first is
 -- no flag (expect(1), spawn)
-abbrev pub spawns : Bool → List (List ℕ) → Status → Course
-spawns echo [] s = wrong_words s
+abbrev pub spawns : Bool → List (List ℕ) → Status → Result (Exchange 4) Flaw
+spawns echo [] s = Err (flaw.WrongArgs (codes "spawn"))
 spawns echo (w ∷ ws) s =
     if is_open_flag w then by_channel ws s
-    else if is_flag w then misplaced w s
-    else with_next s (launches echo (w ∷ ws) s)
+    else if is_flag w then Err (misplaced w)
+    else launches echo (w ∷ ws) s
 
 -- spawn ?-noecho? word .., spawn ?-noecho? -open channel (expect(1), spawn)
-abbrev pub spawn : List (List ℕ) → Status → Course
-spawn [] s = wrong_words s
+abbrev pub spawn : List (List ℕ) → Status → Result (Exchange 4) Flaw
+spawn [] s = Err (flaw.WrongArgs (codes "spawn"))
 spawn (w ∷ ws) s = if is_noecho w then spawns false ws s else spawns true (w ∷ ws) s
 
 -- what follows the answer to an act (expect(1), spawn)
+abbrev pub follows : {A : Type 0} → Waits A → Deed → Status → Reply → Exchange 3
+follows (waits.Shown id words) deed s = written (notes id (words_of words.items) s)
+follows (waits.Noted id words) deed s = written (starts id (words_of words.items))
+follows waits.Started deed s = started (words_spawned deed) s
+
+-- the same, as a part of a run
 abbrev pub next_of : {A : Type 0} → Waits A → Deed → Status → Reply → Course
-next_of (waits.Shown id words) deed = written (notes id (words_of words.items))
-next_of (waits.Noted id words) deed = written (starts id (words_of words.items))
-next_of waits.Started deed = started (words_spawned deed)
+next_of waits deed s reply = course (follows waits deed s reply) s

@@ -1,84 +1,80 @@
 //! How a program is started, after its echo (expect(1), spawn).
-#![tactic(auto, using(state::proofs::Reaches::same_reaches))]
 
-ghost use Rattle.std.specs.Prelude.{◌≡◌, IfOk, decimal};
+ghost use Rattle.std.specs.Prelude.{◌≡◌, ℕ, IfOk};
 ghost use Rattle.acts.specs.Deed.{deed_of, reply_of};
 ghost use Rattle.acts.specs.Flaw as flaw;
-ghost use Rattle.acts.specs.Flaw.{text_of};
-ghost use Rattle.dialog.specs.Kinds as kind;
+ghost use Rattle.acts.specs.Raise.{Raises};
+ghost use Rattle.dialog.specs.LogState.{goes_out};
+ghost use Rattle.kinds.specs.Answers.{Goes, GoesOn, Talks};
 ghost use Rattle.processes.specs.Launch as definition;
-ghost use Rattle.processes.specs.Numbers as numbers;
 ghost use Rattle.processes.specs.Spawn.{next_of};
 ghost use Rattle.processes.specs.View.{words_of, words_spawned};
-ghost use Rattle.state.specs.Leaf.{HasOutcome, Shows};
-ghost use Rattle.state.specs.Outcome.{Leaves, Error};
-ghost use Rattle.state.specs.Placed.{placed};
 ghost use Rattle.state.specs.Status.{Status};
 ghost use Rattle.state.specs.View.{FitsState};
 
-use crate::numbers::{next_id, open_next};
+use crate::numbers::{next_id, open_next, skip_next};
 use crate::spawn::Waits;
 use acts::decimal::push_decimal;
-use acts::{Act, Answer, Fault, Id, NoMemory};
+use acts::{Act, Answer, Fault, Id, NoMemory, Raise};
 use dialog::Kind;
-use state::leaf::{gives, raises};
-use state::variables::{SPAWN_ID, store};
+use kinds::variables::put;
+use state::leaf::gives;
+use state::variables::SPAWN_ID;
 use state::{Leaf, State};
 use std::alloc::Allocator;
 use tcltext::Value;
 
-/// Starts a program of these words under the next number, where there is one, after its echo unless
-/// it has none.
+/// Starts a program of these words under the next number, after its echo unless it has none.
+///
+/// # Errors
+/// No id is left; or memory is refused.
 pub(crate) fn launch<A: Allocator + Copy>(
     alloc: A,
     state: &State<A>,
     echo: bool,
     words: &[Value<A>],
-) -> Result<Leaf<A, Waits<A>>, NoMemory>
-    ensures { (s : Status) → FitsState state.now s → IfOk result (λ leaf.
-        Shows next_of leaf state.now
-        (numbers.with_next s (definition.launches echo words.now s))) }
+) -> Result<Leaf<A, Waits<A>>, Raise<A>>
+    ensures { (s : Status) → FitsState state.now s →
+        Talks next_of (definition.launches echo words.now s) s result state.now }
 {
-    let id = match next_id(alloc, state)? {
-        Ok(id) => id,
-        Err(leaf) => return Ok(leaf),
-    };
+    let id = next_id(state)?;
     let copies = copies_of(alloc, words)?;
-    if echo {
-        return show(alloc, state, id, copies);
-    }
-    Ok(Leaf::Asks(Act::Spawn(id, copies), Waits::Started))
+    Ok(show(alloc, state, echo, id, copies)?)
 }
 
-/// Writes the echo to standard output, where what arrives is written there, then to the log, and
-/// then starts the program.
+/// Writes the echo, where there is one, to standard output, where what arrives is written there,
+/// then to the log, and then starts the program.
 fn show<A: Allocator + Copy>(
     alloc: A,
     state: &State<A>,
+    echo: bool,
     id: Id,
     words: Vec<Vec<u8, A>, A>,
 ) -> Result<Leaf<A, Waits<A>>, NoMemory>
-    ensures { (s : Status) → FitsState state.now s → IfOk result (λ leaf.
-        Shows next_of leaf state.now (placed (definition.echo_of (words_of words.items)) s
-        (definition.starts id (words_of words.items)))) }
+    ensures { (s : Status) → FitsState state.now s → IfOk result (λ leaf. Goes next_of
+        (definition.echoes echo id (words_of words.items) s) s leaf state.now) }
 {
+    if !echo {
+        return Ok(Leaf::Asks(Act::Spawn(id, words), Waits::Started));
+    }
     let (is_shown, _) = state.log.places();
     if !is_shown {
-        return note(alloc, state, id, words);
+        return Ok(note(alloc, state, id, words)?);
     }
     let line = echo_of(alloc, &words)?;
     Ok(Leaf::Asks(Act::Out(line), Waits::Shown(id, words)))
 }
 
 /// Writes the echo to the log, where what arrives is written there, and then starts the program.
+#[tactic(auto, using(crate::proofs::Spare::after_write))]
 pub(crate) fn note<A: Allocator + Copy>(
     alloc: A,
     state: &State<A>,
     id: Id,
     words: Vec<Vec<u8, A>, A>,
 ) -> Result<Leaf<A, Waits<A>>, NoMemory>
-    ensures { (s : Status) → FitsState state.now s → IfOk result (λ leaf.
-        Shows next_of leaf state.now (definition.notes id (words_of words.items) s)) }
+    ensures { (n : ℕ) (s : Status) → FitsState state.now s → IfOk result (λ leaf. Goes next_of
+        (definition.notes {n = n} id (words_of words.items) s) s leaf state.now) }
 {
     let (_, is_noted) = state.log.places();
     if !is_noted {
@@ -89,22 +85,26 @@ pub(crate) fn note<A: Allocator + Copy>(
 }
 
 /// After the start of a program its id is open and in force, or the program could not be started.
+///
+/// # Errors
+/// The program could not be started, no id is left, or the variable `spawn_id` is not written; or
+/// memory is refused.
 pub(crate) fn started<A: Allocator + Copy>(
     alloc: A,
     state: &mut State<A>,
     act: &Act<A>,
     answer: &Answer<A>,
-) -> Result<Leaf<A, Waits<A>>, NoMemory>
-    ensures shows { (s : Status) → FitsState state.old s → IfOk result (λ leaf.
-        Shows next_of leaf state.new
-        (definition.started (words_spawned (deed_of act.now)) s (reply_of answer.now))) }
+) -> Result<Leaf<A, Waits<A>>, Raise<A>>
+    ensures shows { (s : Status) → FitsState state.old s → GoesOn next_of
+        (definition.started {n = 2} (words_spawned (deed_of act.now)) s (reply_of answer.now))
+        s result state.new }
     ensures left { state.new.left ≡ state.old.left }
 {
     match answer {
         Answer::Started(pid) => run(alloc, state, *pid),
         _ => {
-            state.ids.skip();
-            cannot_execute(alloc, act)
+            skip_next(state);
+            Err(cannot_execute(alloc, act))
         }
     }
 }
@@ -114,37 +114,35 @@ fn run<A: Allocator + Copy>(
     alloc: A,
     state: &mut State<A>,
     pid: u64,
-) -> Result<Leaf<A, Waits<A>>, NoMemory>
-    ensures shows { (s : Status) → FitsState state.old s → IfOk result (λ leaf.
-        Shows next_of leaf state.new
-        (numbers.opens (kind.Process pid) s (definition.enters (decimal pid)))) }
+) -> Result<Leaf<A, Waits<A>>, Raise<A>>
+    ensures shows { (s : Status) → FitsState state.old s →
+        GoesOn next_of (definition.running {n = 2} pid s) s result state.new }
     ensures left { state.new.left ≡ state.old.left }
 {
-    let id = match open_next(alloc, state, Kind::Process(pid))? {
-        Ok(id) => id,
-        Err(leaf) => return Ok(leaf),
-    };
+    let id = open_next(alloc, state, Kind::Process(pid))?;
     let mut digits = Vec::new(alloc);
     push_decimal(&mut digits, pid)?;
-    enter(alloc, state, id, Value::new(alloc, digits)?)
+    let number = Value::new(alloc, digits)?;
+    enter(alloc, state, id, number)
 }
 
 /// Puts an open id in force, and gives a value.
+///
+/// # Errors
+/// The variable `spawn_id` is not written; or memory is refused.
 pub(crate) fn enter<A: Allocator + Copy>(
     alloc: A,
     state: &mut State<A>,
     id: Id,
     value: Value<A>,
-) -> Result<Leaf<A, Waits<A>>, NoMemory>
-    ensures shows { (s : Status) → FitsState state.old s → IfOk result (λ leaf.
-        Shows next_of leaf state.new (definition.enters value id s)) }
+) -> Result<Leaf<A, Waits<A>>, Raise<A>>
+    ensures shows { (n : ℕ) (s : Status) → FitsState state.old s →
+        Talks next_of (definition.enters {n = n} value id s.scopes) s result state.new }
     ensures left { state.new.left ≡ state.old.left }
 {
     let name = Value::new(alloc, id.text(alloc)?)?;
-    match store(alloc, state, SPAWN_ID, None, name)? {
-        Ok(()) => Ok(gives(value)),
-        Err(fault) => raises(alloc, &fault),
-    }
+    put(alloc, &mut state.scopes, SPAWN_ID, None, name)?;
+    Ok(gives(value))
 }
 
 /// The command as it is echoed.
@@ -175,18 +173,18 @@ fn copies_of<A: Allocator + Copy>(
 }
 
 /// The error of a program that could not be started.
-fn cannot_execute<A: Allocator + Copy>(
-    alloc: A,
-    act: &Act<A>,
-) -> Result<Leaf<A, Waits<A>>, NoMemory>
-    ensures { IfOk result (λ leaf. HasOutcome leaf (Leaves Error (text_of
-        (flaw.CannotExecute (definition.name_of (words_spawned (deed_of act.now))))))) }
+fn cannot_execute<A: Allocator + Copy>(alloc: A, act: &Act<A>) -> Raise<A>
+    ensures { Raises (flaw.CannotExecute
+        (definition.name_of (words_spawned (deed_of act.now)))) result }
 {
     let name = match act {
-        Act::Spawn(_, words) => name_of(alloc, words)?,
-        _ => Vec::new(alloc),
+        Act::Spawn(_, words) => name_of(alloc, words),
+        _ => Ok(Vec::new(alloc)),
     };
-    raises(alloc, &Fault::CannotExecute(name))
+    match name {
+        Ok(name) => Raise::Fault(Fault::CannotExecute(name)),
+        Err(refusal) => refusal.into(),
+    }
 }
 
 /// The name of a program, which is its first word.

@@ -2,7 +2,6 @@
 #![tactic(auto)]
 
 mod launch;
-pub mod laws;
 mod numbers;
 pub mod sleep;
 pub mod socket;

@@ -1,44 +1,57 @@
 //! The numbers of ids.
 
-ghost use Rattle.std.specs.Prelude.{◌≡◌, IfOk};
+ghost use Rattle.std.specs.Prelude.{◌≡◌};
+ghost use Rattle.acts.specs.Raise.{Answers};
 ghost use Rattle.dialog.specs.Views.{kind_of};
-ghost use Rattle.processes.specs.Numbers.{Foresees, Opens};
+ghost use Rattle.kinds.specs.Edits.{Skips, edited};
+ghost use Rattle.processes.specs.Numbers as definition;
 ghost use Rattle.state.specs.Status.{Status};
 ghost use Rattle.state.specs.View.{FitsState};
 
-use acts::{Fault, Id, NoMemory};
+use acts::{Fault, Id, Raise};
 use dialog::{Kind, OpenError};
-use state::leaf::raises;
-use state::{Leaf, State};
+use state::State;
 use std::alloc::Allocator;
 
-/// The id of the next number, for which an act is made, or else the error that there are too many:
-/// the answer to the act uses the number up.
-pub(crate) fn next_id<A: Allocator + Copy, W: Drop>(
-    alloc: A,
-    state: &State<A>,
-) -> Result<Result<Id, Leaf<A, W>>, NoMemory>
-    ensures { (s : Status) → FitsState state.now s → IfOk result (λ r. Foresees r s) }
+/// The id of the next number, for which an act is made: the answer to the act uses the number up.
+///
+/// # Errors
+/// Too many ids are open, or no number is left.
+pub(crate) fn next_id<A: Allocator + Copy>(state: &State<A>) -> Result<Id, Raise<A>>
+    ensures { (s : Status) → FitsState state.now s →
+        Answers (λ id. id) (definition.next_id s) result }
 {
     match state.ids.next() {
-        Some(id) => Ok(Ok(id)),
-        None => Ok(Err(raises(alloc, &Fault::TooManyIds)?)),
+        Some(id) => Ok(id),
+        None => Err(Raise::Fault(Fault::TooManyIds)),
     }
 }
 
-/// Opens the id of the next number, or else answers the error that there are too many.
-pub(crate) fn open_next<A: Allocator + Copy, W: Drop>(
+/// Opens the id of the next number.
+///
+/// # Errors
+/// Too many ids are open, or no number is left, and nothing changes; or memory is refused.
+pub(crate) fn open_next<A: Allocator + Copy>(
     alloc: A,
     state: &mut State<A>,
     kind: Kind,
-) -> Result<Result<Id, Leaf<A, W>>, NoMemory>
+) -> Result<Id, Raise<A>>
     ensures opens { (s : Status) → FitsState state.old s →
-        IfOk result (λ r. Opens r state.new (kind_of kind) s) }
+        definition.Opens (kind_of kind) s result state.new }
     ensures left { state.new.left ≡ state.old.left }
 {
     match state.ids.open(alloc, kind) {
-        Ok(id) => Ok(Ok(id)),
-        Err(OpenError::TooMany) => Ok(Err(raises(alloc, &Fault::TooManyIds)?)),
-        Err(OpenError::NoMemory(refusal)) => Err(refusal),
+        Ok(id) => Ok(id),
+        Err(OpenError::TooMany) => Err(Raise::Fault(Fault::TooManyIds)),
+        Err(OpenError::NoMemory(refusal)) => Err(Raise::NoMemory(refusal)),
     }
+}
+
+/// Uses up the next number, which then names no id.
+pub(crate) fn skip_next<A: Allocator + Copy>(state: &mut State<A>)
+    ensures skips { (s : Status) → FitsState state.old s →
+        FitsState state.new (edited Skips s) }
+    ensures left { state.new.left ≡ state.old.left }
+{
+    state.ids.skip();
 }

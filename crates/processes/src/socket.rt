@@ -1,26 +1,20 @@
 //! `socket host port` (socket(n)).
-#![tactic(auto, using(state::proofs::Reaches::same_reaches))]
 
-ghost use Rattle.std.specs.Prelude.{◌≡◌, ◌≤◌, pos, IfOk};
+ghost use Rattle.std.specs.Prelude.{◌≡◌, ◌≤◌};
 ghost use Rattle.acts.specs.Deed.{deed_of, reply_of};
-ghost use Rattle.acts.specs.Flaw.{text_of};
-ghost use Rattle.dialog.specs.Channels.{channel_text};
-ghost use Rattle.dialog.specs.Kinds as kind;
-ghost use Rattle.processes.specs.Numbers as numbers;
+ghost use Rattle.acts.specs.Raise.{Answers, Raises};
+ghost use Rattle.kinds.specs.Answers.{GoesOn, Talks};
 ghost use Rattle.processes.specs.Socket as definition;
-ghost use Rattle.state.specs.Dialogue.{gives};
-ghost use Rattle.state.specs.Leaf.{HasOutcome, Shows};
-ghost use Rattle.state.specs.Outcome.{Leaves, Error};
 ghost use Rattle.state.specs.Status.{Status};
-ghost use Rattle.state.specs.Variables.{whole_of};
 ghost use Rattle.state.specs.View.{FitsState};
 
-use crate::numbers::{next_id, open_next};
+use crate::numbers::{next_id, open_next, skip_next};
 use acts::decimal::push_decimal;
-use acts::{Act, Answer, Fault, NoMemory};
+use acts::raise::{bad_argument, wrong_args};
+use acts::{Act, Answer, Fault, Raise};
 use dialog::Kind;
-use state::arguments::{bad_argument, whole_number, wrong_args};
-use state::leaf::{gives, raises};
+use kinds::words::number_of;
+use state::leaf::gives;
 use state::{Leaf, State};
 use std::alloc::Allocator;
 use tcltext::Value;
@@ -32,148 +26,96 @@ pub enum Waits {
     Connected,
 }
 
-/// Begins to call a server.
+/// Begins to call a server under the next number.
+///
+/// # Errors
+/// There are not two words, the second is no port, or no id is left; or memory is refused.
 pub fn begin<A: Allocator + Copy>(
     alloc: A,
-    state: &mut State<A>,
+    state: &State<A>,
     args: &[Value<A>],
-) -> Result<Leaf<A, Waits>, NoMemory>
-    ensures shows { (s : Status) → FitsState state.old s → IfOk result (λ leaf.
-        Shows definition.next_of leaf state.new (definition.socket args.now s)) }
-    ensures left { state.new.left ≤ state.old.left }
+) -> Result<Leaf<A, Waits>, Raise<A>>
+    ensures { (s : Status) → FitsState state.now s →
+        Talks definition.next_of (definition.socket args.now s) s result state.now }
 {
-    match args {
-        [host, port] => call_by(alloc, state, host.as_slice(), port.as_slice()),
-        _ => wrong_args(alloc, b"socket"),
-    }
+    let (host, word) = two_words(alloc, args)?;
+    let port = port_said(alloc, word)?;
+    let id = next_id(state)?;
+    let name = Vec::from_slice(alloc, host)?;
+    Ok(Leaf::Asks(Act::Connect(id, name, port), Waits::Connected))
 }
 
-/// Goes on with the answer to the call.
+/// Goes on with the answer to the call: it opens an id, or uses the number up.
+///
+/// # Errors
+/// The server could not be reached, or no id is left; or memory is refused.
 pub fn answered<A: Allocator + Copy>(
     alloc: A,
     state: &mut State<A>,
     act: Act<A>,
-    waits: Waits,
     answer: Answer<A>,
-) -> Result<Leaf<A, Waits>, NoMemory>
-    ensures shows { (s : Status) → FitsState state.old s → IfOk result (λ leaf.
-        Shows definition.next_of leaf state.new
-        (definition.next_of waits (deed_of act) s (reply_of answer))) }
+) -> Result<Leaf<A, Waits>, Raise<A>>
+    ensures shows { (s : Status) → FitsState state.old s → GoesOn definition.next_of
+        (definition.follows (deed_of act) s (reply_of answer)) s result state.new }
     ensures left { state.new.left ≤ state.old.left }
 {
     match answer {
         Answer::Done => connected(alloc, state),
         _ => {
-            state.ids.skip();
-            cannot_connect(alloc, act)
+            skip_next(state);
+            Err(cannot_connect(alloc, act))
         }
     }
 }
 
-/// Calls a server at the port that a word says.
-fn call_by<A: Allocator + Copy>(
+/// The word of a host and that of a port, which stand alone.
+fn two_words<A: Allocator + Copy>(
     alloc: A,
-    state: &State<A>,
-    host: &[u8],
-    word: &[u8],
-) -> Result<Leaf<A, Waits>, NoMemory>
-    ensures { (s : Status) → FitsState state.now s → IfOk result (λ leaf.
-        Shows definition.next_of leaf state.now
-        (definition.on_port (whole_of word.now) host.now word.now s)) }
+    args: &[Value<A>],
+) -> Result<(&[u8], &[u8]), Raise<A>>
+    ensures { Answers (λ words. (words.0.now, words.1.now)) (definition.two_words args.now) result }
 {
-    match whole_number(word) {
-        Some(number) => call_at(alloc, state, host, number, word),
-        None => raises(alloc, &Fault::NotANumber(Vec::from_slice(alloc, word)?)),
+    match args {
+        [host, word] => Ok((host.as_slice(), word.as_slice())),
+        _ => Err(wrong_args(alloc, b"socket")),
     }
 }
 
-/// Calls a server at the port of a number, where it is from 1 to 65,535.
-fn call_at<A: Allocator + Copy>(
-    alloc: A,
-    state: &State<A>,
-    host: &[u8],
-    number: i64,
-    word: &[u8],
-) -> Result<Leaf<A, Waits>, NoMemory>
-    ensures { (s : Status) → FitsState state.now s → IfOk result (λ leaf.
-        Shows definition.next_of leaf state.now
-        (definition.at_port number host.now word.now s)) }
+/// The port that a word says, from 1 to 65,535.
+fn port_said<A: Allocator + Copy>(alloc: A, word: &[u8]) -> Result<u16, Raise<A>>
+    ensures { Answers (λ port. port) (definition.port_said word.now) result }
 {
+    let number = number_of(alloc, word)?;
     match u16::try_from(number) {
-        Ok(port) => call_port(alloc, state, host, port, word),
-        Err(_) => bad_argument(alloc, word, b"socket"),
+        Ok(port) if 1 <= port => Ok(port),
+        _ => Err(bad_argument(alloc, word, b"socket")),
     }
-}
-
-/// Calls a server at a number of 16 bits, which is a port unless it is 0.
-fn call_port<A: Allocator + Copy>(
-    alloc: A,
-    state: &State<A>,
-    host: &[u8],
-    port: u16,
-    word: &[u8],
-) -> Result<Leaf<A, Waits>, NoMemory>
-    ensures { (s : Status) → FitsState state.now s → IfOk result (λ leaf.
-        Shows definition.next_of leaf state.now
-        (definition.at_port (pos port) host.now word.now s)) }
-{
-    if port == 0 {
-        return bad_argument(alloc, word, b"socket");
-    }
-    call(alloc, state, host, port)
-}
-
-/// Calls a server under the next number, where one is left and not too many ids are open.
-fn call<A: Allocator + Copy>(
-    alloc: A,
-    state: &State<A>,
-    host: &[u8],
-    port: u16,
-) -> Result<Leaf<A, Waits>, NoMemory>
-    ensures { (s : Status) → FitsState state.now s → IfOk result (λ leaf.
-        Shows definition.next_of leaf state.now
-        (numbers.with_next s (definition.connects host.now port s))) }
-{
-    let id = match next_id(alloc, state)? {
-        Ok(id) => id,
-        Err(leaf) => return Ok(leaf),
-    };
-    let name = Vec::from_slice(alloc, host)?;
-    Ok(Leaf::Asks(Act::Connect(id, name, port), Waits::Connected))
 }
 
 /// Opens the id of a connection, and gives its channel.
 fn connected<A: Allocator + Copy>(
     alloc: A,
     state: &mut State<A>,
-) -> Result<Leaf<A, Waits>, NoMemory>
-    ensures shows { (s : Status) → FitsState state.old s → IfOk result (λ leaf.
-        Shows definition.next_of leaf state.new
-        (numbers.opens kind.Socket s (λ i. gives (channel_text i.0)))) }
+) -> Result<Leaf<A, Waits>, Raise<A>>
+    ensures shows { (s : Status) → FitsState state.old s →
+        GoesOn definition.next_of (definition.reached s) s result state.new }
     ensures left { state.new.left ≡ state.old.left }
 {
-    let id = match open_next(alloc, state, Kind::Socket)? {
-        Ok(id) => id,
-        Err(leaf) => return Ok(leaf),
-    };
+    let id = open_next(alloc, state, Kind::Socket)?;
     let mut text = Vec::from_slice(alloc, b"sock")?;
     push_decimal(&mut text, id.0)?;
     Ok(gives(Value::new(alloc, text)?))
 }
 
 /// The error of a server that could not be reached.
-fn cannot_connect<A: Allocator + Copy>(alloc: A, act: Act<A>) -> Result<Leaf<A, Waits>, NoMemory>
-    ensures { IfOk result (λ leaf. HasOutcome leaf
-        (Leaves Error (text_of (definition.refusal_of (deed_of act))))) }
+fn cannot_connect<A: Allocator + Copy>(alloc: A, act: Act<A>) -> Raise<A>
+    ensures { Raises (definition.refusal_of (deed_of act)) result }
 {
     match act {
-        Act::Connect(_, host, port) => raises(alloc, &Fault::CannotConnect { host, port }),
-        _ => raises(
-            alloc,
-            &Fault::CannotConnect {
-                host: Vec::new(alloc),
-                port: 0,
-            },
-        ),
+        Act::Connect(_, host, port) => Raise::Fault(Fault::CannotConnect { host, port }),
+        _ => Raise::Fault(Fault::CannotConnect {
+            host: Vec::new(alloc),
+            port: 0,
+        }),
     }
 }

@@ -1,21 +1,21 @@
 //! `spawn ?-noecho? word ..`, `spawn ?-noecho? -open channel` (expect(1), spawn).
-#![tactic(auto, using(state::proofs::Reaches::same_reaches))]
 
-ghost use Rattle.std.specs.Prelude.{◌≡◌, ◌≤◌, IfOk, codes};
+ghost use Rattle.std.specs.Prelude.{◌≡◌, ◌≤◌, IfOk};
 ghost use Rattle.acts.specs.Deed.{deed_of, reply_of};
-ghost use Rattle.processes.specs.Launch.{enters, notes, starts};
+ghost use Rattle.acts.specs.Raise.{Answers, Raises};
+ghost use Rattle.kinds.specs.Answers.{Goes, GoesOn, Talks};
+ghost use Rattle.processes.specs.Launch.{notes, starts};
+ghost use Rattle.processes.specs.Onward.{written};
 ghost use Rattle.processes.specs.Spawn as definition;
 ghost use Rattle.processes.specs.View.{words_of};
-ghost use Rattle.state.specs.Channels.{with_connection};
-ghost use Rattle.state.specs.Dialogue.{written};
-ghost use Rattle.state.specs.Leaf.{Shows};
 ghost use Rattle.state.specs.Status.{Status};
 ghost use Rattle.state.specs.View.{FitsState};
 
 use crate::launch::{enter, launch, note, started};
-use acts::{Act, Answer, Fault, Id, NoMemory};
-use state::arguments::{bad_argument, is_flag, wrong_args};
-use state::leaf::{raises, stops};
+use acts::raise::{bad_argument, wrong_args};
+use acts::{Act, Answer, Fault, Id, NoMemory, Raise};
+use state::arguments::is_flag;
+use state::leaf::stops;
 use state::{Leaf, State, Stop};
 use std::alloc::Allocator;
 use tcltext::Value;
@@ -34,13 +34,17 @@ pub enum Waits<A: Allocator> {
 
 /// Begins to start a program, and echoes the command first unless `-noecho` stands before it, or
 /// puts the id of an open channel in force.
+///
+/// # Errors
+/// No word stands behind the flags, or a flag that is none; the channel is not open, or a word
+/// stands behind it; no id is left; the variable `spawn_id` is not written; or memory is refused.
 pub fn begin<A: Allocator + Copy>(
     alloc: A,
     state: &mut State<A>,
     args: &[Value<A>],
-) -> Result<Leaf<A, Waits<A>>, NoMemory>
-    ensures shows { (s : Status) → FitsState state.old s → IfOk result (λ leaf.
-        Shows definition.next_of leaf state.new (definition.spawn args.now s)) }
+) -> Result<Leaf<A, Waits<A>>, Raise<A>>
+    ensures shows { (s : Status) → FitsState state.old s →
+        Talks definition.next_of (definition.spawn args.now s) s result state.new }
     ensures left { state.new.left ≤ state.old.left }
 {
     match args {
@@ -50,20 +54,23 @@ pub fn begin<A: Allocator + Copy>(
 }
 
 /// Goes on with the answer to a write of the echo or to the start of the program.
+///
+/// # Errors
+/// The program could not be started, no id is left, or the variable `spawn_id` is not written; or
+/// memory is refused.
 pub fn answered<A: Allocator + Copy>(
     alloc: A,
     state: &mut State<A>,
     act: Act<A>,
     waits: Waits<A>,
     answer: Answer<A>,
-) -> Result<Leaf<A, Waits<A>>, NoMemory>
-    ensures shows { (s : Status) → FitsState state.old s → IfOk result (λ leaf.
-        Shows definition.next_of leaf state.new
-        (definition.next_of waits (deed_of act) s (reply_of answer))) }
+) -> Result<Leaf<A, Waits<A>>, Raise<A>>
+    ensures shows { (s : Status) → FitsState state.old s → GoesOn definition.next_of
+        (definition.follows waits (deed_of act) s (reply_of answer)) s result state.new }
     ensures left { state.new.left ≤ state.old.left }
 {
     match waits {
-        Waits::Shown(id, words) => shown(alloc, state, id, words, &answer),
+        Waits::Shown(id, words) => Ok(shown(alloc, state, id, words, &answer)?),
         Waits::Noted(id, words) => Ok(noted(state, id, words, &answer)),
         Waits::Started => started(alloc, state, &act, &answer),
     }
@@ -89,73 +96,77 @@ fn spawn<A: Allocator + Copy>(
     state: &mut State<A>,
     echo: bool,
     words: &[Value<A>],
-) -> Result<Leaf<A, Waits<A>>, NoMemory>
-    ensures shows { (s : Status) → FitsState state.old s → IfOk result (λ leaf.
-        Shows definition.next_of leaf state.new (definition.spawns echo words.now s)) }
+) -> Result<Leaf<A, Waits<A>>, Raise<A>>
+    ensures shows { (s : Status) → FitsState state.old s →
+        Talks definition.next_of (definition.spawns echo words.now s) s result state.new }
     ensures left { state.new.left ≡ state.old.left }
 {
     let [first, more @ ..] = words else {
-        return wrong_args(alloc, b"spawn");
+        return Err(wrong_args(alloc, b"spawn"));
     };
     if is_open_flag(first.as_slice()) {
-        return spawn_channel(alloc, state, more);
+        return enter_channel(alloc, state, more);
     }
     if is_flag(first.as_slice()) {
-        return misplaced(alloc, state, first.as_slice());
+        return Err(misplaced(alloc, first.as_slice()));
     }
     launch(alloc, state, echo, words)
-}
-
-/// Puts the id of an open channel in force, which stands alone behind its flag.
-fn spawn_channel<A: Allocator + Copy>(
-    alloc: A,
-    state: &mut State<A>,
-    words: &[Value<A>],
-) -> Result<Leaf<A, Waits<A>>, NoMemory>
-    ensures shows { (s : Status) → FitsState state.old s → IfOk result (λ leaf.
-        Shows definition.next_of leaf state.new (definition.by_channel words.now s)) }
-    ensures left { state.new.left ≡ state.old.left }
-{
-    match words {
-        [] => wrong_args(alloc, b"spawn"),
-        [channel] => enter_channel(alloc, state, channel.as_slice()),
-        [_, _, ..] => wrong_args(alloc, b"spawn"),
-    }
 }
 
 /// Puts the id of an open channel in force, and gives 0, as no process is started.
 fn enter_channel<A: Allocator + Copy>(
     alloc: A,
     state: &mut State<A>,
-    channel: &[u8],
-) -> Result<Leaf<A, Waits<A>>, NoMemory>
-    ensures shows { (s : Status) → FitsState state.old s → IfOk result (λ leaf.
-        Shows definition.next_of leaf state.new
-        (with_connection channel.now s (λ i. enters (codes "0") i s))) }
+    words: &[Value<A>],
+) -> Result<Leaf<A, Waits<A>>, Raise<A>>
+    ensures shows { (s : Status) → FitsState state.old s →
+        Talks definition.next_of (definition.by_channel words.now s) s result state.new }
     ensures left { state.new.left ≡ state.old.left }
 {
-    match state.ids.table.connection(channel) {
-        Some(id) => {
-            let value = Value::new(alloc, Vec::from_slice(alloc, b"0")?)?;
-            enter(alloc, state, id, value)
-        }
-        None => raises(alloc, &Fault::NoChannel(Vec::from_slice(alloc, channel)?)),
+    let id = channel_said(alloc, state, words)?;
+    let zero = Value::new(alloc, Vec::from_slice(alloc, b"0")?)?;
+    Ok(enter(alloc, state, id, zero)?)
+}
+
+/// The open connection of the one word behind the flag.
+fn channel_said<A: Allocator + Copy>(
+    alloc: A,
+    state: &State<A>,
+    words: &[Value<A>],
+) -> Result<Id, Raise<A>>
+    ensures { (s : Status) → FitsState state.now s →
+        Answers (λ id. id) (definition.channel_said words.now s) result }
+{
+    match words {
+        [channel] => channel_id(alloc, state, channel.as_slice()),
+        _ => Err(wrong_args(alloc, b"spawn")),
+    }
+}
+
+/// The open connection whose channel a text spells.
+fn channel_id<A: Allocator + Copy>(
+    alloc: A,
+    state: &State<A>,
+    text: &[u8],
+) -> Result<Id, Raise<A>>
+    ensures { (s : Status) → FitsState state.now s →
+        Answers (λ id. id) (definition.channel_id text.now s) result }
+{
+    match state.ids.table.connection(text) {
+        Some(id) => Ok(id),
+        None => Err(Raise::Fault(Fault::NoChannel(Vec::from_slice(alloc, text)?))),
     }
 }
 
 /// Refuses a flag where a program is due.
-fn misplaced<A: Allocator + Copy>(
-    alloc: A,
-    state: &State<A>,
-    word: &[u8],
-) -> Result<Leaf<A, Waits<A>>, NoMemory>
-    ensures { (s : Status) → FitsState state.now s → IfOk result (λ leaf.
-        Shows definition.next_of leaf state.now (definition.misplaced word.now s)) }
+fn misplaced<A: Allocator + Copy>(alloc: A, word: &[u8]) -> Raise<A>
+    ensures { Raises (definition.misplaced word.now) result }
 {
     if is_noecho(word) {
-        return wrong_args(alloc, b"spawn");
+        wrong_args(alloc, b"spawn")
+    } else {
+        bad_argument(alloc, word, b"spawn")
     }
-    bad_argument(alloc, word, b"spawn")
 }
 
 /// After the echo is on standard output, it goes to the log where what arrives does.
@@ -167,8 +178,8 @@ fn shown<A: Allocator + Copy>(
     answer: &Answer<A>,
 ) -> Result<Leaf<A, Waits<A>>, NoMemory>
     ensures { (s : Status) → FitsState state.now s → IfOk result (λ leaf.
-        Shows definition.next_of leaf state.now
-        (written (notes id (words_of words.items)) s (reply_of answer.now))) }
+        Goes definition.next_of (written (notes {n = 0} id (words_of words.items) s)
+        (reply_of answer.now)) s leaf state.now) }
 {
     match answer {
         Answer::Failed(_) => Ok(stops(Stop::WriterFailed)),
@@ -183,9 +194,9 @@ fn noted<A: Allocator>(
     words: Vec<Vec<u8, A>, A>,
     answer: &Answer<A>,
 ) -> Leaf<A, Waits<A>>
-    ensures { (s : Status) → FitsState state.now s →
-        Shows definition.next_of result state.now
-        (written (starts id (words_of words.items)) s (reply_of answer.now)) }
+    ensures { (s : Status) → FitsState state.now s → Goes definition.next_of
+        (written (starts {n = 1} id (words_of words.items)) (reply_of answer.now))
+        s result state.now }
 {
     match answer {
         Answer::Failed(_) => stops(Stop::WriterFailed),
