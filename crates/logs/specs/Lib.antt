@@ -3,4 +3,5 @@ pub mod SendUser
 pub mod SendLog
 pub mod SendError
 pub mod LogUser
+pub mod Request
 pub mod LogFile

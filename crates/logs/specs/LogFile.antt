@@ -1,17 +1,20 @@
 -- What log_file does.
-use Rattle.std.specs.Prelude.{ℕ, Bool, true, false, List, [], ◌∷◌, codes, ◌||◌, if◌then◌else◌}
+use Rattle.std.specs.Prelude.{ℕ, suc, ◌&&◌, ◌||◌, ◌==◌, not, length, Bool, true, false, List, [], ◌∷◌, codes, Option, Some, None, Result, Ok, Err, if◌then◌else◌}
 use Rattle.std.specs.Str.{bytes_eq}
 use Rattle.acts.specs.Deed.{Deed, Reply}
 use Rattle.acts.specs.Deed as said
 use Rattle.acts.specs.Flaw.{Flaw}
 use Rattle.acts.specs.Flaw as flaw
+use Rattle.acts.specs.Raise.{bind}
 use Rattle.acts.specs.declared.act.LogMode.{LogMode}
 use Rattle.acts.specs.declared.act.LogMode.TheVariants as mode
-use Rattle.dialog.specs.declared.log_state.LogState.{LogState}
+use Rattle.kinds.specs.Edits.{EndsLog, OpensLog}
+use Rattle.kinds.specs.Exchange.{Exchange, Edits, Opens, Performs, gives, fails, course}
+use Rattle.logs.specs.Request.{Request, request_by, request_of}
 use Rattle.logs.specs.declared.log_file.Waits.{Waits}
 use Rattle.logs.specs.declared.log_file.Waits.TheVariants as waits
 use Rattle.state.specs.Arguments.{is_flag}
-use Rattle.state.specs.Dialogue.{Course, gives, raises, ask}
+use Rattle.state.specs.Dialogue.{Course}
 use Rattle.state.specs.Status.{Status}
 
 -- the flag by which the log gets what arrives whatever log_user is (expect(1), log_file)
@@ -22,68 +25,69 @@ is_all w = bytes_eq w (codes "-a")
 abbrev pub is_noappend : List ℕ → Bool
 is_noappend w = bytes_eq w (codes "-noappend")
 
--- no log is open (expect(1), log_file)
-abbrev pub without_log : LogState → LogState
-without_log log = record log { logging = false }
-
--- a log is open, and gets all or what is shown (expect(1), log_file)
-abbrev pub with_log : Bool → LogState → LogState
-with_log all log = record log { logging = true; all = all }
-
--- what an answer to the opening of a log comes to (expect(1), log_file)
-abbrev pub opened : Bool → List ℕ → Status → Reply → Course
-opened all name s said.Done = gives [] (record s { log = with_log all s.log })
-opened all name s _ = raises (flaw.CannotOpenLog name) s
-
--- a log is opened (expect(1), log_file)
-abbrev pub opens : Bool → LogMode → List ℕ → Status → Course
-opens all mode name s = ask (said.OpenLog name mode) s (opened all name)
-
--- on once the log is closed (expect(1), log_file)
-abbrev pub closed : (Status → Course) → Status → Reply → Course
-closed next s reply = next (record s { log = without_log s.log })
-
--- on once no log is open (expect(1), log_file)
-abbrev pub closes : Status → (Status → Course) → Course
-closes s next = if s.log.logging then ask said.CloseLog s (closed next) else next s
-
 -- the error of a word for which the command has no room: where it would be a flag and is none, it
 -- is told for itself, else there are too many words (this project's own rule)
 abbrev pub misplaced : List ℕ → Flaw
 misplaced w =
-    if is_all w || is_noappend w then flaw.WrongArgs (codes "log_file")
-    else if is_flag w then flaw.BadArgument w (codes "log_file")
+    if (not (is_all w) && not (is_noappend w)) && is_flag w
+    then flaw.BadArgument w (codes "log_file")
     else flaw.WrongArgs (codes "log_file")
 
--- a word alone is the name, unless it would be a flag (expect(1), log_file)
-abbrev pub by_word : Bool → LogMode → List ℕ → Status → Course
-by_word all mode w s =
-    if is_flag w then raises (misplaced w) s else closes s (opens all mode w)
-
--- the name behind the flags, if there is one (expect(1), log_file)
-abbrev pub by_name : Bool → LogMode → List (List ℕ) → Status → Course
-by_name all mode [] s = closes s (gives [])
-by_name all mode (w ∷ []) s = by_word all mode w s
-by_name all mode (w ∷ v ∷ vs) s = raises (misplaced w) s
+-- the name behind the flags, if there is one: a word alone, unless it would be a flag (expect(1),
+-- log_file)
+abbrev pub by_name : Bool → LogMode → List (List ℕ) → Result Request Flaw
+by_name all mode [] = Ok (request_by all mode None)
+by_name all mode (w ∷ ws) =
+    if not (length ws == 0) || is_flag w then Err (misplaced w)
+    else Ok (request_by all mode (Some w))
 
 -- the words behind the first flag (expect(1), log_file)
-abbrev pub by_mode : Bool → List (List ℕ) → Status → Course
-by_mode all [] s = by_name all mode.Append [] s
-by_mode all (w ∷ ws) s =
-    if is_noappend w then by_name all mode.Truncate ws s else by_name all mode.Append (w ∷ ws) s
+abbrev pub by_mode : Bool → List (List ℕ) → Result Request Flaw
+by_mode all [] = by_name all mode.Append []
+by_mode all (w ∷ ws) =
+    if is_noappend w then by_name all mode.Truncate ws else by_name all mode.Append (w ∷ ws)
+
+-- ?-a? ?-noappend? ?name? (expect(1), log_file)
+abbrev pub request : List (List ℕ) → Result Request Flaw
+request [] = by_mode false []
+request (w ∷ ws) = if is_all w then by_mode true ws else by_mode false (w ∷ ws)
+
+-- what an answer to the opening of a log comes to: it is open, and gets all or what is shown, or
+-- it cannot be opened (expect(1), log_file)
+abbrev pub opened : {n : ℕ} → Bool → List ℕ → Reply → Exchange (suc n)
+opened all name said.Done = Opens (OpensLog all) (gives [])
+opened all name _ = fails (flaw.CannotOpenLog name)
+
+-- the log of a name is opened, if one is named (expect(1), log_file)
+abbrev pub opens_named : {n : ℕ} → Bool → LogMode → Option (List ℕ) → Exchange (suc (suc n))
+opens_named all mode (Some name) =
+    Performs (said.OpenLog name mode) tt (λ s reply. opened all name reply)
+opens_named all mode None = gives []
+
+-- the log that is asked for is opened, if one is (expect(1), log_file)
+abbrev pub opens : {n : ℕ} → Request → Exchange (suc (suc n))
+opens r = opens_named r.all r.mode r.name
+
+-- a log that is open is closed first (expect(1), log_file)
+abbrev pub changes : Request → Status → Exchange 4
+changes r s =
+    if s.log.logging then Performs said.CloseLog tt (λ t reply. Edits EndsLog (opens r))
+    else opens r
 
 -- log_file ?-a? ?-noappend? ?name? (expect(1), log_file)
-abbrev pub log_file : List (List ℕ) → Status → Course
-log_file [] s = by_mode false [] s
-log_file (w ∷ ws) s = if is_all w then by_mode true ws s else by_mode false (w ∷ ws) s
+abbrev pub log_file : List (List ℕ) → Status → Result (Exchange 4) Flaw
+log_file args s = bind (request args) (λ r. Ok (changes r s))
 
--- the name of a log that an act could not open
+-- the name of a log that an act opens
 abbrev pub name_opened : Deed → List ℕ
 name_opened (said.OpenLog name mode) = name
 name_opened _ = []
 
 -- what follows the answer to an act (expect(1), log_file)
+abbrev pub follows : {A : Type 0} → Waits A → Deed → Reply → Exchange 3
+follows (waits.Closed r) deed reply = Edits EndsLog (opens (request_of r))
+follows (waits.Opened all) deed reply = opened all (name_opened deed) reply
+
+-- the same, as a part of a run
 abbrev pub next_of : {A : Type 0} → Waits A → Deed → Status → Reply → Course
-next_of waits.Closed deed = closed (gives [])
-next_of (waits.Reopens file) deed = closed (opens file.all file.mode file.name.items)
-next_of (waits.Opened all) deed = opened all (name_opened deed)
+next_of waits deed s reply = course (follows waits deed reply) s

@@ -1,32 +1,20 @@
 -- What log_user does.
-use Rattle.std.specs.Prelude.{ℕ, Bool, true, false, List, [], ◌∷◌, codes, Option, Some, None, if◌then◌else◌}
+use Rattle.std.specs.Prelude.{ℕ, Bool, true, false, List, [], ◌∷◌, codes, Result, Ok, Err, if◌then◌else◌}
 use Rattle.std.specs.Str.{bytes_eq}
+use Rattle.acts.specs.Flaw.{Flaw}
 use Rattle.acts.specs.Flaw as flaw
-use Rattle.dialog.specs.declared.log_state.LogState.{LogState}
-use Rattle.state.specs.Dialogue.{Course, gives, raises}
-use Rattle.state.specs.Status.{Status}
-
--- what arrives is shown, or is not (expect(1), log_user)
-abbrev pub with_user : Bool → LogState → LogState
-with_user user log = record log { user = user }
-
--- it is set whether what arrives is shown (expect(1), log_user)
-abbrev pub sets_user : Bool → Status → Course
-sets_user user s = gives [] (record s { log = with_user user s.log })
+use Rattle.acts.specs.Raise.{bind}
+use Rattle.kinds.specs.Edits.{ShowsArrivals}
+use Rattle.kinds.specs.Exchange.{Exchange, Edits, gives}
 
 -- the setting that a word spells (expect(1), log_user)
-abbrev pub setting_of : List ℕ → Option Bool
+abbrev pub setting_of : List ℕ → Result Bool Flaw
 setting_of w =
-    if bytes_eq w (codes "0") then Some false
-    else if bytes_eq w (codes "1") then Some true
-    else None
+    if bytes_eq w (codes "0") then Ok false
+    else if bytes_eq w (codes "1") then Ok true
+    else Err (flaw.BadArgument w (codes "log_user"))
 
--- it is set as a word says, where the word spells a setting (expect(1), log_user)
-abbrev pub by_setting : Option Bool → List ℕ → Status → Course
-by_setting (Some user) w s = sets_user user s
-by_setting None w s = raises (flaw.BadArgument w (codes "log_user")) s
-
--- log_user 0|1 (expect(1), log_user)
-abbrev pub log_user : List (List ℕ) → Status → Course
-log_user (w ∷ []) s = by_setting (setting_of w) w s
-log_user _ s = raises (flaw.WrongArgs (codes "log_user")) s
+-- log_user 0|1: it is set whether what arrives is shown (expect(1), log_user)
+abbrev pub log_user : List (List ℕ) → Result (Exchange 0) Flaw
+log_user (w ∷ []) = bind (setting_of w) (λ shows. Ok (Edits (ShowsArrivals shows) (gives [])))
+log_user _ = Err (flaw.WrongArgs (codes "log_user"))

@@ -1,10 +1,12 @@
 -- What send_error does.
-use Rattle.std.specs.Prelude.{ℕ, List}
-use Rattle.logs.specs.Text.{takes_text}
-use Rattle.logs.specs.declared.text.Target.TheVariants as target
-use Rattle.state.specs.Dialogue.{Course}
-use Rattle.state.specs.Status.{Status}
+use Rattle.std.specs.Prelude.{ℕ, List, codes, Result, Ok}
+use Rattle.acts.specs.Flaw.{Flaw}
+use Rattle.acts.specs.Raise.{bind}
+use Rattle.kinds.specs.Exchange.{Exchange}
+use Rattle.logs.specs.Text.{text_in}
+use Rattle.writing.specs.Channel.{put}
+use Rattle.writing.specs.declared.channel.Channel.TheVariants as channel
 
--- send_error ?--? t (expect(1), send_error)
-abbrev pub send_error : List (List ℕ) → Status → Course
-send_error args s = takes_text target.Errors args s
+-- send_error ?--? t: to standard error (expect(1), send_error)
+abbrev pub send_error : List (List ℕ) → Result (Exchange 4) Flaw
+send_error args = bind (text_in (codes "send_error") args) (λ text. Ok (put channel.Errors text))

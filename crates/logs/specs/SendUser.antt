@@ -1,10 +1,11 @@
 -- What send_user does.
-use Rattle.std.specs.Prelude.{ℕ, List}
-use Rattle.logs.specs.Text.{takes_text}
-use Rattle.logs.specs.declared.text.Target.TheVariants as target
-use Rattle.state.specs.Dialogue.{Course}
-use Rattle.state.specs.Status.{Status}
+use Rattle.std.specs.Prelude.{ℕ, List, codes, Result, Ok}
+use Rattle.acts.specs.Flaw.{Flaw}
+use Rattle.acts.specs.Raise.{bind}
+use Rattle.kinds.specs.Exchange.{Exchange}
+use Rattle.logs.specs.Text.{text_in}
+use Rattle.writing.specs.Channel.{tell}
 
--- send_user ?--? t (expect(1), send_user)
-abbrev pub send_user : List (List ℕ) → Status → Course
-send_user args s = takes_text target.User args s
+-- send_user ?--? t: to standard output, and to the log where one is open (expect(1), send_user)
+abbrev pub send_user : List (List ℕ) → Result (Exchange 4) Flaw
+send_user args = bind (text_in (codes "send_user") args) (λ text. Ok (tell text))

@@ -1,85 +1,135 @@
 //! `log_file ?-a? ?-noappend? ?name?` (expect(1), log_file).
-#![tactic(auto, using(state::proofs::Reaches::same_reaches))]
 
-ghost use Rattle.std.specs.Prelude.{◌≡◌, ◌≤◌, ℕ, List, [], IfOk};
-ghost use Rattle.acts.specs.Deed as said;
-ghost use Rattle.acts.specs.Deed.{Reply, deed_of, reply_of};
-ghost use Rattle.acts.specs.Flaw as flaw;
-ghost use Rattle.acts.specs.Flaw.{text_of};
+ghost use Rattle.std.specs.Prelude.{◌≡◌, ◌≤◌, ℕ};
+ghost use Rattle.acts.specs.Deed.{deed_of, reply_of};
+ghost use Rattle.acts.specs.Raise.{Answers, Raises};
+ghost use Rattle.kinds.specs.Answers.{Goes, GoesOn, Talks};
 ghost use Rattle.logs.specs.LogFile as definition;
-ghost use Rattle.state.specs.Dialogue.{gives};
-ghost use Rattle.state.specs.Leaf.{HasOutcome, Shows};
-ghost use Rattle.state.specs.Outcome.{Leaves, Error};
+ghost use Rattle.logs.specs.Request.{request_of};
 ghost use Rattle.state.specs.Status.{Status};
 ghost use Rattle.state.specs.View.{FitsState};
+ghost use Rattle.state.specs.declared.state.State.{State as Kept};
 
-use acts::{Act, Answer, Fault, LogMode, NoMemory};
-use state::arguments::{bad_argument, is_flag, wrong_args};
-use state::leaf::{empty, raises};
+use crate::settings::{end_log, start_log};
+use acts::raise::{bad_argument, wrong_args};
+use acts::{Act, Answer, Fault, LogMode, Raise};
+use state::arguments::is_flag;
+use state::leaf::empty;
 use state::{Leaf, State};
 use std::alloc::Allocator;
 use tcltext::Value;
 
-/// A log that is to be opened.
+/// What the words ask for.
 #[derive(Debug, Drop)]
-pub struct LogFile<A: Allocator> {
-    /// The name of the file.
-    pub name: Vec<u8, A>,
-    /// What becomes of the bytes that it has.
-    pub mode: LogMode,
-    /// Whether it gets what arrives whatever `log_user` is.
+pub struct Request<A: Allocator> {
+    /// Whether the log gets what arrives whatever `log_user` is.
     pub all: bool,
+    /// What becomes of the bytes that the file has.
+    pub mode: LogMode,
+    /// The name of the file, where one is to be opened.
+    pub name: Option<Vec<u8, A>>,
 }
 
 /// What waits for the answer to an act.
 #[derive(Debug, Drop)]
 pub enum Waits<A: Allocator> {
-    /// The log is closed, and the command is over.
-    Closed,
-    /// The log is closed, and this one is opened.
-    Reopens(LogFile<A>),
+    /// The log is closed, and the one that is asked for is opened.
+    Closed(Request<A>),
     /// The log is opened, and gets all or what is shown.
     Opened(bool),
 }
 
 /// Begins to close the log and to open the one that is named, if one is.
+///
+/// # Errors
+/// The words are too many, or one of them is no flag; or memory is refused.
 pub fn begin<A: Allocator + Copy>(
     alloc: A,
-    state: &mut State<A>,
+    state: &State<A>,
     args: &[Value<A>],
-) -> Result<Leaf<A, Waits<A>>, NoMemory>
-    ensures shows { (s : Status) → FitsState state.old s → IfOk result (λ leaf.
-        Shows definition.next_of leaf state.new (definition.log_file args.now s)) }
-    ensures left { state.new.left ≤ state.old.left }
+) -> Result<Leaf<A, Waits<A>>, Raise<A>>
+    ensures { (s : Status) → FitsState state.now s →
+        Talks definition.next_of (definition.log_file args.now s) s result state.now }
 {
-    let [flag, words @ ..] = args else {
-        return read_mode(alloc, state, false, args);
-    };
-    if is_all(flag.as_slice()) {
-        read_mode(alloc, state, true, words)
-    } else {
-        read_mode(alloc, state, false, args)
-    }
+    let request = read_request(alloc, args)?;
+    Ok(change(state, request))
 }
 
 /// Goes on with the answer to the close or to the opening.
+///
+/// # Errors
+/// The log is not opened; or memory is refused.
 pub fn answered<A: Allocator + Copy>(
     alloc: A,
     state: &mut State<A>,
     act: Act<A>,
     waits: Waits<A>,
     answer: Answer<A>,
-) -> Result<Leaf<A, Waits<A>>, NoMemory>
-    ensures shows { (s : Status) → FitsState state.old s → IfOk result (λ leaf.
-        Shows definition.next_of leaf state.new
-        (definition.next_of waits (deed_of act) s (reply_of answer))) }
+) -> Result<Leaf<A, Waits<A>>, Raise<A>>
+    ensures shows { (s : Status) → FitsState state.old s → GoesOn definition.next_of
+        (definition.follows waits (deed_of act) (reply_of answer)) s result state.new }
     ensures left { state.new.left ≤ state.old.left }
 {
-    match waits {
-        Waits::Closed => Ok(closed(state)),
-        Waits::Reopens(file) => Ok(reopen(state, file)),
-        Waits::Opened(all) => opened(alloc, state, all, act, &answer),
+    match (waits, answer) {
+        (Waits::Closed(request), _) => {
+            end_log(state);
+            Ok(open(request))
+        }
+        (Waits::Opened(all), Answer::Done) => {
+            start_log(state, all);
+            Ok(empty())
+        }
+        (Waits::Opened(_), _) => Err(Raise::Fault(Fault::CannotOpenLog(name_opened(alloc, act)))),
     }
+}
+
+/// Reads the words of the command.
+fn read_request<A: Allocator + Copy>(alloc: A, args: &[Value<A>]) -> Result<Request<A>, Raise<A>>
+    ensures { Answers request_of (definition.request args.now) result }
+{
+    match args {
+        [flag, words @ ..] if is_all(flag.as_slice()) => read_mode(alloc, true, words),
+        _ => read_mode(alloc, false, args),
+    }
+}
+
+/// Reads the words behind the first flag.
+fn read_mode<A: Allocator + Copy>(
+    alloc: A,
+    all: bool,
+    words: &[Value<A>],
+) -> Result<Request<A>, Raise<A>>
+    ensures { Answers request_of (definition.by_mode all words.now) result }
+{
+    match words {
+        [flag, more @ ..] if is_noappend(flag.as_slice()) => {
+            read_name(alloc, all, LogMode::Truncate, more)
+        }
+        _ => read_name(alloc, all, LogMode::Append, words),
+    }
+}
+
+/// Reads the name behind the flags, if there is one.
+fn read_name<A: Allocator + Copy>(
+    alloc: A,
+    all: bool,
+    mode: LogMode,
+    words: &[Value<A>],
+) -> Result<Request<A>, Raise<A>>
+    ensures { Answers request_of (definition.by_name all mode words.now) result }
+{
+    let [word, more @ ..] = words else {
+        return Ok(Request {
+            all,
+            mode,
+            name: None,
+        });
+    };
+    if !more.is_empty() || is_flag(word.as_slice()) {
+        return Err(misplaced(alloc, word.as_slice()));
+    }
+    let name = Some(Vec::from_slice(alloc, word.as_slice())?);
+    Ok(Request { all, mode, name })
 }
 
 /// Whether a word is the flag by which a log gets all.
@@ -96,161 +146,48 @@ fn is_noappend(word: &[u8]) -> bool
     word == b"-noappend".as_slice()
 }
 
-/// Reads the words behind the first flag.
-fn read_mode<A: Allocator + Copy>(
-    alloc: A,
-    state: &State<A>,
-    all: bool,
-    words: &[Value<A>],
-) -> Result<Leaf<A, Waits<A>>, NoMemory>
-    ensures { (s : Status) → FitsState state.now s → IfOk result (λ leaf.
-        Shows definition.next_of leaf state.now (definition.by_mode all words.now s)) }
-{
-    let [flag, more @ ..] = words else {
-        return read_name(alloc, state, all, LogMode::Append, words);
-    };
-    if is_noappend(flag.as_slice()) {
-        read_name(alloc, state, all, LogMode::Truncate, more)
-    } else {
-        read_name(alloc, state, all, LogMode::Append, words)
-    }
-}
-
-/// Reads the name behind the flags, if there is one.
-fn read_name<A: Allocator + Copy>(
-    alloc: A,
-    state: &State<A>,
-    all: bool,
-    mode: LogMode,
-    words: &[Value<A>],
-) -> Result<Leaf<A, Waits<A>>, NoMemory>
-    ensures { (s : Status) → FitsState state.now s → IfOk result (λ leaf.
-        Shows definition.next_of leaf state.now (definition.by_name all mode words.now s)) }
-{
-    match words {
-        [] => Ok(close(state)),
-        [name] => open_named(alloc, state, all, mode, name.as_slice()),
-        [word, _, ..] => misplaced(alloc, word.as_slice()),
-    }
-}
-
-/// Closes the log, if one is open.
-fn close<A: Allocator>(state: &State<A>) -> Leaf<A, Waits<A>>
-    ensures { (s : Status) → FitsState state.now s →
-        Shows definition.next_of result state.now (definition.closes s (gives [])) }
-{
-    if state.log.logging {
-        Leaf::Asks(Act::CloseLog, Waits::Closed)
-    } else {
-        empty()
-    }
-}
-
-/// Opens the log of a name, unless it begins as flags do; an open one is closed first.
-fn open_named<A: Allocator + Copy>(
-    alloc: A,
-    state: &State<A>,
-    all: bool,
-    mode: LogMode,
-    word: &[u8],
-) -> Result<Leaf<A, Waits<A>>, NoMemory>
-    ensures { (s : Status) → FitsState state.now s → IfOk result (λ leaf.
-        Shows definition.next_of leaf state.now (definition.by_word all mode word.now s)) }
-{
-    if is_flag(word) {
-        return misplaced(alloc, word);
-    }
-    let name = Vec::from_slice(alloc, word)?;
-    let file = LogFile { name, mode, all };
-    if state.log.logging {
-        Ok(Leaf::Asks(Act::CloseLog, Waits::Reopens(file)))
-    } else {
-        Ok(open(state, file))
-    }
-}
-
-/// Opens a log.
-fn open<A: Allocator>(state: &State<A>, file: LogFile<A>) -> Leaf<A, Waits<A>>
-    ensures { (s : Status) → FitsState state.now s → Shows definition.next_of result state.now
-        (definition.opens file.all file.mode file.name.items s) }
-{
-    Leaf::Asks(Act::OpenLog(file.name, file.mode), Waits::Opened(file.all))
-}
-
 /// Refuses a word for which the command has no room: where it would be a flag and is none, it is
 /// told for itself.
-fn misplaced<A: Allocator + Copy>(alloc: A, word: &[u8]) -> Result<Leaf<A, Waits<A>>, NoMemory>
-    ensures { IfOk result (λ leaf.
-        HasOutcome leaf (Leaves Error (text_of (definition.misplaced word.now)))) }
+fn misplaced<A: Allocator + Copy>(alloc: A, word: &[u8]) -> Raise<A>
+    ensures { Raises (definition.misplaced word.now) result }
 {
-    if is_all(word) || is_noappend(word) {
-        return wrong_args(alloc, b"log_file");
-    }
-    if is_flag(word) {
-        return bad_argument(alloc, word, b"log_file");
-    }
-    wrong_args(alloc, b"log_file")
-}
-
-/// The log is closed, and the command is over.
-fn closed<A: Allocator>(state: &mut State<A>) -> Leaf<A, Waits<A>>
-    ensures shows { (s : Status) (reply : Reply) → FitsState state.old s → Shows definition.next_of
-        result state.new (definition.closed (gives []) s reply) }
-    ensures left { state.new.left ≡ state.old.left }
-{
-    state.log.logging = false;
-    empty()
-}
-
-/// The log is closed, and another is opened.
-fn reopen<A: Allocator>(state: &mut State<A>, file: LogFile<A>) -> Leaf<A, Waits<A>>
-    ensures shows { (s : Status) (reply : Reply) → FitsState state.old s → Shows definition.next_of
-        result state.new
-        (definition.closed (definition.opens file.all file.mode file.name.items) s reply) }
-    ensures left { state.new.left ≡ state.old.left }
-{
-    state.log.logging = false;
-    open(state, file)
-}
-
-/// Goes on with the answer to the opening of a log.
-fn opened<A: Allocator + Copy>(
-    alloc: A,
-    state: &mut State<A>,
-    all: bool,
-    act: Act<A>,
-    answer: &Answer<A>,
-) -> Result<Leaf<A, Waits<A>>, NoMemory>
-    ensures shows { (s : Status) → FitsState state.old s → IfOk result (λ leaf.
-        Shows definition.next_of leaf state.new
-        (definition.opened all (definition.name_opened (deed_of act)) s (reply_of answer.now))) }
-    ensures left { state.new.left ≡ state.old.left }
-{
-    match answer {
-        Answer::Done => Ok(open_is(state, all)),
-        _ => cannot_open(alloc, act),
+    if !is_all(word) && !is_noappend(word) && is_flag(word) {
+        bad_argument(alloc, word, b"log_file")
+    } else {
+        wrong_args(alloc, b"log_file")
     }
 }
 
-/// The log is open, and the command is over.
-fn open_is<A: Allocator>(state: &mut State<A>, all: bool) -> Leaf<A, Waits<A>>
-    ensures shows { (s : Status) (name : List ℕ) → FitsState state.old s → Shows
-        definition.next_of result state.new (definition.opened all name s said.Done) }
-    ensures left { state.new.left ≡ state.old.left }
+/// Begins to close the log, where one is open, and to open the one that is asked for.
+fn change<A: Allocator + Copy>(state: &State<A>, request: Request<A>) -> Leaf<A, Waits<A>>
+    ensures { (s : Status) → FitsState state.now s → Goes definition.next_of
+        (definition.changes (request_of request) s) s result state.now }
 {
-    state.log.logging = true;
-    state.log.all = all;
-    empty()
+    if state.log.logging {
+        Leaf::Asks(Act::CloseLog, Waits::Closed(request))
+    } else {
+        open(request)
+    }
 }
 
-/// The error of a log that could not be opened.
-fn cannot_open<A: Allocator + Copy>(alloc: A, act: Act<A>) -> Result<Leaf<A, Waits<A>>, NoMemory>
-    ensures { IfOk result (λ leaf. HasOutcome leaf (Leaves Error
-        (text_of (flaw.CannotOpenLog (definition.name_opened (deed_of act)))))) }
+/// Begins to open the log that is asked for, if one is.
+fn open<A: Allocator + Copy>(request: Request<A>) -> Leaf<A, Waits<A>>
+    ensures { (n : ℕ) (s : Status) (state : Kept A) → FitsState state s → Goes definition.next_of
+        (definition.opens {n = n} (request_of request)) s result state }
 {
-    let name = match act {
+    let Request { all, mode, name } = request;
+    match name {
+        Some(name) => Leaf::Asks(Act::OpenLog(name, mode), Waits::Opened(all)),
+        None => empty(),
+    }
+}
+
+/// The name of the log that an act opens.
+fn name_opened<A: Allocator>(alloc: A, act: Act<A>) -> Vec<u8, A>
+    ensures { result.items ≡ definition.name_opened (deed_of act) }
+{
+    match act {
         Act::OpenLog(name, _) => name,
         _ => Vec::new(alloc),
-    };
-    raises(alloc, &Fault::CannotOpenLog(name))
+    }
 }

@@ -1,28 +1,27 @@
 //! `send_error ?--? t` (expect(1), send_error).
 
-ghost use Rattle.std.specs.Prelude.{◌≤◌, IfOk};
+ghost use Rattle.kinds.specs.Answers.{Talks};
 ghost use Rattle.logs.specs.SendError as definition;
-ghost use Rattle.state.specs.Leaf.{Shows};
 ghost use Rattle.state.specs.Status.{Status};
 ghost use Rattle.state.specs.View.{FitsState};
+ghost use Rattle.state.specs.declared.state.State.{State as Kept};
 ghost use Rattle.writing.specs.Channel.{next_of};
 
-use crate::text::{Target, take_text};
-use acts::NoMemory;
-use state::{Leaf, State};
+use crate::text::read_text;
+use acts::Raise;
+use state::Leaf;
 use std::alloc::Allocator;
 use tcltext::Value;
-use writing::channel::Waits;
+use writing::channel::{Channel, Waits, write};
 
 /// Begins to write a text to standard error.
-pub fn begin<A: Allocator + Copy>(
-    alloc: A,
-    state: &mut State<A>,
-    args: &[Value<A>],
-) -> Result<Leaf<A, Waits>, NoMemory>
-    ensures shows { (s : Status) → FitsState state.old s → IfOk result (λ leaf.
-        Shows next_of leaf state.new (definition.send_error args.now s)) }
-    ensures left { state.new.left ≤ state.old.left }
+///
+/// # Errors
+/// The words are too few or too many, or a flag stands among them; or memory is refused.
+pub fn begin<A: Allocator + Copy>(alloc: A, args: &[Value<A>]) -> Result<Leaf<A, Waits>, Raise<A>>
+    ensures { (s : Status) (state : Kept A) → FitsState state s →
+        Talks next_of (definition.send_error args.now) s result state }
 {
-    take_text(alloc, state, Target::Errors, args)
+    let text = read_text(alloc, b"send_error", args)?;
+    Ok(write(Channel::Errors, Vec::from_slice(alloc, text)?))
 }

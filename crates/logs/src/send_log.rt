@@ -1,28 +1,30 @@
 //! `send_log ?--? t` (expect(1), send_log).
 
-ghost use Rattle.std.specs.Prelude.{◌≤◌, IfOk};
+ghost use Rattle.kinds.specs.Answers.{Talks};
 ghost use Rattle.logs.specs.SendLog as definition;
-ghost use Rattle.state.specs.Leaf.{Shows};
 ghost use Rattle.state.specs.Status.{Status};
 ghost use Rattle.state.specs.View.{FitsState};
 ghost use Rattle.writing.specs.Channel.{next_of};
 
-use crate::text::{Target, take_text};
-use acts::NoMemory;
+use crate::text::read_text;
+use acts::Raise;
 use state::{Leaf, State};
 use std::alloc::Allocator;
 use tcltext::Value;
-use writing::channel::Waits;
+use writing::channel::{Waits, note};
 
 /// Begins to write a text to the log, where one is open.
+///
+/// # Errors
+/// The words are too few or too many, or a flag stands among them; or memory is refused.
 pub fn begin<A: Allocator + Copy>(
     alloc: A,
-    state: &mut State<A>,
+    state: &State<A>,
     args: &[Value<A>],
-) -> Result<Leaf<A, Waits>, NoMemory>
-    ensures shows { (s : Status) → FitsState state.old s → IfOk result (λ leaf.
-        Shows next_of leaf state.new (definition.send_log args.now s)) }
-    ensures left { state.new.left ≤ state.old.left }
+) -> Result<Leaf<A, Waits>, Raise<A>>
+    ensures { (s : Status) → FitsState state.now s →
+        Talks next_of (definition.send_log args.now s) s result state.now }
 {
-    take_text(alloc, state, Target::Log, args)
+    let text = read_text(alloc, b"send_log", args)?;
+    Ok(note(state, Vec::from_slice(alloc, text)?))
 }

@@ -1,49 +1,67 @@
 -- The channels that texts are written to.
-use Rattle.std.specs.Prelude.{ℕ, List, [], ◌∷◌, if◌then◌else◌}
+use Rattle.std.specs.Prelude.{ℕ, suc, List, [], ◌∷◌, if◌then◌else◌}
 use Rattle.acts.specs.Deed.{Deed, Reply}
 use Rattle.acts.specs.Deed as said
-use Rattle.state.specs.Dialogue.{Course, gives, ask, written}
+use Rattle.kinds.specs.Exchange.{Exchange, Over, Performs, gives, course}
+use Rattle.state.specs.Dialogue.{Course}
+use Rattle.state.specs.Outcome.{Outcome, Gives, Stops}
+use Rattle.state.specs.Outcome as stop
+use Rattle.state.specs.Rows.{Holds}
 use Rattle.state.specs.Status.{Status}
+use Rattle.writing.specs.declared.channel.Channel.{Channel}
+use Rattle.writing.specs.declared.channel.Channel.TheVariants as channel
 use Rattle.writing.specs.declared.channel.Waits.{Waits}
 use Rattle.writing.specs.declared.channel.Waits.TheVariants as waits
 
--- where a text is written to (puts(n); expect(1), send_log)
-pub data Channel : Type 0 where
-  Output : Channel
-  Errors : Channel
-  Log : Channel
-
 -- the write of bytes to a channel (puts(n); expect(1), send_log)
 abbrev pub write_to : Channel → List ℕ → Deed
-write_to Output bytes = said.Out bytes
-write_to Errors bytes = said.Err bytes
-write_to Log bytes = said.Log bytes
+write_to channel.Output bytes = said.Out bytes
+write_to channel.Errors bytes = said.Err bytes
+write_to channel.Log bytes = said.Log bytes
+
+-- it is no wait, so that no rows have to hold (this project's own rule)
+abbrev pub holds : (to : Channel) (bytes : List ℕ) → Holds (write_to to bytes)
+holds channel.Output bytes = tt
+holds channel.Errors bytes = tt
+holds channel.Log bytes = tt
+
+-- how a write ends: one that failed stops the run (this project's own rule)
+abbrev pub written : Reply → Outcome
+written (said.Failed sent) = Stops stop.WriterFailed
+written _ = Gives []
 
 -- bytes are written to a channel; where there are none, nothing is (this project's own rule)
-abbrev pub put : Channel → List ℕ → Status → Course
-put channel [] s = gives [] s
-put channel (b ∷ bs) s = ask (write_to channel (b ∷ bs)) s (written (gives []))
+abbrev pub put : {n : ℕ} → Channel → List ℕ → Exchange (suc n)
+put to [] = gives []
+put to (b ∷ bs) =
+    Performs (write_to to (b ∷ bs)) (holds to (b ∷ bs)) (λ s reply. Over (written reply))
 
 -- bytes are written to the log where one is open, whatever log_user is (expect(1), send_log)
-abbrev pub note : List ℕ → Status → Course
-note bytes s = if s.log.logging then put Log bytes s else gives [] s
+abbrev pub note : {n : ℕ} → List ℕ → Status → Exchange (suc n)
+note bytes s = if s.log.logging then put channel.Log bytes else gives []
+
+-- what follows the write to standard output: that to the log, unless it failed (expect(1),
+-- send_user)
+abbrev pub told : List ℕ → Status → Reply → Exchange 3
+told bytes s (said.Failed sent) = Over (Stops stop.WriterFailed)
+told bytes s _ = note bytes s
 
 -- bytes are written to standard output, and then to the log where one is open (expect(1),
 -- send_user)
-abbrev pub tell : List ℕ → Status → Course
-tell [] s = gives [] s
-tell (b ∷ bs) s = ask (said.Out (b ∷ bs)) s (written (note (b ∷ bs)))
+abbrev pub tell : List ℕ → Exchange 4
+tell [] = gives []
+tell (b ∷ bs) = Performs (said.Out (b ∷ bs)) tt (λ s reply. told (b ∷ bs) s reply)
 
 -- the bytes that an act writes to standard output (puts(n))
 abbrev pub bytes_told : Deed → List ℕ
 bytes_told (said.Out bytes) = bytes
 bytes_told _ = []
 
--- what follows a write: nothing, or that to the log (puts(n); expect(1), send_user)
-abbrev pub after_write : Waits → Deed → Status → Course
-after_write waits.Written deed s = gives [] s
-after_write waits.Told deed s = note (bytes_told deed) s
+-- what follows the answer to a write: nothing, or that to the log (puts(n); expect(1), send_user)
+abbrev pub follows : Waits → Deed → Status → Reply → Exchange 3
+follows waits.Written deed s reply = Over (written reply)
+follows waits.Told deed s reply = told (bytes_told deed) s reply
 
--- what follows the answer to a write (puts(n); expect(1), send_user)
+-- the same, as a part of a run
 abbrev pub next_of : Waits → Deed → Status → Reply → Course
-next_of waits deed = written (after_write waits deed)
+next_of waits deed s reply = course (follows waits deed s reply) s

@@ -1,3 +1,2 @@
 pub mod Channel
 pub mod Puts
-pub mod View

@@ -1,16 +1,14 @@
 //! The channels that texts are written to.
-#![tactic(auto, using(state::proofs::Reaches::same_reaches))]
 
-ghost use Rattle.std.specs.Prelude.{◌≡◌, ◌≤◌, IfOk};
+ghost use Rattle.std.specs.Prelude.{◌≡◌, ℕ};
 ghost use Rattle.acts.specs.Deed.{deed_of, reply_of};
-ghost use Rattle.state.specs.Leaf.{Shows};
+ghost use Rattle.kinds.specs.Answers.{Goes, GoesOn};
 ghost use Rattle.state.specs.Status.{Status};
 ghost use Rattle.state.specs.View.{FitsState};
+ghost use Rattle.state.specs.declared.state.State.{State as Kept};
 ghost use Rattle.writing.specs.Channel as definition;
-ghost use Rattle.writing.specs.Channel.{next_of};
-ghost use Rattle.writing.specs.View.{channel_seen};
 
-use acts::{Act, Answer, NoMemory};
+use acts::{Act, Answer, Raise};
 use state::leaf::{empty, stops};
 use state::{Leaf, State, Stop};
 use std::alloc::Allocator;
@@ -33,13 +31,9 @@ pub enum Channel {
 }
 
 /// Begins to write bytes to a channel; where there are none, nothing is written.
-pub fn write<A: Allocator + Copy>(
-    state: &State<A>,
-    channel: Channel,
-    bytes: Vec<u8, A>,
-) -> Leaf<A, Waits>
-    ensures { (s : Status) → FitsState state.now s →
-        Shows next_of result state.now (definition.put (channel_seen channel) bytes.items s) }
+pub fn write<A: Allocator + Copy>(channel: Channel, bytes: Vec<u8, A>) -> Leaf<A, Waits>
+    ensures { (n : ℕ) (s : Status) (state : Kept A) → FitsState state s →
+        Goes definition.next_of (definition.put {n = n} channel bytes.items) s result state }
 {
     if bytes.is_empty() {
         return empty();
@@ -49,20 +43,20 @@ pub fn write<A: Allocator + Copy>(
 
 /// Begins to write bytes to the log, where one is open.
 pub fn note<A: Allocator + Copy>(state: &State<A>, bytes: Vec<u8, A>) -> Leaf<A, Waits>
-    ensures { (s : Status) → FitsState state.now s →
-        Shows next_of result state.now (definition.note bytes.items s) }
+    ensures { (n : ℕ) (s : Status) → FitsState state.now s →
+        Goes definition.next_of (definition.note {n = n} bytes.items s) s result state.now }
 {
     if state.log.logging {
-        write(state, Channel::Log, bytes)
+        write(Channel::Log, bytes)
     } else {
         empty()
     }
 }
 
 /// Begins to write bytes to standard output, and then to the log where one is open.
-pub fn tell<A: Allocator + Copy>(state: &State<A>, bytes: Vec<u8, A>) -> Leaf<A, Waits>
-    ensures { (s : Status) → FitsState state.now s →
-        Shows next_of result state.now (definition.tell bytes.items s) }
+pub fn tell<A: Allocator + Copy>(bytes: Vec<u8, A>) -> Leaf<A, Waits>
+    ensures { (s : Status) (state : Kept A) → FitsState state s →
+        Goes definition.next_of (definition.tell bytes.items) s result state }
 {
     if bytes.is_empty() {
         return empty();
@@ -73,34 +67,18 @@ pub fn tell<A: Allocator + Copy>(state: &State<A>, bytes: Vec<u8, A>) -> Leaf<A,
 /// Goes on with the answer to the write.
 pub fn answered<A: Allocator + Copy>(
     alloc: A,
-    state: &mut State<A>,
-    act: Act<A>,
-    waits: Waits,
-    answer: Answer<A>,
-) -> Result<Leaf<A, Waits>, NoMemory>
-    ensures shows { (s : Status) → FitsState state.old s → IfOk result (λ leaf.
-        Shows next_of leaf state.new (next_of waits (deed_of act) s (reply_of answer))) }
-    ensures left { state.new.left ≤ state.old.left }
-{
-    match answer {
-        Answer::Failed(_) => Ok(stops(Stop::WriterFailed)),
-        _ => Ok(after_write(alloc, state, act, waits)),
-    }
-}
-
-/// Goes on after a write.
-fn after_write<A: Allocator + Copy>(
-    alloc: A,
     state: &State<A>,
     act: Act<A>,
     waits: Waits,
-) -> Leaf<A, Waits>
-    ensures { (s : Status) → FitsState state.now s → Shows next_of result state.now
-        (definition.after_write waits (deed_of act) s) }
+    answer: Answer<A>,
+) -> Result<Leaf<A, Waits>, Raise<A>>
+    ensures { (s : Status) → FitsState state.now s → GoesOn definition.next_of
+        (definition.follows waits (deed_of act) s (reply_of answer)) s result state.now }
 {
-    match waits {
-        Waits::Written => empty(),
-        Waits::Told => note(state, bytes_told(alloc, act)),
+    match (waits, answer) {
+        (_, Answer::Failed(_)) => Ok(stops(Stop::WriterFailed)),
+        (Waits::Written, _) => Ok(empty()),
+        (Waits::Told, _) => Ok(note(state, bytes_told(alloc, act))),
     }
 }
 
@@ -116,7 +94,7 @@ fn bytes_told<A: Allocator>(alloc: A, act: Act<A>) -> Vec<u8, A>
 
 /// The write of bytes to a channel.
 fn write_to<A: Allocator>(channel: Channel, bytes: Vec<u8, A>) -> Act<A>
-    ensures { deed_of result ≡ definition.write_to (channel_seen channel) bytes.items }
+    ensures { deed_of result ≡ definition.write_to channel bytes.items }
 {
     match channel {
         Channel::Output => Act::Out(bytes),

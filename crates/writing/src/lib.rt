@@ -2,5 +2,4 @@
 #![tactic(auto)]
 
 pub mod channel;
-pub mod laws;
 pub mod puts;

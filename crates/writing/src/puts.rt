@@ -1,141 +1,84 @@
 //! `puts ?-nonewline? ?stdout|stderr? t` (puts(n)).
-#![tactic(auto, using(state::proofs::Reaches::same_reaches))]
 
-ghost use Rattle.std.specs.Prelude.{◌≡◌, ◌++◌, ◌∷◌, ◌≤◌, [], if◌then◌else◌, IfOk, option_map};
-ghost use Rattle.state.specs.Leaf.{Shows};
+ghost use Rattle.std.specs.Prelude.{◌≡◌, IfOk};
+ghost use Rattle.acts.specs.Raise.{Answers};
+ghost use Rattle.kinds.specs.Answers.{Talks};
 ghost use Rattle.state.specs.Status.{Status};
 ghost use Rattle.state.specs.View.{FitsState};
-ghost use Rattle.writing.specs.Channel as writes;
+ghost use Rattle.state.specs.declared.state.State.{State as Kept};
 ghost use Rattle.writing.specs.Channel.{next_of};
 ghost use Rattle.writing.specs.Puts as definition;
-ghost use Rattle.writing.specs.View.{channel_seen, line_or_text};
 
 use crate::channel::{Channel, Waits, write};
-use acts::NoMemory;
-use state::arguments::{bad_argument, wrong_args};
-use state::{Leaf, State};
+use acts::raise::{bad_argument, wrong_args};
+use acts::{NoMemory, Raise};
+use state::Leaf;
 use std::alloc::Allocator;
 use tcltext::Value;
 
-/// The channel of a name.
-fn channel_of(word: &[u8]) -> Option<Channel>
-    ensures { option_map channel_seen result ≡ definition.channel_of word.now }
-{
-    if word == b"stdout".as_slice() {
-        Some(Channel::Output)
-    } else if word == b"stderr".as_slice() {
-        Some(Channel::Errors)
-    } else {
-        None
-    }
-}
-
 /// Begins to write a text: to standard output or where the channel says, and with a newline unless
 /// `-nonewline` stands before it.
-pub fn begin<A: Allocator + Copy>(
+///
+/// # Errors
+/// The words are too few or too many, or one of them names no channel; or memory is refused.
+pub fn begin<A: Allocator + Copy>(alloc: A, args: &[Value<A>]) -> Result<Leaf<A, Waits>, Raise<A>>
+    ensures { (s : Status) (state : Kept A) → FitsState state s →
+        Talks next_of (definition.puts args.now) s result state }
+{
+    let (channel, bytes) = read_words(alloc, args)?;
+    Ok(write(channel, bytes))
+}
+
+/// Where the words say that bytes are written, and which.
+fn read_words<A: Allocator + Copy>(
     alloc: A,
-    state: &mut State<A>,
     args: &[Value<A>],
-) -> Result<Leaf<A, Waits>, NoMemory>
-    ensures shows { (s : Status) → FitsState state.old s →
-        IfOk result (λ leaf. Shows next_of leaf state.new (definition.puts args.now s)) }
-    ensures left { state.new.left ≤ state.old.left }
+) -> Result<(Channel, Vec<u8, A>), Raise<A>>
+    ensures { Answers (λ r. (r.0, r.1.items)) (definition.request args.now) result }
 {
     match args {
-        [text] => put(alloc, state, Channel::Output, true, text.as_slice()),
-        [first, text] => put_after(alloc, state, first.as_slice(), text.as_slice()),
-        [flag, channel, text] => {
-            put_without(
-                alloc,
-                state,
-                flag.as_slice(),
-                channel.as_slice(),
-                text.as_slice(),
-            )
+        [text] => Ok((Channel::Output, line_of(alloc, text.as_slice())?)),
+        [flag, text] if is_nonewline(flag.as_slice()) => {
+            Ok((Channel::Output, Vec::from_slice(alloc, text.as_slice())?))
         }
-        _ => wrong_args(alloc, b"puts"),
+        [word, text] => {
+            let channel = channel_of(alloc, word.as_slice())?;
+            Ok((channel, line_of(alloc, text.as_slice())?))
+        }
+        [flag, word, text] if is_nonewline(flag.as_slice()) => {
+            let channel = channel_of(alloc, word.as_slice())?;
+            Ok((channel, Vec::from_slice(alloc, text.as_slice())?))
+        }
+        [flag, _, _] => Err(bad_argument(alloc, flag.as_slice(), b"puts")),
+        _ => Err(wrong_args(alloc, b"puts")),
     }
 }
 
-/// Writes a text behind one word, which is the flag or names a channel.
-fn put_after<A: Allocator + Copy>(
-    alloc: A,
-    state: &State<A>,
-    word: &[u8],
-    text: &[u8],
-) -> Result<Leaf<A, Waits>, NoMemory>
-    ensures { (s : Status) → FitsState state.now s → IfOk result (λ leaf.
-        Shows next_of leaf state.now
-        (definition.puts (word.now ∷ text.now ∷ []) s)) }
+/// Whether a word is the flag by which no newline is written.
+fn is_nonewline(word: &[u8]) -> bool
+    ensures { result ≡ definition.is_nonewline word.now }
 {
-    if word == b"-nonewline".as_slice() {
-        put(alloc, state, Channel::Output, false, text)
+    word == b"-nonewline".as_slice()
+}
+
+/// The channel of a name.
+fn channel_of<A: Allocator + Copy>(alloc: A, word: &[u8]) -> Result<Channel, Raise<A>>
+    ensures { Answers (λ channel. channel) (definition.channel_of word.now) result }
+{
+    if word == b"stdout".as_slice() {
+        Ok(Channel::Output)
+    } else if word == b"stderr".as_slice() {
+        Ok(Channel::Errors)
     } else {
-        put_on(alloc, state, word, true, text)
+        Err(bad_argument(alloc, word, b"puts"))
     }
 }
 
-/// Writes a text behind two words, of which the first is the flag and the other names a channel.
-fn put_without<A: Allocator + Copy>(
-    alloc: A,
-    state: &State<A>,
-    flag: &[u8],
-    channel: &[u8],
-    text: &[u8],
-) -> Result<Leaf<A, Waits>, NoMemory>
-    ensures { (s : Status) → FitsState state.now s → IfOk result (λ leaf.
-        Shows next_of leaf state.now
-        (definition.puts (flag.now ∷ channel.now ∷ text.now ∷ []) s)) }
-{
-    if flag == b"-nonewline".as_slice() {
-        put_on(alloc, state, channel, false, text)
-    } else {
-        bad_argument(alloc, flag, b"puts")
-    }
-}
-
-/// Writes a text to the channel that a word names.
-fn put_on<A: Allocator + Copy>(
-    alloc: A,
-    state: &State<A>,
-    word: &[u8],
-    with_newline: bool,
-    text: &[u8],
-) -> Result<Leaf<A, Waits>, NoMemory>
-    ensures { (s : Status) → FitsState state.now s → IfOk result (λ leaf.
-        Shows next_of leaf state.now
-        (definition.put_on (definition.channel_of word.now) word.now
-        (line_or_text with_newline text.now) s)) }
-{
-    match channel_of(word) {
-        Some(channel) => put(alloc, state, channel, with_newline, text),
-        None => bad_argument(alloc, word, b"puts"),
-    }
-}
-
-/// Writes a text to a channel; where there are no bytes, nothing is written.
-fn put<A: Allocator + Copy>(
-    alloc: A,
-    state: &State<A>,
-    channel: Channel,
-    with_newline: bool,
-    text: &[u8],
-) -> Result<Leaf<A, Waits>, NoMemory>
-    ensures { (s : Status) → FitsState state.now s → IfOk result (λ leaf.
-        Shows next_of leaf state.now
-        (writes.put (channel_seen channel) (line_or_text with_newline text.now) s)) }
-{
-    let bytes = bytes_of(alloc, with_newline, text)?;
-    Ok(write(state, channel, bytes))
-}
-
-/// The bytes of a text, with its newline where it has one.
-fn bytes_of<A: Allocator>(alloc: A, with_newline: bool, text: &[u8]) -> Result<Vec<u8, A>, NoMemory>
-    ensures { IfOk result (λ bytes. bytes.items ≡ line_or_text with_newline text.now) }
+/// The bytes of a text and its newline.
+fn line_of<A: Allocator>(alloc: A, text: &[u8]) -> Result<Vec<u8, A>, NoMemory>
+    ensures { IfOk result (λ bytes. bytes.items ≡ definition.line_of text.now) }
 {
     let mut bytes = Vec::from_slice(alloc, text)?;
-    if with_newline {
-        bytes.push(b'\n')?;
-    }
+    bytes.push(b'\n')?;
     Ok(bytes)
 }

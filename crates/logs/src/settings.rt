@@ -1,0 +1,37 @@
+//! The changes of what is written where.
+
+ghost use Rattle.std.specs.Prelude.{◌≡◌};
+ghost use Rattle.kinds.specs.Edits.{ShowsArrivals, EndsLog, OpensLog, edited, opened_by};
+ghost use Rattle.state.specs.Status.{Status};
+ghost use Rattle.state.specs.View.{FitsState};
+
+use state::State;
+use std::alloc::Allocator;
+
+/// What arrives is shown, or is not (expect(1), log_user).
+pub(crate) fn show_arrivals<A: Allocator>(state: &mut State<A>, shows: bool)
+    ensures fits { (s : Status) → FitsState state.old s →
+        FitsState state.new (edited (ShowsArrivals shows) s) }
+    ensures left { state.new.left ≡ state.old.left }
+{
+    state.log.user = shows;
+}
+
+/// No log is open (expect(1), log_file).
+pub(crate) fn end_log<A: Allocator>(state: &mut State<A>)
+    ensures fits { (s : Status) → FitsState state.old s →
+        FitsState state.new (edited EndsLog s) }
+    ensures left { state.new.left ≡ state.old.left }
+{
+    state.log.logging = false;
+}
+
+/// A log is open, and gets all or what is shown (expect(1), log_file).
+pub(crate) fn start_log<A: Allocator>(state: &mut State<A>, all: bool)
+    ensures fits { (s : Status) → FitsState state.old s →
+        FitsState state.new (opened_by (OpensLog all) s) }
+    ensures left { state.new.left ≡ state.old.left }
+{
+    state.log.logging = true;
+    state.log.all = all;
+}
