@@ -1,5 +1,5 @@
 -- What array keeps to.
-use Rattle.std.proofs.Common.{ℕ, ◌+◌, ◌≤◌, ◌%◌, ◌==◌, List, [], ◌∷◌, Option, Some, None, Result, Ok, Err, length, nat_lt, if◌then◌else◌, false, arith}
+use Rattle.std.proofs.Common.{ℕ, ◌+◌, ◌≤◌, ◌%◌, ◌==◌, List, [], ◌∷◌, Option, Some, None, Result, Ok, Err, length, nat_lt, if◌then◌else◌, arith}
 use Rattle.state.proofs.Behaves.{reads_behaves, writes_behaves, if_behaves, with_list_behaves}
 use Rattle.state.specs.Behaves.{Behaves, worth}
 use Rattle.state.specs.Dialogue.{Course, gives}
@@ -104,14 +104,14 @@ removes_behave t had name [] s next le paid each = each s le paid
 removes_behave t had name (i ∷ is) s next le paid each =
     removes_behave t had name is s (λ u. gone.clears name (Some i) u next) le paid
     (λ u within kept.
-    cleared_behaves t had (removed u.scopes name (Some i)) false (spelled name (Some i)) u next
+    cleared_behaves t had (removed u.scopes name (Some i)) (spelled name (Some i)) u next
     within kept each)
 
 drops_behave : (name : List ℕ) (index : Option (List ℕ)) (s : Status) →
     Keeps s (gone.drops name index s)
 drops_behave name index s =
     if_behaves s.left (worth s + 3) (is_array (read s.scopes name index)) _ _
-    (cleared_behaves s.left (worth s + 3) (removed s.scopes name None) false (spelled name None) s
+    (cleared_behaves s.left (worth s + 3) (removed s.scopes name None) (spelled name None) s
     (gives []) (omega arith) (omega arith) (λ u within kept. (within, kept)))
     (omega arith, omega arith)
 

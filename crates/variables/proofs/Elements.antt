@@ -1,5 +1,5 @@
 -- What becomes of the elements of an array, one after the other.
-use Rattle.std.proofs.Common.{◌≡◌, ◌∙◌, ℕ, ◌-◌, ◌≤◌, ◌<◌, false, List, [], ◌∷◌, ◌++◌, length, drop, take, get_or, Some, Ok, refl, sym, ap, append_assoc, arith}
+use Rattle.std.proofs.Common.{◌≡◌, ◌∙◌, ℕ, ◌-◌, ◌≤◌, ◌<◌, List, [], ◌∷◌, ◌++◌, length, drop, take, get_or, Some, Ok, refl, sym, ap, append_assoc, arith}
 use Rattle.std.proofs.Math.Seq.{take-length}
 use Rattle.std.proofs.lemmas.List.{append-nil}
 use Rattle.acts.specs.declared.fault.Fault.{Fault}
@@ -16,7 +16,7 @@ use Rattle.tclstate.specs.Scopes.{Scopes, read, with_array}
 use Rattle.variables.specs.Array.Get.{with_values}
 use Rattle.variables.specs.Array.Set.{fills, writes_all}
 use Rattle.variables.specs.Array.Unset.{clears, removes}
-use Rattle.variables.specs.Unsets.{Cleared, Stays}
+use Rattle.variables.specs.Array.Clears.{Cleared, Stays}
 use Rattle.variables.proofs.Named.{unread}
 
 -- those with their values that were read so far come before those of the rest
@@ -91,7 +91,7 @@ module _ {A : Type 0} {state : State A} (name : List ℕ) (indexes rest more : L
     (i : List ℕ) (s : Status) (before : Removing name indexes rest state s)
     (is : rest ≡ more ++ i ∷ []) where
   -- the last element of the rest is gone
-  pub one_gone : {new : State A} → Cleared false new before.status name (Some i) →
+  pub one_gone : {new : State A} → Cleared new before.status name (Some i) →
       Removing name indexes more new s
   one_gone gone = record {
     status = gone.status;
@@ -103,7 +103,7 @@ module _ {A : Type 0} {state : State A} (name : List ℕ) (indexes rest more : L
   }
 
   -- it is not, for a reason that is told
-  pub one_stays : {new : State A} (fault : Fault A) → Stays fault false new before.status name (Some i) →
+  pub one_stays : {new : State A} (fault : Fault A) → Stays fault new before.status name (Some i) →
       (next : Status → Course) →
       removes name indexes s next ≡ raises (flaw_of fault) before.status
   one_stays fault stays next =

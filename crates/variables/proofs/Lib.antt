@@ -1,5 +1,4 @@
 pub mod Named
-pub mod Removed
 pub mod Readings
 pub mod Behaves
 pub mod ArrayBehaves

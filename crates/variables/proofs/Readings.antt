@@ -1,6 +1,5 @@
 -- Which list a variable has.
 use Rattle.std.proofs.Common.{◌≡◌, ℕ, List, [], Option, Result, Ok, Err, IfErr, IfOk}
-use Rattle.acts.specs.Flaw.{flaw_of}
 use Rattle.acts.specs.declared.raise.Raise.{Raise}
 use Rattle.acts.specs.declared.raise.Raise.TheVariants as raise
 use Rattle.meanings.specs.View.{IsNoList}

@@ -1,45 +1,80 @@
--- What follows where a text is taken out of a variable and written back.
+-- What follows where a text is taken out of a variable, or let go of, and written back.
 use Rattle.std.proofs.Common.{◌≡◌, ℕ, List, [], Option, Result, Ok, Err, IfOk, OnOk, OnErr, refl, sym, ap, ◌∙◌}
+use Rattle.acts.specs.Flaw.{Flaw, flaw_of}
+use Rattle.acts.specs.Raise.{bind}
+use Rattle.acts.specs.declared.raise.Raise.{Raise}
+use Rattle.acts.specs.declared.raise.Raise.TheVariants as raise
+use Rattle.kinds.specs.Answers.{Stores}
+use Rattle.kinds.specs.Variables.{put}
 use Rattle.state.proofs.Fits.{scopes_fit}
 use Rattle.state.specs.declared.state.State.{State}
 use Rattle.state.specs.Status.{Status}
 use Rattle.state.specs.View.{FitsState}
 use Rattle.tclstate.proofs.Rewritten.{written_again, can_write}
 use Rattle.tclstate.specs.Scopes.{Scopes, read, written}
-use Rattle.variables.specs.Held.{puts}
-use Rattle.variables.specs.Taken.{Taken, Released}
+use Rattle.variables.specs.Held as course
+use Rattle.variables.specs.Keeps.{Keeps, Rewrites}
+use Rattle.variables.specs.Taken.{Released}
+use Rattle.variables.specs.Values.{puts}
+
+-- what is written in the place of what was taken is all that counts
+pub rewrites : (old new : Scopes) (name : List ℕ) (index : Option (List ℕ)) (text : List ℕ) →
+    read old name index ≡ Ok text → written old name index [] ≡ Ok new →
+    Rewrites name index old new
+rewrites old new name index text is emptied = record {
+  same = λ value.
+      let can = can_write old name index text value is in
+      let again = written_again old new name index text [] value is emptied in
+      rw (again, can.1) refl;
+  stays = λ value flaw fails.
+      let can = can_write old name index text value is in
+      let none : put name index value old ≡ Ok can.0 = rw can.1 refl in
+      absurd (cc);
+}
+
+-- nothing was taken
+pub unchanged : (old new : Scopes) (name : List ℕ) (index : Option (List ℕ)) → new ≡ old →
+    Rewrites name index old new
+unchanged old new name index same = record {
+  same = λ value. ap (λ v. put name index value v) same;
+  stays = λ value flaw fails. same;
+}
+
+-- what is written in the place of what was taken is written where that stood; where it can't be,
+-- nothing was taken
+module _ (old mid : Scopes) (name : List ℕ) (index : Option (List ℕ)) (value : List ℕ)
+    (back : Rewrites name index old mid) where
+  same_puts : puts name index value mid ≡ puts name index value old
+  same_puts =
+      let given : Scopes → Result (Scopes × List ℕ) Flaw = λ v. Ok (v, value) in
+      ap (λ (r : Result Scopes Flaw). bind r given) (back.same value)
+
+  none_taken : (flaw : Flaw) (r : Result Scopes Flaw) → put name index value old ≡ r →
+      (let given : Scopes → Result (Scopes × List ℕ) Flaw = λ v. Ok (v, value) in
+      bind r given ≡ Err flaw) → mid ≡ old
+  none_taken flaw (Ok v) made fails = absurd (cc)
+  none_taken flaw (Err why) made fails = back.stays value why made
+
+  pub put_back : {A : Type 0} (new : Scopes) (r : Result (List ℕ) (Raise A)) →
+      Stores (puts name index value mid) mid r new → Keeps (puts name index value old) old r new
+  put_back new (Ok given) stored = sym same_puts ∙ stored
+  put_back new (Err (raise.Fault why)) stored =
+      let flawed : puts name index value old ≡ Err (flaw_of why) = sym same_puts ∙ stored.0 in
+      (flawed, stored.1 ∙ none_taken (flaw_of why) (put name index value old) refl flawed)
+  put_back new (Err (raise.NoMemory refusal)) stored = tt
 
 module _ {A : Type 0} (state : State A) (s : Status) (fits : FitsState state s) where
-  -- the text of a variable is at hand, and what is written in its place is all that counts
-  pub taken_out : (new : Scopes) (name : List ℕ) (index : Option (List ℕ)) (text : List ℕ) →
+  -- what was read is let go of
+  pub let_go : (new : Scopes) (name : List ℕ) (index : Option (List ℕ)) (text : List ℕ) →
       read state.scopes name index ≡ Ok text → written state.scopes name index [] ≡ Ok new →
-      Taken (record state { scopes = new }) text name index s
-  taken_out new name index text is emptied = record {
+      Released (record state { scopes = new }) name index s
+  let_go new name index text is emptied = record {
     fits = scopes_fit state s fits new;
-    held = λ other next. rw (fits.scopes, is) refl;
     same = λ value.
         let can = can_write state.scopes name index text value is in
         let again = written_again state.scopes new name index text [] value is emptied in
         rw (fits.scopes, again, can.1) refl;
   }
-
-  -- nothing has changed
-  pub still_fits : (new : Scopes) → new ≡ state.scopes → FitsState (record state { scopes = new }) s
-  still_fits new same = record {
-    scopes = fits.scopes ∙ sym same;
-    procedures = fits.procedures;
-    ids = fits.ids;
-    log = fits.log;
-    left = fits.left;
-  }
-
-  -- what was read is let go of
-  pub let_go : (new : Scopes) (name : List ℕ) (index : Option (List ℕ)) (text : List ℕ) →
-      read state.scopes name index ≡ Ok text → written state.scopes name index [] ≡ Ok new →
-      Released (record state { scopes = new }) name index s
-  let_go new name index text is emptied =
-      let out = taken_out new name index text is emptied in
-      record { fits = out.fits; same = out.same }
 
   -- nothing was there to be let go of
   pub nothing_let_go : (new : Scopes) (name : List ℕ) (index : Option (List ℕ)) →
@@ -47,7 +82,7 @@ module _ {A : Type 0} (state : State A) (s : Status) (fits : FitsState state s) 
   nothing_let_go new name index same = record {
     fits = scopes_fit state s fits new;
     same = λ value.
-        ap (λ (scopes : Scopes). puts name index value (record s { scopes = scopes }))
+        ap (λ (scopes : Scopes). course.puts name index value (record s { scopes = scopes }))
         (same ∙ sym fits.scopes);
   }
 

@@ -1,22 +1,25 @@
 -- What append does.
-use Rattle.std.specs.Prelude.{ℕ, List, [], ◌∷◌, ◌++◌, codes, Option}
+use Rattle.std.specs.Prelude.{ℕ, List, ◌∷◌, ◌++◌, codes, Option, Result, Err}
 use Rattle.std.specs.List.{concat}
 use Rattle.acts.specs.Flaw as flaw
-use Rattle.state.specs.Dialogue.{Course, raises}
-use Rattle.state.specs.Status.{Status}
-use Rattle.variables.specs.Held.{reads_or, puts}
-use Rattle.state.specs.Variables.{with_name}
+use Rattle.acts.specs.Flaw.{Flaw}
+use Rattle.acts.specs.Raise.{bind}
+use Rattle.kinds.specs.Variables.{name_in}
+use Rattle.tclstate.specs.Scopes.{Scopes}
+use Rattle.variables.specs.Values.{puts, text_in}
 
 -- a text is put behind that of a variable, and the whole is given; a missing one counts as empty
 -- (append(n))
-abbrev pub extends : List ℕ → Option (List ℕ) → List ℕ → Status → Course
-extends name index more s = reads_or [] name index s (λ text. puts name index (text ++ more) s)
+abbrev pub extends : List ℕ → Option (List ℕ) → List ℕ → Scopes →
+    Result (Scopes × List ℕ) Flaw
+extends name index more v =
+    bind (text_in name index v) (λ text. puts name index (text ++ more) v)
 
 -- texts are put behind what a word names (append(n))
-abbrev pub appends : List ℕ → List (List ℕ) → Status → Course
-appends word texts s = with_name word s (λ name index. extends name index (concat texts) s)
+abbrev pub appends : List ℕ → List (List ℕ) → Scopes → Result (Scopes × List ℕ) Flaw
+appends word texts v = bind (name_in word) (λ n. extends n.0 n.1 (concat texts) v)
 
 -- append n v .. (append(n))
-abbrev pub append : List (List ℕ) → Status → Course
-append (n ∷ v ∷ vs) s = appends n (v ∷ vs) s
-append _ s = raises (flaw.WrongArgs (codes "append")) s
+abbrev pub append : List (List ℕ) → Scopes → Result (Scopes × List ℕ) Flaw
+append (n ∷ t ∷ ts) v = appends n (t ∷ ts) v
+append _ v = Err (flaw.WrongArgs (codes "append"))

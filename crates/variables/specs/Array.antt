@@ -21,6 +21,7 @@ pub mod Names
 pub mod Set
 pub mod Size
 pub mod Unset
+pub mod Clears
 
 -- the subcommand of a name (array(n))
 abbrev pub named : List ℕ → Option Subcommand

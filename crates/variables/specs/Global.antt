@@ -1,47 +1,36 @@
 -- What global does.
-use Rattle.std.specs.Prelude.{ℕ, List, [], ◌∷◌, codes, Option, Some, None}
+use Rattle.std.specs.Prelude.{ℕ, List, [], ◌∷◌, codes, Option, Some, None, Result, Ok, Err}
 use Rattle.acts.specs.Flaw as flaw
 use Rattle.acts.specs.Flaw.{Flaw}
-use Rattle.state.specs.Dialogue.{Course, gives, raises}
-use Rattle.state.specs.Status.{Status}
-use Rattle.tclparse.specs.Variable.{named}
+use Rattle.acts.specs.Raise.{bind}
+use Rattle.kinds.specs.Variables.{name_in}
 use Rattle.tclstate.specs.Scopes.{Scopes, linked}
 
--- the error of a word that names no variable as a whole (global(n))
-abbrev pub flaw_in : List ℕ → Option (List ℕ × Option (List ℕ)) → Option Flaw
-flaw_in word None = Some flaw.BadVariable
-flaw_in word (Some (name, None)) = None
-flaw_in word (Some (name, Some index)) = Some (flaw.BadArgument word (codes "global"))
+-- no index stands behind the name that a word says, or there is the error (global(n))
+abbrev pub without_index : List ℕ → Option (List ℕ) → Result (Unit {0}) Flaw
+without_index word None = Ok tt
+without_index word (Some index) = Err (flaw.BadArgument word (codes "global"))
 
--- the first of two errors
-abbrev pub first_of : Option Flaw → Option Flaw → Option Flaw
-first_of None other = other
-first_of (Some flaw) other = Some flaw
+-- a word names a variable as a whole, or there is the error (global(n))
+abbrev pub whole : List ℕ → Result (Unit {0}) Flaw
+whole word = bind (name_in word) (λ n. without_index word n.1)
 
--- the error of the first word that names no variable as a whole (global(n))
-abbrev pub first_flaw : List (List ℕ) → Option Flaw
-first_flaw [] = None
-first_flaw (w ∷ ws) = first_of (flaw_in w (named w)) (first_flaw ws)
+-- each word names a variable as a whole, or there is the error of the first that does not
+-- (global(n))
+abbrev pub all_whole : List (List ℕ) → Result (Unit {0}) Flaw
+all_whole [] = Ok tt
+all_whole (w ∷ ws) = bind (whole w) (λ done. all_whole ws)
 
 -- the names are linked to the globals in turn (global(n))
 abbrev pub links : List (List ℕ) → Scopes → Scopes
-links [] scopes = scopes
-links (w ∷ ws) scopes = links ws (linked scopes w)
-
--- on where there is no error (this project's own rule)
-abbrev pub unless : Option Flaw → Status → Course → Course
-unless None s next = next
-unless (Some flaw) s next = raises flaw s
-
--- all are linked (global(n))
-abbrev pub links_all : List (List ℕ) → Status → Course
-links_all words s = gives [] (record s { scopes = links words s.scopes })
+links [] v = v
+links (w ∷ ws) v = links ws (linked v w)
 
 -- none is linked where one of the words names no variable as a whole (global(n))
-abbrev pub links_named : List (List ℕ) → Status → Course
-links_named words s = unless (first_flaw words) s (links_all words s)
+abbrev pub links_named : List (List ℕ) → Scopes → Result (Scopes × List ℕ) Flaw
+links_named words v = bind (all_whole words) (λ done. Ok (links words v, []))
 
 -- global n .. (global(n))
-abbrev pub global : List (List ℕ) → Status → Course
-global [] s = raises (flaw.WrongArgs (codes "global")) s
-global (w ∷ ws) s = links_named (w ∷ ws) s
+abbrev pub global : List (List ℕ) → Scopes → Result (Scopes × List ℕ) Flaw
+global [] v = Err (flaw.WrongArgs (codes "global"))
+global (w ∷ ws) v = links_named (w ∷ ws) v

@@ -1,97 +1,79 @@
 //! `append n v ..` (append(n)).
-#![tactic(auto, using(state::proofs::Reaches::same_reaches))]
 
-ghost use Rattle.std.specs.Prelude.{◌≡◌, ◌≤◌, ◌++◌, IfOk, OnOk, option_copied};
+ghost use Rattle.std.specs.Prelude.{◌≡◌, ◌++◌, IfOk, OnOk, option_copied};
 ghost use Rattle.std.specs.List.{concat};
-ghost use Rattle.state.specs.Leaf.{Shows};
-ghost use Rattle.state.specs.Status.{Status};
-ghost use Rattle.state.specs.View.{FitsState};
 ghost use Rattle.variables.specs.Append as definition;
-ghost use Rattle.variables.specs.Held.{puts};
-ghost use Rattle.state.specs.NoWaits.{next_of};
+ghost use Rattle.variables.specs.Keeps.{Keeps};
 
-use crate::held::{self, taken};
-use acts::{Fault, NoMemory};
-use state::arguments::wrong_args;
-use state::leaf::raises;
-use state::{Leaf, NoWaits, State};
+use crate::values::{put_back, taken};
+use acts::raise::wrong_args;
+use acts::{NoMemory, Raise};
+use kinds::variables::name_in;
 use std::alloc::Allocator;
-use tclparse::{Name, variable_name};
+use tclparse::Name;
+use tclstate::Scopes;
 use tcltext::Value;
 
 /// Puts texts behind that of a variable, and gives the whole.
+///
+/// # Errors
+/// Another number of words; no name; or a variable that can't be read: nothing changes. Or memory
+/// is refused.
 pub fn begin<A: Allocator + Copy>(
     alloc: A,
-    state: &mut State<A>,
+    scopes: &mut Scopes<A>,
     args: &[Value<A>],
-) -> Result<Leaf<A, NoWaits>, NoMemory>
-    ensures shows { (s : Status) → FitsState state.old s →
-        IfOk result (λ leaf. Shows next_of leaf state.new (definition.append args.now s)) }
-    ensures left { state.new.left ≤ state.old.left }
+) -> Result<Value<A>, Raise<A>>
+    ensures { Keeps (definition.append args.now scopes.old) scopes.old result scopes.new }
 {
     match args {
-        [] => wrong_args(alloc, b"append"),
-        [_] => wrong_args(alloc, b"append"),
-        [word, texts @ ..] => append(alloc, state, word.as_slice(), texts),
+        [] => Err(wrong_args(alloc, b"append")),
+        [_] => Err(wrong_args(alloc, b"append")),
+        [word, texts @ ..] => append(alloc, scopes, word.as_slice(), texts),
     }
 }
 
 /// Puts texts behind what a word names.
 fn append<A: Allocator + Copy>(
     alloc: A,
-    state: &mut State<A>,
+    scopes: &mut Scopes<A>,
     word: &[u8],
     texts: &[Value<A>],
-) -> Result<Leaf<A, NoWaits>, NoMemory>
-    ensures shows { (s : Status) → FitsState state.old s → IfOk result (λ leaf.
-        Shows next_of leaf state.new (definition.appends word.now texts.now s)) }
-    ensures left { state.new.left ≤ state.old.left }
+) -> Result<Value<A>, Raise<A>>
+    ensures { Keeps (definition.appends word.now texts.now scopes.old)
+        scopes.old result scopes.new }
 {
-    match variable_name(word) {
-        Ok(Name { name, index }) => extend(alloc, state, name, index, texts),
-        Err(_) => raises(alloc, &Fault::BadVariable),
-    }
+    let Name { name, index } = name_in(word)?;
+    Ok(extend(alloc, scopes, name, index, texts)?)
 }
 
 /// Puts texts behind that of a variable or an element.
 fn extend<A: Allocator + Copy>(
     alloc: A,
-    state: &mut State<A>,
+    scopes: &mut Scopes<A>,
     name: &[u8],
     index: Option<&[u8]>,
     texts: &[Value<A>],
-) -> Result<Leaf<A, NoWaits>, NoMemory>
-    ensures shows { (s : Status) → FitsState state.old s → IfOk result (λ leaf.
-        Shows next_of leaf state.new
-        (definition.extends name.now (option_copied index.entry) (concat texts.now) s)) }
-    ensures left { state.new.left ≤ state.old.left }
+) -> Result<Value<A>, Raise<A>>
+    ensures { Keeps (definition.extends name.now (option_copied index.entry)
+        (concat texts.now) scopes.old) scopes.old result scopes.new }
 {
-    match taken(alloc, state, name, index)? {
-        Ok(Some(text)) => put(alloc, state, name, index, text, texts),
-        Ok(None) => put(alloc, state, name, index, Value::empty(), texts),
-        Err(fault) => raises(alloc, &fault),
-    }
+    let text = taken(alloc, scopes, name, index)?;
+    let whole = joined(alloc, text, texts)?;
+    Ok(put_back(alloc, scopes, name, index, whole)?)
 }
 
-/// Writes a text with others behind it, and gives the whole. The text grows in place where no one
-/// else shares it.
-fn put<A: Allocator + Copy>(
+/// A text with others behind it. The text grows in place where no one else shares it.
+fn joined<A: Allocator + Copy>(
     alloc: A,
-    state: &mut State<A>,
-    name: &[u8],
-    index: Option<&[u8]>,
     text: Value<A>,
     texts: &[Value<A>],
-) -> Result<Leaf<A, NoWaits>, NoMemory>
-    ensures shows { (s : Status) → FitsState state.old s → IfOk result (λ leaf.
-        Shows next_of leaf state.new (puts name.now (option_copied index.entry)
-        (text ++ concat texts.now) s)) }
-    ensures left { state.new.left ≤ state.old.left }
+) -> Result<Value<A>, NoMemory>
+    ensures { IfOk result (λ whole. whole ≡ text ++ concat texts.now) }
 {
     let mut whole = text.into_vec(alloc)?;
     push_all(&mut whole, texts)?;
-    let value = Value::new(alloc, whole)?;
-    held::put(alloc, state, name, index, &value)
+    Ok(Value::new(alloc, whole)?)
 }
 
 /// Puts texts behind a text. On `Err` some of them may stand there.

@@ -1,104 +1,70 @@
 //! `global n ..` (global(n)).
-#![tactic(auto, using(state::proofs::Reaches::same_reaches))]
 
-ghost use Rattle.std.specs.Prelude.{◌≡◌, ◌≤◌, IfOk, OnOk, option_map};
-ghost use Rattle.acts.specs.Flaw.{flaw_of};
-ghost use Rattle.state.specs.Leaf.{Shows};
-ghost use Rattle.state.specs.Status.{Status};
-ghost use Rattle.state.specs.View.{FitsState};
-ghost use Rattle.tclparse.specs.Variable.{named};
+ghost use Rattle.std.specs.Prelude.{◌≡◌, OnOk};
+ghost use Rattle.acts.specs.Raise.{Answers};
 ghost use Rattle.variables.specs.Global as definition;
-ghost use Rattle.state.specs.NoWaits.{next_of};
+ghost use Rattle.variables.specs.Keeps.{Keeps};
 
-use acts::{Fault, NoMemory};
-use state::arguments::wrong_args;
-use state::leaf::{empty, raises};
-use state::{Leaf, NoWaits, State};
+use acts::raise::{bad_argument, wrong_args};
+use acts::{NoMemory, Raise};
+use kinds::variables::name_in;
 use std::alloc::Allocator;
-use tclparse::variable_name;
 use tclstate::Scopes;
 use tcltext::Value;
 
 /// Makes names of the procedure that runs mean the globals of these names; at the top level nothing
-/// changes. Where a word names no variable as a whole, none is linked.
+/// changes.
+///
+/// # Errors
+/// No word; or one that names no variable as a whole: none is linked. Or memory is refused.
 pub fn begin<A: Allocator + Copy>(
     alloc: A,
-    state: &mut State<A>,
+    scopes: &mut Scopes<A>,
     args: &[Value<A>],
-) -> Result<Leaf<A, NoWaits>, NoMemory>
-    ensures shows { (s : Status) → FitsState state.old s →
-        IfOk result (λ leaf. Shows next_of leaf state.new (definition.global args.now s)) }
-    ensures left { state.new.left ≤ state.old.left }
+) -> Result<Value<A>, Raise<A>>
+    ensures { Keeps (definition.global args.now scopes.old) scopes.old result scopes.new }
 {
     match args {
-        [] => wrong_args(alloc, b"global"),
-        [_, ..] => link_named(alloc, state, args),
+        [] => Err(wrong_args(alloc, b"global")),
+        [_, ..] => link_named(alloc, scopes, args),
     }
 }
 
 /// Links the names, where each word names a variable as a whole.
 fn link_named<A: Allocator + Copy>(
     alloc: A,
-    state: &mut State<A>,
+    scopes: &mut Scopes<A>,
     words: &[Value<A>],
-) -> Result<Leaf<A, NoWaits>, NoMemory>
-    ensures shows { (s : Status) → FitsState state.old s → IfOk result (λ leaf.
-        Shows next_of leaf state.new (definition.links_named words.now s)) }
-    ensures left { state.new.left ≤ state.old.left }
+) -> Result<Value<A>, Raise<A>>
+    ensures { Keeps (definition.links_named words.now scopes.old) scopes.old result scopes.new }
 {
-    match first_fault(alloc, words)? {
-        Some(fault) => raises(alloc, &fault),
-        None => link(alloc, state, words),
-    }
+    all_whole(alloc, words)?;
+    link_all(alloc, scopes, words)?;
+    Ok(Value::empty())
 }
 
-/// Links the names.
-fn link<A: Allocator + Copy>(
-    alloc: A,
-    state: &mut State<A>,
-    words: &[Value<A>],
-) -> Result<Leaf<A, NoWaits>, NoMemory>
-    ensures shows { (s : Status) → FitsState state.old s → IfOk result (λ leaf.
-        Shows next_of leaf state.new (definition.links_all words.now s)) }
-    ensures left { state.new.left ≤ state.old.left }
-{
-    link_all(alloc, &mut state.scopes, words)?;
-    Ok(empty())
-}
-
-/// The error of the first word that names no variable as a whole.
-fn first_fault<A: Allocator + Copy>(
-    alloc: A,
-    words: &[Value<A>],
-) -> Result<Option<Fault<A>>, NoMemory>
-    ensures { IfOk result (λ fault. option_map flaw_of fault ≡ definition.first_flaw words.now) }
+/// Refuses words of which one names no variable as a whole.
+fn all_whole<A: Allocator + Copy>(alloc: A, words: &[Value<A>]) -> Result<(), Raise<A>>
+    ensures { Answers (λ done. tt) (definition.all_whole words.now) result }
 {
     for word in words {
-        if let Some(fault) = fault_in(alloc, word.as_slice())? {
-            return Ok(Some(fault));
-        }
+        whole(alloc, word.as_slice())?;
     }
-    Ok(None)
+    Ok(())
 }
 
-/// The error of a word that names no variable as a whole.
-fn fault_in<A: Allocator + Copy>(alloc: A, word: &[u8]) -> Result<Option<Fault<A>>, NoMemory>
-    ensures { IfOk result (λ fault.
-        option_map flaw_of fault ≡ definition.flaw_in word.now (named word.now)) }
+/// Refuses a word that names no variable as a whole.
+fn whole<A: Allocator + Copy>(alloc: A, word: &[u8]) -> Result<(), Raise<A>>
+    ensures { Answers (λ done. tt) (definition.whole word.now) result }
 {
-    let Ok(name) = variable_name(word) else {
-        return Ok(Some(Fault::BadVariable));
-    };
-    if name.index.is_none() {
-        return Ok(None);
+    let name = name_in(word)?;
+    match name.index {
+        None => Ok(()),
+        Some(_) => Err(bad_argument(alloc, word, b"global")),
     }
-    Ok(Some(Fault::BadArgument {
-        word: Vec::from_slice(alloc, word)?,
-        command: Vec::from_slice(alloc, b"global")?,
-    }))
 }
 
-/// Links each name to the global of that name.
+/// Links each name to the global of that name. On `Err` some of them may be linked.
 fn link_all<A: Allocator + Copy>(
     alloc: A,
     scopes: &mut Scopes<A>,

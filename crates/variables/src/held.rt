@@ -6,7 +6,7 @@ ghost use Rattle.state.specs.Leaf.{Shows};
 ghost use Rattle.state.specs.Status.{Status};
 ghost use Rattle.state.specs.View.{FitsState};
 ghost use Rattle.variables.specs.Held.{puts};
-ghost use Rattle.variables.specs.Taken.{Takes, Released};
+ghost use Rattle.variables.specs.Taken.{Released};
 ghost use Rattle.variables.specs.View.{Holds};
 ghost use Rattle.state.specs.NoWaits.{next_of};
 
@@ -31,26 +31,6 @@ pub fn held<A: Allocator + Copy>(
 {
     match state.scopes.get(name, index) {
         Ok(value) => Ok(Ok(Some(value.share()?))),
-        Err(ScopeError::NoVariable) => Ok(Ok(None)),
-        Err(ScopeError::NoElement) => Ok(Ok(None)),
-        Err(error) => Ok(Err(trouble(alloc, error, name, index)?)),
-    }
-}
-
-/// The text of a variable or an element, taken out of it to be changed and written back; none where
-/// it is missing, or the script's error where it can't be read.
-pub fn taken<A: Allocator + Copy>(
-    alloc: A,
-    state: &mut State<A>,
-    name: &[u8],
-    index: Option<&[u8]>,
-) -> Result<Result<Option<Value<A>>, Fault<A>>, NoMemory>
-    ensures takes { (s : Status) → FitsState state.old s →
-        IfOk result (λ r. Takes r state.new name.now (option_copied index.entry) s) }
-    ensures left { state.new.left ≡ state.old.left }
-{
-    match state.scopes.take(alloc, name, index) {
-        Ok(value) => Ok(Ok(Some(value))),
         Err(ScopeError::NoVariable) => Ok(Ok(None)),
         Err(ScopeError::NoElement) => Ok(Ok(None)),
         Err(error) => Ok(Err(trouble(alloc, error, name, index)?)),

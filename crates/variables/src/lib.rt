@@ -11,3 +11,4 @@ pub mod lappend;
 pub mod laws;
 pub mod set;
 pub mod unset;
+mod values;

@@ -1,88 +1,57 @@
 //! `set n ?v?` (set(n)).
-#![tactic(auto, using(state::proofs::Reaches::same_reaches))]
 
-ghost use Rattle.std.specs.Prelude.{◌≡◌, ◌≤◌, IfOk, option_copied};
-ghost use Rattle.state.specs.Leaf.{Shows};
-ghost use Rattle.state.specs.Status.{Status};
-ghost use Rattle.state.specs.View.{FitsState};
+ghost use Rattle.acts.specs.Raise.{Answers};
+ghost use Rattle.kinds.specs.Answers.{Stores};
 ghost use Rattle.variables.specs.Set as definition;
-ghost use Rattle.variables.specs.View.{Reads};
-ghost use Rattle.state.specs.NoWaits.{next_of};
 
-use crate::held;
-use acts::{Fault, NoMemory};
-use state::arguments::wrong_args;
-use state::leaf::{gives, raises};
-use state::variables::trouble;
-use state::{Leaf, NoWaits, State};
+use crate::values;
+use acts::Raise;
+use acts::raise::wrong_args;
+use kinds::variables::{name_in, value_of};
 use std::alloc::Allocator;
-use tclparse::{Name, variable_name};
+use tclparse::Name;
+use tclstate::Scopes;
 use tcltext::Value;
 
 /// Gives the value of a variable, after it is written where a value stands behind its name.
+///
+/// # Errors
+/// Another number of words; no name; a variable that can't be read or written; or memory is
+/// refused. Nothing changes.
 pub fn begin<A: Allocator + Copy>(
     alloc: A,
-    state: &mut State<A>,
+    scopes: &mut Scopes<A>,
     args: &[Value<A>],
-) -> Result<Leaf<A, NoWaits>, NoMemory>
-    ensures shows { (s : Status) → FitsState state.old s →
-        IfOk result (λ leaf. Shows next_of leaf state.new (definition.set args.now s)) }
-    ensures left { state.new.left ≤ state.old.left }
+) -> Result<Value<A>, Raise<A>>
+    ensures { Stores (definition.set args.now scopes.old) scopes.old result scopes.new }
 {
     match args {
-        [word] => get(alloc, state, word.as_slice()),
-        [word, value] => put(alloc, state, word.as_slice(), value),
-        _ => wrong_args(alloc, b"set"),
+        [word] => Ok(get(alloc, scopes, word.as_slice())?),
+        [word, value] => put(alloc, scopes, word.as_slice(), value),
+        _ => Err(wrong_args(alloc, b"set")),
     }
 }
 
-/// Gives the value of what a word names.
-fn get<A: Allocator + Copy>(
-    alloc: A,
-    state: &State<A>,
-    word: &[u8],
-) -> Result<Leaf<A, NoWaits>, NoMemory>
-    ensures { (s : Status) → FitsState state.now s → IfOk result (λ leaf.
-        Shows next_of leaf state.now (definition.get word.now s)) }
+/// The value of what a word names.
+fn get<A: Allocator + Copy>(alloc: A, scopes: &Scopes<A>, word: &[u8]) -> Result<Value<A>, Raise<A>>
+    ensures { Answers (λ value. value) (definition.get word.now scopes.now) result }
 {
-    let Ok(Name { name, index }) = variable_name(word) else {
-        return raises(alloc, &Fault::BadVariable);
-    };
-    match read(alloc, state, name, index)? {
-        Ok(value) => Ok(gives(value)),
-        Err(fault) => raises(alloc, &fault),
-    }
+    let Name { name, index } = name_in(word)?;
+    let value = value_of(alloc, scopes, name, index)?;
+    Ok(value.share()?)
 }
 
 /// Writes what a word names, and gives its value.
 fn put<A: Allocator + Copy>(
     alloc: A,
-    state: &mut State<A>,
+    scopes: &mut Scopes<A>,
     word: &[u8],
     value: &Value<A>,
-) -> Result<Leaf<A, NoWaits>, NoMemory>
-    ensures shows { (s : Status) → FitsState state.old s → IfOk result (λ leaf.
-        Shows next_of leaf state.new (definition.put word.now value.now s)) }
-    ensures left { state.new.left ≤ state.old.left }
+) -> Result<Value<A>, Raise<A>>
+    ensures { Stores (definition.put word.now value.now scopes.old)
+        scopes.old result scopes.new }
 {
-    let Ok(Name { name, index }) = variable_name(word) else {
-        return raises(alloc, &Fault::BadVariable);
-    };
-    held::put(alloc, state, name, index, value)
-}
-
-/// The value of a variable or an element, or the script's error where it can't be read.
-fn read<A: Allocator + Copy>(
-    alloc: A,
-    state: &State<A>,
-    name: &[u8],
-    index: Option<&[u8]>,
-) -> Result<Result<Value<A>, Fault<A>>, NoMemory>
-    ensures { (s : Status) → FitsState state.now s →
-        IfOk result (λ r. Reads r name.now (option_copied index.entry) s) }
-{
-    match state.scopes.get(name, index) {
-        Ok(value) => Ok(Ok(value.share()?)),
-        Err(error) => Ok(Err(trouble(alloc, error, name, index)?)),
-    }
+    let Name { name, index } = name_in(word)?;
+    let value = value.share()?;
+    Ok(values::put(alloc, scopes, name, index, value)?)
 }

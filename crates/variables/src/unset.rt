@@ -1,160 +1,152 @@
 //! `unset ?-nocomplain? ?--? n ..` (unset(n)).
-#![tactic(auto, using(state::proofs::Reaches::same_reaches))]
 
-ghost use Rattle.std.specs.Prelude.{◌≡◌, ◌≤◌, IfOk, option_copied};
-ghost use Rattle.state.specs.Leaf.{Shows};
-ghost use Rattle.state.specs.Status.{Status};
-ghost use Rattle.state.specs.View.{FitsState};
+ghost use Rattle.std.specs.Prelude.{◌≡◌, option_copied};
+ghost use Rattle.kinds.specs.Answers.{Puts};
+ghost use Rattle.variables.specs.Keeps.{Leaves};
 ghost use Rattle.variables.specs.Unset as definition;
-ghost use Rattle.variables.specs.Unsets.{Clears, IsPassed, is_missing};
-ghost use Rattle.state.specs.NoWaits.{next_of};
+ghost use Rattle.variables.specs.Unsets.{is_missing};
 
-use acts::{Fault, NoMemory};
-use state::arguments::wrong_args;
-use state::leaf::{empty, raises};
-use state::variables::{all_named, trouble};
-use state::{Leaf, NoWaits, State};
+use crate::values::troubled;
+use acts::raise::wrong_args;
+use acts::{Fault, Raise};
+use kinds::variables::name_in;
+use state::variables::all_named;
 use std::alloc::Allocator;
-use tclparse::{Name, variable_name};
-use tclstate::ScopeError;
+use tclparse::Name;
+use tclstate::{ScopeError, Scopes};
 use tcltext::Value;
 
-/// The flag that passes over missing names.
-const NOCOMPLAIN: &[u8] = b"-nocomplain";
-
 /// Removes variables and elements in turn, up to the first error; those before it stay removed.
+///
+/// # Errors
+/// No word; one that names no variable, and then nothing is removed; a variable that can't be
+/// removed; or memory is refused for the error.
 pub fn begin<A: Allocator + Copy>(
     alloc: A,
-    state: &mut State<A>,
+    scopes: &mut Scopes<A>,
     args: &[Value<A>],
-) -> Result<Leaf<A, NoWaits>, NoMemory>
-    ensures shows { (s : Status) → FitsState state.old s →
-        IfOk result (λ leaf. Shows next_of leaf state.new (definition.unset args.now s)) }
-    ensures left { state.new.left ≤ state.old.left }
+) -> Result<Value<A>, Raise<A>>
+    ensures { Leaves (definition.unset args.now scopes.old) result scopes.new }
 {
     let [word, rest @ ..] = args else {
-        return wrong_args(alloc, b"unset");
+        return Err(wrong_args(alloc, b"unset"));
     };
-    if word.as_slice() == NOCOMPLAIN {
-        behind_flag(alloc, state, true, rest)
+    if is_nocomplain(word.as_slice()) {
+        behind_flag(alloc, scopes, true, rest)
     } else {
-        behind_flag(alloc, state, false, args)
+        behind_flag(alloc, scopes, false, args)
     }
+}
+
+/// Whether a word is the flag that passes over missing names.
+fn is_nocomplain(word: &[u8]) -> bool
+    ensures { result ≡ definition.is_nocomplain word.now }
+{
+    word == b"-nocomplain".as_slice()
 }
 
 /// Removes what the words behind the first flag name; `--` may stand before them, and every other
 /// word is a name, whatever it begins with.
 fn behind_flag<A: Allocator + Copy>(
     alloc: A,
-    state: &mut State<A>,
+    scopes: &mut Scopes<A>,
     quiet: bool,
     args: &[Value<A>],
-) -> Result<Leaf<A, NoWaits>, NoMemory>
-    ensures shows { (s : Status) → FitsState state.old s → IfOk result (λ leaf.
-        Shows next_of leaf state.new (definition.behind_flag quiet args.now s)) }
-    ensures left { state.new.left ≤ state.old.left }
+) -> Result<Value<A>, Raise<A>>
+    ensures { Leaves (definition.behind_flag quiet args.now scopes.old) result scopes.new }
 {
     let [word, rest @ ..] = args else {
-        return wrong_args(alloc, b"unset");
+        return Err(wrong_args(alloc, b"unset"));
     };
     if word.as_slice() == b"--".as_slice() {
-        some_words(alloc, state, quiet, rest)
+        some_words(alloc, scopes, quiet, rest)
     } else {
-        remove_named(alloc, state, quiet, args)
+        remove_named(alloc, scopes, quiet, args)
     }
 }
 
 /// Removes what the words name, where there is one.
 fn some_words<A: Allocator + Copy>(
     alloc: A,
-    state: &mut State<A>,
+    scopes: &mut Scopes<A>,
     quiet: bool,
     words: &[Value<A>],
-) -> Result<Leaf<A, NoWaits>, NoMemory>
-    ensures shows { (s : Status) → FitsState state.old s → IfOk result (λ leaf.
-        Shows next_of leaf state.new (definition.some_words quiet words.now s)) }
-    ensures left { state.new.left ≤ state.old.left }
+) -> Result<Value<A>, Raise<A>>
+    ensures { Leaves (definition.some_words quiet words.now scopes.old) result scopes.new }
 {
     if words.is_empty() {
-        wrong_args(alloc, b"unset")
+        Err(wrong_args(alloc, b"unset"))
     } else {
-        remove_named(alloc, state, quiet, words)
+        remove_named(alloc, scopes, quiet, words)
     }
 }
 
 /// Removes what the words name, where each names a variable.
 fn remove_named<A: Allocator + Copy>(
     alloc: A,
-    state: &mut State<A>,
+    scopes: &mut Scopes<A>,
     quiet: bool,
     words: &[Value<A>],
-) -> Result<Leaf<A, NoWaits>, NoMemory>
-    ensures shows { (s : Status) → FitsState state.old s → IfOk result (λ leaf.
-        Shows next_of leaf state.new (definition.removes_named quiet words.now s)) }
-    ensures left { state.new.left ≤ state.old.left }
+) -> Result<Value<A>, Raise<A>>
+    ensures { Leaves (definition.removes_named quiet words.now scopes.old) result scopes.new }
 {
     if all_named(words) {
-        remove_all(alloc, state, quiet, words)
+        remove_all(alloc, scopes, quiet, words)
     } else {
-        raises(alloc, &Fault::BadVariable)
+        Err(Raise::Fault(Fault::BadVariable))
     }
 }
 
 /// Removes what the words name, in turn.
 fn remove_all<A: Allocator + Copy>(
     alloc: A,
-    state: &mut State<A>,
+    scopes: &mut Scopes<A>,
     quiet: bool,
     words: &[Value<A>],
-) -> Result<Leaf<A, NoWaits>, NoMemory>
-    ensures shows { (s : Status) → FitsState state.old s → IfOk result (λ leaf.
-        Shows next_of leaf state.new (definition.removes quiet words.now s)) }
-    ensures left { state.new.left ≤ state.old.left }
+) -> Result<Value<A>, Raise<A>>
+    ensures { Leaves (definition.removes quiet words.now scopes.old) result scopes.new }
 {
     for word in words {
-        let Ok(Name { name, index }) = variable_name(word.as_slice()) else {
-            return raises(alloc, &Fault::BadVariable);
-        };
-        if let Some(fault) = remove(alloc, state, quiet, name, index)? {
-            return raises(alloc, &fault);
-        }
+        remove_word(alloc, scopes, quiet, word.as_slice())?;
     }
-    Ok(empty())
+    Ok(Value::empty())
 }
 
-/// Removes a variable or an element, or answers the script's error where that can't be.
+/// Removes what a word names. On `Err` nothing changes.
+fn remove_word<A: Allocator + Copy>(
+    alloc: A,
+    scopes: &mut Scopes<A>,
+    quiet: bool,
+    word: &[u8],
+) -> Result<(), Raise<A>>
+    ensures { Puts (definition.clears_word quiet word.now scopes.old)
+        scopes.old result scopes.new }
+{
+    let Name { name, index } = name_in(word)?;
+    remove(alloc, scopes, quiet, name, index)?;
+    Ok(())
+}
+
+/// Removes a variable or an element. On `Err` nothing changes.
+///
+/// # Errors
+/// It can't be removed, unless it is missing and that is passed over; or memory is refused for the
+/// error.
 pub(crate) fn remove<A: Allocator + Copy>(
     alloc: A,
-    state: &mut State<A>,
+    scopes: &mut Scopes<A>,
     quiet: bool,
     name: &[u8],
     index: Option<&[u8]>,
-) -> Result<Option<Fault<A>>, NoMemory>
-    ensures clears { (s : Status) → FitsState state.old s → IfOk result (λ fault.
-        Clears fault quiet state.new s name.now (option_copied index.entry)) }
-    ensures left { state.new.left ≡ state.old.left }
+) -> Result<(), Raise<A>>
+    ensures { Puts (definition.clears quiet name.now (option_copied index.entry) scopes.old)
+        scopes.old result scopes.new }
 {
-    match state.scopes.unset(name, index) {
-        Ok(()) => Ok(None),
-        Err(error) => pass_over(alloc, quiet, error, name, index),
+    match scopes.unset(name, index) {
+        Ok(()) => Ok(()),
+        Err(error) if quiet && is_missing(error) => Ok(()),
+        Err(error) => Err(troubled(alloc, error, name, index)),
     }
-}
-
-/// The script's error where a variable is not removed, unless a missing one is passed over.
-fn pass_over<A: Allocator + Copy>(
-    alloc: A,
-    quiet: bool,
-    error: ScopeError,
-    name: &[u8],
-    index: Option<&[u8]>,
-) -> Result<Option<Fault<A>>, NoMemory>
-    ensures { IfOk result (λ fault.
-        IsPassed fault quiet error name.now (option_copied index.entry)) }
-{
-    if quiet && is_missing(error) {
-        return Ok(None);
-    }
-    Ok(Some(trouble(alloc, error, name, index)?))
 }
 
 /// Whether a variable or an element is missing.

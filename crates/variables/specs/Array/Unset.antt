@@ -1,16 +1,20 @@
 -- What array unset does.
-use Rattle.std.specs.Prelude.{ℕ, List, [], ◌∷◌, false, Option, Some, None, if◌then◌else◌}
-use Rattle.state.specs.Dialogue.{Course, gives}
+use Rattle.std.specs.Prelude.{ℕ, List, [], ◌∷◌, Option, Some, None, Result, Ok, Err, if◌then◌else◌}
+use Rattle.state.specs.Dialogue.{Course, gives, raises}
 use Rattle.state.specs.Status.{Status}
-use Rattle.state.specs.Variables.{spelled, with_name}
-use Rattle.tclstate.specs.Scopes.{read, removed}
+use Rattle.state.specs.Variables.{flaw_of_trouble, spelled, with_name}
+use Rattle.tclstate.specs.Scopes.{Scopes, Trouble, read, removed}
 use Rattle.variables.specs.Array.Indexes.{with_indexes}
 use Rattle.variables.specs.Array.Words.{is_array, with_pattern}
-use Rattle.variables.specs.Unset.{cleared}
+
+-- on with what is left where a name is removed; a trouble is the script's error (unset(n))
+abbrev pub cleared : Result Scopes Trouble → List ℕ → Status → (Status → Course) → Course
+cleared (Ok scopes) name s next = next (record s { scopes = scopes })
+cleared (Err trouble) name s next = raises (flaw_of_trouble trouble name) s
 
 -- a name or an element is removed, as unset does it, and on (unset(n))
 abbrev pub clears : List ℕ → Option (List ℕ) → Status → (Status → Course) → Course
-clears name index s next = cleared (removed s.scopes name index) false (spelled name index) s next
+clears name index s next = cleared (removed s.scopes name index) (spelled name index) s next
 
 -- the elements at these indexes are removed, the last one first, and on (array(n), array unset;
 -- the order is this project's own rule)

@@ -8,13 +8,14 @@ ghost use Rattle.state.specs.NoWaits.{next_of};
 ghost use Rattle.state.specs.Status.{Status};
 ghost use Rattle.state.specs.View.{FitsState};
 ghost use Rattle.variables.specs.Array.Unset as definition;
+ghost use Rattle.variables.specs.Array.Clears.{Clears};
 
 use super::exists::is_array;
 use super::indexes::indexes;
-use crate::unset::remove;
 use acts::{Fault, NoMemory, Raise};
 use state::arguments::wrong_args;
 use state::leaf::{empty, raises};
+use state::variables::trouble;
 use state::{Leaf, NoWaits, State};
 use std::alloc::Allocator;
 use tclparse::{Name, variable_name};
@@ -73,7 +74,7 @@ fn drop_array<A: Allocator + Copy>(
     if !is_array(state, name, index) {
         return Ok(empty());
     }
-    match remove(alloc, state, false, name, None)? {
+    match remove(alloc, state, name, None)? {
         None => Ok(empty()),
         Some(fault) => raises(alloc, &fault),
     }
@@ -112,9 +113,26 @@ fn remove_all<A: Allocator + Copy>(
     ensures left { state.new.left ≤ state.old.left }
 {
     while let Some(index) = indexes.pop() {
-        if let Some(fault) = remove(alloc, state, false, name, Some(index.as_slice()))? {
+        if let Some(fault) = remove(alloc, state, name, Some(index.as_slice()))? {
             return raises(alloc, &fault);
         }
     }
     Ok(empty())
+}
+
+/// Removes a variable or an element, or answers the script's error where that can't be.
+fn remove<A: Allocator + Copy>(
+    alloc: A,
+    state: &mut State<A>,
+    name: &[u8],
+    index: Option<&[u8]>,
+) -> Result<Option<Fault<A>>, NoMemory>
+    ensures clears { (s : Status) → FitsState state.old s → IfOk result (λ fault.
+        Clears fault state.new s name.now (option_copied index.entry)) }
+    ensures left { state.new.left ≡ state.old.left }
+{
+    match state.scopes.unset(name, index) {
+        Ok(()) => Ok(None),
+        Err(error) => Ok(Some(trouble(alloc, error, name, index)?)),
+    }
 }
