@@ -5,7 +5,6 @@ use Rattle.pure.specs.declared.command.Pure.{Pure}
 -- names; expect(1) for its own)
 pub data Builtin : Type 0 where
   Puts : Builtin
-  List : Builtin
   Break : Builtin
   Continue : Builtin
   Return : Builtin

@@ -23,7 +23,6 @@ use Rattle.writing.specs.Channel as channel
 -- the command that one of the code's stands for
 abbrev pub builtin_of : named.Builtin → Builtin
 builtin_of builtin.Puts = meant.Puts
-builtin_of builtin.List = meant.List
 builtin_of builtin.Break = meant.Break
 builtin_of builtin.Continue = meant.Continue
 builtin_of builtin.Return = meant.Return

@@ -12,7 +12,6 @@ use pure::Pure;
 #[derive(Clone, Copy, Debug, PartialEq, Eq)]
 pub(crate) enum Builtin {
     Puts,
-    List,
     Break,
     Continue,
     Return,
@@ -94,7 +93,6 @@ fn of_four(name: &[u8]) -> Option<Builtin>
 {
     match name {
         b"puts" => Some(Builtin::Puts),
-        b"list" => Some(Builtin::List),
         b"exit" => Some(Builtin::Exit),
         b"incr" => Some(Builtin::Incr),
         b"info" => Some(Builtin::Info),

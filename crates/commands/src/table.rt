@@ -18,17 +18,15 @@ use crate::waits::Waits;
 use acts::{Act, Answer, Fault, NoMemory, Raise};
 use kinds::settle;
 use leaving::{breaks, continues, error, exit, exp_continue, returns};
-use lists::list;
 use logs::{log_file, log_user, send_error, send_log, send_user};
 use peers::{close, match_max, remove_nulls, wait};
 use procedures::proc;
 use processes::{sleep, socket, spawn};
 use sending::send;
-use state::leaf::empty;
+use state::leaf::{empty, gives};
 use state::{Leaf, NoWaits, State};
 use std::alloc::Allocator;
 use tcltext::Value;
-use texts::text;
 use variables::{append, array, global, incr, info, lappend, set, unset};
 use writing::{channel, puts};
 
@@ -95,6 +93,7 @@ fn without_acts<A: Allocator>(leaf: Leaf<A, NoWaits>) -> Leaf<A, Waits<A>>
 }
 
 /// Begins a command with the words behind its name.
+#[tactic(auto, using(kinds::proofs::Comes::talks_comes, kinds::proofs::Comes::fails_comes, kinds::proofs::Comes::mapped_shows, kinds::proofs::Comes::goes_shows, kinds::proofs::Comes::sets_shows, kinds::proofs::Comes::exit_shows, kinds::proofs::Comes::exit_fails, kinds::proofs::Comes::local_shows, kinds::proofs::Comes::local_fails, kinds::proofs::Comes::meant_shows, kinds::proofs::Comes::meant_fails, state::proofs::Fits::scopes_fit, crate::proofs::Lifted::lifted_shows,))]
 fn call<A: Allocator + Copy>(
     alloc: A,
     state: &mut State<A>,
@@ -106,37 +105,36 @@ fn call<A: Allocator + Copy>(
     ensures left { state.new.left ≤ state.old.left }
 {
     match builtin {
-        Builtin::Puts => Ok(puts::begin(alloc, state, args)?.map(Waits::Write)),
-        Builtin::List => Ok(without_acts(list::begin(alloc, state, args)?)),
+        Builtin::Puts => Ok(puts::begin(alloc, args)?.map(|own| Waits::Write(own))),
         Builtin::Break => Ok(Leaf::Has(breaks::begin(alloc, args)?)),
         Builtin::Continue => Ok(Leaf::Has(continues::begin(alloc, args)?)),
         Builtin::Return => Ok(Leaf::Has(returns::begin(alloc, args)?)),
         Builtin::Error => Ok(Leaf::Has(error::begin(alloc, args)?)),
         Builtin::Exit => Ok(Leaf::Has(exit::begin(alloc, args)?)),
         Builtin::ExpContinue => Ok(Leaf::Has(exp_continue::begin(alloc, args)?)),
-        Builtin::Set => Ok(without_acts(set::begin(alloc, state, args)?)),
-        Builtin::Append => Ok(without_acts(append::begin(alloc, state, args)?)),
-        Builtin::Incr => Ok(without_acts(incr::begin(alloc, state, args)?)),
+        Builtin::Set => Ok(gives(set::begin(alloc, &mut state.scopes, args)?)),
+        Builtin::Append => Ok(gives(append::begin(alloc, &mut state.scopes, args)?)),
+        Builtin::Incr => Ok(gives(incr::begin(alloc, &mut state.scopes, args)?)),
         Builtin::Lappend => Ok(without_acts(lappend::begin(alloc, state, args)?)),
-        Builtin::Unset => Ok(without_acts(unset::begin(alloc, state, args)?)),
-        Builtin::Global => Ok(without_acts(global::begin(alloc, state, args)?)),
+        Builtin::Unset => Ok(gives(unset::begin(alloc, &mut state.scopes, args)?)),
+        Builtin::Global => Ok(gives(global::begin(alloc, &mut state.scopes, args)?)),
         Builtin::Array => Ok(without_acts(array::begin(alloc, state, args)?)),
-        Builtin::Info => Ok(without_acts(info::begin(alloc, state, args)?)),
+        Builtin::Info => Ok(gives(info::begin(alloc, &state.scopes, args)?)),
         Builtin::Proc => Ok(without_acts(proc::begin(alloc, state, args)?)),
-        Builtin::Spawn => Ok(spawn::begin(alloc, state, args)?.map(Waits::Spawn)),
-        Builtin::Send => Ok(send::begin(alloc, state, args)?.map(Waits::Send)),
-        Builtin::Sleep => Ok(sleep::begin(alloc, state, args)?.map(Waits::Sleep)),
-        Builtin::Socket => Ok(socket::begin(alloc, state, args)?.map(Waits::Socket)),
-        Builtin::Close => Ok(close::begin(alloc, state, args)?.map(Waits::Close)),
-        Builtin::Wait => Ok(wait::begin(alloc, state, args)?.map(Waits::Wait)),
-        Builtin::MatchMax => Ok(without_acts(match_max::begin(alloc, state, args)?)),
-        Builtin::RemoveNulls => Ok(without_acts(remove_nulls::begin(alloc, state, args)?)),
-        Builtin::SendUser => Ok(send_user::begin(alloc, state, args)?.map(Waits::Write)),
-        Builtin::SendError => Ok(send_error::begin(alloc, state, args)?.map(Waits::Write)),
-        Builtin::SendLog => Ok(send_log::begin(alloc, state, args)?.map(Waits::Write)),
-        Builtin::LogUser => Ok(without_acts(log_user::begin(alloc, state, args)?)),
-        Builtin::LogFile => Ok(log_file::begin(alloc, state, args)?.map(Waits::LogFile)),
-        Builtin::Text(own) => Ok(without_acts(text::begin(alloc, state, own, args)?)),
+        Builtin::Spawn => Ok(spawn::begin(alloc, state, args)?.map(|own| Waits::Spawn(own))),
+        Builtin::Send => Ok(send::begin(alloc, state, args)?.map(|own| Waits::Send(own))),
+        Builtin::Sleep => Ok(sleep::begin(alloc, state, args)?.map(|own| Waits::Sleep(own))),
+        Builtin::Socket => Ok(socket::begin(alloc, state, args)?.map(|own| Waits::Socket(own))),
+        Builtin::Close => Ok(close::begin(alloc, state, args)?.map(|own| Waits::Close(own))),
+        Builtin::Wait => Ok(wait::begin(alloc, state, args)?.map(|own| Waits::Wait(own))),
+        Builtin::MatchMax => Ok(gives(match_max::begin(alloc, state, args)?)),
+        Builtin::RemoveNulls => Ok(gives(remove_nulls::begin(alloc, state, args)?)),
+        Builtin::SendUser => Ok(send_user::begin(alloc, args)?.map(|own| Waits::Write(own))),
+        Builtin::SendError => Ok(send_error::begin(alloc, args)?.map(|own| Waits::Write(own))),
+        Builtin::SendLog => Ok(send_log::begin(alloc, state, args)?.map(|own| Waits::Write(own))),
+        Builtin::LogUser => Ok(gives(log_user::begin(alloc, state, args)?)),
+        Builtin::LogFile => Ok(log_file::begin(alloc, state, args)?.map(|own| Waits::LogFile(own))),
+        Builtin::Text(own) => Ok(gives(own.apply(alloc, args)?)),
     }
 }
 
@@ -173,18 +171,22 @@ fn go_on<A: Allocator + Copy>(
 {
     match waits {
         Waits::Write(own) => {
-            Ok(channel::answered(alloc, state, act, own, answer)?.map(Waits::Write))
+            Ok(channel::answered(alloc, state, act, own, answer)?.map(|own| Waits::Write(own)))
         }
-        Waits::Spawn(own) => Ok(spawn::answered(alloc, state, act, own, answer)?.map(Waits::Spawn)),
-        Waits::Send(own) => Ok(send::answered(state, own, answer)?.map(Waits::Send)),
-        Waits::Sleep(own) => Ok(sleep::answered(alloc, state, act, own, answer)?.map(Waits::Sleep)),
-        Waits::Socket(own) => {
-            Ok(socket::answered(alloc, state, act, own, answer)?.map(Waits::Socket))
-        }
-        Waits::Close(own) => Ok(close::answered(alloc, state, act, own, answer)?.map(Waits::Close)),
-        Waits::Wait(own) => Ok(wait::answered(alloc, state, act, own, answer)?.map(Waits::Wait)),
+        Waits::Spawn(own) => Ok(spawn::answered(alloc, state, act, own, answer)?.map(
+            |own| Waits::Spawn(own),
+        )),
+        Waits::Send(own) => Ok(send::answered(state, own, answer)?.map(|own| Waits::Send(own))),
+        Waits::Sleep(_) => Ok(sleep::answered(state)?.map(|own| Waits::Sleep(own))),
+        Waits::Socket(_) => Ok(socket::answered(alloc, state, act, answer)?.map(|own| Waits::Socket(
+            own,
+        ))),
+        Waits::Close(own) => Ok(close::answered(state, own)?.map(|own| Waits::Close(own))),
+        Waits::Wait(own) => Ok(wait::answered(alloc, state, own, answer)?.map(|own| Waits::Wait(
+            own,
+        ))),
         Waits::LogFile(own) => {
-            Ok(log_file::answered(alloc, state, act, own, answer)?.map(Waits::LogFile))
+            Ok(log_file::answered(alloc, state, act, own, answer)?.map(|own| Waits::LogFile(own)))
         }
     }
 }
