@@ -15,7 +15,7 @@ use crate::launch::{enter, launch, note, started};
 use acts::raise::{bad_argument, wrong_args};
 use acts::{Act, Answer, Fault, Id, NoMemory, Raise};
 use state::arguments::is_flag;
-use state::leaf::stops;
+use state::leaf::{gives, stops};
 use state::{Leaf, State, Stop};
 use std::alloc::Allocator;
 use tcltext::Value;
@@ -125,7 +125,8 @@ fn enter_channel<A: Allocator + Copy>(
 {
     let id = channel_said(alloc, state, words)?;
     let zero = Value::new(alloc, Vec::from_slice(alloc, b"0")?)?;
-    Ok(enter(alloc, state, id, zero)?)
+    enter(alloc, state, id)?;
+    Ok(gives(zero))
 }
 
 /// The open connection of the one word behind the flag.
