@@ -143,11 +143,7 @@ fn channel_said<A: Allocator + Copy>(
 }
 
 /// The open connection whose channel a text spells.
-fn channel_id<A: Allocator + Copy>(
-    alloc: A,
-    state: &State<A>,
-    text: &[u8],
-) -> Result<Id, Raise<A>>
+fn channel_id<A: Allocator + Copy>(alloc: A, state: &State<A>, text: &[u8]) -> Result<Id, Raise<A>>
     ensures { (s : Status) → FitsState state.now s →
         Answers (λ id. id) (definition.channel_id text.now s) result }
 {
