@@ -1,17 +1,15 @@
 -- However many acts are to spare, a program is started by the same course.
-use Rattle.std.proofs.Common.{◌≡◌, ℕ, List, Option, None, Result, Ok, Err, refl}
-use Rattle.std.specs.Prelude.{codes, decimal}
+use Rattle.std.proofs.Common.{◌≡◌, ℕ, List, Result, Ok, Err, refl}
+use Rattle.std.specs.Prelude.{decimal}
 use Rattle.acts.specs.declared.id.Id.{Id}
 use Rattle.acts.specs.Deed.{Reply}
 use Rattle.acts.specs.Deed as said
 use Rattle.acts.specs.Flaw.{Flaw}
-use Rattle.acts.specs.Id.{id_text}
 use Rattle.acts.specs.Raise.{bind}
 use Rattle.dialog.specs.Kinds.{Process}
 use Rattle.kinds.specs.Edits.{Binds, OpensId, opened_by}
 use Rattle.kinds.specs.Exchange.{Edits, course, gives}
-use Rattle.kinds.specs.Variables.{put}
-use Rattle.processes.specs.Launch.{runs, started, starts}
+use Rattle.processes.specs.Launch.{in_force, runs, started, starts}
 use Rattle.processes.specs.Numbers.{next_id}
 use Rattle.processes.specs.Onward.{settled, written}
 use Rattle.state.specs.Dialogue.{ask}
@@ -29,8 +27,7 @@ module _ (n m : ℕ) where
       course (settled (bind r (λ i. Ok (runs {n = n} pid s i)))) s
       ≡ course (settled (bind r (λ i. Ok (runs {n = m} pid s i)))) s
   running pid (Ok i) s =
-      entering (decimal pid) (put (codes "spawn_id") None (id_text i.0) s.scopes)
-      (opened_by (OpensId i (Process pid)) s)
+      entering (decimal pid) (in_force i s.scopes) (opened_by (OpensId i (Process pid)) s)
   running pid (Err flaw) s = refl
 
   after_start : (words : List (List ℕ)) (s : Status) (reply : Reply) →

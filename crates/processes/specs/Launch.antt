@@ -1,4 +1,4 @@
--- How a program is started, after its echo.
+-- How a program is started, after its echo; n counts the acts that are to spare behind it.
 use Rattle.std.specs.Prelude.{ℕ, suc, Bool, true, false, List, [], ◌∷◌, ◌++◌, None, codes, decimal, Result, Ok}
 use Rattle.acts.specs.declared.id.Id.{Id}
 use Rattle.acts.specs.Deed.{Reply}
@@ -22,16 +22,22 @@ abbrev pub name_of : List (List ℕ) → List ℕ
 name_of [] = []
 name_of (w ∷ ws) = w
 
+-- the variables once an id is in force (expect(1), spawn)
+abbrev pub in_force : Id → Scopes → Result Scopes Flaw
+in_force i scopes = put (codes "spawn_id") None (id_text i.0) scopes
+
 -- an open id is in force, and a value is given (expect(1), spawn)
 abbrev pub enters : {n : ℕ} → List ℕ → Id → Scopes → Result (Exchange n) Flaw
-enters value i scopes =
-    bind (put (codes "spawn_id") None (id_text i.0) scopes)
-    (λ new. Ok (Edits (Binds new) (gives value)))
+enters value i scopes = bind (in_force i scopes) (λ new. Ok (Edits (Binds new) (gives value)))
 
--- the id of a process is open and in force, and the number of the process is given; where the
--- variable is not written the id stays open (expect(1), spawn)
+-- the id of a process is in force, and the number of the process is given; where the variable is
+-- not written the id stays open (expect(1), spawn)
+abbrev pub enters_process : {n : ℕ} → ℕ → Id → Status → Exchange n
+enters_process pid i s = settled (enters (decimal pid) i s.scopes)
+
+-- the id of a process is open, and in force (expect(1), spawn)
 abbrev pub runs : {n : ℕ} → ℕ → Status → Id → Exchange (suc n)
-runs pid s i = Opens (OpensId i (Process pid)) (settled (enters (decimal pid) i s.scopes))
+runs pid s i = Opens (OpensId i (Process pid)) (enters_process pid i s)
 
 -- a program was started as the process of a number (expect(1), spawn)
 abbrev pub running : {n : ℕ} → ℕ → Status → Exchange (suc n)

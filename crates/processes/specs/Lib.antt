@@ -1,6 +1,7 @@
 pub mod View
 pub mod Numbers
 pub mod Onward
+pub mod Rebinds
 pub mod Sleep
 pub mod Socket
 pub mod Launch

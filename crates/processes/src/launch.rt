@@ -7,6 +7,7 @@ ghost use Rattle.acts.specs.Raise.{Raises};
 ghost use Rattle.dialog.specs.LogState.{goes_out};
 ghost use Rattle.kinds.specs.Answers.{Goes, GoesOn, Talks};
 ghost use Rattle.processes.specs.Launch as definition;
+ghost use Rattle.processes.specs.Rebinds.{Rebinds};
 ghost use Rattle.processes.specs.Spawn.{next_of};
 ghost use Rattle.processes.specs.View.{words_of, words_spawned};
 ghost use Rattle.state.specs.Status.{Status};
@@ -104,12 +105,13 @@ pub(crate) fn started<A: Allocator + Copy>(
         Answer::Started(pid) => run(alloc, state, *pid),
         _ => {
             skip_next(state);
-            Err(cannot_execute(alloc, act))
+            Err(cannot_execute(alloc, name_of(act)))
         }
     }
 }
 
 /// Opens the id of a process, puts it in force, and gives the number of the process.
+#[tactic(auto, using(crate::proofs::Opened::running_goes_on))]
 fn run<A: Allocator + Copy>(
     alloc: A,
     state: &mut State<A>,
@@ -120,29 +122,42 @@ fn run<A: Allocator + Copy>(
     ensures left { state.new.left ≡ state.old.left }
 {
     let id = open_next(alloc, state, Kind::Process(pid))?;
+    enter_process(alloc, state, id, pid)
+}
+
+/// Puts the id of a process in force, and gives the number of the process.
+fn enter_process<A: Allocator + Copy>(
+    alloc: A,
+    state: &mut State<A>,
+    id: Id,
+    pid: u64,
+) -> Result<Leaf<A, Waits<A>>, Raise<A>>
+    ensures shows { (s : Status) → FitsState state.old s →
+        GoesOn next_of (definition.enters_process {n = 2} pid id s) s result state.new }
+    ensures left { state.new.left ≡ state.old.left }
+{
     let mut digits = Vec::new(alloc);
     push_decimal(&mut digits, pid)?;
     let number = Value::new(alloc, digits)?;
-    enter(alloc, state, id, number)
+    enter(alloc, state, id)?;
+    Ok(gives(number))
 }
 
-/// Puts an open id in force, and gives a value.
+/// Puts an open id in force.
 ///
 /// # Errors
-/// The variable `spawn_id` is not written; or memory is refused.
+/// The variable `spawn_id` is not written, and nothing changes; or memory is refused.
 pub(crate) fn enter<A: Allocator + Copy>(
     alloc: A,
     state: &mut State<A>,
     id: Id,
-    value: Value<A>,
-) -> Result<Leaf<A, Waits<A>>, Raise<A>>
-    ensures shows { (n : ℕ) (s : Status) → FitsState state.old s →
-        Talks next_of (definition.enters {n = n} value id s.scopes) s result state.new }
+) -> Result<(), Raise<A>>
+    ensures binds { (s : Status) → FitsState state.old s →
+        Rebinds (definition.in_force id s.scopes) s result state.new }
     ensures left { state.new.left ≡ state.old.left }
 {
     let name = Value::new(alloc, id.text(alloc)?)?;
-    put(alloc, &mut state.scopes, SPAWN_ID, None, name)?;
-    Ok(gives(value))
+    Ok(put(alloc, &mut state.scopes, SPAWN_ID, None, name)?)
 }
 
 /// The command as it is echoed.
@@ -173,26 +188,31 @@ fn copies_of<A: Allocator + Copy>(
 }
 
 /// The error of a program that could not be started.
-fn cannot_execute<A: Allocator + Copy>(alloc: A, act: &Act<A>) -> Raise<A>
-    ensures { Raises (flaw.CannotExecute
-        (definition.name_of (words_spawned (deed_of act.now)))) result }
+fn cannot_execute<A: Allocator + Copy>(alloc: A, name: &[u8]) -> Raise<A>
+    ensures { Raises (flaw.CannotExecute name.now) result }
 {
-    let name = match act {
-        Act::Spawn(_, words) => name_of(alloc, words),
-        _ => Ok(Vec::new(alloc)),
-    };
-    match name {
+    match Vec::from_slice(alloc, name) {
         Ok(name) => Raise::Fault(Fault::CannotExecute(name)),
         Err(refusal) => refusal.into(),
     }
 }
 
-/// The name of a program, which is its first word.
-fn name_of<A: Allocator + Copy>(alloc: A, words: &[Vec<u8, A>]) -> Result<Vec<u8, A>, NoMemory>
-    ensures { IfOk result (λ name. name.items ≡ definition.name_of (words_of words.now)) }
+/// The name of the program that an act starts, which is its first word.
+fn name_of<A: Allocator>(act: &Act<A>) -> &[u8]
+    ensures { result.now ≡ definition.name_of (words_spawned (deed_of act.now)) }
+{
+    match act {
+        Act::Spawn(_, words) => first_of(words),
+        _ => b"".as_slice(),
+    }
+}
+
+/// The first of some words, or the empty one.
+fn first_of<A: Allocator>(words: &[Vec<u8, A>]) -> &[u8]
+    ensures { result.now ≡ definition.name_of (words_of words.now) }
 {
     match words {
-        [name, ..] => Ok(Vec::from_slice(alloc, name)?),
-        [] => Ok(Vec::new(alloc)),
+        [first, ..] => first.as_slice(),
+        [] => b"".as_slice(),
     }
 }

@@ -69,10 +69,7 @@ pub fn answered<A: Allocator + Copy>(
 }
 
 /// The word of a host and that of a port, which stand alone.
-fn two_words<A: Allocator + Copy>(
-    alloc: A,
-    args: &[Value<A>],
-) -> Result<(&[u8], &[u8]), Raise<A>>
+fn two_words<A: Allocator + Copy>(alloc: A, args: &[Value<A>]) -> Result<(&[u8], &[u8]), Raise<A>>
     ensures { Answers (λ words. (words.0.now, words.1.now)) (definition.two_words args.now) result }
 {
     match args {

@@ -1,21 +1,18 @@
 //! `spawn ?-noecho? word ..`, `spawn ?-noecho? -open channel` (expect(1), spawn).
 
-ghost use Rattle.std.specs.Prelude.{◌≡◌, ◌≤◌, IfOk};
+ghost use Rattle.std.specs.Prelude.{◌≡◌, ◌≤◌};
 ghost use Rattle.acts.specs.Deed.{deed_of, reply_of};
 ghost use Rattle.acts.specs.Raise.{Answers, Raises};
-ghost use Rattle.kinds.specs.Answers.{Goes, GoesOn, Talks};
-ghost use Rattle.processes.specs.Launch.{notes, starts};
-ghost use Rattle.processes.specs.Onward.{written};
+ghost use Rattle.kinds.specs.Answers.{GoesOn, Talks};
 ghost use Rattle.processes.specs.Spawn as definition;
-ghost use Rattle.processes.specs.View.{words_of};
 ghost use Rattle.state.specs.Status.{Status};
 ghost use Rattle.state.specs.View.{FitsState};
 
 use crate::launch::{enter, launch, note, started};
 use acts::raise::{bad_argument, wrong_args};
-use acts::{Act, Answer, Fault, Id, NoMemory, Raise};
+use acts::{Act, Answer, Fault, Id, Raise};
 use state::arguments::is_flag;
-use state::leaf::stops;
+use state::leaf::{gives, stops};
 use state::{Leaf, State, Stop};
 use std::alloc::Allocator;
 use tcltext::Value;
@@ -69,10 +66,11 @@ pub fn answered<A: Allocator + Copy>(
         (definition.follows waits (deed_of act) s (reply_of answer)) s result state.new }
     ensures left { state.new.left ≤ state.old.left }
 {
-    match waits {
-        Waits::Shown(id, words) => Ok(shown(alloc, state, id, words, &answer)?),
-        Waits::Noted(id, words) => Ok(noted(state, id, words, &answer)),
-        Waits::Started => started(alloc, state, &act, &answer),
+    match (waits, &answer) {
+        (Waits::Started, _) => started(alloc, state, &act, &answer),
+        (_, Answer::Failed(_)) => Ok(stops(Stop::WriterFailed)),
+        (Waits::Shown(id, words), _) => Ok(note(alloc, state, id, words)?),
+        (Waits::Noted(id, words), _) => Ok(Leaf::Asks(Act::Spawn(id, words), Waits::Started)),
     }
 }
 
@@ -125,7 +123,8 @@ fn enter_channel<A: Allocator + Copy>(
 {
     let id = channel_said(alloc, state, words)?;
     let zero = Value::new(alloc, Vec::from_slice(alloc, b"0")?)?;
-    Ok(enter(alloc, state, id, zero)?)
+    enter(alloc, state, id)?;
+    Ok(gives(zero))
 }
 
 /// The open connection of the one word behind the flag.
@@ -144,11 +143,7 @@ fn channel_said<A: Allocator + Copy>(
 }
 
 /// The open connection whose channel a text spells.
-fn channel_id<A: Allocator + Copy>(
-    alloc: A,
-    state: &State<A>,
-    text: &[u8],
-) -> Result<Id, Raise<A>>
+fn channel_id<A: Allocator + Copy>(alloc: A, state: &State<A>, text: &[u8]) -> Result<Id, Raise<A>>
     ensures { (s : Status) → FitsState state.now s →
         Answers (λ id. id) (definition.channel_id text.now s) result }
 {
@@ -166,40 +161,5 @@ fn misplaced<A: Allocator + Copy>(alloc: A, word: &[u8]) -> Raise<A>
         wrong_args(alloc, b"spawn")
     } else {
         bad_argument(alloc, word, b"spawn")
-    }
-}
-
-/// After the echo is on standard output, it goes to the log where what arrives does.
-fn shown<A: Allocator + Copy>(
-    alloc: A,
-    state: &State<A>,
-    id: Id,
-    words: Vec<Vec<u8, A>, A>,
-    answer: &Answer<A>,
-) -> Result<Leaf<A, Waits<A>>, NoMemory>
-    ensures { (s : Status) → FitsState state.now s → IfOk result (λ leaf.
-        Goes definition.next_of (written (notes {n = 0} id (words_of words.items) s)
-        (reply_of answer.now)) s leaf state.now) }
-{
-    match answer {
-        Answer::Failed(_) => Ok(stops(Stop::WriterFailed)),
-        _ => note(alloc, state, id, words),
-    }
-}
-
-/// After the echo is in the log, the program is started.
-fn noted<A: Allocator>(
-    state: &State<A>,
-    id: Id,
-    words: Vec<Vec<u8, A>, A>,
-    answer: &Answer<A>,
-) -> Leaf<A, Waits<A>>
-    ensures { (s : Status) → FitsState state.now s → Goes definition.next_of
-        (written (starts {n = 1} id (words_of words.items)) (reply_of answer.now))
-        s result state.now }
-{
-    match answer {
-        Answer::Failed(_) => stops(Stop::WriterFailed),
-        _ => Leaf::Asks(Act::Spawn(id, words), Waits::Started),
     }
 }
