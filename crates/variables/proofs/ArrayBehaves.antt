@@ -1,37 +1,41 @@
 -- What array keeps to.
 use Rattle.std.proofs.Common.{ℕ, ◌+◌, ◌≤◌, ◌%◌, ◌==◌, List, [], ◌∷◌, Option, Some, None, Result, Ok, Err, length, nat_lt, if◌then◌else◌, arith}
-use Rattle.state.proofs.Behaves.{reads_behaves, writes_behaves, if_behaves, with_list_behaves}
+use Rattle.std.specs.Prelude.{reverse}
+use Rattle.acts.specs.Flaw.{Flaw}
+use Rattle.state.proofs.Behaves.{writes_behaves, if_behaves, with_list_behaves}
 use Rattle.state.specs.Behaves.{Behaves, worth}
 use Rattle.state.specs.Dialogue.{Course, gives}
 use Rattle.state.specs.Status.{Status}
-use Rattle.state.specs.Variables.{spelled, stored}
+use Rattle.state.specs.Variables.{stored}
 use Rattle.tclparse.specs.Variable.{named as name_of}
-use Rattle.tclstate.specs.Scopes.{Scopes, Trouble, read, removed, with_array}
+use Rattle.tclstate.specs.Scopes.{Scopes, Trouble, with_array}
 use Rattle.tcltext.specs.Canonical.{canonical}
 use Rattle.tcltext.specs.Pattern.Glob.{plain}
 use Rattle.tcltext.specs.Pattern.Item.{Item}
 use Rattle.variables.specs.declared.array.Subcommand.{Subcommand}
 use Rattle.variables.specs.declared.array.Subcommand.TheVariants as subcommand
 use Rattle.variables.specs.Array.{array, called, does, named}
-use Rattle.variables.specs.Array.Exists.{exists, tells}
+use Rattle.variables.specs.Array.Exists.{exists}
 use Rattle.variables.specs.Array.Get as got
 use Rattle.variables.specs.Array.Indexes.{indexes_of, matched, taken, with_indexes}
 use Rattle.variables.specs.Array.Names as listed
 use Rattle.variables.specs.Array.Set as put
-use Rattle.variables.specs.Array.Size.{counts, size}
+use Rattle.variables.specs.Array.Size.{size}
 use Rattle.variables.specs.Array.Unset as gone
-use Rattle.variables.specs.Array.Words.{is_array, with_pattern, with_word}
-use Rattle.variables.proofs.Behaves.{cleared_behaves, on_name_behaves}
+use Rattle.variables.specs.Array.Words.{leaves, reports, with_pattern}
+use Rattle.variables.proofs.Behaves.{on_name_behaves}
 
 -- a course that leaves what it had
 abbrev Keeps : Status → Course → Type 0
 Keeps s course = Behaves s.left (worth s + 3) course
 
-word_behaves : (words : List (List ℕ)) (s : Status) (next : List ℕ → Course) →
-    ((word : List ℕ) → Keeps s (next word)) → Keeps s (with_word words s next)
-word_behaves [] s next each = (omega arith, omega arith)
-word_behaves (n ∷ []) s next each = each n
-word_behaves (n ∷ w ∷ ws) s next each = (omega arith, omega arith)
+reports_behave : (r : Result (List ℕ) Flaw) (s : Status) → Keeps s (reports r s)
+reports_behave (Ok value) s = (omega arith, omega arith)
+reports_behave (Err flaw) s = (omega arith, omega arith)
+
+leaves_behave : (v : Scopes) (r : Result (List ℕ) Flaw) (s : Status) → Keeps s (leaves (v, r) s)
+leaves_behave v (Ok value) s = (omega arith, omega arith)
+leaves_behave v (Err flaw) s = (omega arith, omega arith)
 
 pattern_behaves : (words : List (List ℕ)) (s : Status)
     (next : List ℕ → Option (List ℕ) → Course) →
@@ -64,64 +68,28 @@ indexes_behave name index None s next each = each (indexes_of s.scopes name inde
 indexes_behave name index (Some word) s next each =
     matched_behaves word (indexes_of s.scopes name index) s next each
 
-exists_behaves : (words : List (List ℕ)) (s : Status) → Keeps s (exists words s)
-exists_behaves words s = word_behaves words s (λ word. tells word s) (λ word.
-    on_name_behaves (name_of word) s _ (λ name index. (omega arith, omega arith)))
-
-size_behaves : (words : List (List ℕ)) (s : Status) → Keeps s (size words s)
-size_behaves words s = word_behaves words s (λ word. counts word s) (λ word.
-    on_name_behaves (name_of word) s _ (λ name index. (omega arith, omega arith)))
-
 names_behave : (words : List (List ℕ)) (s : Status) → Keeps s (listed.names words s)
 names_behave words s = pattern_behaves words s (λ word pattern. listed.lists word pattern s)
     (λ word pattern. on_name_behaves (name_of word) s _ (λ name index.
     indexes_behave name index pattern s (λ indexes. gives (canonical indexes) s)
     (λ indexes. (omega arith, omega arith))))
 
-values_behave : (name : List ℕ) (indexes : List (List ℕ)) (s : Status)
-    (next : List (List ℕ) → Course) → ((found : List (List ℕ)) → Keeps s (next found)) →
-    Keeps s (got.with_values name indexes s next)
-values_behave name [] s next each = each []
-values_behave name (i ∷ is) s next each =
-    reads_behaves s.left (worth s + 3) s (omega arith) (omega arith) name (Some i)
-    (λ value. got.with_values name is s (λ rest. next (i ∷ value ∷ rest)))
-    (λ value. values_behave name is s (λ rest. next (i ∷ value ∷ rest))
-    (λ rest. each (i ∷ value ∷ rest)))
-
 get_behaves : (words : List (List ℕ)) (s : Status) → Keeps s (got.get words s)
 get_behaves words s = pattern_behaves words s (λ word pattern. got.lists_named word pattern s)
     (λ word pattern. on_name_behaves (name_of word) s _ (λ name index.
-    indexes_behave name index pattern s (λ indexes. got.lists_values name indexes s)
-    (λ indexes. values_behave name indexes s (λ elements. gives (canonical elements) s)
-    (λ elements. (omega arith, omega arith)))))
-
--- elements that are removed, from a state on with no more ticks and no more worth
-removes_behave : (t had : ℕ) (name : List ℕ) (indexes : List (List ℕ)) (s : Status)
-    (next : Status → Course) → s.left ≤ t → worth s ≤ had →
-    ((u : Status) → u.left ≤ t → worth u ≤ had → Behaves t had (next u)) →
-    Behaves t had (gone.removes name indexes s next)
-removes_behave t had name [] s next le paid each = each s le paid
-removes_behave t had name (i ∷ is) s next le paid each =
-    removes_behave t had name is s (λ u. gone.clears name (Some i) u next) le paid
-    (λ u within kept.
-    cleared_behaves t had (removed u.scopes name (Some i)) (spelled name (Some i)) u next
-    within kept each)
-
-drops_behave : (name : List ℕ) (index : Option (List ℕ)) (s : Status) →
-    Keeps s (gone.drops name index s)
-drops_behave name index s =
-    if_behaves s.left (worth s + 3) (is_array (read s.scopes name index)) _ _
-    (cleared_behaves s.left (worth s + 3) (removed s.scopes name None) (spelled name None) s
-    (gives []) (omega arith) (omega arith) (λ u within kept. (within, kept)))
-    (omega arith, omega arith)
+    indexes_behave name index pattern s
+    (λ indexes. reports (got.list_values name indexes s.scopes) s)
+    (λ indexes. reports_behave (got.list_values name indexes s.scopes) s)))
 
 unsets_behave : (name : List ℕ) (index pattern : Option (List ℕ)) (s : Status) →
     Keeps s (gone.unsets name index pattern s)
-unsets_behave name index None s = drops_behave name index s
+unsets_behave name index None s =
+    let left = gone.drops name index s.scopes in leaves_behave left.0 left.1 s
 unsets_behave name index (Some word) s =
-    indexes_behave name index (Some word) s (λ indexes. gone.removes name indexes s (gives []))
-    (λ indexes. removes_behave s.left (worth s + 3) name indexes s (gives []) (omega arith)
-    (omega arith) (λ u within kept. (within, kept)))
+    indexes_behave name index (Some word) s
+    (λ indexes. leaves (gone.removes name (reverse indexes) s.scopes) s)
+    (λ indexes. let left = gone.removes name (reverse indexes) s.scopes in
+    leaves_behave left.0 left.1 s)
 
 unset_behaves : (words : List (List ℕ)) (s : Status) → Keeps s (gone.unset words s)
 unset_behaves words s = pattern_behaves words s (λ word pattern. gone.unsets_named word pattern s)
@@ -173,11 +141,11 @@ set_behaves (n ∷ l ∷ w ∷ ws) s = (omega arith, omega arith)
 
 does_behaves : (subcommand : Subcommand) (words : List (List ℕ)) (s : Status) →
     Keeps s (does subcommand words s)
-does_behaves subcommand.Exists words s = exists_behaves words s
+does_behaves subcommand.Exists words s = reports_behave (exists words s.scopes) s
 does_behaves subcommand.Get words s = get_behaves words s
 does_behaves subcommand.Names words s = names_behave words s
 does_behaves subcommand.Set words s = set_behaves words s
-does_behaves subcommand.Size words s = size_behaves words s
+does_behaves subcommand.Size words s = reports_behave (size words s.scopes) s
 does_behaves subcommand.Unset words s = unset_behaves words s
 
 called_behaves : (o : Option Subcommand) (name : List ℕ) (words : List (List ℕ)) (s : Status) →

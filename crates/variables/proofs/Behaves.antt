@@ -1,5 +1,5 @@
 -- What the commands on variables keep to that read a text.
-use Rattle.std.proofs.Common.{ℕ, ◌+◌, ◌≤◌, List, [], ◌∷◌, ◌++◌, Option, Some, None, Result, Ok, Err, arith}
+use Rattle.std.proofs.Common.{ℕ, ◌+◌, List, [], ◌∷◌, ◌++◌, Option, Some, None, Result, Ok, Err, arith}
 use Rattle.state.proofs.Behaves.{writes_behaves, with_list_behaves}
 use Rattle.state.specs.Behaves.{Behaves, worth}
 use Rattle.state.specs.Dialogue.{Course, gives}
@@ -8,8 +8,7 @@ use Rattle.state.specs.Status.{Status}
 use Rattle.state.specs.Variables.{on_name, spelled, writes}
 use Rattle.tclparse.specs.Variable.{named}
 use Rattle.tcltext.specs.Canonical.{canonical}
-use Rattle.tclstate.specs.Scopes.{Scopes, Trouble, NoVariable, IsArray, NotArray, NoElement, read}
-use Rattle.variables.specs.Array.Unset.{cleared}
+use Rattle.tclstate.specs.Scopes.{Trouble, NoVariable, IsArray, NotArray, NoElement, read}
 use Rattle.variables.specs.Held.{held_or, puts}
 use Rattle.variables.specs.Lappend as lists
 use Rattle.variables.specs.Lappend.{lappend}
@@ -49,12 +48,3 @@ lappend_behaves (n ∷ vs) s =
     (λ text. with_list_behaves s.left (worth s + 3) s (omega arith) (omega arith) text
     (λ elements. puts name index (canonical (elements ++ vs)) s)
     (λ elements. put_behaves_at name index (canonical (elements ++ vs)) s)))
-
--- what is left after a removal
-pub cleared_behaves : (t had : ℕ) (r : Result Scopes Trouble) (name : List ℕ) (s : Status)
-    (next : Status → Course) → s.left ≤ t → worth s ≤ had →
-    ((u : Status) → u.left ≤ t → worth u ≤ had → Behaves t had (next u)) →
-    Behaves t had (cleared r name s next)
-cleared_behaves t had (Ok scopes) name s next le paid each =
-    each (record s { scopes = scopes }) le paid
-cleared_behaves t had (Err trouble) name s next le paid each = (le, paid)

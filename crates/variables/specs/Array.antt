@@ -12,7 +12,7 @@ use Rattle.variables.specs.Array.Names.{names}
 use Rattle.variables.specs.Array.Set.{set}
 use Rattle.variables.specs.Array.Size.{size}
 use Rattle.variables.specs.Array.Unset.{unset}
-use Rattle.variables.specs.Array.Words.{wrong_words}
+use Rattle.variables.specs.Array.Words.{reports, wrong_words}
 pub mod Words
 pub mod Indexes
 pub mod Exists
@@ -21,7 +21,7 @@ pub mod Names
 pub mod Set
 pub mod Size
 pub mod Unset
-pub mod Clears
+pub mod Ends
 
 -- the subcommand of a name (array(n))
 abbrev pub named : List ℕ → Option Subcommand
@@ -36,11 +36,11 @@ named name =
 
 -- what a subcommand does with the words behind its name (array(n))
 abbrev pub does : Subcommand → List (List ℕ) → Status → Course
-does subcommand.Exists words s = exists words s
+does subcommand.Exists words s = reports (exists words s.scopes) s
 does subcommand.Get words s = get words s
 does subcommand.Names words s = names words s
 does subcommand.Set words s = set words s
-does subcommand.Size words s = size words s
+does subcommand.Size words s = reports (size words s.scopes) s
 does subcommand.Unset words s = unset words s
 
 -- the subcommand that a name has; a name without one is the error (array(n))

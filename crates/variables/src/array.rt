@@ -2,12 +2,15 @@
 #![tactic(auto, using(state::proofs::Reaches::same_reaches))]
 
 ghost use Rattle.std.specs.Prelude.{◌≡◌, ◌≤◌, IfOk};
+ghost use Rattle.acts.specs.Raise.{Answers};
 ghost use Rattle.state.specs.Leaf.{Shows};
 ghost use Rattle.state.specs.NoWaits.{next_of};
 ghost use Rattle.state.specs.Status.{Status};
 ghost use Rattle.state.specs.View.{FitsState};
 ghost use Rattle.variables.specs.Array as definition;
+ghost use Rattle.variables.specs.Array.Words as asked;
 
+mod ends;
 mod exists;
 mod get;
 mod indexes;
@@ -16,7 +19,8 @@ mod set;
 mod size;
 mod unset;
 
-use acts::NoMemory;
+use acts::{NoMemory, Raise};
+use ends::end;
 use state::arguments::{bad_argument, wrong_args};
 use state::{Leaf, NoWaits, State};
 use std::alloc::Allocator;
@@ -67,11 +71,11 @@ impl Subcommand {
         ensures left { state.new.left ≤ state.old.left }
     {
         match self {
-            Subcommand::Exists => exists::exists(alloc, state, words),
+            Subcommand::Exists => end(alloc, exists::exists(alloc, &state.scopes, words)),
             Subcommand::Get => get::get(alloc, state, words),
             Subcommand::Names => names::names(alloc, state, words),
             Subcommand::Set => set::set(alloc, state, words),
-            Subcommand::Size => size::size(alloc, state, words),
+            Subcommand::Size => end(alloc, size::size(alloc, &state.scopes, words)),
             Subcommand::Unset => unset::unset(alloc, state, words),
         }
     }
@@ -93,5 +97,15 @@ pub fn begin<A: Allocator + Copy>(
     match Subcommand::named(name.as_slice()) {
         Some(subcommand) => subcommand.apply(alloc, state, words),
         None => bad_argument(alloc, name.as_slice(), b"array"),
+    }
+}
+
+/// The word of an array that stands alone.
+fn one_word<A: Allocator + Copy>(alloc: A, words: &[Value<A>]) -> Result<&[u8], Raise<A>>
+    ensures { Answers (λ word. word.now) (asked.one_word words.now) result }
+{
+    match words {
+        [word] => Ok(word.as_slice()),
+        _ => Err(acts::raise::wrong_args(alloc, b"array")),
     }
 }

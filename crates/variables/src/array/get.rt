@@ -2,21 +2,23 @@
 #![tactic(auto, using(state::proofs::Reaches::same_reaches))]
 
 ghost use Rattle.std.specs.Prelude.{◌≡◌, ◌∷◌, ◌++◌, [], IfOk, OnOk, option_copied};
+ghost use Rattle.acts.specs.Raise.{Answers};
 ghost use Rattle.state.specs.Leaf.{Shows};
 ghost use Rattle.state.specs.NoWaits.{next_of};
 ghost use Rattle.state.specs.Status.{Status};
 ghost use Rattle.state.specs.View.{FitsState};
 ghost use Rattle.variables.specs.Array.Get as definition;
-ghost use Rattle.variables.specs.Finds.{Finds};
 
+use super::ends::end;
 use super::indexes::indexes;
 use acts::{Fault, NoMemory, Raise};
+use kinds::variables::value_of;
 use state::arguments::wrong_args;
-use state::leaf::{gives, raises};
-use state::variables::trouble;
+use state::leaf::raises;
 use state::{Leaf, NoWaits, State};
 use std::alloc::Allocator;
 use tclparse::{Name, variable_name};
+use tclstate::Scopes;
 use tcltext::Value;
 
 /// Gives the list of an array's indexes with their values, or of those that a pattern takes.
@@ -65,7 +67,7 @@ fn list<A: Allocator + Copy>(
         name.now (option_copied index.entry) (option_copied pattern.entry) s)) }
 {
     match indexes(alloc, state, name, index, pattern) {
-        Ok(indexes) => list_values(alloc, state, name, &indexes),
+        Ok(indexes) => end(alloc, list_values(alloc, &state.scopes, name, &indexes)),
         Err(Raise::Fault(fault)) => raises(alloc, &fault),
         Err(Raise::NoMemory(refusal)) => Err(refusal),
     }
@@ -74,39 +76,31 @@ fn list<A: Allocator + Copy>(
 /// Gives the list of these indexes with their values.
 fn list_values<A: Allocator + Copy>(
     alloc: A,
-    state: &State<A>,
+    scopes: &Scopes<A>,
     name: &[u8],
     indexes: &[Value<A>],
-) -> Result<Leaf<A, NoWaits>, NoMemory>
-    ensures { (s : Status) → FitsState state.now s → IfOk result (λ leaf.
-        Shows next_of leaf state.now (definition.lists_values name.now indexes.now s)) }
+) -> Result<Value<A>, Raise<A>>
+    ensures { Answers (λ value. value)
+        (definition.list_values name.now indexes.now scopes.now) result }
 {
-    match values(alloc, state, name, indexes) {
-        Ok(elements) => Ok(gives(Value::list(alloc, &elements)?)),
-        Err(Raise::Fault(fault)) => raises(alloc, &fault),
-        Err(Raise::NoMemory(refusal)) => Err(refusal),
-    }
+    let elements = values(alloc, scopes, name, indexes)?;
+    Ok(Value::list(alloc, &elements)?)
 }
 
 /// These indexes, each with the value of its element behind it.
 fn values<A: Allocator + Copy>(
     alloc: A,
-    state: &State<A>,
+    scopes: &Scopes<A>,
     name: &[u8],
     indexes: &[Value<A>],
 ) -> Result<Vec<Value<A>, A>, Raise<A>>
-    ensures { (s : Status) → FitsState state.now s →
-        Finds result (definition.with_values name.now indexes.now s) s }
+    ensures { Answers (λ elements. elements.items)
+        (definition.values name.now indexes.now scopes.now) result }
 {
     let mut elements = Vec::new(alloc);
     for index in indexes {
-        match state.scopes.get(name, Some(index.as_slice())) {
-            Ok(value) => push_element(&mut elements, index, value)?,
-            Err(error) => {
-                let fault = trouble(alloc, error, name, Some(index.as_slice()))?;
-                return Err(Raise::Fault(fault));
-            }
-        }
+        let value = value_of(alloc, scopes, name, Some(index.as_slice()))?;
+        push_element(&mut elements, index, value)?;
     }
     Ok(elements)
 }

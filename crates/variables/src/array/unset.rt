@@ -1,24 +1,26 @@
 //! `array unset a ?w?` (array(n)).
 #![tactic(auto, using(state::proofs::Reaches::same_reaches))]
 
-ghost use Rattle.std.specs.Prelude.{◌≡◌, ◌≤◌, [], IfOk, option_copied};
-ghost use Rattle.state.specs.Dialogue.{gives};
+ghost use Rattle.std.specs.Prelude.{◌≤◌, IfOk, reverse, option_copied};
 ghost use Rattle.state.specs.Leaf.{Shows};
 ghost use Rattle.state.specs.NoWaits.{next_of};
 ghost use Rattle.state.specs.Status.{Status};
 ghost use Rattle.state.specs.View.{FitsState};
 ghost use Rattle.variables.specs.Array.Unset as definition;
-ghost use Rattle.variables.specs.Array.Clears.{Clears};
+ghost use Rattle.variables.specs.Array.Words.{leaves};
+ghost use Rattle.variables.specs.Keeps.{Leaves};
 
+use super::ends::end;
 use super::exists::is_array;
 use super::indexes::indexes;
+use crate::unset::remove;
 use acts::{Fault, NoMemory, Raise};
 use state::arguments::wrong_args;
-use state::leaf::{empty, raises};
-use state::variables::trouble;
+use state::leaf::raises;
 use state::{Leaf, NoWaits, State};
 use std::alloc::Allocator;
 use tclparse::{Name, variable_name};
+use tclstate::Scopes;
 use tcltext::Value;
 
 /// Removes an array, or those of its elements whose indexes a pattern takes.
@@ -59,7 +61,7 @@ fn unset_named<A: Allocator + Copy>(
     }
 }
 
-/// Removes what a name means, where it is an array.
+/// Removes what a name means, where it is an array, and ends so.
 fn drop_array<A: Allocator + Copy>(
     alloc: A,
     state: &mut State<A>,
@@ -68,16 +70,27 @@ fn drop_array<A: Allocator + Copy>(
 ) -> Result<Leaf<A, NoWaits>, NoMemory>
     ensures shows { (s : Status) → FitsState state.old s → IfOk result (λ leaf.
         Shows next_of leaf state.new
-        (definition.drops name.now (option_copied index.entry) s)) }
+        (leaves (definition.drops name.now (option_copied index.entry) s.scopes) s)) }
     ensures left { state.new.left ≤ state.old.left }
 {
-    if !is_array(state, name, index) {
-        return Ok(empty());
+    let done = remove_array(alloc, &mut state.scopes, name, index);
+    end(alloc, done)
+}
+
+/// Removes what a name means, where it is an array.
+fn remove_array<A: Allocator + Copy>(
+    alloc: A,
+    scopes: &mut Scopes<A>,
+    name: &[u8],
+    index: Option<&[u8]>,
+) -> Result<Value<A>, Raise<A>>
+    ensures { Leaves (definition.drops name.now (option_copied index.entry) scopes.old)
+        result scopes.new }
+{
+    if is_array(scopes, name, index) {
+        remove(alloc, scopes, false, name, None)?;
     }
-    match remove(alloc, state, name, None)? {
-        None => Ok(empty()),
-        Some(fault) => raises(alloc, &fault),
-    }
+    Ok(Value::empty())
 }
 
 /// Removes the elements of an array whose indexes a pattern takes.
@@ -94,45 +107,41 @@ fn remove_matched<A: Allocator + Copy>(
     ensures left { state.new.left ≤ state.old.left }
 {
     match indexes(alloc, state, name, index, Some(pattern)) {
-        Ok(indexes) => remove_all(alloc, state, name, indexes),
+        Ok(indexes) => remove_indexes(alloc, state, name, indexes),
         Err(Raise::Fault(fault)) => raises(alloc, &fault),
         Err(Raise::NoMemory(refusal)) => Err(refusal),
     }
+}
+
+/// Removes the elements at these indexes, and ends so.
+fn remove_indexes<A: Allocator + Copy>(
+    alloc: A,
+    state: &mut State<A>,
+    name: &[u8],
+    indexes: Vec<Value<A>, A>,
+) -> Result<Leaf<A, NoWaits>, NoMemory>
+    ensures shows { (s : Status) → FitsState state.old s → IfOk result (λ leaf.
+        Shows next_of leaf state.new
+        (leaves (definition.removes name.now (reverse indexes.items) s.scopes) s)) }
+    ensures left { state.new.left ≤ state.old.left }
+{
+    let done = remove_all(alloc, &mut state.scopes, name, indexes);
+    end(alloc, done)
 }
 
 /// Removes the elements at these indexes, the last one first, so that a removal moves only those
 /// that stay.
 fn remove_all<A: Allocator + Copy>(
     alloc: A,
-    state: &mut State<A>,
+    scopes: &mut Scopes<A>,
     name: &[u8],
     mut indexes: Vec<Value<A>, A>,
-) -> Result<Leaf<A, NoWaits>, NoMemory>
-    ensures shows { (s : Status) → FitsState state.old s → IfOk result (λ leaf.
-        Shows next_of leaf state.new (definition.removes name.now indexes.items s (gives []))) }
-    ensures left { state.new.left ≤ state.old.left }
+) -> Result<Value<A>, Raise<A>>
+    ensures { Leaves (definition.removes name.now (reverse indexes.items) scopes.old)
+        result scopes.new }
 {
     while let Some(index) = indexes.pop() {
-        if let Some(fault) = remove(alloc, state, name, Some(index.as_slice()))? {
-            return raises(alloc, &fault);
-        }
+        remove(alloc, scopes, false, name, Some(index.as_slice()))?;
     }
-    Ok(empty())
-}
-
-/// Removes a variable or an element, or answers the script's error where that can't be.
-fn remove<A: Allocator + Copy>(
-    alloc: A,
-    state: &mut State<A>,
-    name: &[u8],
-    index: Option<&[u8]>,
-) -> Result<Option<Fault<A>>, NoMemory>
-    ensures clears { (s : Status) → FitsState state.old s → IfOk result (λ fault.
-        Clears fault state.new s name.now (option_copied index.entry)) }
-    ensures left { state.new.left ≡ state.old.left }
-{
-    match state.scopes.unset(name, index) {
-        Ok(()) => Ok(None),
-        Err(error) => Ok(Some(trouble(alloc, error, name, index)?)),
-    }
+    Ok(Value::empty())
 }
