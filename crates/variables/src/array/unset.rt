@@ -1,84 +1,56 @@
 //! `array unset a ?w?` (array(n)).
-#![tactic(auto, using(state::proofs::Reaches::same_reaches))]
 
-ghost use Rattle.std.specs.Prelude.{◌≤◌, IfOk, reverse, option_copied};
-ghost use Rattle.state.specs.Leaf.{Shows};
-ghost use Rattle.state.specs.NoWaits.{next_of};
-ghost use Rattle.state.specs.Status.{Status};
-ghost use Rattle.state.specs.View.{FitsState};
+ghost use Rattle.std.specs.Prelude.{reverse, option_copied};
 ghost use Rattle.variables.specs.Array.Unset as definition;
-ghost use Rattle.variables.specs.Array.Words.{leaves};
 ghost use Rattle.variables.specs.Keeps.{Leaves};
+ghost use Rattle.variables.specs.Readings.{Settles};
 
-use super::ends::end;
 use super::exists::is_array;
 use super::indexes::indexes;
 use crate::unset::remove;
-use acts::{Fault, NoMemory, Raise};
-use state::arguments::wrong_args;
-use state::leaf::raises;
-use state::{Leaf, NoWaits, State};
+use acts::Raise;
+use acts::raise::wrong_args;
+use kinds::variables::name_in;
 use std::alloc::Allocator;
-use tclparse::{Name, variable_name};
+use tclparse::Name;
 use tclstate::Scopes;
 use tcltext::Value;
 
 /// Removes an array, or those of its elements whose indexes a pattern takes.
 pub fn unset<A: Allocator + Copy>(
     alloc: A,
-    state: &mut State<A>,
+    scopes: &mut Scopes<A>,
     words: &[Value<A>],
-) -> Result<Leaf<A, NoWaits>, NoMemory>
-    ensures shows { (s : Status) → FitsState state.old s → IfOk result (λ leaf.
-        Shows next_of leaf state.new (definition.unset words.now s)) }
-    ensures left { state.new.left ≤ state.old.left }
+) -> Result<Value<A>, Raise<A>>
+    ensures { Settles (definition.unset words.now scopes.old) result scopes.new }
 {
     match words {
-        [word] => unset_named(alloc, state, word.as_slice(), None),
-        [word, pattern] => unset_named(alloc, state, word.as_slice(), Some(pattern.as_slice())),
-        _ => wrong_args(alloc, b"array"),
+        [word] => unset_named(alloc, scopes, word.as_slice(), None),
+        [word, pattern] => unset_named(alloc, scopes, word.as_slice(), Some(pattern.as_slice())),
+        _ => Err(wrong_args(alloc, b"array")),
     }
 }
 
 /// Removes what a word names, where it names an array.
 fn unset_named<A: Allocator + Copy>(
     alloc: A,
-    state: &mut State<A>,
+    scopes: &mut Scopes<A>,
     word: &[u8],
     pattern: Option<&[u8]>,
-) -> Result<Leaf<A, NoWaits>, NoMemory>
-    ensures shows { (s : Status) → FitsState state.old s → IfOk result (λ leaf.
-        Shows next_of leaf state.new
-        (definition.unsets_named word.now (option_copied pattern.entry) s)) }
-    ensures left { state.new.left ≤ state.old.left }
+) -> Result<Value<A>, Raise<A>>
+    ensures { Settles
+        (definition.unsets_named word.now (option_copied pattern.entry) scopes.old)
+        result scopes.new }
 {
-    let Ok(Name { name, index }) = variable_name(word) else {
-        return raises(alloc, &Fault::BadVariable);
-    };
+    let Name { name, index } = name_in(word)?;
     match pattern {
-        None => drop_array(alloc, state, name, index),
-        Some(pattern) => remove_matched(alloc, state, name, index, pattern),
+        None => drop_array(alloc, scopes, name, index),
+        Some(pattern) => remove_matched(alloc, scopes, name, index, pattern),
     }
 }
 
-/// Removes what a name means, where it is an array, and ends so.
-fn drop_array<A: Allocator + Copy>(
-    alloc: A,
-    state: &mut State<A>,
-    name: &[u8],
-    index: Option<&[u8]>,
-) -> Result<Leaf<A, NoWaits>, NoMemory>
-    ensures shows { (s : Status) → FitsState state.old s → IfOk result (λ leaf.
-        Shows next_of leaf state.new
-        (leaves (definition.drops name.now (option_copied index.entry) s.scopes) s)) }
-    ensures left { state.new.left ≤ state.old.left }
-{
-    let done = remove_array(alloc, &mut state.scopes, name, index);
-    end(alloc, done)
-}
-
 /// Removes what a name means, where it is an array.
-fn remove_array<A: Allocator + Copy>(
+fn drop_array<A: Allocator + Copy>(
     alloc: A,
     scopes: &mut Scopes<A>,
     name: &[u8],
@@ -96,37 +68,18 @@ fn remove_array<A: Allocator + Copy>(
 /// Removes the elements of an array whose indexes a pattern takes.
 fn remove_matched<A: Allocator + Copy>(
     alloc: A,
-    state: &mut State<A>,
+    scopes: &mut Scopes<A>,
     name: &[u8],
     index: Option<&[u8]>,
     pattern: &[u8],
-) -> Result<Leaf<A, NoWaits>, NoMemory>
-    ensures shows { (s : Status) → FitsState state.old s → IfOk result (λ leaf.
-        Shows next_of leaf state.new (definition.removes_matched
-        name.now (option_copied index.entry) pattern.now s)) }
-    ensures left { state.new.left ≤ state.old.left }
+) -> Result<Value<A>, Raise<A>>
+    ensures { Settles (definition.removes_matched
+        name.now (option_copied index.entry) pattern.now scopes.old) result scopes.new }
 {
-    match indexes(alloc, state, name, index, Some(pattern)) {
-        Ok(indexes) => remove_indexes(alloc, state, name, indexes),
-        Err(Raise::Fault(fault)) => raises(alloc, &fault),
-        Err(Raise::NoMemory(refusal)) => Err(refusal),
+    match indexes(alloc, scopes, name, index, Some(pattern)) {
+        Ok(indexes) => remove_all(alloc, scopes, name, indexes),
+        Err(why) => Err(why),
     }
-}
-
-/// Removes the elements at these indexes, and ends so.
-fn remove_indexes<A: Allocator + Copy>(
-    alloc: A,
-    state: &mut State<A>,
-    name: &[u8],
-    indexes: Vec<Value<A>, A>,
-) -> Result<Leaf<A, NoWaits>, NoMemory>
-    ensures shows { (s : Status) → FitsState state.old s → IfOk result (λ leaf.
-        Shows next_of leaf state.new
-        (leaves (definition.removes name.now (reverse indexes.items) s.scopes) s)) }
-    ensures left { state.new.left ≤ state.old.left }
-{
-    let done = remove_all(alloc, &mut state.scopes, name, indexes);
-    end(alloc, done)
 }
 
 /// Removes the elements at these indexes, the last one first, so that a removal moves only those

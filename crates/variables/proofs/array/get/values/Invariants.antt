@@ -6,6 +6,7 @@ use Rattle.variables.proofs.array.get.values.Given as goal
 
 abbrev pub invariant-loop-index : goal.invariant-loop-index
 invariant-loop-index g l =
-    let read : List (List ℕ) → Result (List (List ℕ)) Flaw = λ more. Ok (l.elements.items ++ more) in
+    let read : List (List ℕ) → Result (List (List ℕ)) Flaw =
+    λ more. Ok (l.elements.items ++ more) in
     values l.name l.indexes l.scopes
     ≡ bind (values l.name (drop l.index-index l.indexes) l.scopes) read
