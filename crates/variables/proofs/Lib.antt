@@ -1,7 +1,6 @@
-pub mod Named
-pub mod Readings
-pub mod Behaves
-pub mod ArrayBehaves
+pub mod Reached
+pub mod Lists
 pub mod Taking
 pub mod Elements
 pub mod Taken
+pub mod Courses

@@ -6,15 +6,9 @@ use Rattle.acts.specs.declared.raise.Raise.{Raise}
 use Rattle.acts.specs.declared.raise.Raise.TheVariants as raise
 use Rattle.kinds.specs.Answers.{Stores}
 use Rattle.kinds.specs.Variables.{put}
-use Rattle.state.proofs.Fits.{scopes_fit}
-use Rattle.state.specs.declared.state.State.{State}
-use Rattle.state.specs.Status.{Status}
-use Rattle.state.specs.View.{FitsState}
 use Rattle.tclstate.proofs.Rewritten.{written_again, can_write}
 use Rattle.tclstate.specs.Scopes.{Scopes, read, written}
-use Rattle.variables.specs.Held as course
 use Rattle.variables.specs.Keeps.{Keeps, Rewrites}
-use Rattle.variables.specs.Taken.{Released}
 use Rattle.variables.specs.Values.{puts}
 
 -- what is written in the place of what was taken is all that counts
@@ -63,33 +57,10 @@ module _ (old mid : Scopes) (name : List ℕ) (index : Option (List ℕ)) (value
       (flawed, stored.1 ∙ none_taken (flaw_of why) (put name index value old) refl flawed)
   put_back new (Err (raise.NoMemory refusal)) stored = tt
 
-module _ {A : Type 0} (state : State A) (s : Status) (fits : FitsState state s) where
-  -- what was read is let go of
-  pub let_go : (new : Scopes) (name : List ℕ) (index : Option (List ℕ)) (text : List ℕ) →
-      read state.scopes name index ≡ Ok text → written state.scopes name index [] ≡ Ok new →
-      Released (record state { scopes = new }) name index s
-  let_go new name index text is emptied = record {
-    fits = scopes_fit state s fits new;
-    same = λ value.
-        let can = can_write state.scopes name index text value is in
-        let again = written_again state.scopes new name index text [] value is emptied in
-        rw (fits.scopes, again, can.1) refl;
-  }
-
-  -- nothing was there to be let go of
-  pub nothing_let_go : (new : Scopes) (name : List ℕ) (index : Option (List ℕ)) →
-      new ≡ state.scopes → Released (record state { scopes = new }) name index s
-  nothing_let_go new name index same = record {
-    fits = scopes_fit state s fits new;
-    same = λ value.
-        ap (λ (scopes : Scopes). course.puts name index value (record s { scopes = scopes }))
-        (same ∙ sym fits.scopes);
-  }
-
-  -- what was there is let go of, or nothing has changed
-  pub let_go_if : {E : Type 0} (new : Scopes) (name : List ℕ) (index : Option (List ℕ))
-      (r : Result (List ℕ) E) → IfOk r (λ text. read state.scopes name index ≡ Ok text) →
-      OnOk r (written state.scopes name index [] ≡ Ok new) → OnErr r (new ≡ state.scopes) →
-      Released (record state { scopes = new }) name index s
-  let_go_if new name index (Ok text) is emptied same = let_go new name index text is emptied
-  let_go_if new name index (Err e) is emptied same = nothing_let_go new name index same
+-- what was there was taken, or nothing has changed
+pub let_go_if : {E : Type 0} (old new : Scopes) (name : List ℕ) (index : Option (List ℕ))
+    (r : Result (List ℕ) E) → IfOk r (λ text. read old name index ≡ Ok text) →
+    OnOk r (written old name index [] ≡ Ok new) → OnErr r (new ≡ old) →
+    Rewrites name index old new
+let_go_if old new name index (Ok text) is emptied same = rewrites old new name index text is emptied
+let_go_if old new name index (Err e) is emptied same = unchanged old new name index same

@@ -1,9 +1,8 @@
 -- What array does.
-use Rattle.std.specs.Prelude.{ℕ, List, [], ◌∷◌, codes, Option, Some, None, if◌then◌else◌}
+use Rattle.std.specs.Prelude.{ℕ, List, [], ◌∷◌, codes, Option, Some, None, Err, if◌then◌else◌}
 use Rattle.std.specs.Str.{bytes_eq}
 use Rattle.acts.specs.Flaw as flaw
-use Rattle.state.specs.Dialogue.{Course, raises}
-use Rattle.state.specs.Status.{Status}
+use Rattle.tclstate.specs.Scopes.{Scopes}
 use Rattle.variables.specs.declared.array.Subcommand.{Subcommand}
 use Rattle.variables.specs.declared.array.Subcommand.TheVariants as subcommand
 use Rattle.variables.specs.Array.Exists.{exists}
@@ -13,6 +12,7 @@ use Rattle.variables.specs.Array.Set.{set}
 use Rattle.variables.specs.Array.Size.{size}
 use Rattle.variables.specs.Array.Unset.{unset}
 use Rattle.variables.specs.Array.Words.{wrong_words}
+use Rattle.variables.specs.Readings.{Reading, Found}
 pub mod Words
 pub mod Indexes
 pub mod Exists
@@ -21,7 +21,6 @@ pub mod Names
 pub mod Set
 pub mod Size
 pub mod Unset
-pub mod Clears
 
 -- the subcommand of a name (array(n))
 abbrev pub named : List ℕ → Option Subcommand
@@ -35,20 +34,20 @@ named name =
     else None
 
 -- what a subcommand does with the words behind its name (array(n))
-abbrev pub does : Subcommand → List (List ℕ) → Status → Course
-does subcommand.Exists words s = exists words s
-does subcommand.Get words s = get words s
-does subcommand.Names words s = names words s
-does subcommand.Set words s = set words s
-does subcommand.Size words s = size words s
-does subcommand.Unset words s = unset words s
+abbrev pub does : Subcommand → List (List ℕ) → Scopes → Reading
+does subcommand.Exists words v = Found (v, exists words v)
+does subcommand.Get words v = get words v
+does subcommand.Names words v = names words v
+does subcommand.Set words v = set words v
+does subcommand.Size words v = Found (v, size words v)
+does subcommand.Unset words v = unset words v
 
 -- the subcommand that a name has; a name without one is the error (array(n))
-abbrev pub called : Option Subcommand → List ℕ → List (List ℕ) → Status → Course
-called (Some found) name words s = does found words s
-called None name words s = raises (flaw.BadArgument name (codes "array")) s
+abbrev pub called : Option Subcommand → List ℕ → List (List ℕ) → Scopes → Reading
+called (Some found) name words v = does found words v
+called None name words v = Found (v, Err (flaw.BadArgument name (codes "array")))
 
 -- array subcommand ..: the name comes before the number of the words behind it (array(n))
-abbrev pub array : List (List ℕ) → Status → Course
-array [] s = wrong_words s
-array (name ∷ words) s = called (named name) name words s
+abbrev pub array : List (List ℕ) → Scopes → Reading
+array [] v = wrong_words v
+array (name ∷ words) v = called (named name) name words v

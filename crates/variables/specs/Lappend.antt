@@ -1,24 +1,29 @@
 -- What lappend does.
-use Rattle.std.specs.Prelude.{ℕ, List, [], ◌∷◌, ◌++◌, codes, Option}
+use Rattle.std.specs.Prelude.{ℕ, List, [], ◌∷◌, ◌++◌, codes, Option, Err}
 use Rattle.acts.specs.Flaw as flaw
-use Rattle.state.specs.Dialogue.{Course, raises}
-use Rattle.state.specs.Listed.{with_list}
-use Rattle.state.specs.Status.{Status}
-use Rattle.state.specs.Variables.{with_name}
+use Rattle.kinds.specs.Variables.{name_in}
+use Rattle.tclstate.specs.Scopes.{Scopes}
 use Rattle.tcltext.specs.Canonical.{canonical}
-use Rattle.variables.specs.Held.{reads_or, puts}
+use Rattle.variables.specs.Readings.{Reading, Found, after, kept, with_list}
+use Rattle.variables.specs.Values.{puts, text_in}
 
 -- on with the elements of a variable's list; a missing one has none (lappend(n))
-abbrev pub with_elements : List ℕ → Option (List ℕ) → Status → (List (List ℕ) → Course) → Course
-with_elements name index s next = reads_or [] name index s (λ text. with_list text s next)
+abbrev pub with_elements : List ℕ → Option (List ℕ) → Scopes → (List (List ℕ) → Reading) →
+    Reading
+with_elements name index v next =
+    after (text_in name index v) v (λ text. with_list text v next)
 
 -- elements are put behind those of a variable, and the whole list is given in its canonical text
 -- (lappend(n))
-abbrev pub extends : List ℕ → Option (List ℕ) → List (List ℕ) → Status → Course
-extends name index more s =
-    with_elements name index s (λ elements. puts name index (canonical (elements ++ more)) s)
+abbrev pub extends : List ℕ → Option (List ℕ) → List (List ℕ) → Scopes → Reading
+extends name index more v = with_elements name index v (λ elements.
+    Found (kept v (puts name index (canonical (elements ++ more)) v)))
+
+-- the same of what a word names (lappend(n))
+abbrev pub appends : List ℕ → List (List ℕ) → Scopes → Reading
+appends word more v = after (name_in word) v (λ n. extends n.0 n.1 more v)
 
 -- lappend n v .. (lappend(n))
-abbrev pub lappend : List (List ℕ) → Status → Course
-lappend [] s = raises (flaw.WrongArgs (codes "lappend")) s
-lappend (n ∷ vs) s = with_name n s (λ name index. extends name index vs s)
+abbrev pub lappend : List (List ℕ) → Scopes → Reading
+lappend [] v = Found (v, Err (flaw.WrongArgs (codes "lappend")))
+lappend (w ∷ ws) v = appends w ws v

@@ -1,12 +1,10 @@
 //! `array subcommand ..` (array(n)).
-#![tactic(auto, using(state::proofs::Reaches::same_reaches))]
 
-ghost use Rattle.std.specs.Prelude.{◌≡◌, ◌≤◌, IfOk};
-ghost use Rattle.state.specs.Leaf.{Shows};
-ghost use Rattle.state.specs.NoWaits.{next_of};
-ghost use Rattle.state.specs.Status.{Status};
-ghost use Rattle.state.specs.View.{FitsState};
+ghost use Rattle.std.specs.Prelude.{◌≡◌};
+ghost use Rattle.acts.specs.Raise.{Answers};
 ghost use Rattle.variables.specs.Array as definition;
+ghost use Rattle.variables.specs.Array.Words as asked;
+ghost use Rattle.variables.specs.Readings.{Settles};
 
 mod exists;
 mod get;
@@ -16,10 +14,10 @@ mod set;
 mod size;
 mod unset;
 
-use acts::NoMemory;
-use state::arguments::{bad_argument, wrong_args};
-use state::{Leaf, NoWaits, State};
+use acts::Raise;
+use acts::raise::{bad_argument, wrong_args};
 use std::alloc::Allocator;
+use tclstate::Scopes;
 use tcltext::Value;
 
 /// What `array` does.
@@ -59,39 +57,48 @@ impl Subcommand {
     fn apply<A: Allocator + Copy>(
         self,
         alloc: A,
-        state: &mut State<A>,
+        scopes: &mut Scopes<A>,
         words: &[Value<A>],
-    ) -> Result<Leaf<A, NoWaits>, NoMemory>
-        ensures shows { (s : Status) → FitsState state.old s → IfOk result (λ leaf.
-            Shows next_of leaf state.new (definition.does self words.now s)) }
-        ensures left { state.new.left ≤ state.old.left }
+    ) -> Result<Value<A>, Raise<A>>
+        ensures { Settles (definition.does self words.now scopes.old) result scopes.new }
     {
         match self {
-            Subcommand::Exists => exists::exists(alloc, state, words),
-            Subcommand::Get => get::get(alloc, state, words),
-            Subcommand::Names => names::names(alloc, state, words),
-            Subcommand::Set => set::set(alloc, state, words),
-            Subcommand::Size => size::size(alloc, state, words),
-            Subcommand::Unset => unset::unset(alloc, state, words),
+            Subcommand::Exists => exists::exists(alloc, scopes, words),
+            Subcommand::Get => get::get(alloc, scopes, words),
+            Subcommand::Names => names::names(alloc, scopes, words),
+            Subcommand::Set => set::set(alloc, scopes, words),
+            Subcommand::Size => size::size(alloc, scopes, words),
+            Subcommand::Unset => unset::unset(alloc, scopes, words),
         }
     }
 }
 
 /// Reads, writes or removes the elements of an array, by the subcommand that comes first.
+///
+/// # Errors
+/// No subcommand; the words or the variables that it does not take; or memory is refused.
 pub fn begin<A: Allocator + Copy>(
     alloc: A,
-    state: &mut State<A>,
+    scopes: &mut Scopes<A>,
     args: &[Value<A>],
-) -> Result<Leaf<A, NoWaits>, NoMemory>
-    ensures shows { (s : Status) → FitsState state.old s →
-        IfOk result (λ leaf. Shows next_of leaf state.new (definition.array args.now s)) }
-    ensures left { state.new.left ≤ state.old.left }
+) -> Result<Value<A>, Raise<A>>
+    ensures { Settles (definition.array args.now scopes.old) result scopes.new }
 {
     let [name, words @ ..] = args else {
-        return wrong_args(alloc, b"array");
+        return Err(wrong_args(alloc, b"array"));
     };
     match Subcommand::named(name.as_slice()) {
-        Some(subcommand) => subcommand.apply(alloc, state, words),
-        None => bad_argument(alloc, name.as_slice(), b"array"),
+        Some(subcommand) => subcommand.apply(alloc, scopes, words),
+        None => Err(bad_argument(alloc, name.as_slice(), b"array")),
+    }
+}
+
+/// The word of an array that stands alone.
+fn one_word<A: Allocator + Copy>(alloc: A, words: &[Value<A>]) -> Result<&[u8], Raise<A>>
+    ensures { Answers (λ word. word.now) (asked.one_word words.now) result }
+{
+    match words {
+        [word] => Ok(word.as_slice()),
+        _ => Err(wrong_args(alloc, b"array")),
     }
 }

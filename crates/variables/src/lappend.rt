@@ -1,81 +1,86 @@
 //! `lappend n ?v ..?` (lappend(n)).
-#![tactic(auto, using(state::proofs::Reaches::same_reaches))]
 
-ghost use Rattle.std.specs.Prelude.{◌≡◌, ◌≤◌, ◌++◌, ℕ, List, IfOk, option_copied};
-ghost use Rattle.state.specs.Leaf.{Shows};
-ghost use Rattle.state.specs.Status.{Status};
-ghost use Rattle.state.specs.View.{FitsState};
+ghost use Rattle.std.specs.Prelude.{◌≡◌, ◌++◌, ℕ, List, IfOk, option_copied};
 ghost use Rattle.tcltext.specs.Canonical.{canonical, IsCanonical};
-ghost use Rattle.variables.specs.Held.{puts};
+ghost use Rattle.variables.specs.Keeps.{Keeps};
 ghost use Rattle.variables.specs.Lappend as definition;
 ghost use Rattle.variables.specs.Lists.{HoldsList};
-ghost use Rattle.state.specs.NoWaits.{next_of};
+ghost use Rattle.variables.specs.Readings.{Settles};
+ghost use Rattle.variables.specs.Values.{puts};
 
-use crate::held::{self, held, release};
-use acts::{Fault, NoMemory, Raise};
+use crate::values::{held, put_back, release};
+use acts::Raise;
+use acts::raise::wrong_args;
+use kinds::variables::name_in;
 use meanings::list_of;
-use state::arguments::wrong_args;
-use state::leaf::raises;
-use state::{Leaf, NoWaits, State};
 use std::alloc::Allocator;
-use tclparse::{Name, variable_name};
+use tclparse::Name;
+use tclstate::Scopes;
 use tcltext::Value;
 
 /// Puts elements behind those of a variable's list, and gives the whole in its canonical text.
+///
+/// # Errors
+/// No word; no name; a variable that can't be read or is no list: nothing changes. Or memory is
+/// refused.
 pub fn begin<A: Allocator + Copy>(
     alloc: A,
-    state: &mut State<A>,
+    scopes: &mut Scopes<A>,
     args: &[Value<A>],
-) -> Result<Leaf<A, NoWaits>, NoMemory>
-    ensures shows { (s : Status) → FitsState state.old s →
-        IfOk result (λ leaf. Shows next_of leaf state.new (definition.lappend args.now s)) }
-    ensures left { state.new.left ≤ state.old.left }
+) -> Result<Value<A>, Raise<A>>
+    ensures { Settles (definition.lappend args.now scopes.old) result scopes.new }
 {
-    let [word, elements @ ..] = args else {
-        return wrong_args(alloc, b"lappend");
-    };
-    match variable_name(word.as_slice()) {
-        Ok(Name { name, index }) => extend(alloc, state, name, index, elements),
-        Err(_) => raises(alloc, &Fault::BadVariable),
+    match args {
+        [] => Err(wrong_args(alloc, b"lappend")),
+        [word, elements @ ..] => append(alloc, scopes, word.as_slice(), elements),
     }
+}
+
+/// Puts elements behind those of the list of what a word names.
+fn append<A: Allocator + Copy>(
+    alloc: A,
+    scopes: &mut Scopes<A>,
+    word: &[u8],
+    elements: &[Value<A>],
+) -> Result<Value<A>, Raise<A>>
+    ensures { Settles (definition.appends word.now elements.now scopes.old) result scopes.new }
+{
+    let Name { name, index } = name_in(word)?;
+    Ok(extend(alloc, scopes, name, index, elements)?)
 }
 
 /// Puts elements behind those of the list of a variable or an element.
 fn extend<A: Allocator + Copy>(
     alloc: A,
-    state: &mut State<A>,
+    scopes: &mut Scopes<A>,
     name: &[u8],
     index: Option<&[u8]>,
     more: &[Value<A>],
-) -> Result<Leaf<A, NoWaits>, NoMemory>
-    ensures shows { (s : Status) → FitsState state.old s → IfOk result (λ leaf.
-        Shows next_of leaf state.new
-        (definition.extends name.now (option_copied index.entry) more.now s)) }
-    ensures left { state.new.left ≤ state.old.left }
+) -> Result<Value<A>, Raise<A>>
+    ensures { Settles
+        (definition.extends name.now (option_copied index.entry) more.now scopes.old)
+        result scopes.new }
 {
-    match list_in(alloc, state, name, index) {
-        Ok(list) => put(alloc, state, name, index, list, more),
-        Err(Raise::Fault(fault)) => raises(alloc, &fault),
-        Err(Raise::NoMemory(refusal)) => Err(refusal),
+    match list_in(alloc, scopes, name, index) {
+        Ok(list) => put(alloc, scopes, name, index, list, more),
+        Err(why) => Err(why),
     }
 }
 
-/// The canonical text of the list of a variable or an element, the empty list where it is missing,
-/// or the script's error where it can't be read or is no list.
+/// The canonical text of the list of a variable or an element, the empty list where it is missing.
 fn list_in<A: Allocator + Copy>(
     alloc: A,
-    state: &State<A>,
+    scopes: &Scopes<A>,
     name: &[u8],
     index: Option<&[u8]>,
 ) -> Result<Value<A>, Raise<A>>
-    ensures list { (s : Status) → FitsState state.now s →
-        HoldsList result name.now (option_copied index.entry) s }
+    ensures list { HoldsList result name.now (option_copied index.entry) scopes.now }
     ensures canonical { IfOk result IsCanonical }
 {
-    match held(alloc, state, name, index)? {
-        Ok(Some(text)) => list_of(alloc, &text),
+    match held(alloc, scopes, name, index) {
+        Ok(Some(text)) => list_of(alloc, text),
         Ok(None) => Ok(Value::empty()),
-        Err(fault) => Err(Raise::Fault(fault)),
+        Err(why) => Err(why),
     }
 }
 
@@ -83,19 +88,18 @@ fn list_in<A: Allocator + Copy>(
 /// variable holds is let go of first, so that the list grows in place where no one else shares it.
 fn put<A: Allocator + Copy>(
     alloc: A,
-    state: &mut State<A>,
+    scopes: &mut Scopes<A>,
     name: &[u8],
     index: Option<&[u8]>,
     list: Value<A>,
     more: &[Value<A>],
-) -> Result<Leaf<A, NoWaits>, NoMemory>
+) -> Result<Value<A>, Raise<A>>
     requires { IsCanonical list }
-    ensures shows { (v : List (List ℕ)) → list ≡ canonical v → (s : Status) →
-        FitsState state.old s → IfOk result (λ leaf. Shows next_of leaf state.new
-        (puts name.now (option_copied index.entry) (canonical (v ++ more.now)) s)) }
-    ensures left { state.new.left ≤ state.old.left }
+    ensures { (v : List (List ℕ)) → list ≡ canonical v →
+        Keeps (puts name.now (option_copied index.entry) (canonical (v ++ more.now)) scopes.old)
+        scopes.old result scopes.new }
 {
-    release(alloc, state, name, index)?;
+    release(alloc, scopes, name, index)?;
     let whole = list.push_elements(alloc, more)?;
-    held::put(alloc, state, name, index, &whole)
+    Ok(put_back(alloc, scopes, name, index, whole)?)
 }

@@ -4,11 +4,9 @@
 pub mod append;
 pub mod array;
 pub mod global;
-mod held;
 pub mod incr;
 pub mod info;
 pub mod lappend;
-pub mod laws;
 pub mod set;
 pub mod unset;
 mod values;

@@ -1,13 +1,13 @@
 //! What variables hold: it may be missing, and what is written is given.
 
-ghost use Rattle.std.specs.Prelude.{option_copied};
+ghost use Rattle.std.specs.Prelude.{OnOk, option_copied};
 ghost use Rattle.acts.specs.Raise.{Answers};
 ghost use Rattle.kinds.specs.Answers.{IsTroubled, Stores};
 ghost use Rattle.tclstate.specs.Scopes.{Scopes as Variables};
 ghost use Rattle.variables.specs.Keeps.{Keeps, Rewrites, Takes};
 ghost use Rattle.variables.specs.Values as definition;
 
-use acts::Raise;
+use acts::{NoMemory, Raise};
 use kinds::variables;
 use state::variables::trouble;
 use std::alloc::Allocator;
@@ -71,6 +71,27 @@ pub fn taken<A: Allocator + Copy>(
     }
 }
 
+/// Lets go of the text of a variable or an element, which is about to be written: the empty text
+/// stands there meanwhile. What is missing or can't be read stays as it is.
+///
+/// # Errors
+/// `NoMemory` where memory is refused.
+pub fn release<A: Allocator + Copy>(
+    alloc: A,
+    scopes: &mut Scopes<A>,
+    name: &[u8],
+    index: Option<&[u8]>,
+) -> Result<(), NoMemory>
+    ensures { OnOk result
+        (Rewrites name.now (option_copied index.entry) scopes.old scopes.new) }
+{
+    match scopes.take(alloc, name, index) {
+        Ok(_) => Ok(()),
+        Err(ScopeError::NoMemory(refusal)) => Err(refusal),
+        Err(_) => Ok(()),
+    }
+}
+
 /// Writes a variable or an element, and gives its value. On `Err` nothing changes.
 ///
 /// # Errors
@@ -101,8 +122,9 @@ pub fn put_back<A: Allocator + Copy>(
     index: Option<&[u8]>,
     value: Value<A>,
 ) -> Result<Value<A>, Raise<A>>
-    ensures { (before : Variables) → Rewrites name.now (option_copied index.entry)
-        before scopes.old → Keeps (definition.puts name.now (option_copied index.entry) value before)
+    ensures { (before : Variables) →
+        Rewrites name.now (option_copied index.entry) before scopes.old →
+        Keeps (definition.puts name.now (option_copied index.entry) value before)
         before result scopes.new }
 {
     put(alloc, scopes, name, index, value)

@@ -1,17 +1,16 @@
 -- What array exists does.
-use Rattle.std.specs.Prelude.{ℕ, List}
+use Rattle.std.specs.Prelude.{ℕ, List, Result, Ok}
+use Rattle.acts.specs.Flaw.{Flaw}
+use Rattle.acts.specs.Raise.{bind}
+use Rattle.kinds.specs.Variables.{name_in}
 use Rattle.meanings.specs.Meaning.{truth}
-use Rattle.state.specs.Dialogue.{Course, gives}
-use Rattle.state.specs.Status.{Status}
-use Rattle.state.specs.Variables.{with_name}
-use Rattle.tclstate.specs.Scopes.{read}
-use Rattle.variables.specs.Array.Words.{is_array, with_word}
+use Rattle.tclstate.specs.Scopes.{Scopes, read}
+use Rattle.variables.specs.Array.Words.{is_array, one_word}
 
 -- whether a word names an array (array(n), array exists)
-abbrev pub tells : List ℕ → Status → Course
-tells word s =
-    with_name word s (λ name index. gives (truth (is_array (read s.scopes name index))) s)
+abbrev pub tells : List ℕ → Scopes → Result (List ℕ) Flaw
+tells word v = bind (name_in word) (λ n. Ok (truth (is_array (read v n.0 n.1))))
 
 -- array exists a (array(n))
-abbrev pub exists : List (List ℕ) → Status → Course
-exists words s = with_word words s (λ word. tells word s)
+abbrev pub exists : List (List ℕ) → Scopes → Result (List ℕ) Flaw
+exists words v = bind (one_word words) (λ word. tells word v)

@@ -1,17 +1,21 @@
 -- What array names does.
-use Rattle.std.specs.Prelude.{ℕ, List, Option}
-use Rattle.state.specs.Dialogue.{Course, gives}
-use Rattle.state.specs.Status.{Status}
-use Rattle.state.specs.Variables.{with_name}
+use Rattle.std.specs.Prelude.{ℕ, List, Option, Ok}
+use Rattle.kinds.specs.Variables.{name_in}
+use Rattle.tclstate.specs.Scopes.{Scopes}
 use Rattle.tcltext.specs.Canonical.{canonical}
 use Rattle.variables.specs.Array.Indexes.{with_indexes}
 use Rattle.variables.specs.Array.Words.{with_pattern}
+use Rattle.variables.specs.Readings.{Reading, Found, after}
 
 -- the list of an array's indexes, or of those that a pattern takes (array(n), array names)
-abbrev pub lists : List ℕ → Option (List ℕ) → Status → Course
-lists word pattern s = with_name word s (λ name index.
-    with_indexes name index pattern s (λ indexes. gives (canonical indexes) s))
+abbrev pub lists : List ℕ → Option (List ℕ) → Option (List ℕ) → Scopes → Reading
+lists name index pattern v =
+    with_indexes name index pattern v (λ indexes. Found (v, Ok (canonical indexes)))
+
+-- the same of what a word names (array(n), array names)
+abbrev pub lists_named : List ℕ → Option (List ℕ) → Scopes → Reading
+lists_named word pattern v = after (name_in word) v (λ n. lists n.0 n.1 pattern v)
 
 -- array names a ?w? (array(n))
-abbrev pub names : List (List ℕ) → Status → Course
-names words s = with_pattern words s (λ word pattern. lists word pattern s)
+abbrev pub names : List (List ℕ) → Scopes → Reading
+names words v = with_pattern words v (λ word pattern. lists_named word pattern v)

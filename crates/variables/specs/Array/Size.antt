@@ -1,20 +1,20 @@
 -- What array size does.
-use Rattle.std.specs.Prelude.{ℕ, List, Option, Some, None, decimal}
-use Rattle.state.specs.Dialogue.{Course, gives}
-use Rattle.state.specs.Status.{Status}
-use Rattle.state.specs.Variables.{with_name}
+use Rattle.std.specs.Prelude.{ℕ, List, Option, Some, None, Result, Ok, decimal}
+use Rattle.acts.specs.Flaw.{Flaw}
+use Rattle.acts.specs.Raise.{bind}
+use Rattle.kinds.specs.Variables.{name_in}
 use Rattle.tclstate.specs.Scopes.{Scopes, size_of}
-use Rattle.variables.specs.Array.Words.{with_word}
+use Rattle.variables.specs.Array.Words.{one_word}
 
 -- the number of an array's elements, 0 for what is none, as an element (array(n), array size)
 abbrev pub count_of : Scopes → List ℕ → Option (List ℕ) → ℕ
-count_of scopes name None = size_of scopes name
-count_of scopes name (Some index) = 0
+count_of v name None = size_of v name
+count_of v name (Some index) = 0
 
 -- how many elements the array has that a word names (array(n), array size)
-abbrev pub counts : List ℕ → Status → Course
-counts word s = with_name word s (λ name index. gives (decimal (count_of s.scopes name index)) s)
+abbrev pub counts : List ℕ → Scopes → Result (List ℕ) Flaw
+counts word v = bind (name_in word) (λ n. Ok (decimal (count_of v n.0 n.1)))
 
 -- array size a (array(n))
-abbrev pub size : List (List ℕ) → Status → Course
-size words s = with_word words s (λ word. counts word s)
+abbrev pub size : List (List ℕ) → Scopes → Result (List ℕ) Flaw
+size words v = bind (one_word words) (λ word. counts word v)

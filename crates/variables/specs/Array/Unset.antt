@@ -1,47 +1,40 @@
 -- What array unset does.
-use Rattle.std.specs.Prelude.{ℕ, List, [], ◌∷◌, Option, Some, None, Result, Ok, Err, if◌then◌else◌}
-use Rattle.state.specs.Dialogue.{Course, gives, raises}
-use Rattle.state.specs.Status.{Status}
-use Rattle.state.specs.Variables.{flaw_of_trouble, spelled, with_name}
-use Rattle.tclstate.specs.Scopes.{Scopes, Trouble, read, removed}
+use Rattle.std.specs.Prelude.{ℕ, List, [], ◌∷◌, false, reverse, Option, Some, None, Result, Ok, if◌then◌else◌}
+use Rattle.acts.specs.Flaw.{Flaw}
+use Rattle.kinds.specs.Variables.{name_in}
+use Rattle.tclstate.specs.Scopes.{Scopes, read}
 use Rattle.variables.specs.Array.Indexes.{with_indexes}
 use Rattle.variables.specs.Array.Words.{is_array, with_pattern}
+use Rattle.variables.specs.Readings.{Reading, Found, after}
+use Rattle.variables.specs.Unset.{clears, onward}
 
--- on with what is left where a name is removed; a trouble is the script's error (unset(n))
-abbrev pub cleared : Result Scopes Trouble → List ℕ → Status → (Status → Course) → Course
-cleared (Ok scopes) name s next = next (record s { scopes = scopes })
-cleared (Err trouble) name s next = raises (flaw_of_trouble trouble name) s
-
--- a name or an element is removed, as unset does it, and on (unset(n))
-abbrev pub clears : List ℕ → Option (List ℕ) → Status → (Status → Course) → Course
-clears name index s next = cleared (removed s.scopes name index) (spelled name index) s next
-
--- the elements at these indexes are removed, the last one first, and on (array(n), array unset;
--- the order is this project's own rule)
-abbrev pub removes : List ℕ → List (List ℕ) → Status → (Status → Course) → Course
-removes name [] s next = next s
-removes name (i ∷ is) s next = removes name is s (λ u. clears name (Some i) u next)
+-- the elements at these indexes are removed in turn, as unset does it (unset(n))
+abbrev pub removes : List ℕ → List (List ℕ) → Scopes → Scopes × Result (List ℕ) Flaw
+removes name [] v = (v, Ok [])
+removes name (i ∷ is) v = onward (clears false name (Some i) v) v (removes name is)
 
 -- an array is removed, and what is none stays (array(n), array unset)
-abbrev pub drops : List ℕ → Option (List ℕ) → Status → Course
-drops name index s =
-    if is_array (read s.scopes name index) then clears name None s (gives []) else gives [] s
+abbrev pub drops : List ℕ → Option (List ℕ) → Scopes → Scopes × Result (List ℕ) Flaw
+drops name index v =
+    if is_array (read v name index) then onward (clears false name None v) v (removes name [])
+    else (v, Ok [])
 
--- the elements of an array whose indexes a pattern takes are removed (array(n), array unset)
-abbrev pub removes_matched : List ℕ → Option (List ℕ) → List ℕ → Status → Course
-removes_matched name index word s =
-    with_indexes name index (Some word) s (λ indexes. removes name indexes s (gives []))
+-- the elements of an array whose indexes a pattern takes are removed, the last one first (array(n),
+-- array unset; the order is this project's own rule)
+abbrev pub removes_matched : List ℕ → Option (List ℕ) → List ℕ → Scopes → Reading
+removes_matched name index word v =
+    with_indexes name index (Some word) v (λ indexes. Found (removes name (reverse indexes) v))
 
 -- an array is removed, or those of its elements whose indexes a pattern takes (array(n), array
 -- unset)
-abbrev pub unsets : List ℕ → Option (List ℕ) → Option (List ℕ) → Status → Course
-unsets name index None s = drops name index s
-unsets name index (Some word) s = removes_matched name index word s
+abbrev pub unsets : List ℕ → Option (List ℕ) → Option (List ℕ) → Scopes → Reading
+unsets name index None v = Found (drops name index v)
+unsets name index (Some word) v = removes_matched name index word v
 
 -- the same of what a word names (array(n), array unset)
-abbrev pub unsets_named : List ℕ → Option (List ℕ) → Status → Course
-unsets_named word pattern s = with_name word s (λ name index. unsets name index pattern s)
+abbrev pub unsets_named : List ℕ → Option (List ℕ) → Scopes → Reading
+unsets_named word pattern v = after (name_in word) v (λ n. unsets n.0 n.1 pattern v)
 
 -- array unset a ?w? (array(n))
-abbrev pub unset : List (List ℕ) → Status → Course
-unset words s = with_pattern words s (λ word pattern. unsets_named word pattern s)
+abbrev pub unset : List (List ℕ) → Scopes → Reading
+unset words v = with_pattern words v (λ word pattern. unsets_named word pattern v)

@@ -1,112 +1,95 @@
 //! `array get a ?w?` (array(n)).
-#![tactic(auto, using(state::proofs::Reaches::same_reaches))]
 
-ghost use Rattle.std.specs.Prelude.{◌≡◌, ◌∷◌, ◌++◌, [], IfOk, OnOk, option_copied};
-ghost use Rattle.state.specs.Leaf.{Shows};
-ghost use Rattle.state.specs.NoWaits.{next_of};
-ghost use Rattle.state.specs.Status.{Status};
-ghost use Rattle.state.specs.View.{FitsState};
+ghost use Rattle.std.specs.Prelude.{◌≡◌, ◌∷◌, ◌++◌, [], OnOk, option_copied};
+ghost use Rattle.acts.specs.Raise.{Answers};
 ghost use Rattle.variables.specs.Array.Get as definition;
-ghost use Rattle.variables.specs.Finds.{Finds};
+ghost use Rattle.variables.specs.Readings.{Settles};
 
 use super::indexes::indexes;
-use acts::{Fault, NoMemory, Raise};
-use state::arguments::wrong_args;
-use state::leaf::{gives, raises};
-use state::variables::trouble;
-use state::{Leaf, NoWaits, State};
+use acts::raise::wrong_args;
+use acts::{NoMemory, Raise};
+use kinds::variables::{name_in, value_of};
 use std::alloc::Allocator;
-use tclparse::{Name, variable_name};
+use tclparse::Name;
+use tclstate::Scopes;
 use tcltext::Value;
 
 /// Gives the list of an array's indexes with their values, or of those that a pattern takes.
 pub fn get<A: Allocator + Copy>(
     alloc: A,
-    state: &State<A>,
+    scopes: &Scopes<A>,
     words: &[Value<A>],
-) -> Result<Leaf<A, NoWaits>, NoMemory>
-    ensures { (s : Status) → FitsState state.now s → IfOk result (λ leaf.
-        Shows next_of leaf state.now (definition.get words.now s)) }
+) -> Result<Value<A>, Raise<A>>
+    ensures { Settles (definition.get words.now scopes.now) result scopes.now }
 {
     match words {
-        [word] => list_named(alloc, state, word.as_slice(), None),
-        [word, pattern] => list_named(alloc, state, word.as_slice(), Some(pattern.as_slice())),
-        _ => wrong_args(alloc, b"array"),
+        [word] => list_named(alloc, scopes, word.as_slice(), None),
+        [word, pattern] => list_named(alloc, scopes, word.as_slice(), Some(pattern.as_slice())),
+        _ => Err(wrong_args(alloc, b"array")),
     }
 }
 
 /// Gives the list of the indexes, with their values, of the array that a word names.
 fn list_named<A: Allocator + Copy>(
     alloc: A,
-    state: &State<A>,
+    scopes: &Scopes<A>,
     word: &[u8],
     pattern: Option<&[u8]>,
-) -> Result<Leaf<A, NoWaits>, NoMemory>
-    ensures { (s : Status) → FitsState state.now s → IfOk result (λ leaf.
-        Shows next_of leaf state.now
-        (definition.lists_named word.now (option_copied pattern.entry) s)) }
+) -> Result<Value<A>, Raise<A>>
+    ensures { Settles
+        (definition.lists_named word.now (option_copied pattern.entry) scopes.now)
+        result scopes.now }
 {
-    match variable_name(word) {
-        Ok(Name { name, index }) => list(alloc, state, name, index, pattern),
-        Err(_) => raises(alloc, &Fault::BadVariable),
-    }
+    let Name { name, index } = name_in(word)?;
+    Ok(list(alloc, scopes, name, index, pattern)?)
 }
 
 /// Gives the list of the indexes of an array with their values.
 fn list<A: Allocator + Copy>(
     alloc: A,
-    state: &State<A>,
+    scopes: &Scopes<A>,
     name: &[u8],
     index: Option<&[u8]>,
     pattern: Option<&[u8]>,
-) -> Result<Leaf<A, NoWaits>, NoMemory>
-    ensures { (s : Status) → FitsState state.now s → IfOk result (λ leaf.
-        Shows next_of leaf state.now (definition.lists
-        name.now (option_copied index.entry) (option_copied pattern.entry) s)) }
+) -> Result<Value<A>, Raise<A>>
+    ensures { Settles (definition.lists
+        name.now (option_copied index.entry) (option_copied pattern.entry) scopes.now)
+        result scopes.now }
 {
-    match indexes(alloc, state, name, index, pattern) {
-        Ok(indexes) => list_values(alloc, state, name, &indexes),
-        Err(Raise::Fault(fault)) => raises(alloc, &fault),
-        Err(Raise::NoMemory(refusal)) => Err(refusal),
+    match indexes(alloc, scopes, name, index, pattern) {
+        Ok(indexes) => list_values(alloc, scopes, name, &indexes),
+        Err(why) => Err(why),
     }
 }
 
 /// Gives the list of these indexes with their values.
 fn list_values<A: Allocator + Copy>(
     alloc: A,
-    state: &State<A>,
+    scopes: &Scopes<A>,
     name: &[u8],
     indexes: &[Value<A>],
-) -> Result<Leaf<A, NoWaits>, NoMemory>
-    ensures { (s : Status) → FitsState state.now s → IfOk result (λ leaf.
-        Shows next_of leaf state.now (definition.lists_values name.now indexes.now s)) }
+) -> Result<Value<A>, Raise<A>>
+    ensures { Answers (λ value. value)
+        (definition.list_values name.now indexes.now scopes.now) result }
 {
-    match values(alloc, state, name, indexes) {
-        Ok(elements) => Ok(gives(Value::list(alloc, &elements)?)),
-        Err(Raise::Fault(fault)) => raises(alloc, &fault),
-        Err(Raise::NoMemory(refusal)) => Err(refusal),
-    }
+    let elements = values(alloc, scopes, name, indexes)?;
+    Ok(Value::list(alloc, &elements)?)
 }
 
 /// These indexes, each with the value of its element behind it.
 fn values<A: Allocator + Copy>(
     alloc: A,
-    state: &State<A>,
+    scopes: &Scopes<A>,
     name: &[u8],
     indexes: &[Value<A>],
 ) -> Result<Vec<Value<A>, A>, Raise<A>>
-    ensures { (s : Status) → FitsState state.now s →
-        Finds result (definition.with_values name.now indexes.now s) s }
+    ensures { Answers (λ elements. elements.items)
+        (definition.values name.now indexes.now scopes.now) result }
 {
     let mut elements = Vec::new(alloc);
     for index in indexes {
-        match state.scopes.get(name, Some(index.as_slice())) {
-            Ok(value) => push_element(&mut elements, index, value)?,
-            Err(error) => {
-                let fault = trouble(alloc, error, name, Some(index.as_slice()))?;
-                return Err(Raise::Fault(fault));
-            }
-        }
+        let value = value_of(alloc, scopes, name, Some(index.as_slice()))?;
+        push_element(&mut elements, index, value)?;
     }
     Ok(elements)
 }

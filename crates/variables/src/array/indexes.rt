@@ -1,17 +1,14 @@
 //! The indexes of an array, and those of them that a pattern takes (array(n), array names).
-#![tactic(auto, using(state::proofs::Reaches::same_reaches))]
 
 ghost use Rattle.std.specs.Prelude.{◌≡◌, ℕ, List, IfOk, option_copied};
-ghost use Rattle.state.specs.Dialogue.{Course};
-ghost use Rattle.state.specs.Reaches.{Reaches};
-ghost use Rattle.state.specs.Status.{Status};
-ghost use Rattle.state.specs.View.{FitsState};
+ghost use Rattle.tclstate.specs.Scopes.{Scopes as Variables};
 ghost use Rattle.variables.specs.Array.Indexes as definition;
 ghost use Rattle.variables.specs.Finds.{Finds};
+ghost use Rattle.variables.specs.Readings.{Leads, Reading};
 
 use acts::{Fault, NoMemory, Raise};
-use state::State;
 use std::alloc::Allocator;
+use tclstate::Scopes;
 use tcltext::{Pattern, PatternError, Value};
 
 /// The indexes of the array that a name means, in order, all of them or those that a pattern takes;
@@ -21,15 +18,16 @@ use tcltext::{Pattern, PatternError, Value};
 /// The script's error where the pattern is too long. `NoMemory` where memory is refused.
 pub fn indexes<A: Allocator + Copy>(
     alloc: A,
-    state: &State<A>,
+    scopes: &Scopes<A>,
     name: &[u8],
     index: Option<&[u8]>,
     pattern: Option<&[u8]>,
 ) -> Result<Vec<Value<A>, A>, Raise<A>>
-    ensures { (s : Status) → FitsState state.now s → Finds result (definition.with_indexes
-        name.now (option_copied index.entry) (option_copied pattern.entry) s) s }
+    ensures { Finds result (definition.with_indexes
+        name.now (option_copied index.entry) (option_copied pattern.entry) scopes.now)
+        scopes.now }
 {
-    let all = all(alloc, state, name, index)?;
+    let all = all(alloc, scopes, name, index)?;
     match pattern {
         None => Ok(all),
         Some(pattern) => matched(alloc, pattern, &all),
@@ -40,15 +38,15 @@ pub fn indexes<A: Allocator + Copy>(
 /// of an element.
 fn all<A: Allocator + Copy>(
     alloc: A,
-    state: &State<A>,
+    scopes: &Scopes<A>,
     name: &[u8],
     index: Option<&[u8]>,
 ) -> Result<Vec<Value<A>, A>, NoMemory>
-    ensures { IfOk result (λ all. all.items ≡ definition.indexes_of state.now.scopes
+    ensures { IfOk result (λ all. all.items ≡ definition.indexes_of scopes.now
         name.now (option_copied index.entry)) }
 {
     match index {
-        None => state.scopes.names(alloc, name),
+        None => scopes.names(alloc, name),
         Some(_) => Ok(Vec::new(alloc)),
     }
 }
@@ -59,7 +57,7 @@ fn matched<A: Allocator + Copy>(
     word: &[u8],
     texts: &[Value<A>],
 ) -> Result<Vec<Value<A>, A>, Raise<A>>
-    ensures { (s : Status) → Finds result (definition.matched word.now texts.now s) s }
+    ensures { (v : Variables) → Finds result (definition.matched word.now texts.now v) v }
 {
     match Pattern::plain(alloc, word) {
         Ok(pattern) => Ok(taken(alloc, &pattern, texts)?),
@@ -74,8 +72,8 @@ fn taken<A: Allocator + Copy>(
     pattern: &Pattern<A>,
     texts: &[Value<A>],
 ) -> Result<Vec<Value<A>, A>, NoMemory>
-    ensures { IfOk result (λ found. (next : List (List ℕ) → Course) →
-        Reaches (definition.taken pattern.now.items texts.now next) (next found.items)) }
+    ensures { IfOk result (λ found. (next : List (List ℕ) → Reading) →
+        Leads (definition.taken pattern.now.items texts.now next) (next found.items)) }
 {
     let mut found = Vec::new(alloc);
     for text in texts {

@@ -1,55 +1,62 @@
 //! `array names a ?w?` (array(n)).
-#![tactic(auto, using(state::proofs::Reaches::same_reaches))]
 
-ghost use Rattle.std.specs.Prelude.{IfOk, option_copied};
-ghost use Rattle.state.specs.Leaf.{Shows};
-ghost use Rattle.state.specs.NoWaits.{next_of};
-ghost use Rattle.state.specs.Status.{Status};
-ghost use Rattle.state.specs.View.{FitsState};
+ghost use Rattle.std.specs.Prelude.{option_copied};
 ghost use Rattle.variables.specs.Array.Names as definition;
+ghost use Rattle.variables.specs.Readings.{Settles};
 
 use super::indexes::indexes;
-use acts::{Fault, NoMemory, Raise};
-use state::arguments::wrong_args;
-use state::leaf::{gives, raises};
-use state::{Leaf, NoWaits, State};
+use acts::Raise;
+use acts::raise::wrong_args;
+use kinds::variables::name_in;
 use std::alloc::Allocator;
-use tclparse::{Name, variable_name};
+use tclparse::Name;
+use tclstate::Scopes;
 use tcltext::Value;
 
 /// Gives the list of an array's indexes, or of those that a pattern takes.
 pub fn names<A: Allocator + Copy>(
     alloc: A,
-    state: &State<A>,
+    scopes: &Scopes<A>,
     words: &[Value<A>],
-) -> Result<Leaf<A, NoWaits>, NoMemory>
-    ensures { (s : Status) → FitsState state.now s → IfOk result (λ leaf.
-        Shows next_of leaf state.now (definition.names words.now s)) }
+) -> Result<Value<A>, Raise<A>>
+    ensures { Settles (definition.names words.now scopes.now) result scopes.now }
 {
     match words {
-        [word] => list(alloc, state, word.as_slice(), None),
-        [word, pattern] => list(alloc, state, word.as_slice(), Some(pattern.as_slice())),
-        _ => wrong_args(alloc, b"array"),
+        [word] => list_named(alloc, scopes, word.as_slice(), None),
+        [word, pattern] => list_named(alloc, scopes, word.as_slice(), Some(pattern.as_slice())),
+        _ => Err(wrong_args(alloc, b"array")),
     }
 }
 
 /// Gives the list of the indexes of the array that a word names.
-fn list<A: Allocator + Copy>(
+fn list_named<A: Allocator + Copy>(
     alloc: A,
-    state: &State<A>,
+    scopes: &Scopes<A>,
     word: &[u8],
     pattern: Option<&[u8]>,
-) -> Result<Leaf<A, NoWaits>, NoMemory>
-    ensures { (s : Status) → FitsState state.now s → IfOk result (λ leaf.
-        Shows next_of leaf state.now
-        (definition.lists word.now (option_copied pattern.entry) s)) }
+) -> Result<Value<A>, Raise<A>>
+    ensures { Settles
+        (definition.lists_named word.now (option_copied pattern.entry) scopes.now)
+        result scopes.now }
 {
-    let Ok(Name { name, index }) = variable_name(word) else {
-        return raises(alloc, &Fault::BadVariable);
-    };
-    match indexes(alloc, state, name, index, pattern) {
-        Ok(indexes) => Ok(gives(Value::list(alloc, &indexes)?)),
-        Err(Raise::Fault(fault)) => raises(alloc, &fault),
-        Err(Raise::NoMemory(refusal)) => Err(refusal),
+    let Name { name, index } = name_in(word)?;
+    Ok(list(alloc, scopes, name, index, pattern)?)
+}
+
+/// Gives the list of the indexes of an array.
+fn list<A: Allocator + Copy>(
+    alloc: A,
+    scopes: &Scopes<A>,
+    name: &[u8],
+    index: Option<&[u8]>,
+    pattern: Option<&[u8]>,
+) -> Result<Value<A>, Raise<A>>
+    ensures { Settles (definition.lists
+        name.now (option_copied index.entry) (option_copied pattern.entry) scopes.now)
+        result scopes.now }
+{
+    match indexes(alloc, scopes, name, index, pattern) {
+        Ok(indexes) => Ok(Value::list(alloc, &indexes)?),
+        Err(why) => Err(why),
     }
 }

@@ -1,137 +1,131 @@
 //! `array set a l` (array(n)).
-#![tactic(auto, using(state::proofs::Reaches::same_reaches))]
 
-ghost use Rattle.std.specs.Prelude.{◌≡◌, ◌≤◌, IfOk};
-ghost use Rattle.state.specs.Leaf.{Shows};
-ghost use Rattle.state.specs.Listed.{with_list};
-ghost use Rattle.state.specs.NoWaits.{next_of};
-ghost use Rattle.state.specs.Status.{Status};
-ghost use Rattle.state.specs.View.{FitsState};
+ghost use Rattle.acts.specs.Raise.{Answers};
+ghost use Rattle.kinds.specs.Answers.{Puts};
 ghost use Rattle.variables.specs.Array.Set as definition;
+ghost use Rattle.variables.specs.Keeps.{Leaves};
+ghost use Rattle.variables.specs.Readings.{Settles};
 
-use acts::{Fault, NoMemory, Raise};
+use crate::values::troubled;
+use acts::raise::{bad_argument, wrong_args};
+use acts::{Fault, Raise};
+use kinds::variables::{name_in, put};
 use meanings::elements;
-use state::arguments::{bad_argument, wrong_args};
-use state::leaf::{empty, raises};
-use state::variables::{store, trouble};
-use state::{Leaf, NoWaits, State};
 use std::alloc::Allocator;
-use tclparse::{Name, variable_name};
+use tclparse::Name;
+use tclstate::Scopes;
 use tcltext::Value;
 
 /// Sets elements of an array by a list, which pairs each index with its value.
 pub fn set<A: Allocator + Copy>(
     alloc: A,
-    state: &mut State<A>,
+    scopes: &mut Scopes<A>,
     words: &[Value<A>],
-) -> Result<Leaf<A, NoWaits>, NoMemory>
-    ensures shows { (s : Status) → FitsState state.old s → IfOk result (λ leaf.
-        Shows next_of leaf state.new (definition.set words.now s)) }
-    ensures left { state.new.left ≤ state.old.left }
+) -> Result<Value<A>, Raise<A>>
+    ensures { Settles (definition.set words.now scopes.old) result scopes.new }
 {
     match words {
-        [word, list] => set_named(alloc, state, word.as_slice(), list.as_slice()),
-        _ => wrong_args(alloc, b"array"),
+        [word, list] => set_named(alloc, scopes, word.as_slice(), list.as_slice()),
+        _ => Err(wrong_args(alloc, b"array")),
     }
 }
 
 /// Sets the elements of a list in the array that a word names.
 fn set_named<A: Allocator + Copy>(
     alloc: A,
-    state: &mut State<A>,
+    scopes: &mut Scopes<A>,
     word: &[u8],
     list: &[u8],
-) -> Result<Leaf<A, NoWaits>, NoMemory>
-    ensures shows { (s : Status) → FitsState state.old s → IfOk result (λ leaf.
-        Shows next_of leaf state.new (definition.sets word.now list.now s)) }
-    ensures left { state.new.left ≤ state.old.left }
+) -> Result<Value<A>, Raise<A>>
+    ensures { Settles (definition.sets word.now list.now scopes.old) result scopes.new }
 {
-    match variable_name(word) {
-        Err(_) => raises(alloc, &Fault::BadVariable),
-        Ok(Name { name: [], .. }) => raises(alloc, &Fault::BadVariable),
-        Ok(Name { index: Some(_), .. }) => {
-            raises(alloc, &Fault::NotArray(Vec::from_slice(alloc, word)?))
+    let name = array_in(alloc, word)?;
+    Ok(set_list(alloc, scopes, name, list)?)
+}
+
+/// The name of the array that a word names.
+fn array_in<A: Allocator + Copy>(alloc: A, word: &[u8]) -> Result<&[u8], Raise<A>>
+    ensures { Answers (λ name. name.now) (definition.array_in word.now) result }
+{
+    match name_in(word)? {
+        Name { name: [], .. } => Err(Raise::Fault(Fault::BadVariable)),
+        Name { index: Some(_), .. } => {
+            Err(Raise::Fault(Fault::NotArray(Vec::from_slice(alloc, word)?)))
         }
-        Ok(Name { name, index: None }) => set_list(alloc, state, name, list),
+        Name { name, index: None } => Ok(name),
     }
 }
 
 /// Sets the elements of a list in an array, where it is a list.
 fn set_list<A: Allocator + Copy>(
     alloc: A,
-    state: &mut State<A>,
+    scopes: &mut Scopes<A>,
     name: &[u8],
     list: &[u8],
-) -> Result<Leaf<A, NoWaits>, NoMemory>
-    ensures shows { (s : Status) → FitsState state.old s → IfOk result (λ leaf.
-        Shows next_of leaf state.new
-        (with_list list.now s (definition.fills_evenly name.now list.now s))) }
-    ensures left { state.new.left ≤ state.old.left }
+) -> Result<Value<A>, Raise<A>>
+    ensures { Settles (definition.sets_list name.now list.now scopes.old) result scopes.new }
 {
     match elements(alloc, list) {
-        Ok(elements) => fill_evenly(alloc, state, name, list, &elements),
-        Err(Raise::Fault(fault)) => raises(alloc, &fault),
-        Err(Raise::NoMemory(refusal)) => Err(refusal),
+        Ok(elements) => fill_evenly(alloc, scopes, name, list, &elements),
+        Err(why) => Err(why),
     }
 }
 
 /// Sets elements in an array, where each index has its value.
 fn fill_evenly<A: Allocator + Copy>(
     alloc: A,
-    state: &mut State<A>,
+    scopes: &mut Scopes<A>,
     name: &[u8],
     list: &[u8],
     elements: &[Value<A>],
-) -> Result<Leaf<A, NoWaits>, NoMemory>
-    ensures shows { (s : Status) → FitsState state.old s → IfOk result (λ leaf.
-        Shows next_of leaf state.new
-        (definition.fills_evenly name.now list.now s elements.now)) }
-    ensures left { state.new.left ≤ state.old.left }
+) -> Result<Value<A>, Raise<A>>
+    ensures { Leaves (definition.fills_evenly name.now list.now elements.now scopes.old)
+        result scopes.new }
 {
     if elements.len() % 2 == 0 {
-        fill(alloc, state, name, elements)
+        fill(alloc, scopes, name, elements)
     } else {
-        bad_argument(alloc, list, b"array")
+        Err(bad_argument(alloc, list, b"array"))
     }
 }
 
 /// Makes a name an array, and sets elements in it.
 fn fill<A: Allocator + Copy>(
     alloc: A,
-    state: &mut State<A>,
+    scopes: &mut Scopes<A>,
     name: &[u8],
     elements: &[Value<A>],
-) -> Result<Leaf<A, NoWaits>, NoMemory>
-    ensures shows { (s : Status) → FitsState state.old s → IfOk result (λ leaf.
-        Shows next_of leaf state.new (definition.fills name.now elements.now s)) }
-    ensures left { state.new.left ≤ state.old.left }
+) -> Result<Value<A>, Raise<A>>
+    ensures { Leaves (definition.fills name.now elements.now scopes.old) result scopes.new }
 {
-    match state.scopes.make_array(alloc, name) {
-        Ok(()) => write_all(alloc, state, name, elements),
-        Err(error) => {
-            let fault = trouble(alloc, error, name, None)?;
-            raises(alloc, &fault)
-        }
+    make(alloc, scopes, name)?;
+    Ok(write_all(alloc, scopes, name, elements)?)
+}
+
+/// Makes a name an array. On `Err` nothing changes.
+fn make<A: Allocator + Copy>(alloc: A, scopes: &mut Scopes<A>, name: &[u8]) -> Result<(), Raise<A>>
+    ensures { Puts (definition.made name.now scopes.old) scopes.old result scopes.new }
+{
+    match scopes.make_array(alloc, name) {
+        Ok(()) => Ok(()),
+        Err(error) => Err(troubled(alloc, error, name, None)),
     }
 }
 
 /// Writes elements in turn, each by its index and its value.
 fn write_all<A: Allocator + Copy>(
     alloc: A,
-    state: &mut State<A>,
+    scopes: &mut Scopes<A>,
     name: &[u8],
     elements: &[Value<A>],
-) -> Result<Leaf<A, NoWaits>, NoMemory>
-    ensures shows { (s : Status) → FitsState state.old s → IfOk result (λ leaf.
-        Shows next_of leaf state.new (definition.writes_all name.now elements.now s)) }
-    ensures left { state.new.left ≤ state.old.left }
+) -> Result<Value<A>, Raise<A>>
+    ensures { Leaves (definition.writes_all name.now elements.now scopes.old)
+        result scopes.new }
 {
     let mut rest = elements;
     'elements: while let [index, value, more @ ..] = rest {
-        if let Err(fault) = store(alloc, state, name, Some(index.as_slice()), value.share()?)? {
-            return raises(alloc, &fault);
-        }
+        put(alloc, scopes, name, Some(index.as_slice()), value.share()?)?;
         rest = more;
     }
-    Ok(empty())
+    Ok(Value::empty())
 }

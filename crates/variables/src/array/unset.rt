@@ -1,102 +1,84 @@
 //! `array unset a ?w?` (array(n)).
-#![tactic(auto, using(state::proofs::Reaches::same_reaches))]
 
-ghost use Rattle.std.specs.Prelude.{◌≡◌, ◌≤◌, [], IfOk, option_copied};
-ghost use Rattle.state.specs.Dialogue.{gives};
-ghost use Rattle.state.specs.Leaf.{Shows};
-ghost use Rattle.state.specs.NoWaits.{next_of};
-ghost use Rattle.state.specs.Status.{Status};
-ghost use Rattle.state.specs.View.{FitsState};
+ghost use Rattle.std.specs.Prelude.{reverse, option_copied};
 ghost use Rattle.variables.specs.Array.Unset as definition;
-ghost use Rattle.variables.specs.Array.Clears.{Clears};
+ghost use Rattle.variables.specs.Keeps.{Leaves};
+ghost use Rattle.variables.specs.Readings.{Settles};
 
 use super::exists::is_array;
 use super::indexes::indexes;
-use acts::{Fault, NoMemory, Raise};
-use state::arguments::wrong_args;
-use state::leaf::{empty, raises};
-use state::variables::trouble;
-use state::{Leaf, NoWaits, State};
+use crate::unset::remove;
+use acts::Raise;
+use acts::raise::wrong_args;
+use kinds::variables::name_in;
 use std::alloc::Allocator;
-use tclparse::{Name, variable_name};
+use tclparse::Name;
+use tclstate::Scopes;
 use tcltext::Value;
 
 /// Removes an array, or those of its elements whose indexes a pattern takes.
 pub fn unset<A: Allocator + Copy>(
     alloc: A,
-    state: &mut State<A>,
+    scopes: &mut Scopes<A>,
     words: &[Value<A>],
-) -> Result<Leaf<A, NoWaits>, NoMemory>
-    ensures shows { (s : Status) → FitsState state.old s → IfOk result (λ leaf.
-        Shows next_of leaf state.new (definition.unset words.now s)) }
-    ensures left { state.new.left ≤ state.old.left }
+) -> Result<Value<A>, Raise<A>>
+    ensures { Settles (definition.unset words.now scopes.old) result scopes.new }
 {
     match words {
-        [word] => unset_named(alloc, state, word.as_slice(), None),
-        [word, pattern] => unset_named(alloc, state, word.as_slice(), Some(pattern.as_slice())),
-        _ => wrong_args(alloc, b"array"),
+        [word] => unset_named(alloc, scopes, word.as_slice(), None),
+        [word, pattern] => unset_named(alloc, scopes, word.as_slice(), Some(pattern.as_slice())),
+        _ => Err(wrong_args(alloc, b"array")),
     }
 }
 
 /// Removes what a word names, where it names an array.
 fn unset_named<A: Allocator + Copy>(
     alloc: A,
-    state: &mut State<A>,
+    scopes: &mut Scopes<A>,
     word: &[u8],
     pattern: Option<&[u8]>,
-) -> Result<Leaf<A, NoWaits>, NoMemory>
-    ensures shows { (s : Status) → FitsState state.old s → IfOk result (λ leaf.
-        Shows next_of leaf state.new
-        (definition.unsets_named word.now (option_copied pattern.entry) s)) }
-    ensures left { state.new.left ≤ state.old.left }
+) -> Result<Value<A>, Raise<A>>
+    ensures { Settles
+        (definition.unsets_named word.now (option_copied pattern.entry) scopes.old)
+        result scopes.new }
 {
-    let Ok(Name { name, index }) = variable_name(word) else {
-        return raises(alloc, &Fault::BadVariable);
-    };
+    let Name { name, index } = name_in(word)?;
     match pattern {
-        None => drop_array(alloc, state, name, index),
-        Some(pattern) => remove_matched(alloc, state, name, index, pattern),
+        None => drop_array(alloc, scopes, name, index),
+        Some(pattern) => remove_matched(alloc, scopes, name, index, pattern),
     }
 }
 
 /// Removes what a name means, where it is an array.
 fn drop_array<A: Allocator + Copy>(
     alloc: A,
-    state: &mut State<A>,
+    scopes: &mut Scopes<A>,
     name: &[u8],
     index: Option<&[u8]>,
-) -> Result<Leaf<A, NoWaits>, NoMemory>
-    ensures shows { (s : Status) → FitsState state.old s → IfOk result (λ leaf.
-        Shows next_of leaf state.new
-        (definition.drops name.now (option_copied index.entry) s)) }
-    ensures left { state.new.left ≤ state.old.left }
+) -> Result<Value<A>, Raise<A>>
+    ensures { Leaves (definition.drops name.now (option_copied index.entry) scopes.old)
+        result scopes.new }
 {
-    if !is_array(state, name, index) {
-        return Ok(empty());
+    if is_array(scopes, name, index) {
+        remove(alloc, scopes, false, name, None)?;
     }
-    match remove(alloc, state, name, None)? {
-        None => Ok(empty()),
-        Some(fault) => raises(alloc, &fault),
-    }
+    Ok(Value::empty())
 }
 
 /// Removes the elements of an array whose indexes a pattern takes.
 fn remove_matched<A: Allocator + Copy>(
     alloc: A,
-    state: &mut State<A>,
+    scopes: &mut Scopes<A>,
     name: &[u8],
     index: Option<&[u8]>,
     pattern: &[u8],
-) -> Result<Leaf<A, NoWaits>, NoMemory>
-    ensures shows { (s : Status) → FitsState state.old s → IfOk result (λ leaf.
-        Shows next_of leaf state.new (definition.removes_matched
-        name.now (option_copied index.entry) pattern.now s)) }
-    ensures left { state.new.left ≤ state.old.left }
+) -> Result<Value<A>, Raise<A>>
+    ensures { Settles (definition.removes_matched
+        name.now (option_copied index.entry) pattern.now scopes.old) result scopes.new }
 {
-    match indexes(alloc, state, name, index, Some(pattern)) {
-        Ok(indexes) => remove_all(alloc, state, name, indexes),
-        Err(Raise::Fault(fault)) => raises(alloc, &fault),
-        Err(Raise::NoMemory(refusal)) => Err(refusal),
+    match indexes(alloc, scopes, name, index, Some(pattern)) {
+        Ok(indexes) => remove_all(alloc, scopes, name, indexes),
+        Err(why) => Err(why),
     }
 }
 
@@ -104,35 +86,15 @@ fn remove_matched<A: Allocator + Copy>(
 /// that stay.
 fn remove_all<A: Allocator + Copy>(
     alloc: A,
-    state: &mut State<A>,
+    scopes: &mut Scopes<A>,
     name: &[u8],
     mut indexes: Vec<Value<A>, A>,
-) -> Result<Leaf<A, NoWaits>, NoMemory>
-    ensures shows { (s : Status) → FitsState state.old s → IfOk result (λ leaf.
-        Shows next_of leaf state.new (definition.removes name.now indexes.items s (gives []))) }
-    ensures left { state.new.left ≤ state.old.left }
+) -> Result<Value<A>, Raise<A>>
+    ensures { Leaves (definition.removes name.now (reverse indexes.items) scopes.old)
+        result scopes.new }
 {
     while let Some(index) = indexes.pop() {
-        if let Some(fault) = remove(alloc, state, name, Some(index.as_slice()))? {
-            return raises(alloc, &fault);
-        }
+        remove(alloc, scopes, false, name, Some(index.as_slice()))?;
     }
-    Ok(empty())
-}
-
-/// Removes a variable or an element, or answers the script's error where that can't be.
-fn remove<A: Allocator + Copy>(
-    alloc: A,
-    state: &mut State<A>,
-    name: &[u8],
-    index: Option<&[u8]>,
-) -> Result<Option<Fault<A>>, NoMemory>
-    ensures clears { (s : Status) → FitsState state.old s → IfOk result (λ fault.
-        Clears fault state.new s name.now (option_copied index.entry)) }
-    ensures left { state.new.left ≡ state.old.left }
-{
-    match state.scopes.unset(name, index) {
-        Ok(()) => Ok(None),
-        Err(error) => Ok(Some(trouble(alloc, error, name, index)?)),
-    }
+    Ok(Value::empty())
 }

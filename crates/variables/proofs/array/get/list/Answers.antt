@@ -1,16 +1,13 @@
-use Rattle.std.proofs.Common.{ℕ, List, sym, ap}
-use Rattle.state.proofs.Reaches.{same_reaches, then_reaches}
-use Rattle.state.proofs.Shown.{shows_after_ok}
-use Rattle.variables.specs.Array.Get.{lists_values}
-use Rattle.state.specs.NoWaits.{next_of}
+use Rattle.std.proofs.Common.{option_copied}
+use Rattle.variables.proofs.Reached.{finds_fail}
+use Rattle.variables.specs.Array.Get.{list_values}
+use Rattle.variables.specs.Array.Indexes.{with_indexes}
+use Rattle.variables.specs.Readings.{Found}
 use Rattle.variables.proofs.array.get.list.Goals as goal
 
-pub returns-in-Ok : goal.returns-in-Ok
-returns-in-Ok g c = λ s fits.
-    let found = rw c.in-Ok.is at (c.indexes.ensures s fits) in
-    shows_after_ok next_of c.args.state.now c.list_values.result
-    (then_reaches
-    (found (λ (indexes : List (List ℕ)). lists_values c.args.name.now indexes s))
-    (same_reaches (ap (λ indexes. lists_values c.args.name.now indexes s)
-    (sym c.deref.ensures.value))))
-    (c.list_values.ensures s fits)
+pub returns-in-Err : goal.returns-in-Err
+returns-in-Err g c =
+    let v = c.args.scopes.now in
+    finds_fail v
+    (with_indexes c.args.name.now (option_copied c.args.index) (option_copied c.args.pattern) v)
+    (λ indexes. Found (v, list_values c.args.name.now indexes v)) c.in-Err.why c.in-Err.ensures

@@ -1,9 +1,12 @@
-use Rattle.std.proofs.Common.{drop}
-use Rattle.state.specs.Status.{Status}
-use Rattle.state.specs.View.{FitsState}
-use Rattle.variables.proofs.Elements.{ValuesSoFar}
+use Rattle.std.proofs.Common.{◌≡◌, ◌++◌, ℕ, List, Ok, Result, drop}
+use Rattle.acts.specs.Flaw.{Flaw}
+use Rattle.acts.specs.Raise.{bind}
+use Rattle.variables.specs.Array.Get.{values}
 use Rattle.variables.proofs.array.get.values.Given as goal
 
 abbrev pub invariant-loop-index : goal.invariant-loop-index
-invariant-loop-index g l = (s : Status) → FitsState l.state s →
-    ValuesSoFar l.name l.indexes (drop l.index-index l.indexes) l.elements.items s
+invariant-loop-index g l =
+    let read : List (List ℕ) → Result (List (List ℕ)) Flaw =
+    λ more. Ok (l.elements.items ++ more) in
+    values l.name l.indexes l.scopes
+    ≡ bind (values l.name (drop l.index-index l.indexes) l.scopes) read

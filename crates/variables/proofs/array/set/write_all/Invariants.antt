@@ -1,15 +1,10 @@
 use Rattle.std.proofs.Common.{◌≡◌, length}
-use Rattle.state.specs.Status.{Status}
-use Rattle.state.specs.View.{FitsState}
-use Rattle.variables.proofs.Elements.{Writing}
+use Rattle.variables.specs.Array.Set.{writes_all}
 use Rattle.variables.proofs.array.set.write_all.Given as goal
 
 abbrev pub invariant-elements : goal.invariant-elements
-invariant-elements g l = record {
-  writing : (s : Status) → FitsState l.fn.state s →
-      Writing l.name l.fn.elements l.rest l.state s;
-  left : l.state.left ≡ l.fn.state.left;
-}
+invariant-elements g l =
+    writes_all l.name l.fn.elements l.fn.scopes ≡ writes_all l.name l.rest l.scopes
 
 abbrev pub decreases-elements : goal.decreases-elements
 decreases-elements g l = length l.rest

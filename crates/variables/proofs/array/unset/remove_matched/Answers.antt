@@ -1,13 +1,26 @@
-use Rattle.std.proofs.Common.{ℕ, List, []}
-use Rattle.state.proofs.Shown.{shows_after_ok}
-use Rattle.state.specs.Dialogue.{gives}
+use Rattle.std.proofs.Common.{Some, option_copied}
+use Rattle.std.specs.Prelude.{reverse}
+use Rattle.variables.proofs.Reached.{finds_fail, finds_settle, leaves_settle}
+use Rattle.variables.specs.Array.Indexes.{with_indexes}
 use Rattle.variables.specs.Array.Unset.{removes}
-use Rattle.state.specs.NoWaits.{next_of}
+use Rattle.variables.specs.Readings.{Found}
 use Rattle.variables.proofs.array.unset.remove_matched.Goals as goal
 
-pub returns-in-Ok-clause-shows : goal.returns-in-Ok-clause-shows
-returns-in-Ok-clause-shows g c = λ s fits.
-    let found = rw c.in-Ok.is at (c.indexes.ensures s fits) in
-    shows_after_ok next_of c.remove_all.new.state c.remove_all.result
-    (found (λ (indexes : List (List ℕ)). removes c.args.name.now indexes s (gives [])))
-    (c.remove_all.ensures.shows s fits)
+pub returns-in-Ok : goal.returns-in-Ok
+returns-in-Ok g c =
+    let name = c.args.name.now in
+    let v = c.args.scopes.now in
+    let done = removes name (reverse c.in-Ok.indexes.items) v in
+    finds_settle v
+    (with_indexes name (option_copied c.args.index) (Some c.args.pattern.now) v)
+    (λ indexes. Found (removes name (reverse indexes) v)) c.remove_all.new.scopes c.in-Ok.indexes
+    c.remove_all.result c.in-Ok.ensures
+    (leaves_settle c.remove_all.new.scopes done c.remove_all.result c.remove_all.ensures)
+
+pub returns-in-Err : goal.returns-in-Err
+returns-in-Err g c =
+    let name = c.args.name.now in
+    let v = c.args.scopes.now in
+    finds_fail v
+    (with_indexes name (option_copied c.args.index) (Some c.args.pattern.now) v)
+    (λ indexes. Found (removes name (reverse indexes) v)) c.in-Err.why c.in-Err.ensures
