@@ -1,82 +1,61 @@
 -- Which command a name has, and what it does.
-use Rattle.std.specs.Prelude.{ℕ, List, [], ◌∷◌, codes, Option, Some, None, option_map, Ok, if◌then◌else◌}
+use Rattle.std.specs.Prelude.{ℕ, List, [], ◌∷◌, codes, Option, Some, None, option_map, if◌then◌else◌}
 use Rattle.std.specs.Option.{option_or}
 use Rattle.acts.specs.Flaw.{Flaw}
 use Rattle.acts.specs.Flaw as flaw
-use Rattle.acts.specs.Raise.{bind}
-use Rattle.commands.specs.Builtin as builtin
-use Rattle.commands.specs.Builtin.{Builtin}
+use Rattle.commands.specs.Acting as acting
+use Rattle.commands.specs.Exits as exit
 use Rattle.commands.specs.LeftOut.{is_left_out}
+use Rattle.commands.specs.Locals as local
+use Rattle.commands.specs.Settings as setting
+use Rattle.commands.specs.declared.acting.Acting.TheVariants as acts
+use Rattle.commands.specs.declared.builtin.Builtin.{Builtin}
+use Rattle.commands.specs.declared.builtin.Builtin.TheVariants as builtin
+use Rattle.commands.specs.declared.exits.Exit.TheVariants as exits_by
+use Rattle.commands.specs.declared.locals.Local.TheVariants as locals_by
+use Rattle.commands.specs.declared.settings.Setting.TheVariants as sets
+use Rattle.kinds.specs.Exchange.{talks}
+use Rattle.kinds.specs.Kinds.{exits}
 use Rattle.names.specs.Tables.{Table, found}
+use Rattle.procedures.specs.Proc.{proc}
+use Rattle.pure.specs.Pure as pure
 use Rattle.state.specs.Dialogue.{Course, gives, raises}
 use Rattle.state.specs.Meant.{meant}
-use Rattle.state.specs.Outcome.{Gives}
 use Rattle.state.specs.Status.{Status}
-use Rattle.kinds.specs.Exchange.{talks}
-use Rattle.kinds.specs.Kinds.{exits, locals}
-use Rattle.leaving.specs.Breaks.{breaks}
-use Rattle.leaving.specs.Continues.{continues}
-use Rattle.leaving.specs.Error.{error}
-use Rattle.leaving.specs.Exit.{exit}
-use Rattle.leaving.specs.ExpContinue.{exp_continue}
-use Rattle.leaving.specs.Returns.{returns}
-use Rattle.logs.specs.LogFile.{log_file}
-use Rattle.logs.specs.LogUser.{log_user}
-use Rattle.logs.specs.SendError.{send_error}
-use Rattle.logs.specs.SendLog.{send_log}
-use Rattle.logs.specs.SendUser.{send_user}
-use Rattle.peers.specs.Close.{close}
-use Rattle.peers.specs.MatchMax.{match_max}
-use Rattle.peers.specs.RemoveNulls.{remove_nulls}
-use Rattle.peers.specs.Wait.{wait}
-use Rattle.procedures.specs.Proc.{proc}
-use Rattle.processes.specs.Sleep.{sleep}
-use Rattle.processes.specs.Socket.{socket}
-use Rattle.processes.specs.Spawn.{spawn}
-use Rattle.pure.specs.Pure as pure
-use Rattle.sending.specs.Send.{send}
-use Rattle.variables.specs.Append.{append}
-use Rattle.variables.specs.Array.{array}
-use Rattle.variables.specs.Global.{global}
-use Rattle.variables.specs.Incr.{incr}
-use Rattle.variables.specs.Info.{info}
-use Rattle.variables.specs.Lappend.{lappend}
-use Rattle.variables.specs.Set.{set}
-use Rattle.variables.specs.Unset.{unset}
-use Rattle.writing.specs.Puts.{puts}
+use Rattle.variables.specs.Courses.{readings}
 
 -- the names of the commands that are no functions of their words
 abbrev pub builtins : Table Builtin
 builtins =
-    (codes "puts", builtin.Puts)
-    ∷ (codes "break", builtin.Break)
-    ∷ (codes "continue", builtin.Continue)
-    ∷ (codes "return", builtin.Return)
-    ∷ (codes "error", builtin.Error)
-    ∷ (codes "exit", builtin.Exit)
-    ∷ (codes "exp_continue", builtin.ExpContinue)
-    ∷ (codes "set", builtin.Set)
-    ∷ (codes "append", builtin.Append)
-    ∷ (codes "incr", builtin.Incr)
-    ∷ (codes "lappend", builtin.Lappend)
-    ∷ (codes "unset", builtin.Unset)
-    ∷ (codes "global", builtin.Global)
-    ∷ (codes "array", builtin.Array)
-    ∷ (codes "info", builtin.Info)
+    (codes "puts", builtin.Acting acts.Puts)
+    ∷ (codes "break", builtin.Exit exits_by.Break)
+    ∷ (codes "continue", builtin.Exit exits_by.Continue)
+    ∷ (codes "return", builtin.Exit exits_by.Return)
+    ∷ (codes "error", builtin.Exit exits_by.Error)
+    ∷ (codes "exit", builtin.Exit exits_by.Exit)
+    ∷ (codes "exp_continue", builtin.Exit exits_by.ExpContinue)
+    ∷ (codes "set", builtin.Local locals_by.Set)
+    ∷ (codes "append", builtin.Local locals_by.Append)
+    ∷ (codes "incr", builtin.Local locals_by.Incr)
+    ∷ (codes "lappend", builtin.Local locals_by.Lappend)
+    ∷ (codes "unset", builtin.Local locals_by.Unset)
+    ∷ (codes "global", builtin.Local locals_by.Global)
+    ∷ (codes "array", builtin.Local locals_by.Array)
+    ∷ (codes "info", builtin.Local locals_by.Info)
     ∷ (codes "proc", builtin.Proc)
-    ∷ (codes "spawn", builtin.Spawn)
-    ∷ (codes "send", builtin.Send)
-    ∷ (codes "sleep", builtin.Sleep)
-    ∷ (codes "socket", builtin.Socket)
-    ∷ (codes "close", builtin.Close)
-    ∷ (codes "wait", builtin.Wait)
-    ∷ (codes "match_max", builtin.MatchMax)
-    ∷ (codes "remove_nulls", builtin.RemoveNulls)
-    ∷ (codes "send_user", builtin.SendUser)
-    ∷ (codes "send_error", builtin.SendError)
-    ∷ (codes "send_log", builtin.SendLog)
-    ∷ (codes "log_user", builtin.LogUser)
-    ∷ (codes "log_file", builtin.LogFile)
+    ∷ (codes "spawn", builtin.Acting acts.Spawn)
+    ∷ (codes "send", builtin.Acting acts.Send)
+    ∷ (codes "sleep", builtin.Acting acts.Sleep)
+    ∷ (codes "socket", builtin.Acting acts.Socket)
+    ∷ (codes "close", builtin.Acting acts.Close)
+    ∷ (codes "wait", builtin.Acting acts.Wait)
+    ∷ (codes "match_max", builtin.Setting sets.MatchMax)
+    ∷ (codes "remove_nulls", builtin.Setting sets.RemoveNulls)
+    ∷ (codes "send_user", builtin.Acting acts.SendUser)
+    ∷ (codes "send_error", builtin.Acting acts.SendError)
+    ∷ (codes "send_log", builtin.Acting acts.SendLog)
+    ∷ (codes "log_user", builtin.Setting sets.LogUser)
+    ∷ (codes "log_file", builtin.Acting acts.LogFile)
     ∷ []
 
 -- the command of a name
@@ -85,36 +64,12 @@ named name = option_or (found builtins name) (option_map builtin.Text (pure.name
 
 -- what a command does with the words behind its name
 abbrev pub does : Builtin → List (List ℕ) → Status → Course
-does builtin.Puts args s = talks (puts args) s
-does builtin.Break args s = exits (breaks args) s
-does builtin.Continue args s = exits (continues args) s
-does builtin.Return args s = exits (returns args) s
-does builtin.Error args s = exits (error args) s
-does builtin.Exit args s = exits (exit args) s
-does builtin.ExpContinue args s = exits (exp_continue args) s
-does builtin.Set args s = locals (set args s.scopes) s
-does builtin.Append args s = locals (append args s.scopes) s
-does builtin.Incr args s = locals (incr args s.scopes) s
-does builtin.Lappend args s = lappend args s
-does builtin.Unset args s = locals (unset args s.scopes) s
-does builtin.Global args s = locals (global args s.scopes) s
-does builtin.Array args s = array args s
-does builtin.Info args s = exits (bind (info args s.scopes) (λ value. Ok (Gives value))) s
+does (builtin.Exit own) args s = exits (exit.does own args) s
+does (builtin.Local own) args s = readings (local.does own args s.scopes) s
+does (builtin.Setting own) args s = talks (setting.does own args s) s
+does (builtin.Acting own) args s = talks (acting.does own args s) s
 does builtin.Proc args s = proc args s
-does builtin.Spawn args s = talks (spawn args s) s
-does builtin.Send args s = talks (send args s) s
-does builtin.Sleep args s = talks (sleep args) s
-does builtin.Socket args s = talks (socket args s) s
-does builtin.Close args s = talks (close args s) s
-does builtin.Wait args s = talks (wait args s) s
-does builtin.MatchMax args s = talks (match_max args s) s
-does builtin.RemoveNulls args s = talks (remove_nulls args s) s
-does builtin.SendUser args s = talks (send_user args) s
-does builtin.SendError args s = talks (send_error args) s
-does builtin.SendLog args s = talks (send_log args s) s
-does builtin.LogUser args s = talks (log_user args) s
-does builtin.LogFile args s = talks (log_file args s) s
-does (builtin.Text command) args s = meant (pure.says command args) s
+does (builtin.Text own) args s = meant (pure.says own args) s
 
 -- the error of a name that no command has, which tells the names of commands that this profile
 -- leaves out from all others (Tcl(n), rule 2)

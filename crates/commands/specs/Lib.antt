@@ -1,4 +1,7 @@
-pub mod Builtin
 pub mod LeftOut
+pub mod Exits
+pub mod Locals
+pub mod Settings
+pub mod Acting
 pub mod Commands
 pub mod View

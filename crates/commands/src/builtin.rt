@@ -1,52 +1,37 @@
 //! The commands by their names.
 #![tactic(auto, using(names::proofs::Compared::compared))]
 
-ghost use Rattle.std.specs.Prelude.{◌≡◌, option_map};
+ghost use Rattle.std.specs.Prelude.{◌≡◌};
 ghost use Rattle.commands.specs.Commands as definition;
-ghost use Rattle.commands.specs.View.{builtin_of};
 ghost use Rattle.names.specs.Tables.{found, so_long};
 
+use crate::acting::Acting;
+use crate::exits::Exit;
+use crate::locals::Local;
+use crate::settings::Setting;
 use pure::Pure;
 
-/// The commands.
+/// The commands that run no script, by their kinds.
 #[derive(Clone, Copy, Debug, PartialEq, Eq)]
 pub(crate) enum Builtin {
-    Puts,
-    Break,
-    Continue,
-    Return,
-    Error,
-    Exit,
-    ExpContinue,
-    Set,
-    Append,
-    Incr,
-    Lappend,
-    Unset,
-    Global,
-    Array,
-    Info,
+    /// Ends a part of a script, or the run.
+    Exit(Exit),
+    /// Sees and changes the variables alone.
+    Local(Local),
+    /// Reads or changes what is set.
+    Setting(Setting),
+    /// Asks acts.
+    Acting(Acting),
+    /// Defines a procedure.
     Proc,
-    Spawn,
-    Send,
-    Sleep,
-    Socket,
-    Close,
-    Wait,
-    MatchMax,
-    RemoveNulls,
-    SendUser,
-    SendError,
-    SendLog,
-    LogUser,
-    LogFile,
+    /// Is a function of its words.
     Text(Pure),
 }
 
 impl Builtin {
     /// The command of a name.
     pub(crate) fn read(name: &[u8]) -> Option<Builtin>
-        ensures { option_map builtin_of result ≡ definition.named name.now }
+        ensures { result ≡ definition.named name.now }
     {
         match of_its_length(name) {
             Some(builtin) => Some(builtin),
@@ -60,7 +45,7 @@ impl Builtin {
 
 /// The command of a name, which is sought only among the names of its length.
 fn of_its_length(name: &[u8]) -> Option<Builtin>
-    ensures { option_map builtin_of result ≡ found definition.builtins name.now }
+    ensures { result ≡ found definition.builtins name.now }
 {
     match name.len() {
         3 => of_three(name),
@@ -78,10 +63,10 @@ fn of_its_length(name: &[u8]) -> Option<Builtin>
 
 /// The command of a name of three bytes.
 fn of_three(name: &[u8]) -> Option<Builtin>
-    ensures { option_map builtin_of result ≡ found (so_long 3 definition.builtins) name.now }
+    ensures { result ≡ found (so_long 3 definition.builtins) name.now }
 {
     if name == b"set".as_slice() {
-        Some(Builtin::Set)
+        Some(Builtin::Local(Local::Set))
     } else {
         None
     }
@@ -89,55 +74,55 @@ fn of_three(name: &[u8]) -> Option<Builtin>
 
 /// The command of a name of four bytes.
 fn of_four(name: &[u8]) -> Option<Builtin>
-    ensures { option_map builtin_of result ≡ found (so_long 4 definition.builtins) name.now }
+    ensures { result ≡ found (so_long 4 definition.builtins) name.now }
 {
     match name {
-        b"puts" => Some(Builtin::Puts),
-        b"exit" => Some(Builtin::Exit),
-        b"incr" => Some(Builtin::Incr),
-        b"info" => Some(Builtin::Info),
+        b"puts" => Some(Builtin::Acting(Acting::Puts)),
+        b"exit" => Some(Builtin::Exit(Exit::Exit)),
+        b"incr" => Some(Builtin::Local(Local::Incr)),
+        b"info" => Some(Builtin::Local(Local::Info)),
         b"proc" => Some(Builtin::Proc),
-        b"send" => Some(Builtin::Send),
-        b"wait" => Some(Builtin::Wait),
+        b"send" => Some(Builtin::Acting(Acting::Send)),
+        b"wait" => Some(Builtin::Acting(Acting::Wait)),
         _ => None,
     }
 }
 
 /// The command of a name of five bytes.
 fn of_five(name: &[u8]) -> Option<Builtin>
-    ensures { option_map builtin_of result ≡ found (so_long 5 definition.builtins) name.now }
+    ensures { result ≡ found (so_long 5 definition.builtins) name.now }
 {
     match name {
-        b"break" => Some(Builtin::Break),
-        b"error" => Some(Builtin::Error),
-        b"unset" => Some(Builtin::Unset),
-        b"array" => Some(Builtin::Array),
-        b"spawn" => Some(Builtin::Spawn),
-        b"sleep" => Some(Builtin::Sleep),
-        b"close" => Some(Builtin::Close),
+        b"break" => Some(Builtin::Exit(Exit::Break)),
+        b"error" => Some(Builtin::Exit(Exit::Error)),
+        b"unset" => Some(Builtin::Local(Local::Unset)),
+        b"array" => Some(Builtin::Local(Local::Array)),
+        b"spawn" => Some(Builtin::Acting(Acting::Spawn)),
+        b"sleep" => Some(Builtin::Acting(Acting::Sleep)),
+        b"close" => Some(Builtin::Acting(Acting::Close)),
         _ => None,
     }
 }
 
 /// The command of a name of six bytes.
 fn of_six(name: &[u8]) -> Option<Builtin>
-    ensures { option_map builtin_of result ≡ found (so_long 6 definition.builtins) name.now }
+    ensures { result ≡ found (so_long 6 definition.builtins) name.now }
 {
     match name {
-        b"return" => Some(Builtin::Return),
-        b"append" => Some(Builtin::Append),
-        b"global" => Some(Builtin::Global),
-        b"socket" => Some(Builtin::Socket),
+        b"return" => Some(Builtin::Exit(Exit::Return)),
+        b"append" => Some(Builtin::Local(Local::Append)),
+        b"global" => Some(Builtin::Local(Local::Global)),
+        b"socket" => Some(Builtin::Acting(Acting::Socket)),
         _ => None,
     }
 }
 
 /// The command of a name of seven bytes.
 fn of_seven(name: &[u8]) -> Option<Builtin>
-    ensures { option_map builtin_of result ≡ found (so_long 7 definition.builtins) name.now }
+    ensures { result ≡ found (so_long 7 definition.builtins) name.now }
 {
     if name == b"lappend".as_slice() {
-        Some(Builtin::Lappend)
+        Some(Builtin::Local(Local::Lappend))
     } else {
         None
     }
@@ -145,25 +130,25 @@ fn of_seven(name: &[u8]) -> Option<Builtin>
 
 /// The command of a name of eight bytes.
 fn of_eight(name: &[u8]) -> Option<Builtin>
-    ensures { option_map builtin_of result ≡ found (so_long 8 definition.builtins) name.now }
+    ensures { result ≡ found (so_long 8 definition.builtins) name.now }
 {
     match name {
-        b"continue" => Some(Builtin::Continue),
-        b"send_log" => Some(Builtin::SendLog),
-        b"log_user" => Some(Builtin::LogUser),
-        b"log_file" => Some(Builtin::LogFile),
+        b"continue" => Some(Builtin::Exit(Exit::Continue)),
+        b"send_log" => Some(Builtin::Acting(Acting::SendLog)),
+        b"log_user" => Some(Builtin::Setting(Setting::LogUser)),
+        b"log_file" => Some(Builtin::Acting(Acting::LogFile)),
         _ => None,
     }
 }
 
 /// The command of a name of nine bytes.
 fn of_nine(name: &[u8]) -> Option<Builtin>
-    ensures { option_map builtin_of result ≡ found (so_long 9 definition.builtins) name.now }
+    ensures { result ≡ found (so_long 9 definition.builtins) name.now }
 {
     if name == b"match_max".as_slice() {
-        Some(Builtin::MatchMax)
+        Some(Builtin::Setting(Setting::MatchMax))
     } else if name == b"send_user".as_slice() {
-        Some(Builtin::SendUser)
+        Some(Builtin::Acting(Acting::SendUser))
     } else {
         None
     }
@@ -171,10 +156,10 @@ fn of_nine(name: &[u8]) -> Option<Builtin>
 
 /// The command of a name of ten bytes.
 fn of_ten(name: &[u8]) -> Option<Builtin>
-    ensures { option_map builtin_of result ≡ found (so_long 10 definition.builtins) name.now }
+    ensures { result ≡ found (so_long 10 definition.builtins) name.now }
 {
     if name == b"send_error".as_slice() {
-        Some(Builtin::SendError)
+        Some(Builtin::Acting(Acting::SendError))
     } else {
         None
     }
@@ -182,12 +167,12 @@ fn of_ten(name: &[u8]) -> Option<Builtin>
 
 /// The command of a name of twelve bytes.
 fn of_twelve(name: &[u8]) -> Option<Builtin>
-    ensures { option_map builtin_of result ≡ found (so_long 12 definition.builtins) name.now }
+    ensures { result ≡ found (so_long 12 definition.builtins) name.now }
 {
     if name == b"exp_continue".as_slice() {
-        Some(Builtin::ExpContinue)
+        Some(Builtin::Exit(Exit::ExpContinue))
     } else if name == b"remove_nulls".as_slice() {
-        Some(Builtin::RemoveNulls)
+        Some(Builtin::Setting(Setting::RemoveNulls))
     } else {
         None
     }

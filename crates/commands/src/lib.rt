@@ -1,9 +1,13 @@
 //! The commands of all families by their names.
 #![tactic(auto)]
 
+mod acting;
 mod builtin;
+mod exits;
 pub mod laws;
 mod left_out;
+mod locals;
+mod settings;
 mod table;
 mod waits;
 

@@ -1,0 +1,68 @@
+use Rattle.std.proofs.Common.{Ok, Err, rules, subst, sym}
+use Rattle.commands.specs.Locals as local
+use Rattle.commands.specs.Settings as setting
+use Rattle.commands.specs.View.{next_of}
+use Rattle.kinds.proofs.Comes.{meant_fails, meant_shows, sets_shows}
+use Rattle.kinds.specs.Answers.{Comes}
+use Rattle.kinds.specs.Exchange.{talks}
+use Rattle.pure.specs.Pure.{says}
+use Rattle.state.specs.Leaf.{Shows}
+use Rattle.state.specs.Meant.{meant}
+use Rattle.state.specs.declared.leaf.Leaf.TheVariants as leaf
+use Rattle.variables.proofs.Courses.{settled_fails, settled_shows}
+use Rattle.variables.specs.Courses.{readings}
+use Rattle.variables.specs.Readings.{Settles}
+use Rattle.commands.proofs.table.call.Goals as goal
+
+pub returns-in_ok-call-in-Local-clause-shows : goal.returns-in_ok-call-in-Local-clause-shows
+returns-in_ok-call-in-Local-clause-shows g c = λ s fits.
+    let own = c.in-Local.own in
+    let new = c.call-in-Local.new.scopes in
+    let value = c.in_ok-call-in-Local.field-0 in
+    let args = c.args.args.now in
+    let shown : Shows (next_of {A = g.row.A.Denot}) (leaf.Has (Ok value))
+    (record c.args.state.now { scopes = new }) (readings (local.does own args s.scopes) s) =
+    settled_shows next_of c.args.state.now s fits new (local.does own args s.scopes) value
+    (subst (λ v. Settles {A = g.row.A.Denot} (local.does own args v) (Ok value) new)
+    (sym fits.scopes) c.in_ok-call-in-Local.ensures) in
+    search rules
+
+pub returns-in_err-call-in-Local-clause-shows : goal.returns-in_err-call-in-Local-clause-shows
+returns-in_err-call-in-Local-clause-shows g c = λ s fits.
+    let own = c.in-Local.own in
+    let new = c.call-in-Local.new.scopes in
+    let why = c.in_err-call-in-Local.field-0.0 in
+    let args = c.args.args.now in
+    let fails : Comes (next_of {A = g.row.A.Denot}) (readings (local.does own args s.scopes) s)
+    (Err why) (record c.args.state.now { scopes = new }) =
+    settled_fails (next_of {A = g.row.A.Denot}) c.args.state.now s fits new (local.does own args s.scopes) why
+    (subst (λ v. Settles (local.does own args v) (Err why) new)
+    (sym fits.scopes) c.in_err-call-in-Local.ensures) in
+    search rules
+
+pub returns-in_ok-call-in-Setting-clause-shows : goal.returns-in_ok-call-in-Setting-clause-shows
+returns-in_ok-call-in-Setting-clause-shows g c = λ s fits.
+    let meant = setting.does c.in-Setting.own c.args.args.now s in
+    let value = c.in_ok-call-in-Setting.field-0 in
+    let shown : Shows (next_of {A = g.row.A.Denot}) (leaf.Has (Ok value))
+    c.call-in-Setting.new.state (talks meant s) =
+    sets_shows next_of c.call-in-Setting.new.state meant s value
+    (c.in_ok-call-in-Setting.ensures.shows s fits) in
+    search rules
+
+pub returns-in_ok-apply-in-Text-clause-shows : goal.returns-in_ok-apply-in-Text-clause-shows
+returns-in_ok-apply-in-Text-clause-shows g c = λ s fits.
+    let m = says c.in-Text.own c.args.args.now in
+    let value = c.in_ok-apply-in-Text.field-0 in
+    let shown : Shows (next_of {A = g.row.A.Denot}) (leaf.Has (Ok value)) c.args.state.now
+    (meant m s) =
+    meant_shows next_of c.args.state.now m s value c.in_ok-apply-in-Text.ensures fits in
+    search rules
+
+pub returns-in_err-apply-in-Text-clause-shows : goal.returns-in_err-apply-in-Text-clause-shows
+returns-in_err-apply-in-Text-clause-shows g c = λ s fits.
+    let m = says c.in-Text.own c.args.args.now in
+    let why = c.in_err-apply-in-Text.field-0.0 in
+    let fails : Comes (next_of {A = g.row.A.Denot}) (meant m s) (Err why) c.args.state.now =
+    meant_fails (next_of {A = g.row.A.Denot}) c.args.state.now m s why c.in_err-apply-in-Text.ensures fits in
+    search rules

@@ -1,0 +1,32 @@
+-- The commands that ask acts.
+use Rattle.std.specs.Prelude.{ℕ, List, Result}
+use Rattle.acts.specs.Flaw.{Flaw}
+use Rattle.commands.specs.declared.acting.Acting.{Acting}
+use Rattle.commands.specs.declared.acting.Acting.TheVariants as acting
+use Rattle.kinds.specs.Exchange.{Exchange}
+use Rattle.logs.specs.LogFile.{log_file}
+use Rattle.logs.specs.SendError.{send_error}
+use Rattle.logs.specs.SendLog.{send_log}
+use Rattle.logs.specs.SendUser.{send_user}
+use Rattle.peers.specs.Close.{close}
+use Rattle.peers.specs.Wait.{wait}
+use Rattle.processes.specs.Sleep.{sleep}
+use Rattle.processes.specs.Socket.{socket}
+use Rattle.processes.specs.Spawn.{spawn}
+use Rattle.sending.specs.Send.{send}
+use Rattle.state.specs.Status.{Status}
+use Rattle.writing.specs.Puts.{puts}
+
+-- what each does with the words behind its name (expect(1); puts(n), socket(n), close(n))
+abbrev pub does : Acting → List (List ℕ) → Status → Result (Exchange 4) Flaw
+does acting.Puts args s = puts args
+does acting.Spawn args s = spawn args s
+does acting.Send args s = send args s
+does acting.Sleep args s = sleep args
+does acting.Socket args s = socket args s
+does acting.Close args s = close args s
+does acting.Wait args s = wait args s
+does acting.SendUser args s = send_user args
+does acting.SendError args s = send_error args
+does acting.SendLog args s = send_log args s
+does acting.LogFile args s = log_file args s

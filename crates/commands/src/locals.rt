@@ -1,0 +1,45 @@
+//! The commands that see and change the variables alone.
+
+ghost use Rattle.commands.specs.Locals as definition;
+ghost use Rattle.variables.specs.Readings.{Settles};
+
+use acts::Raise;
+use std::alloc::Allocator;
+use tclstate::Scopes;
+use tcltext::Value;
+use variables::{append, array, global, incr, info, lappend, set, unset};
+
+/// The commands that see and change the variables alone.
+#[derive(Clone, Copy, Debug, PartialEq, Eq)]
+pub(crate) enum Local {
+    Set,
+    Append,
+    Incr,
+    Lappend,
+    Unset,
+    Global,
+    Array,
+    Info,
+}
+
+/// Does one of them.
+#[tactic(auto, using(crate::proofs::Settling::stores_settle, crate::proofs::Settling::keeps_settle, crate::proofs::Settling::leaves_settle, crate::proofs::Settling::answers_settle,))]
+pub(crate) fn call<A: Allocator + Copy>(
+    alloc: A,
+    scopes: &mut Scopes<A>,
+    local: Local,
+    args: &[Value<A>],
+) -> Result<Value<A>, Raise<A>>
+    ensures { Settles (definition.does local args.now scopes.old) result scopes.new }
+{
+    match local {
+        Local::Set => set::begin(alloc, scopes, args),
+        Local::Append => append::begin(alloc, scopes, args),
+        Local::Incr => incr::begin(alloc, scopes, args),
+        Local::Lappend => lappend::begin(alloc, scopes, args),
+        Local::Unset => unset::begin(alloc, scopes, args),
+        Local::Global => global::begin(alloc, scopes, args),
+        Local::Array => array::begin(alloc, scopes, args),
+        Local::Info => info::begin(alloc, scopes, args),
+    }
+}
