@@ -37,7 +37,7 @@ pub(crate) enum Acting {
 }
 
 /// Begins one of them, up to its first act.
-#[tactic(auto, using(kinds::proofs::Comes::talks_comes, kinds::proofs::Comes::fails_comes, kinds::proofs::Comes::mapped_shows, kinds::proofs::Comes::goes_shows,))]
+#[tactic(auto, using(kinds::proofs::Comes::talks_comes, kinds::proofs::Comes::fails_comes))]
 pub(crate) fn call<A: Allocator + Copy>(
     alloc: A,
     state: &mut State<A>,
@@ -64,7 +64,7 @@ pub(crate) fn call<A: Allocator + Copy>(
 }
 
 /// Goes on with the answer to the act of one of them.
-#[tactic(auto, using(kinds::proofs::Comes::goes_on_comes, kinds::proofs::Comes::mapped_shows, kinds::proofs::Comes::goes_shows,))]
+#[tactic(auto, using(kinds::proofs::Comes::goes_on_comes))]
 pub(crate) fn answered<A: Allocator + Copy>(
     alloc: A,
     state: &mut State<A>,

@@ -23,7 +23,7 @@ pub(crate) enum Local {
 }
 
 /// Does one of them.
-#[tactic(auto, using(crate::proofs::Settling::stores_settle, crate::proofs::Settling::keeps_settle, crate::proofs::Settling::leaves_settle, crate::proofs::Settling::answers_settle,))]
+#[tactic(auto, using(crate::proofs::Settled::stores_settle, crate::proofs::Settled::keeps_settle))]
 pub(crate) fn call<A: Allocator + Copy>(
     alloc: A,
     scopes: &mut Scopes<A>,

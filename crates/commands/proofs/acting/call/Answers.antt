@@ -9,6 +9,11 @@ use Rattle.processes.specs.Socket as socket
 use Rattle.processes.specs.Spawn as spawn
 use Rattle.sending.specs.Send as send
 use Rattle.state.specs.Leaf.{Shows}
+use Rattle.writing.specs.Channel as channel
+use Rattle.writing.specs.Puts.{puts}
+use Rattle.logs.specs.SendError.{send_error}
+use Rattle.logs.specs.SendLog.{send_log}
+use Rattle.logs.specs.SendUser.{send_user}
 use Rattle.commands.proofs.acting.call.Goals as goal
 
 pub returns-in_ok-begin-in-Spawn-clause-shows : goal.returns-in_ok-begin-in-Spawn-clause-shows
@@ -66,3 +71,35 @@ returns-in_ok-begin-in-LogFile-clause-shows g c = λ s fits.
     talks_comes log_file.next_of c.args.state.now (log_file.log_file c.args.args.now s) s
     (Ok c.in_ok-begin-in-LogFile.field-0) (c.in_ok-begin-in-LogFile.ensures s fits) in
     search rules
+
+pub returns-in_ok-begin-in-Puts-clause-shows : goal.returns-in_ok-begin-in-Puts-clause-shows
+returns-in_ok-begin-in-Puts-clause-shows g c = λ s fits.
+    let shown : Shows channel.next_of c.in_ok-begin-in-Puts.field-0 c.args.state.now
+    (talks (puts c.args.args.now) s) =
+    talks_comes channel.next_of c.args.state.now (puts c.args.args.now) s
+    (Ok c.in_ok-begin-in-Puts.field-0) (c.in_ok-begin-in-Puts.ensures s c.args.state.now fits) in
+    search (rules, mapped_shows)
+
+pub returns-in_ok-begin-in-SendUser-clause-shows : goal.returns-in_ok-begin-in-SendUser-clause-shows
+returns-in_ok-begin-in-SendUser-clause-shows g c = λ s fits.
+    let shown : Shows channel.next_of c.in_ok-begin-in-SendUser.field-0 c.args.state.now
+    (talks (send_user c.args.args.now) s) =
+    talks_comes channel.next_of c.args.state.now (send_user c.args.args.now) s
+    (Ok c.in_ok-begin-in-SendUser.field-0) (c.in_ok-begin-in-SendUser.ensures s c.args.state.now fits) in
+    search (rules, mapped_shows)
+
+pub returns-in_ok-begin-in-SendError-clause-shows : goal.returns-in_ok-begin-in-SendError-clause-shows
+returns-in_ok-begin-in-SendError-clause-shows g c = λ s fits.
+    let shown : Shows channel.next_of c.in_ok-begin-in-SendError.field-0 c.args.state.now
+    (talks (send_error c.args.args.now) s) =
+    talks_comes channel.next_of c.args.state.now (send_error c.args.args.now) s
+    (Ok c.in_ok-begin-in-SendError.field-0) (c.in_ok-begin-in-SendError.ensures s c.args.state.now fits) in
+    search (rules, mapped_shows)
+
+pub returns-in_ok-begin-in-SendLog-clause-shows : goal.returns-in_ok-begin-in-SendLog-clause-shows
+returns-in_ok-begin-in-SendLog-clause-shows g c = λ s fits.
+    let shown : Shows channel.next_of c.in_ok-begin-in-SendLog.field-0 c.args.state.now
+    (talks (send_log c.args.args.now s) s) =
+    talks_comes channel.next_of c.args.state.now (send_log c.args.args.now s) s
+    (Ok c.in_ok-begin-in-SendLog.field-0) (c.in_ok-begin-in-SendLog.ensures s fits) in
+    search (rules, mapped_shows)

@@ -6,7 +6,7 @@ use Rattle.acts.specs.declared.raise.Raise.{Raise}
 use Rattle.acts.specs.declared.raise.Raise.TheVariants as raise
 use Rattle.kinds.specs.Answers.{Stores}
 use Rattle.tclstate.specs.Scopes.{Scopes}
-use Rattle.variables.specs.Keeps.{Keeps, Leaves}
+use Rattle.variables.specs.Keeps.{Keeps}
 use Rattle.variables.specs.Readings.{Done, Reading, Found, Settles, kept}
 
 module _ {A : Type 0} (r : Result (List ℕ) (Raise A)) where
@@ -34,15 +34,6 @@ module _ {A : Type 0} (r : Result (List ℕ) (Raise A)) where
       by (Err (raise.Fault why)) fails =
           ap (kept old) fails.0
           ∙ ap (λ v. let d : Done = (v, Err (flaw_of why)) in d) (sym fails.1)
-      by (Err (raise.NoMemory refusal)) fails = tt
-
-  pub leaves_settle : (meant : Done) (reading : Reading) (new : Scopes) →
-      reading ≡ Found meant → Leaves meant r new → Settles reading r new
-  leaves_settle meant reading new is leaves = rw is (by r leaves)
-    where
-      by : (q : Result (List ℕ) (Raise A)) → Leaves meant q new → Settles (Found meant) q new
-      by (Ok value) same = same
-      by (Err (raise.Fault why)) same = same
       by (Err (raise.NoMemory refusal)) fails = tt
 
   pub answers_settle : (meant : Result (List ℕ) Flaw) (reading : Reading) (v : Scopes) →
