@@ -14,3 +14,6 @@ pub mod Spellings
 pub mod Patterns
 pub mod Sought
 pub mod Tests
+pub mod Grown
+pub mod Room
+pub mod Decimals

@@ -13,3 +13,5 @@ pub mod Spellings
 pub mod Canonical
 pub mod Pattern
 pub mod Value
+pub mod Both
+pub mod KeptElement

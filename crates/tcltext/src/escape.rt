@@ -1,6 +1,6 @@
 //! Escapes: what a backslash and the bytes behind it stand for (Tcl(n), rule 9).
 
-ghost use Rattle.std.specs.Prelude.{◌≡◌, ℕ, ◌≤◌, length, MatchResult, IfOk};
+ghost use Rattle.std.specs.Prelude.{◌≡◌, ◌≤◌, length, MatchResult, IfOk};
 ghost use Rattle.tcltext.specs.Escape.{escape, byte_number, hexadecimal_byte, skip_blanks, named_byte};
 
 use crate::digit;

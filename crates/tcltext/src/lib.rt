@@ -4,10 +4,15 @@
 pub mod braces;
 mod digit;
 pub mod escape;
+mod int;
+mod kept;
+mod kept_element;
+mod kept_elements;
 pub mod laws;
 mod list;
 mod number;
 mod pattern;
+mod short;
 mod value;
 mod white;
 

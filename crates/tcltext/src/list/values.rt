@@ -1,14 +1,15 @@
 //! Values that are lists: made, read and grown.
 
-ghost use Rattle.std.specs.Prelude.{◌≡◌, ◌++◌, ℕ, List, IfOk, IfErr, IfSome};
+ghost use Rattle.std.specs.Prelude.{◌≡◌, ◌++◌, ℕ, List, length, take, drop, slice_get, IfOk, IfErr, IfSome};
 ghost use Rattle.tcltext.specs.Canonical.{canonical, IsCanonical, IsListOf};
-ghost use Rattle.tcltext.specs.Elements.{HasFlaw};
+ghost use Rattle.tcltext.specs.Elements.{IsList, HasFlaw};
 ghost use Rattle.tcltext.specs.Seen.{flaw_of};
 
 use super::ListFault;
-use super::join::{join_values, push_values};
-use super::split::split_values;
-use crate::value::Value;
+use super::join::push_values;
+use crate::kept::{read_at, read_len, read_part};
+use crate::kept_elements::Elements;
+use crate::value::{Form, Value};
 use memory::NoMemory;
 use std::alloc::Allocator;
 
@@ -17,14 +18,13 @@ impl<A: Allocator + Copy> Value<A> {
     pub fn list(alloc: A, elements: &[Value<A>]) -> Result<Value<A>, NoMemory>
         ensures { IfOk result (λ list. list ≡ canonical elements.now) }
     {
-        Value::marked(alloc, join_values(alloc, elements)?, true)
+        let mut text = Vec::new(alloc);
+        push_values(&mut text, true, elements)?;
+        Value::marked(alloc, text, true)
     }
 
     /// The canonical text of the list that a text is, which is read and written anew, but where it
     /// is known to be canonical (Tcl_SplitList(3); list(n)).
-    ///
-    /// # Errors
-    /// Those of [`split_values`].
     pub fn as_list(&self, alloc: A) -> Result<Value<A>, ListFault>
         ensures list { IfOk result (IsListOf self.now) }
         ensures fault { IfErr result (λ f. IfSome (flaw_of f) (λ flaw. HasFlaw flaw self.now)) }
@@ -32,20 +32,74 @@ impl<A: Allocator + Copy> Value<A> {
         if self.is_list() {
             return Ok(self.share()?);
         }
-        let elements = split_values(alloc, self.as_slice())?;
-        Ok(Value::list(alloc, &elements)?)
+        let elements = Elements::read(alloc, self.as_slice())?;
+        let values = elements.values(alloc)?;
+        Ok(Value::list(alloc, &values)?)
     }
 
     /// The canonical text of a list with more elements behind it (lappend(n)). They are written
-    /// behind the text in place, which is copied first where others share it.
+    /// behind the text in place, which is copied first where others share it; elements that are
+    /// kept stay so.
     pub fn push_elements(self, alloc: A, more: &[Value<A>]) -> Result<Value<A>, NoMemory>
         requires { IsCanonical self }
         ensures { (v : List (List ℕ)) → self ≡ canonical v →
             IfOk result (λ list. list ≡ canonical (v ++ more.now)) }
     {
         let first = self.as_slice().is_empty();
-        let mut text = self.into_vec(alloc)?;
+        let (mut text, kept) = self.into_parts(alloc)?;
         push_values(&mut text, first, more)?;
-        Value::marked(alloc, text, true)
+        match kept {
+            Some(mut elements) => {
+                elements.push_all(alloc, more)?;
+                Value::with_elements(alloc, text, elements)
+            }
+            None => Value::marked(alloc, text, true),
+        }
+    }
+
+    /// How many elements the list has that the text is.
+    pub fn list_len(&self, alloc: A) -> Result<usize, ListFault>
+        ensures len { IfOk result
+            (λ n. (v : List (List ℕ)) × IsList v self.now × (n ≡ length v)) }
+        ensures fault { IfErr result (λ f. IfSome (flaw_of f) (λ flaw. HasFlaw flaw self.now)) }
+    {
+        match &self.form {
+            Form::Long(text) => read_len(alloc, text.bytes.as_slice(), &text.kept),
+            _ => Ok(Elements::read(alloc, self.as_slice())?.len()),
+        }
+    }
+
+    /// The element at a place of the list that the text is; none where the place is beyond them.
+    pub fn element_at(&self, alloc: A, place: usize) -> Result<Option<Value<A>>, ListFault>
+        ensures element { IfOk result (λ e. (v : List (List ℕ))
+            × IsList v self.now × (e ≡ slice_get v place)) }
+        ensures fault { IfErr result (λ f. IfSome (flaw_of f) (λ flaw. HasFlaw flaw self.now)) }
+    {
+        match &self.form {
+            Form::Long(text) => read_at(alloc, text.bytes.as_slice(), &text.kept, place),
+            _ => Ok(Elements::read(alloc, self.as_slice())?.at(alloc, place)?),
+        }
+    }
+
+    /// Elements of the list that the text is from a place on, so many at most.
+    pub fn part(&self, alloc: A, from: usize, most: usize) -> Result<Vec<Value<A>, A>, ListFault>
+        ensures part { IfOk result (λ part. (v : List (List ℕ))
+            × IsList v self.now × (part.items ≡ take most (drop from v))) }
+        ensures fault { IfErr result (λ f. IfSome (flaw_of f) (λ flaw. HasFlaw flaw self.now)) }
+    {
+        match &self.form {
+            Form::Long(text) => read_part(alloc, text.bytes.as_slice(), &text.kept, from, most),
+            _ => Ok(Elements::read(alloc, self.as_slice())?.part(alloc, from, most)?),
+        }
+    }
+
+    /// The canonical text of such elements.
+    pub fn range(&self, alloc: A, from: usize, most: usize) -> Result<Value<A>, ListFault>
+        ensures list { IfOk result (λ list. (v : List (List ℕ))
+            × IsList v self.now × (list ≡ canonical (take most (drop from v)))) }
+        ensures fault { IfErr result (λ f. IfSome (flaw_of f) (λ flaw. HasFlaw flaw self.now)) }
+    {
+        let part = self.part(alloc, from, most)?;
+        Ok(Value::list(alloc, &part)?)
     }
 }

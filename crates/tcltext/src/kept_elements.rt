@@ -1,0 +1,130 @@
+//! The elements of a list, as they are kept beside its text.
+
+ghost use Rattle.std.specs.Prelude.{◌≡◌, ◌++◌, take, drop, length, IfOk, IfErr, IfSome, OnOk, slice_get};
+ghost use Rattle.tcltext.specs.Elements.{IsList, HasFlaw};
+ghost use Rattle.tcltext.specs.Seen.{texts, flaw_of};
+
+use crate::kept_element::Element;
+use crate::list::{ListFault, split_list};
+use crate::value::Value;
+use counted_slot::Fits;
+use memory::NoMemory;
+use std::alloc::Allocator;
+use std::marker::Model;
+
+/// The elements of a list, in order.
+#[derive(Drop)]
+pub struct Elements<A: Allocator> {
+    items: Vec<Element<A>, A>,
+}
+
+impl<A: Allocator> Model for Elements<A> {
+    ghost use Rattle.std.specs.Prelude.{List, ℕ};
+
+    ghost Value = { List (List ℕ) };
+
+    ghost view = { λ elements. elements.items.items };
+}
+
+impl<A: Allocator> Fits for Elements<A> {
+    type Tag = Vec<u8, A>;
+
+    ghost fits = { λ text elements. IsList elements text.items };
+}
+
+impl<A: Allocator> Elements<A> {
+    /// How many there are.
+    pub(crate) fn len(&self) -> usize
+        ensures { result ≡ length self.now }
+    {
+        self.items.len()
+    }
+}
+
+impl<A: Allocator + Copy> Elements<A> {
+    /// Those of the list that a text is (Tcl_SplitList(3)).
+    pub(crate) fn read(alloc: A, text: &[u8]) -> Result<Elements<A>, ListFault>
+        ensures list { IfOk result (λ elements. IsList elements text.now) }
+        ensures fault { IfErr result (λ f. IfSome (flaw_of f) (λ flaw. HasFlaw flaw text.now)) }
+    {
+        let list = split_list(alloc, text)?;
+        Ok(Elements::kept(alloc, list)?)
+    }
+
+    /// These elements.
+    fn kept(alloc: A, list: Vec<Vec<u8, A>, A>) -> Result<Elements<A>, NoMemory>
+        ensures { IfOk result (λ elements. elements ≡ texts list.items) }
+    {
+        let mut items = Vec::new(alloc);
+        for bytes in list {
+            items.push(Element::new(alloc, bytes)?)?;
+        }
+        Ok(Elements { items })
+    }
+
+    /// The element at a place; none where it is beyond them.
+    pub(crate) fn at(&self, alloc: A, place: usize) -> Result<Option<Value<A>>, NoMemory>
+        ensures { IfOk result (λ element. element ≡ slice_get self.now place) }
+    {
+        match self.items.get(place) {
+            Some(element) => Ok(Some(Value::from_slice(alloc, element.as_slice())?)),
+            None => Ok(None),
+        }
+    }
+
+    /// All of them.
+    pub(crate) fn values(&self, alloc: A) -> Result<Vec<Value<A>, A>, NoMemory>
+        ensures { IfOk result (λ values. values.items ≡ self.now) }
+    {
+        values_of(alloc, &self.items)
+    }
+
+    /// The elements from a place on, so many at most.
+    pub(crate) fn part(
+        &self,
+        alloc: A,
+        from: usize,
+        most: usize,
+    ) -> Result<Vec<Value<A>, A>, NoMemory>
+        ensures { IfOk result (λ part. part.items ≡ take most (drop from self.now)) }
+    {
+        let from = from.min(self.items.len());
+        let to = from.saturating_add(most).min(self.items.len());
+        values_of(alloc, &self.items[from..to])
+    }
+
+    /// Puts more behind them. On `Err` some of them may stand there.
+    pub(crate) fn push_all(&mut self, alloc: A, more: &[Value<A>]) -> Result<(), NoMemory>
+        ensures { OnOk result (self.new ≡ self.old ++ more.now) }
+    {
+        push_all(alloc, &mut self.items, more)
+    }
+}
+
+/// Values of elements.
+fn values_of<A: Allocator + Copy>(
+    alloc: A,
+    elements: &[Element<A>],
+) -> Result<Vec<Value<A>, A>, NoMemory>
+    ensures { IfOk result (λ values. values.items ≡ elements.now) }
+{
+    let mut values = Vec::with_capacity(alloc, elements.len())?;
+    for element in elements {
+        values.push(Value::from_slice(alloc, element.as_slice())?)?;
+    }
+    Ok(values)
+}
+
+/// Puts more elements behind those that there are. On `Err` some of them may stand there.
+fn push_all<A: Allocator + Copy>(
+    alloc: A,
+    items: &mut Vec<Element<A>, A>,
+    more: &[Value<A>],
+) -> Result<(), NoMemory>
+    ensures { OnOk result (items.new.items ≡ items.old.items ++ more.now) }
+{
+    for value in more {
+        items.push(Element::from_slice(alloc, value.as_slice())?)?;
+    }
+    Ok(())
+}

@@ -1,0 +1,68 @@
+//! Texts of a few bytes, in place.
+
+ghost use Rattle.std.specs.Prelude.{◌≡◌, ◌<◌, [], length, min, IfSome, IfNone};
+
+use std::marker::Model;
+
+/// A text of at most so many bytes, which contracts see as a list of bytes. It takes no memory
+/// beside its own.
+#[derive(Drop)]
+pub struct Short<const MOST: usize> {
+    len: u8,
+    bytes: [u8; MOST],
+}
+
+impl<const MOST: usize> Model for Short<MOST> {
+    ghost use Rattle.std.specs.Prelude.{List, ℕ, take, ◌≤◌};
+
+    ghost Value = { List ℕ };
+
+    ghost view = { λ short. take short.len short.bytes };
+
+    ghost invariant = { λ short. short.len ≤ MOST };
+}
+
+impl<const MOST: usize> Short<MOST> {
+    /// No byte.
+    pub(crate) fn empty() -> Short<MOST>
+        ensures { result ≡ [] }
+    {
+        Short {
+            len: 0,
+            bytes: [0; MOST],
+        }
+    }
+
+    /// These bytes, where they are few enough, which more than 255 never are.
+    pub(crate) fn new(text: &[u8]) -> Option<Short<MOST>>
+        ensures bytes { IfSome result (λ short. short ≡ text.now) }
+        ensures room { IfNone result (min MOST 255 < length text.now) }
+    {
+        if text.len() > MOST {
+            return None;
+        }
+        let Ok(len) = u8::try_from(text.len()) else {
+            return None;
+        };
+        let mut bytes = [0; MOST];
+        bytes[..text.len()].copy_from_slice(text);
+        Some(Short { len, bytes })
+    }
+
+    /// The same bytes once more.
+    pub(crate) fn copied(&self) -> Short<MOST>
+        ensures { result ≡ self.now }
+    {
+        Short {
+            len: self.len,
+            bytes: self.bytes,
+        }
+    }
+
+    /// The bytes.
+    pub(crate) fn as_slice(&self) -> &[u8]
+        ensures { result.now ≡ self.now }
+    {
+        &self.bytes[..usize::from(self.len)]
+    }
+}
