@@ -7,4 +7,4 @@ pub mod laws;
 mod list;
 
 pub use boolean::truth;
-pub use list::{elements, list_of, no_list};
+pub use list::{element_at, elements, list_len, list_of, no_list, range_of};

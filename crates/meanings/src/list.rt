@@ -1,9 +1,9 @@
 //! The reading of a text as a list.
 
-ghost use Rattle.std.specs.Prelude.{IfOk, IfErr, option_map};
+ghost use Rattle.std.specs.Prelude.{◌≡◌, ℕ, List, drop, length, option_map, slice_get, take, IfErr, IfOk};
 ghost use Rattle.meanings.specs.Meaning.{flaw_of_list};
 ghost use Rattle.meanings.specs.View.{Tells, IsNoList};
-ghost use Rattle.tcltext.specs.Canonical.{IsListOf};
+ghost use Rattle.tcltext.specs.Canonical.{IsListOf, canonical};
 ghost use Rattle.tcltext.specs.Elements.{IsList};
 ghost use Rattle.tcltext.specs.Seen.{flaw_of};
 
@@ -34,6 +34,62 @@ pub fn list_of<A: Allocator + Copy>(alloc: A, text: &Value<A>) -> Result<Value<A
     ensures fault { IfErr result (IsNoList text.now) }
 {
     match text.as_list(alloc) {
+        Ok(list) => Ok(list),
+        Err(fault) => Err(no_list(fault)),
+    }
+}
+
+/// How many elements the list has that a text is (llength(n)). A long text keeps them, so that they
+/// are read once.
+///
+/// # Errors
+/// Those of [`elements`].
+pub fn list_len<A: Allocator + Copy>(alloc: A, text: &Value<A>) -> Result<usize, Raise<A>>
+    ensures len { IfOk result (λ n. (v : List (List ℕ)) × IsList v text.now × (n ≡ length v)) }
+    ensures fault { IfErr result (IsNoList text.now) }
+{
+    match text.list_len(alloc) {
+        Ok(len) => Ok(len),
+        Err(fault) => Err(no_list(fault)),
+    }
+}
+
+/// The element at a place of the list that a text is, or none where the place is beyond them
+/// (lindex(n)). A long text keeps its elements, so that they are read once.
+///
+/// # Errors
+/// Those of [`elements`].
+pub fn element_at<A: Allocator + Copy>(
+    alloc: A,
+    text: &Value<A>,
+    place: usize,
+) -> Result<Option<Value<A>>, Raise<A>>
+    ensures element { IfOk result (λ e. (v : List (List ℕ))
+        × IsList v text.now × (e ≡ slice_get v place)) }
+    ensures fault { IfErr result (IsNoList text.now) }
+{
+    match text.element_at(alloc, place) {
+        Ok(element) => Ok(element),
+        Err(fault) => Err(no_list(fault)),
+    }
+}
+
+/// The canonical text of so many elements at most, from a place on, of the list that a text is
+/// (lrange(n)). A long text keeps its elements, so that they are read once.
+///
+/// # Errors
+/// Those of [`elements`].
+pub fn range_of<A: Allocator + Copy>(
+    alloc: A,
+    text: &Value<A>,
+    from: usize,
+    most: usize,
+) -> Result<Value<A>, Raise<A>>
+    ensures list { IfOk result (λ list. (v : List (List ℕ))
+        × IsList v text.now × (list ≡ canonical (take most (drop from v)))) }
+    ensures fault { IfErr result (IsNoList text.now) }
+{
+    match text.range(alloc, from, most) {
         Ok(list) => Ok(list),
         Err(fault) => Err(no_list(fault)),
     }

@@ -3,3 +3,4 @@ pub mod Cuts
 pub mod Kept
 pub mod Stands
 pub mod Places
+pub mod KeptLists

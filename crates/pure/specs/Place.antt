@@ -1,5 +1,5 @@
 -- The places that index words name in lists and strings.
-use Rattle.std.specs.Prelude.{ℕ, ◌==◌, List, [], ◌∷◌, take, drop, slice_get, slice_range, codes, Option, Some, None, option_map, ℤ, pos, negsuc, ◌+ℤ◌, ◌-ℤ◌, if◌then◌else◌}
+use Rattle.std.specs.Prelude.{ℕ, ◌==◌, nat_lt, List, [], ◌∷◌, take, drop, slice_get, slice_range, codes, Option, Some, None, option_map, ℤ, pos, negsuc, ◌+ℤ◌, ◌-ℤ◌, if◌then◌else◌}
 use Rattle.std.specs.Str.{bytes_eq}
 use Rattle.acts.specs.Flaw as flaw
 use Rattle.meanings.specs.Meaning.{Meaning, Raises}
@@ -34,6 +34,11 @@ placed None command word next = Raises (flaw.BadArgument word command)
 -- on with the place that a word of a command names among n elements (string(n), string index)
 abbrev pub on_place : List ℕ → List ℕ → ℕ → (ℤ → Meaning) → Meaning
 on_place command word n next = placed (place_of word n) command word next
+
+-- a place among n elements, where it is one of theirs (lindex(n))
+abbrev pub within : ℤ → ℕ → Option ℕ
+within (pos k) n = if nat_lt k n then Some k else None
+within (negsuc k) n = None
 
 -- what stands at a place (lindex(n); string(n), string index)
 abbrev pub item_at : {X : Type 0} → List X → ℤ → Option X

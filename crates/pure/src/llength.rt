@@ -6,7 +6,7 @@ ghost use Rattle.meanings.specs.View.{Answers};
 
 use crate::words::{number, wrong_args};
 use acts::Raise;
-use meanings::elements;
+use meanings::list_len;
 use std::alloc::Allocator;
 use tcltext::Value;
 
@@ -15,15 +15,15 @@ pub fn llength<A: Allocator + Copy>(alloc: A, words: &[Value<A>]) -> Result<Valu
     ensures { Answers (meant.llength words.now) result }
 {
     match words {
-        [list] => count(alloc, list.as_slice()),
+        [list] => count(alloc, list),
         _ => wrong_args(alloc, b"llength"),
     }
 }
 
 /// The number of the elements of the list that a word is.
-fn count<A: Allocator + Copy>(alloc: A, list: &[u8]) -> Result<Value<A>, Raise<A>>
+fn count<A: Allocator + Copy>(alloc: A, list: &Value<A>) -> Result<Value<A>, Raise<A>>
     ensures { Answers (meant.llength (list.now ∷ [])) result }
 {
-    let elements = elements(alloc, list)?;
-    Ok(number(alloc, elements.len())?)
+    let len = list_len(alloc, list)?;
+    Ok(number(alloc, len)?)
 }

@@ -42,6 +42,16 @@ fn whole_of(text: &[u8]) -> Option<i64>
     read_int(text)
 }
 
+/// A place among so many elements, where it is one of theirs.
+pub fn within(place: i128, len: usize) -> Option<usize>
+    ensures { result ≡ meant.within place len }
+{
+    if place < 0 || len as i128 <= place {
+        return None;
+    }
+    Some(place as usize)
+}
+
 /// What stands at a place.
 pub fn item_at<T>(items: &[T], place: i128) -> Option<&T>
     ensures { option_copied result ≡ meant.item_at items.now place }
@@ -62,7 +72,7 @@ pub fn items_from<T>(items: &[T], first: i128, last: i128) -> &[T]
 }
 
 /// How many of so many elements stand before a place.
-fn up_to(place: i128, len: usize) -> usize
+pub fn up_to(place: i128, len: usize) -> usize
     ensures { result ≡ min (meant.natural place) len }
 {
     if place < 0 {
@@ -75,7 +85,7 @@ fn up_to(place: i128, len: usize) -> usize
 }
 
 /// How many of so many elements stand before a place or at it.
-fn behind(place: i128, len: usize) -> usize
+pub fn behind(place: i128, len: usize) -> usize
     ensures { result ≡ min (meant.natural (place +ℤ pos 1)) len }
 {
     if place < 0 {

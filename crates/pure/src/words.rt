@@ -35,5 +35,8 @@ pub fn bad_argument<A: Allocator + Copy>(
 pub fn number<A: Allocator + Copy>(alloc: A, n: usize) -> Result<Value<A>, NoMemory>
     ensures { IfOk result (λ text. text ≡ decimal n) }
 {
-    Value::new(alloc, print_nat(alloc, n as u64)?)
+    match i64::try_from(n) {
+        Ok(n) => Value::int(alloc, n),
+        Err(_) => Value::new(alloc, print_nat(alloc, n as u64)?),
+    }
 }

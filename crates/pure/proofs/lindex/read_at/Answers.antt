@@ -2,7 +2,7 @@ use Rattle.std.proofs.Common.{subst}
 use Rattle.pure.specs.Lindex.{element}
 use Rattle.meanings.specs.View.{Answers}
 use Rattle.meanings.proofs.Splits.{no_list, follows}
-use Rattle.pure.proofs.lindex.at.Goals as goal
+use Rattle.pure.proofs.lindex.read_at.Goals as goal
 
 pub returns-in_err-elements : goal.returns-in_err-elements
 returns-in_err-elements g c =

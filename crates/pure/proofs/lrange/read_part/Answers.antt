@@ -2,7 +2,7 @@ use Rattle.std.proofs.Common.{subst}
 use Rattle.pure.specs.Lrange.{part}
 use Rattle.meanings.specs.View.{Answers}
 use Rattle.meanings.proofs.Splits.{no_list, follows}
-use Rattle.pure.proofs.lrange.part_of.Goals as goal
+use Rattle.pure.proofs.lrange.read_part.Goals as goal
 
 pub returns-in_err-elements : goal.returns-in_err-elements
 returns-in_err-elements g c =
