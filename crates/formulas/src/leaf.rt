@@ -24,7 +24,7 @@ pub(crate) fn read_leaf<'a, A: Allocator + Copy>(
     match leaf {
         Leaf::Fault(fault) => Err(ReadError::Fault(fault)),
         Leaf::Numeral(spelling, rest) => {
-            let value = Value::from_slice(alloc, spelling)?;
+            let value = Value::word(alloc, spelling)?;
             Ok((Formula::Numeral(value), rest))
         }
         Leaf::Word(word, rest) => {

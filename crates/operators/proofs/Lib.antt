@@ -1,4 +1,3 @@
-mod Decimals
 mod Read
 mod Asked
 mod Found

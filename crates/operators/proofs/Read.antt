@@ -7,7 +7,7 @@ use Rattle.tcltext.specs.Numeral.{IsNumeral, IsInRange}
 use Rattle.tcltext.specs.Numbers.{numeral, is_in_range}
 use Rattle.tcltext.proofs.Numerals.{numeral_read, numeral_spelled}
 use Rattle.operators.specs.Number.{held, number_of}
-use Rattle.operators.proofs.Decimals.{is_numeral}
+use Rattle.tcltext.proofs.Decimals.{is_numeral}
 
 in_range : (n : ℤ) → FitsSigned w64 n → is_in_range n ≡ true
 in_range (pos n) fits = grind (arith, nat_tests, fits.sfits)

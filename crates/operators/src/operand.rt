@@ -10,7 +10,7 @@ use itoa::Buffer;
 use memory::NoMemory;
 use std::alloc::Allocator;
 use std::marker::Model;
-use tcltext::{Value, print_int, read_int};
+use tcltext::Value;
 
 /// A value of a formula, which contracts see as its text. A number is kept as it is, and its text
 /// is the decimal one, so that arithmetic asks for no memory.
@@ -72,7 +72,7 @@ impl<A: Allocator> Operand<A> {
     {
         match &self.form {
             Form::Number(n) => Some(*n),
-            Form::Text(text) => number_in(text.as_slice()),
+            Form::Text(text) => number_in(text),
         }
     }
 
@@ -93,25 +93,25 @@ impl<A: Allocator + Copy> Operand<A> {
         ensures { IfOk result (λ text. text ≡ value.result self) }
     {
         match self.form {
-            Form::Number(n) => Value::new(alloc, print_int(alloc, n)?),
+            Form::Number(n) => Value::int(alloc, n),
             Form::Text(text) => in_decimal(alloc, text),
         }
     }
 }
 
 /// The number that a text is, if it is one (expr(n), operands).
-pub(crate) fn number_in(text: &[u8]) -> Option<i64>
+pub(crate) fn number_in<A: Allocator>(text: &Value<A>) -> Option<i64>
     ensures { result ≡ number_of text.now }
 {
-    read_int(text)
+    text.number()
 }
 
 /// A text that is a number in decimal, any other one as it stands.
 fn in_decimal<A: Allocator + Copy>(alloc: A, text: Value<A>) -> Result<Value<A>, NoMemory>
     ensures { IfOk result (λ told. told ≡ value.result text) }
 {
-    match number_in(text.as_slice()) {
-        Some(n) => Value::new(alloc, print_int(alloc, n)?),
+    match number_in(&text) {
+        Some(n) => Value::int(alloc, n),
         None => Ok(text),
     }
 }

@@ -17,7 +17,7 @@ use tcltext::Value;
 pub fn written<A: Allocator>(spelling: Value<A>) -> Result<Operand<A>, Raise<A>>
     ensures { Answers (meant.written spelling) result }
 {
-    if number_in(spelling.as_slice()).is_none() {
+    if number_in(&spelling).is_none() {
         return Err(Raise::Fault(Fault::OutOfRange));
     }
     Ok(Operand::text(spelling))

@@ -28,7 +28,7 @@ pub fn literal<A: Allocator + Copy>(
     ensures { IfOk result (λ ps. parts_then ps.value.items no_parts
         ≡ bytes_then text.now no_parts) }
 {
-    let value = Value::from_slice(alloc, text)?;
+    let value = Value::word(alloc, text)?;
     literal_parts(alloc, value)
 }
 

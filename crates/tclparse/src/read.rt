@@ -38,7 +38,7 @@ fn end_literal<A: Allocator + Copy>(
     ensures forms { OnOk result (EndsLiteral parts.old.items parts.new.items) }
 {
     if !literal.is_empty() {
-        let value = Value::from_slice(alloc, literal)?;
+        let value = Value::word(alloc, literal)?;
         parts.push(Part::Literal(value))?;
         literal.clear();
     }

@@ -1,7 +1,11 @@
-use Rattle.std.proofs.Common.{sym, ap, ◌∙◌, arith}
+use Rattle.std.proofs.Common.{◌≡◌, ◌+◌, ◌<◌, ◌∷◌, [], ℕ, pos, sym, ap, ◌∙◌, arith}
+use Rattle.std.proofs.lemmas.Fmt.{decimal_digit}
+use Rattle.std.specs.Fmt.{signed_decimal}
 use Rattle.meanings.specs.Meaning.{truth}
-use Rattle.operators.proofs.Decimals.{one_digit}
 use Rattle.operators.proofs.operand.Operand.truth.Goals as goal
+
+one_digit : (n : ℕ) → n < 10 → signed_decimal (pos n) ≡ (48 + n) ∷ []
+one_digit = decimal_digit
 
 pub returns-then-holds : goal.returns-then-holds
 returns-then-holds g c =
