@@ -5,8 +5,7 @@ use Rattle.acts.specs.Flaw as flaw
 use Rattle.conditions.specs.ForLoop as for
 use Rattle.conditions.specs.Formulas.{with_formula}
 use Rattle.conditions.specs.WhileLoop as while
-use Rattle.state.specs.Dialogue.{on_value, raises, within}
-use Rattle.state.specs.Status.{Status}
+use Rattle.state.specs.Prelude.{on_value, raises, within, Status}
 
 module _ (levels : ℕ) (s : Status) where
   pub while_two : (args : List (List ℕ)) (test body x y : List ℕ) → length args ≡ 2 →

@@ -13,10 +13,8 @@ use Rattle.conditions.specs.WhileLoop.{while_loop}
 use Rattle.evaluation.proofs.Closed.{tested_closed, valued_closed}
 use Rattle.pure.specs.Concat.{concatenated}
 use Rattle.state.proofs.Closed.{Closed, Loops, Ticks, inside_closed, raises_closed, tick_closed, turn_closed, value_closed, within_closed}
-use Rattle.state.specs.Dialogue.{Course, within}
-use Rattle.state.specs.Outcome.{Outcome, Gives, Leaves, Stops, Error, Return, Break, Continue, Again, AgainRunning}
-use Rattle.state.specs.Piece.{FormulaText, LoopTree, ScriptText, ScriptTree}
-use Rattle.state.specs.Status.{Status}
+use Rattle.state.specs.Prelude.{Course, within, Outcome, Gives, Leaves, Stops, Error, Return, Break, Continue, Again, AgainRunning, LoopTree, ScriptText, ScriptTree, Status}
+use Rattle.state.specs.Piece.{FormulaText}
 use Rattle.tclparse.specs.Formula.{Formula}
 use Rattle.tclparse.specs.FormulaFault.{FormulaFault}
 

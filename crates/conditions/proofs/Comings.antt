@@ -1,14 +1,9 @@
 -- What a command has come to whose loop may have begun turns.
 use Rattle.std.proofs.Common.{◌≡◌, ◌∙◌, ℕ, List, Result, sym, ap, subst}
 use Rattle.conditions.specs.GoesOn.{Comes, GoesOn, here, reads, turning}
-use Rattle.plan.specs.Plan.{Ends}
-use Rattle.state.specs.Dialogue.{Course}
-use Rattle.state.specs.Nesting.{Nests, course_of}
-use Rattle.state.specs.Outcome.{Outcome}
+use Rattle.state.specs.Prelude.{Ends, Course, Nests, Outcome, Reaches, Status, FitsState, outcome_of}
+use Rattle.state.specs.Nesting.{course_of}
 use Rattle.state.specs.Reaches as reaches
-use Rattle.state.specs.Reaches.{Reaches}
-use Rattle.state.specs.Status.{Status}
-use Rattle.state.specs.View.{FitsState, outcome_of}
 use Rattle.state.specs.declared.nesting.Nesting.{Nesting}
 use Rattle.state.specs.declared.nesting.Nesting.TheVariants as nesting
 use Rattle.state.specs.declared.outcome.Leave.{Leave}

@@ -7,8 +7,7 @@ use Rattle.conditions.specs.Expr.{expr, told}
 use Rattle.conditions.specs.Formulas.{with_formula}
 use Rattle.evaluation.specs.Evaluated.{evaluated}
 use Rattle.pure.specs.Concat.{concatenated}
-use Rattle.state.specs.Dialogue.{raises}
-use Rattle.state.specs.Status.{Status}
+use Rattle.state.specs.Prelude.{raises, Status}
 
 module _ (levels : ℕ) (s : Status) where
   pub expr_none : (args : List (List ℕ)) → (length args == 0) ≡ true →

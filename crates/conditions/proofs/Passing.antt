@@ -1,9 +1,6 @@
 -- What is passed on of what a script ends with.
 use Rattle.std.proofs.Common.{◌≡◌, ℕ, List, Err, refl}
-use Rattle.plan.specs.Plan.{Ends}
-use Rattle.state.specs.Dialogue.{Course, on_value}
-use Rattle.state.specs.Status.{Status}
-use Rattle.state.specs.View.{outcome_of}
+use Rattle.state.specs.Prelude.{Ends, Course, on_value, Status, outcome_of}
 use Rattle.state.specs.declared.outcome.Leave.{Leave}
 use Rattle.state.specs.declared.outcome.Leave.TheVariants as leave
 

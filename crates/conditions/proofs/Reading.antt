@@ -1,6 +1,6 @@
 -- A text is read as the formula that it is.
 use Rattle.std.proofs.Common.{◌≡◌, ℕ, List, Result, Ok, Err, sym, ap, subst}
-use Rattle.acts.specs.Flaw.{Flaw}
+use Rattle.state.specs.Prelude.{Flaw, Course, raises, Reaches, here, Status}
 use Rattle.conditions.specs.Formulas.{flaw_of_formula, with_formula}
 use Rattle.conditions.specs.Weight.{scripts_in_text, scripts_read}
 use Rattle.evaluation.specs.Scripts.{scripts_in}
@@ -13,10 +13,8 @@ use Rattle.formulas.specs.declared.error.ReadError.TheVariants as error
 use Rattle.formulas.specs.declared.fault.Fault.{Fault}
 use Rattle.formulas.specs.declared.tree.Formula as coded
 use Rattle.state.proofs.Reaches.{same_reaches}
-use Rattle.state.specs.Dialogue.{Course, raises}
 use Rattle.state.specs.Piece.{FormulaText}
-use Rattle.state.specs.Reaches.{Reaches, here, reads}
-use Rattle.state.specs.Status.{Status}
+use Rattle.state.specs.Reaches.{reads}
 use Rattle.tclparse.specs.Formula.{Formula}
 use Rattle.tclparse.specs.FormulaGrammar.{IsFormula}
 

@@ -3,8 +3,7 @@ use Rattle.std.proofs.Common.{◌≡◌, ◌∙◌, ℕ, ◌+◌, ◌<◌, ◌�
 use Rattle.std.proofs.lemmas.List.Sums.{sum_by-cons}
 use Rattle.std.specs.Prelude.{Vec}
 use Rattle.std.specs.declared.rc.Rc.{Rc}
-use Rattle.acts.specs.Flaw.{flaw_of}
-use Rattle.acts.specs.declared.fault.Fault.{Fault}
+use Rattle.state.specs.Prelude.{flaw_of, Fault, Course, raises, within, Reaches, Status}
 use Rattle.conditions.specs.Branches.{Branch}
 use Rattle.conditions.specs.Choosing.{branch_of}
 use Rattle.conditions.specs.Conditional.{chooses, chosen, passes}
@@ -17,9 +16,6 @@ use Rattle.conditions.specs.declared.test.Test.TheVariants as test
 use Rattle.evaluation.specs.View.{resumed}
 use Rattle.evaluation.specs.declared.open.OpenFormula.{OpenFormula}
 use Rattle.state.proofs.Reaches.{same_reaches, then_reaches}
-use Rattle.state.specs.Dialogue.{Course, raises, within}
-use Rattle.state.specs.Reaches.{Reaches}
-use Rattle.state.specs.Status.{Status}
 use Rattle.tclparse.specs.View.{commands_of}
 use Rattle.tclparse.specs.declared.tree.Command.{Command}
 use Rattle.words.specs.Words.{nested}

@@ -1,9 +1,7 @@
 -- What the turns of a loop come to.
 use Rattle.std.proofs.Common.{◌≡◌, ℕ, Option, Some, None, refl}
 use Rattle.conditions.specs.Loop.{on_step, steps}
-use Rattle.state.specs.Dialogue.{Course, inside}
-use Rattle.state.specs.Piece.{ScriptTree}
-use Rattle.state.specs.Status.{Status}
+use Rattle.state.specs.Prelude.{Course, inside, ScriptTree, Status}
 
 -- the script behind each turn, where there is one and where there is none
 module _ (step : Option ScriptTree) (levels : ℕ) (next : Status → Course) (s : Status) where

@@ -1,5 +1,6 @@
 -- How the branches of the code, and what if holds, stand to those of the definition.
 use Rattle.std.specs.Prelude.{◌≡◌, ℕ, ◌+◌, ◌<◌, length, map, option_map, sum_by, Option, Some, None}
+use Rattle.state.specs.Prelude.{Course, on_value, Outcome, Status}
 use Rattle.conditions.specs.Branches.{Branch, Branches, branches, no_branch, with_branch, behind as after_body}
 use Rattle.conditions.specs.Conditional.{chooses, chosen, passes}
 use Rattle.conditions.specs.Test.{on_tested}
@@ -14,9 +15,6 @@ use Rattle.conditions.specs.declared.conditional.Held.TheVariants as held
 use Rattle.conditions.specs.declared.conditional.Tested.{Tested}
 use Rattle.evaluation.specs.Scripts.{scripts_behind}
 use Rattle.evaluation.specs.View.{resumed}
-use Rattle.state.specs.Dialogue.{Course, on_value}
-use Rattle.state.specs.Outcome.{Outcome}
-use Rattle.state.specs.Status.{Status}
 
 -- the branch that one of the code's stands for
 abbrev pub branch_of : {A : Type 0} → coded.Branch A → Branch

@@ -1,13 +1,10 @@
 -- What if does.
 use Rattle.std.specs.Prelude.{ℕ, List, [], ◌∷◌, codes, Bool, Option, Some, None, if◌then◌else◌}
+use Rattle.state.specs.Prelude.{Ends, Course, gives, raises, within, Outcome, Status}
 use Rattle.acts.specs.Flaw as flaw
 use Rattle.conditions.specs.Branches.{Branch, Branches, branches}
 use Rattle.conditions.specs.Formulas.{with_formula}
 use Rattle.evaluation.specs.Evaluated.{tested}
-use Rattle.plan.specs.Plan.{Ends}
-use Rattle.state.specs.Dialogue.{Course, gives, raises, within}
-use Rattle.state.specs.Outcome.{Outcome}
-use Rattle.state.specs.Status.{Status}
 
 -- what a body leaves is what if leaves (if(n))
 abbrev pub passes : Status → Outcome → Course

@@ -1,8 +1,6 @@
 -- What passes the errors of a script on.
 use Rattle.std.specs.Prelude.{◌≡◌, ℕ, List}
-use Rattle.state.specs.Dialogue.{Course, leaves}
-use Rattle.state.specs.Outcome.{Outcome, Leaves, Error}
-use Rattle.state.specs.Status.{Status}
+use Rattle.state.specs.Prelude.{Course, leaves, Outcome, Leaves, Error, Status}
 
 -- an error of the script is passed on (Tcl(n), return codes)
 abbrev pub PassesErrors : (Status → Outcome → Course) → Type 0

@@ -1,5 +1,6 @@
 -- What expr does.
 use Rattle.std.specs.Prelude.{ℕ, List, [], ◌∷◌, codes}
+use Rattle.state.specs.Prelude.{Course, gives, on_value, raises, Outcome, Status}
 use Rattle.acts.specs.Flaw as flaw
 use Rattle.conditions.specs.Formulas.{with_formula}
 use Rattle.conditions.specs.declared.expr.Held.{Held}
@@ -8,9 +9,6 @@ use Rattle.evaluation.specs.Scripts.{scripts_behind}
 use Rattle.evaluation.specs.View.{resumed}
 use Rattle.operators.specs.Value.{result}
 use Rattle.pure.specs.Concat.{concatenated}
-use Rattle.state.specs.Dialogue.{Course, gives, on_value, raises}
-use Rattle.state.specs.Outcome.{Outcome}
-use Rattle.state.specs.Status.{Status}
 
 -- expr w ..: the value of the formula that the words make, joined as by concat (expr(n))
 abbrev pub expr : ℕ → List (List ℕ) → Status → Course

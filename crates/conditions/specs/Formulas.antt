@@ -1,12 +1,9 @@
 -- What follows a text that is read as a formula.
 use Rattle.std.specs.Prelude.{ℕ, List, Result, Ok, Err}
+use Rattle.state.specs.Prelude.{Flaw, Reads, Course, raises, Status}
 use Rattle.acts.specs.Flaw as flaw
-use Rattle.acts.specs.Flaw.{Flaw}
-use Rattle.plan.specs.Plan.{Reads}
-use Rattle.state.specs.Dialogue.{Course, raises}
 use Rattle.state.specs.Faults.{flaw_of_fault}
 use Rattle.state.specs.Piece.{FormulaText}
-use Rattle.state.specs.Status.{Status}
 use Rattle.tclparse.specs.Formula.{Formula}
 use Rattle.tclparse.specs.FormulaFault.{FormulaFault, of_words, syntax}
 

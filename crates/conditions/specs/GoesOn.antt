@@ -1,13 +1,9 @@
 -- Courses up to texts that are read, and up to a loop's next turn.
 use Rattle.std.specs.Prelude.{ℕ}
+use Rattle.state.specs.Prelude.{Reads, Course, Outcome, LoopTree, IsTree, Status, FitsState}
 use Rattle.conditions.specs.Loop.{again, turns}
-use Rattle.plan.specs.Plan.{Reads}
-use Rattle.state.specs.Dialogue.{Course}
 use Rattle.state.specs.Nesting.{course_of}
-use Rattle.state.specs.Outcome.{Outcome}
-use Rattle.state.specs.Piece.{LoopTree, Text, Tree, IsTree}
-use Rattle.state.specs.Status.{Status}
-use Rattle.state.specs.View.{FitsState}
+use Rattle.state.specs.Piece.{Text, Tree}
 use Rattle.state.specs.declared.nesting.Nesting.{Nesting}
 use Rattle.state.specs.declared.state.State.{State}
 

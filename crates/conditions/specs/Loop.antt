@@ -1,11 +1,10 @@
 -- What a loop does from a turn on.
 use Rattle.std.specs.Prelude.{ℕ, [], Bool, Option, Some, None, if◌then◌else◌}
+use Rattle.state.specs.Prelude.{Course, gives, leaves, stops, inside, Outcome, Gives, Leaves, Stops, Break, LoopTree, ScriptTree, Status}
 use Rattle.evaluation.specs.Evaluated.{tested}
 use Rattle.plan.specs.Plan.{goes}
-use Rattle.state.specs.Dialogue.{Course, gives, leaves, stops, inside, tick}
-use Rattle.state.specs.Outcome.{Outcome, Gives, Leaves, Stops, Break}
-use Rattle.state.specs.Piece.{Loop, LoopTree, ScriptTree}
-use Rattle.state.specs.Status.{Status}
+use Rattle.state.specs.Dialogue.{tick}
+use Rattle.state.specs.Piece.{Loop}
 use Rattle.state.specs.Turn.{on_turn}
 
 -- after the script that stands behind a turn comes the next turn; break ends the loop, and its

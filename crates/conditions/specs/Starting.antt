@@ -1,15 +1,13 @@
 -- What for holds while a script of it runs.
 use Rattle.std.specs.Prelude.{◌≡◌, ℕ}
+use Rattle.state.specs.Prelude.{Course, on_value, Outcome, Status}
 use Rattle.conditions.specs.ForLoop.{started}
 use Rattle.conditions.specs.Turning as turning
 use Rattle.conditions.specs.Weight.{scripts_in_text}
 use Rattle.conditions.specs.declared.for_loop.Held.{Held}
 use Rattle.conditions.specs.declared.for_loop.Held.TheVariants as held
 use Rattle.conditions.specs.declared.turning.Held as turns
-use Rattle.state.specs.Dialogue.{Course, on_value}
 use Rattle.state.specs.Nesting.{course_of}
-use Rattle.state.specs.Outcome.{Outcome}
-use Rattle.state.specs.Status.{Status}
 use Rattle.state.specs.declared.nesting.Nesting.{Nesting}
 
 -- what follows a script of for (for(n))

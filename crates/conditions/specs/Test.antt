@@ -1,14 +1,12 @@
 -- What a test comes to.
 use Rattle.std.specs.Prelude.{ℕ, ◌<◌, List, Bool}
-use Rattle.acts.specs.Flaw.{flaw_of}
+use Rattle.state.specs.Prelude.{flaw_of, Course, raises, Status}
 use Rattle.conditions.specs.declared.test.Test.{Test}
 use Rattle.conditions.specs.declared.test.Test.TheVariants as test
 use Rattle.evaluation.specs.Evaluated.{on_truth}
 use Rattle.evaluation.specs.Scripts.{scripts_behind}
 use Rattle.evaluation.specs.View.{resumed}
 use Rattle.operators.specs.Truth.{truth_of}
-use Rattle.state.specs.Dialogue.{Course, raises}
-use Rattle.state.specs.Status.{Status}
 use Rattle.tclparse.specs.View.{commands_of}
 use Rattle.words.specs.Words.{nested}
 

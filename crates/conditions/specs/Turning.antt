@@ -1,5 +1,6 @@
 -- How the loops of the code stand to those of the definition.
 use Rattle.std.specs.Prelude.{ℕ, ◌+◌, option_map}
+use Rattle.state.specs.Prelude.{Course, on_value, tree_of, Outcome, LoopTree, Status}
 use Rattle.conditions.specs.Loop.{again, behind_body, on_step, turned}
 use Rattle.conditions.specs.Test.{on_tested}
 use Rattle.conditions.specs.declared.turning.At.{At}
@@ -9,11 +10,6 @@ use Rattle.conditions.specs.declared.turning.Loop.{Loop}
 use Rattle.evaluation.specs.Scripts.{scripts_behind, scripts_in}
 use Rattle.evaluation.specs.View.{resumed}
 use Rattle.formulas.specs.View.{formula_of}
-use Rattle.state.specs.Dialogue.{Course, on_value}
-use Rattle.state.specs.Nesting.{tree_of}
-use Rattle.state.specs.Outcome.{Outcome}
-use Rattle.state.specs.Piece.{LoopTree}
-use Rattle.state.specs.Status.{Status}
 
 -- the loop that one of the code's stands for
 abbrev pub loop_of : {A : Type 0} → Loop A → LoopTree

@@ -1,15 +1,12 @@
 -- What is done with a text that is read as a formula.
 use Rattle.std.specs.Prelude.{◌≡◌, ℕ, List, Bool, Result, Ok, Err}
-use Rattle.acts.specs.Flaw.{flaw_of}
-use Rattle.acts.specs.declared.fault.Fault.{Fault}
+use Rattle.state.specs.Prelude.{flaw_of, Fault, Course, raises, Status}
 use Rattle.conditions.specs.Formulas.{with_formula}
 use Rattle.conditions.specs.Weight.{scripts_in_text}
 use Rattle.evaluation.specs.Evaluated.{tested}
 use Rattle.evaluation.specs.Scripts.{scripts_in}
 use Rattle.formulas.specs.View.{formula_of}
 use Rattle.formulas.specs.declared.tree.Formula as coded
-use Rattle.state.specs.Dialogue.{Course, raises}
-use Rattle.state.specs.Status.{Status}
 use Rattle.tclparse.specs.Formula.{Formula}
 
 -- a formula that was read, or the script's error

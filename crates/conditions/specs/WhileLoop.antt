@@ -1,12 +1,9 @@
 -- What while does.
 use Rattle.std.specs.Prelude.{ℕ, List, [], ◌∷◌, codes, None}
+use Rattle.state.specs.Prelude.{Reads, Course, raises, ScriptText, Status}
 use Rattle.acts.specs.Flaw as flaw
 use Rattle.conditions.specs.Formulas.{with_formula}
 use Rattle.conditions.specs.Loop.{again}
-use Rattle.plan.specs.Plan.{Reads}
-use Rattle.state.specs.Dialogue.{Course, raises}
-use Rattle.state.specs.Piece.{ScriptText}
-use Rattle.state.specs.Status.{Status}
 use Rattle.tclparse.specs.Formula.{Formula}
 
 -- the loop of a test; its body is read once too (while(n))

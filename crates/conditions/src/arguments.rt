@@ -1,10 +1,8 @@
 //! What is asked of the words of a command.
 
 ghost use Rattle.std.specs.Prelude.{◌≡◌, IfOk};
+ghost use Rattle.state.specs.Prelude.{text_of, Leaves, Error, outcome_of};
 ghost use Rattle.acts.specs.Flaw as flaw;
-ghost use Rattle.acts.specs.Flaw.{text_of};
-ghost use Rattle.state.specs.Outcome.{Leaves, Error};
-ghost use Rattle.state.specs.View.{outcome_of};
 
 use acts::{Fault, NoMemory};
 use state::Outcome;

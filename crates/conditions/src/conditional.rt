@@ -1,15 +1,11 @@
 //! `if test ?then? body ?elseif test ?then? body ..? ?else? ?body?` (if(n)).
 
 ghost use Rattle.std.specs.Prelude.{◌≡◌, ◌+◌, ◌<◌, ℕ, IfOk};
+ghost use Rattle.state.specs.Prelude.{inside, within, Nests, Gives, Reaches, Status, FitsState, outcome_of};
 ghost use Rattle.conditions.specs.Choosing.{behind_test, chosen_of, next_of, scripts_held, scripts_in_tests, scripts_tested};
 ghost use Rattle.conditions.specs.Conditional as definition;
 ghost use Rattle.conditions.specs.Conditional.{passes};
-ghost use Rattle.state.specs.Dialogue.{inside, within};
-ghost use Rattle.state.specs.Nesting.{Advances, Nests, course_of as at_hand};
-ghost use Rattle.state.specs.Outcome.{Gives};
-ghost use Rattle.state.specs.Reaches.{Reaches};
-ghost use Rattle.state.specs.Status.{Status};
-ghost use Rattle.state.specs.View.{FitsState, outcome_of};
+ghost use Rattle.state.specs.Nesting.{Advances, course_of as at_hand};
 ghost use Rattle.tclparse.specs.View.{commands_of};
 
 use crate::arguments::wrong_args;

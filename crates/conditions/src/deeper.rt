@@ -1,11 +1,10 @@
 //! Scripts that run one level deeper, for commands that pass their errors on.
 
-ghost use Rattle.std.specs.Prelude.{◌≡◌, ℕ, ◌<◌, ◌⊎◌, IfOk};
+ghost use Rattle.std.specs.Prelude.{◌≡◌, ℕ, ◌<◌, IfOk, ◌⊎◌};
+ghost use Rattle.state.specs.Prelude.{Course, inside, tree_of, Status};
 ghost use Rattle.conditions.specs.Deeper.{PassesErrors};
-ghost use Rattle.state.specs.Dialogue.{Course, inside};
-ghost use Rattle.state.specs.Nesting.{Advances, course_of, tree_of};
+ghost use Rattle.state.specs.Nesting.{Advances, course_of};
 ghost use Rattle.state.specs.Outcome.{Outcome as meant};
-ghost use Rattle.state.specs.Status.{Status};
 ghost use Rattle.tclparse.specs.View.{commands_of};
 ghost use Rattle.words.specs.Words as words;
 

@@ -1,13 +1,12 @@
 //! `expr w ..` (expr(n)).
 
 ghost use Rattle.std.specs.Prelude.{◌≡◌, ℕ, IfOk};
+ghost use Rattle.state.specs.Prelude.{Nests, Status, FitsState, outcome_of};
 ghost use Rattle.conditions.specs.Expr as definition;
 ghost use Rattle.conditions.specs.Expr.{next_of, scripts_held, told};
 ghost use Rattle.evaluation.specs.Scripts.{MeetsFewer};
 ghost use Rattle.evaluation.specs.View.{course_of};
-ghost use Rattle.state.specs.Nesting.{Advances, Nests, course_of as at_hand};
-ghost use Rattle.state.specs.Status.{Status};
-ghost use Rattle.state.specs.View.{FitsState, outcome_of};
+ghost use Rattle.state.specs.Nesting.{Advances, course_of as at_hand};
 
 use crate::arguments::wrong_args;
 use crate::deeper::nested;

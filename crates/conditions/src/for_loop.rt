@@ -1,14 +1,13 @@
 //! `for start test step body` (for(n)).
 
 ghost use Rattle.std.specs.Prelude.{◌≡◌, ◌≤◌, ℕ, [], IfOk};
+ghost use Rattle.state.specs.Prelude.{Status, FitsState, outcome_of};
 ghost use Rattle.conditions.specs.ForLoop as definition;
 ghost use Rattle.conditions.specs.GoesOn.{Comes};
 ghost use Rattle.conditions.specs.Starting.{IsLifted, next_of, scripts_held};
 ghost use Rattle.conditions.specs.Turning as turning_as;
 ghost use Rattle.conditions.specs.Weight.{scripts_in_text};
 ghost use Rattle.state.specs.Nesting.{Advances};
-ghost use Rattle.state.specs.Status.{Status};
-ghost use Rattle.state.specs.View.{FitsState, outcome_of};
 
 use crate::arguments::wrong_args;
 use crate::deeper::deeper;

@@ -1,13 +1,10 @@
 //! Words of commands that are formulas.
 
 ghost use Rattle.std.specs.Prelude.{◌≡◌, ℕ, IfOk};
-ghost use Rattle.acts.specs.Flaw.{flaw_of};
+ghost use Rattle.state.specs.Prelude.{flaw_of, Course, Reaches, Status};
 ghost use Rattle.conditions.specs.Formulas.{flaw_of_formula, with_formula};
 ghost use Rattle.conditions.specs.View.{IsWeighed, course_of_read};
 ghost use Rattle.formulas.specs.Seen.{fault_of};
-ghost use Rattle.state.specs.Dialogue.{Course};
-ghost use Rattle.state.specs.Reaches.{Reaches};
-ghost use Rattle.state.specs.Status.{Status};
 ghost use Rattle.tclparse.specs.Formula as tree;
 
 use acts::{Fault, NoMemory};

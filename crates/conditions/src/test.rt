@@ -1,14 +1,12 @@
 //! The tests of `if`, `while` and `for`: formulas that are asked for a truth value.
 
 ghost use Rattle.std.specs.Prelude.{◌≡◌, ◌≤◌, ℕ, Bool, IfOk};
+ghost use Rattle.state.specs.Prelude.{Course, Reaches, Status};
 ghost use Rattle.conditions.specs.Test.{HasFewer, course_of_test, on_tested};
 ghost use Rattle.conditions.specs.View.{begun_test};
 ghost use Rattle.conditions.specs.Weight.{scripts_in_text};
 ghost use Rattle.evaluation.specs.Scripts.{MeetsFewer};
 ghost use Rattle.evaluation.specs.View.{course_of};
-ghost use Rattle.state.specs.Dialogue.{Course};
-ghost use Rattle.state.specs.Reaches.{Reaches};
-ghost use Rattle.state.specs.Status.{Status};
 
 use crate::formula::read;
 use acts::{Fault, NoMemory, Raise};

@@ -1,12 +1,9 @@
 //! What follows the scripts of a loop's turn.
 
 ghost use Rattle.std.specs.Prelude.{◌≡◌, MatchOption};
+ghost use Rattle.state.specs.Prelude.{Ends, Course, Status, outcome_of};
 ghost use Rattle.conditions.specs.Loop.{on_step};
-ghost use Rattle.plan.specs.Plan.{Ends};
-ghost use Rattle.state.specs.Dialogue.{Course};
-ghost use Rattle.state.specs.Status.{Status};
 ghost use Rattle.state.specs.Turn.{on_turn};
-ghost use Rattle.state.specs.View.{outcome_of};
 
 use state::{Code, Leave, Outcome};
 use std::alloc::Allocator;

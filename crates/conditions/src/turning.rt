@@ -1,16 +1,15 @@
 //! Loops from a turn on: `while`, and `for` behind its start (while(n), for(n)).
 
 ghost use Rattle.std.specs.Prelude.{◌≡◌, ◌≤◌, ◌+◌, ℕ, IfOk};
+ghost use Rattle.state.specs.Prelude.{inside, on_value, Status, FitsState, outcome_of};
 ghost use Rattle.conditions.specs.GoesOn.{Comes};
 ghost use Rattle.conditions.specs.Loop.{again, behind_body, on_step, steps, turned};
 ghost use Rattle.conditions.specs.Test.{HasFewer, course_of_test, on_tested};
 ghost use Rattle.conditions.specs.Turning.{loop_of, next_of, scripts_held, scripts_tested};
 ghost use Rattle.evaluation.specs.Scripts.{scripts_behind};
 ghost use Rattle.evaluation.specs.View.{resumed};
-ghost use Rattle.state.specs.Dialogue.{inside, on_value, tick};
+ghost use Rattle.state.specs.Dialogue.{tick};
 ghost use Rattle.state.specs.Nesting.{Advances};
-ghost use Rattle.state.specs.Status.{Status};
-ghost use Rattle.state.specs.View.{FitsState, outcome_of};
 
 use crate::deeper::{deeper, nested};
 use crate::test::{Test, of_evaluated};

@@ -1,11 +1,10 @@
 //! `while test body` (while(n)).
 
 ghost use Rattle.std.specs.Prelude.{◌≡◌, ◌≤◌, IfOk};
+ghost use Rattle.state.specs.Prelude.{Status, FitsState};
 ghost use Rattle.conditions.specs.GoesOn.{Comes};
 ghost use Rattle.conditions.specs.Turning.{next_of};
 ghost use Rattle.conditions.specs.WhileLoop as definition;
-ghost use Rattle.state.specs.Status.{Status};
-ghost use Rattle.state.specs.View.{FitsState};
 
 use crate::arguments::wrong_args;
 use crate::formula::read;

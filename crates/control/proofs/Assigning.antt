@@ -1,14 +1,11 @@
 -- What the variables that foreach sets lead to.
 use Rattle.std.proofs.Common.{◌≡◌, ◌∙◌, ℕ, ◌+◌, ◌<◌, List, [], ◌∷◌, ◌++◌, length, drop, get_or, map, Option, Some, None, refl, ap}
-use Rattle.acts.specs.declared.fault.Fault.{Fault}
+use Rattle.state.specs.Prelude.{Fault, Course, Status, FitsState}
 use Rattle.control.specs.Foreach.{assigned, assigns, dealt, first_of, row}
 use Rattle.control.specs.Looping.{Assigned, pair_of}
 use Rattle.control.specs.declared.pair.Pair as coded
 use Rattle.state.proofs.Lists.{split_at}
-use Rattle.state.specs.Dialogue.{Course}
-use Rattle.state.specs.Status.{Status}
 use Rattle.state.specs.Variables.{writes}
-use Rattle.state.specs.View.{FitsState}
 use Rattle.state.specs.declared.state.State.{State}
 use Rattle.tclparse.specs.Variable.{named}
 

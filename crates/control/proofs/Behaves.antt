@@ -12,9 +12,7 @@ use Rattle.control.specs.Control as control
 use Rattle.control.specs.Control.{Control}
 use Rattle.pure.specs.Concat.{concatenated}
 use Rattle.state.proofs.Closed.{Closed, Loops, Ticks, within_closed, writes_closed, named_closed}
-use Rattle.state.specs.Dialogue.{Course}
-use Rattle.state.specs.Outcome.{Outcome, Gives, Leaves, Stops}
-use Rattle.state.specs.Status.{Status}
+use Rattle.state.specs.Prelude.{Course, Outcome, Gives, Leaves, Stops, Status}
 use Rattle.tclstate.specs.Procs.{Procedure}
 use Rattle.tclstate.specs.Scopes.{Frame, entered, popped}
 use Rattle.std.specs.Prelude.{decimal}

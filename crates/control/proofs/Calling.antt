@@ -3,8 +3,7 @@ use Rattle.std.proofs.Common.{◌≡◌, ℕ, ◌≤◌, List, [], ◌∷◌, le
 use Rattle.std.proofs.Math.ListN.{drop_of_length-le}
 use Rattle.acts.specs.Flaw as flaw
 use Rattle.control.specs.Calls.{Values, call, frame_of, given, returned, taken, behind, rest_of, values_of, with_value}
-use Rattle.state.specs.Dialogue.{raises, within}
-use Rattle.state.specs.Status.{Status}
+use Rattle.state.specs.Prelude.{raises, within, Status}
 use Rattle.tclstate.specs.Formals.{Formal}
 use Rattle.tclstate.specs.Pairs.{put}
 use Rattle.tclstate.specs.Procs.{Procedure}

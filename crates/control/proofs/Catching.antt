@@ -2,15 +2,10 @@
 use Rattle.std.proofs.Common.{◌≡◌, ℕ, List, [], ◌∷◌, length, Option, Some, None, Result, Ok, Err, IfOk, refl}
 use Rattle.std.specs.Prelude.{codes, decimal}
 use Rattle.acts.specs.Flaw as flaw
-use Rattle.acts.specs.Flaw.{text_of}
+use Rattle.state.specs.Prelude.{text_of, gives, raises, within, Nests, Leaves, Error, Status, FitsState, outcome_of}
 use Rattle.control.specs.declared.catch.Held.{Held}
 use Rattle.control.specs.Catch.{catch, caught, next_of, runs_into, stores_in}
-use Rattle.state.specs.Dialogue.{gives, raises, within}
 use Rattle.state.proofs.Nestings.{over}
-use Rattle.state.specs.Nesting.{Nests}
-use Rattle.state.specs.Outcome.{Leaves, Error}
-use Rattle.state.specs.Status.{Status}
-use Rattle.state.specs.View.{FitsState, outcome_of}
 use Rattle.state.specs.declared.nesting.Nesting.TheVariants as nesting
 use Rattle.state.specs.declared.outcome.Leave.{Leave}
 use Rattle.state.specs.declared.state.State.{State}

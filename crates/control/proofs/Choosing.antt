@@ -7,11 +7,10 @@ use Rattle.std.proofs.lemmas.Bool.Decides.{nat_tests}
 use Rattle.acts.specs.Flaw as flaw
 use Rattle.control.specs.Switch.{Exact, Glob, Mode, behind_flag, body_of, chosen, is_default, is_shared, left_over, on_arms, on_flags, on_words, runs_body, takes, tried, wrong_word, wrong_words}
 use Rattle.state.specs.Arguments.{begins_with_dash}
-use Rattle.state.specs.Dialogue.{Course, raises}
+use Rattle.state.specs.Prelude.{Course, raises, Reaches, here, Status}
 use Rattle.state.specs.Listed.{with_list}
 use Rattle.state.specs.Piece.{TestText}
-use Rattle.state.specs.Reaches.{Reaches, here, reads}
-use Rattle.state.specs.Status.{Status}
+use Rattle.state.specs.Reaches.{reads}
 use Rattle.tcltext.specs.Pattern.Glob.{plain}
 use Rattle.tcltext.specs.Pattern.Item.{Reading}
 use Rattle.tcltext.specs.Pattern.Match.{Whole}

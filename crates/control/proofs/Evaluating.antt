@@ -5,8 +5,7 @@ use Rattle.std.proofs.lemmas.Bool.Decides.{nat_tests}
 use Rattle.acts.specs.Flaw as flaw
 use Rattle.control.specs.Eval.{eval, passed}
 use Rattle.pure.specs.Concat.{concatenated}
-use Rattle.state.specs.Dialogue.{raises, within}
-use Rattle.state.specs.Status.{Status}
+use Rattle.state.specs.Prelude.{raises, within, Status}
 
 module _ (levels : ℕ) (s : Status) where
   pub eval_none : (args : List (List ℕ)) → (length args == 0) ≡ true →

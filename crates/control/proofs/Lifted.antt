@@ -2,10 +2,8 @@
 use Rattle.std.proofs.Common.{◌≡◌}
 use Rattle.conditions.proofs.Comings.{comes_lifted, nests_comes}
 use Rattle.conditions.specs.GoesOn.{Comes}
-use Rattle.state.specs.Dialogue.{Course}
-use Rattle.state.specs.Nesting.{Nests, course_of}
-use Rattle.state.specs.Outcome.{Outcome}
-use Rattle.state.specs.Status.{Status}
+use Rattle.state.specs.Prelude.{Course, Nests, Outcome, Status}
+use Rattle.state.specs.Nesting.{course_of}
 use Rattle.state.specs.declared.nesting.Nesting.{Nesting}
 use Rattle.state.specs.declared.state.State.{State}
 

@@ -6,10 +6,7 @@ use Rattle.acts.specs.Flaw as flaw
 use Rattle.control.specs.Foreach.{Pair, assigns, begins, foreach, is_taken, most_asked, on_names, rows, turns, with_pair, with_pairs, wrong_words}
 use Rattle.state.specs.Turn.{on_turn}
 use Rattle.state.proofs.Closed.{Closed, Ticks, inside_closed, listed_closed, named_closed, raises_closed, tick_closed, turn_closed, writes_closed}
-use Rattle.state.specs.Dialogue.{Course, raises}
-use Rattle.state.specs.Outcome.{Gives}
-use Rattle.state.specs.Piece.{ScriptText, ScriptTree}
-use Rattle.state.specs.Status.{Status}
+use Rattle.state.specs.Prelude.{Course, raises, Gives, ScriptText, ScriptTree, Status}
 use Rattle.tclparse.specs.Variable.{named}
 
 module _ (P : Status → Course → Type 0) (closed : Closed P) (ticks : Ticks P P) where

@@ -4,8 +4,7 @@ use Rattle.std.specs.List.{list_all}
 use Rattle.std.specs.Prelude.{codes}
 use Rattle.acts.specs.Flaw as flaw
 use Rattle.control.specs.Foreach.{on_names}
-use Rattle.state.specs.Dialogue.{Course, raises}
-use Rattle.state.specs.Status.{Status}
+use Rattle.state.specs.Prelude.{Course, raises, Status}
 use Rattle.tclparse.specs.Variable.{named}
 
 pub names_none : (word : List ℕ) (names : List (List ℕ)) (s : Status)

@@ -3,8 +3,7 @@ use Rattle.std.proofs.Common.{◌≡◌, ◌∙◌, ℕ, ◌-◌, ◌≤◌, Lis
 use Rattle.std.proofs.Math.Seq.{take-length}
 use Rattle.control.specs.Foreach.{Pair, asked, foreach, is_taken, most_asked, with_pair, with_pairs, wrong_words}
 use Rattle.std.specs.Ordering.{nat_cmp, ord_max}
-use Rattle.state.specs.Dialogue.{Course}
-use Rattle.state.specs.Status.{Status}
+use Rattle.state.specs.Prelude.{Course, Status}
 
 -- the greater of two numbers, as the code has it
 pub greater : (a b : ℕ) → ord_max nat_cmp a b ≡ max a b

@@ -7,10 +7,8 @@ use Rattle.control.specs.Eval.{passed}
 use Rattle.control.specs.Switch.{Mode, Exact, Glob, behind_flag, body_of, chosen, is_default, left_over, on_arms, on_flags, on_words, runs_body, switch, takes, tried, unless_left, wrong_word, wrong_words}
 use Rattle.state.proofs.Closed.{Closed, listed_closed, raises_closed, within_closed}
 use Rattle.state.specs.Arguments.{begins_with_dash}
-use Rattle.state.specs.Dialogue.{Course}
-use Rattle.state.specs.Outcome.{Gives}
+use Rattle.state.specs.Prelude.{Course, Gives, Status}
 use Rattle.state.specs.Piece.{TestText}
-use Rattle.state.specs.Status.{Status}
 use Rattle.tcltext.specs.Pattern.Glob.{plain}
 
 module _ (P : Status → Course → Type 0) (closed : Closed P) where

@@ -2,10 +2,8 @@
 use Rattle.std.proofs.Common.{◌≡◌, ℕ, suc, List, [], map, refl}
 use Rattle.control.specs.Foreach.{Pair, assigns, behind, row, rows, turns}
 use Rattle.state.specs.Turn.{on_turn}
-use Rattle.state.specs.Dialogue.{Course, gives, inside, leaves, tick}
-use Rattle.state.specs.Outcome.{Leaves}
-use Rattle.state.specs.Piece.{ScriptTree}
-use Rattle.state.specs.Status.{Status}
+use Rattle.state.specs.Prelude.{Course, gives, inside, leaves, Leaves, ScriptTree, Status}
+use Rattle.state.specs.Dialogue.{tick}
 use Rattle.state.specs.View.{code_of}
 use Rattle.state.specs.declared.outcome.Code as coded
 use Rattle.state.specs.declared.outcome.Code.TheVariants as code

@@ -1,12 +1,8 @@
 -- What a call of a procedure does.
 use Rattle.std.specs.Prelude.{ℕ, List, [], ◌∷◌, Bool, true, false, Option, Some, None, option_map}
+use Rattle.state.specs.Prelude.{text_of, Ends, Course, raises, within, Outcome, Gives, Leaves, Stops, Error, Return, Break, Continue, Again, AgainRunning, Status}
 use Rattle.acts.specs.Flaw as flaw
-use Rattle.acts.specs.Flaw.{text_of}
 use Rattle.control.specs.declared.calls.Held.{Held}
-use Rattle.plan.specs.Plan.{Ends}
-use Rattle.state.specs.Dialogue.{Course, raises, within}
-use Rattle.state.specs.Outcome.{Outcome, Gives, Leaves, Stops, Error, Return, Break, Continue, Again, AgainRunning}
-use Rattle.state.specs.Status.{Status}
 use Rattle.tclstate.specs.Formals.{Formal, args, single, takes_rest}
 use Rattle.tclstate.specs.Pairs.{put}
 use Rattle.tclstate.specs.Procs.{Procedure}

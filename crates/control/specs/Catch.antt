@@ -1,11 +1,8 @@
 -- What catch does.
 use Rattle.std.specs.Prelude.{ℕ, List, [], ◌∷◌, codes, decimal, Option, Some, None}
+use Rattle.state.specs.Prelude.{Ends, Course, gives, raises, within, Outcome, Gives, Leaves, Stops, Code, Error, Return, Break, Continue, Again, AgainRunning, Status}
 use Rattle.acts.specs.Flaw as flaw
 use Rattle.control.specs.declared.catch.Held.{Held}
-use Rattle.plan.specs.Plan.{Ends}
-use Rattle.state.specs.Dialogue.{Course, gives, raises, within}
-use Rattle.state.specs.Outcome.{Outcome, Gives, Leaves, Stops, Code, Error, Return, Break, Continue, Again, AgainRunning}
-use Rattle.state.specs.Status.{Status}
 use Rattle.state.specs.Variables.{with_name, writes}
 
 -- the number of a code (catch(n); expect(1), exp_continue)

@@ -1,5 +1,6 @@
 -- Which command that runs scripts a name has, and what it does.
 use Rattle.std.specs.Prelude.{ℕ, List, codes, Option, Some, None, if◌then◌else◌}
+use Rattle.state.specs.Prelude.{Course, Status}
 use Rattle.std.specs.Str.{bytes_eq}
 use Rattle.conditions.specs.Conditional.{conditional}
 use Rattle.conditions.specs.Expr.{expr}
@@ -11,8 +12,6 @@ use Rattle.control.specs.Control as control
 use Rattle.control.specs.Control.{Control}
 use Rattle.control.specs.Foreach.{foreach}
 use Rattle.control.specs.Switch.{switch}
-use Rattle.state.specs.Dialogue.{Course}
-use Rattle.state.specs.Status.{Status}
 
 -- the command of a name
 abbrev pub named : List ℕ → Option Control

@@ -1,12 +1,9 @@
 -- What eval does.
 use Rattle.std.specs.Prelude.{ℕ, List, [], ◌∷◌, codes}
+use Rattle.state.specs.Prelude.{Ends, Course, raises, within, Outcome, Status}
 use Rattle.acts.specs.Flaw as flaw
 use Rattle.control.specs.declared.eval.Held.{Held}
-use Rattle.plan.specs.Plan.{Ends}
 use Rattle.pure.specs.Concat.{concatenated}
-use Rattle.state.specs.Dialogue.{Course, raises, within}
-use Rattle.state.specs.Outcome.{Outcome}
-use Rattle.state.specs.Status.{Status}
 
 -- what the script ends with is passed on, whatever it is (eval(n))
 abbrev pub passed : Status → Outcome → Course

@@ -1,14 +1,12 @@
 -- What foreach does.
-use Rattle.std.specs.Prelude.{ℕ, zero, suc, ◌%◌, ◌==◌, ◌&&◌, nat_le, Bool, List, [], ◌∷◌, ◌++◌, length, drop, map, flat_map, max, codes, is_some, if◌then◌else◌}
+use Rattle.std.specs.Prelude.{ℕ, zero, suc, ◌==◌, ◌&&◌, nat_le, Bool, List, [], ◌∷◌, ◌++◌, length, map, max, codes, is_some, if◌then◌else◌, ◌%◌, drop, flat_map}
+use Rattle.state.specs.Prelude.{Reads, Course, gives, raises, inside, ScriptText, ScriptTree, Status}
 use Rattle.std.specs.Int.{div_ceil}
 use Rattle.std.specs.List.{list_all}
 use Rattle.acts.specs.Flaw as flaw
 use Rattle.state.specs.Listed.{with_list}
 use Rattle.state.specs.Turn.{on_turn}
-use Rattle.plan.specs.Plan.{Reads}
-use Rattle.state.specs.Dialogue.{Course, gives, raises, inside, tick}
-use Rattle.state.specs.Piece.{ScriptText, ScriptTree}
-use Rattle.state.specs.Status.{Status}
+use Rattle.state.specs.Dialogue.{tick}
 use Rattle.state.specs.Variables.{with_name, writes}
 use Rattle.tclparse.specs.Variable.{named}
 

@@ -1,17 +1,10 @@
 -- What the parts of foreach come to in the code.
 use Rattle.std.specs.Prelude.{◌≡◌, map, Option, Some, None, Result, Ok, Err}
-use Rattle.acts.specs.declared.fault.Fault.{Fault}
-use Rattle.acts.specs.Flaw.{flaw_of}
+use Rattle.state.specs.Prelude.{Fault, flaw_of, Course, raises, tree_of, Outcome, Reaches, Status, FitsState}
 use Rattle.control.specs.Foreach.{Pair, rows, turns}
 use Rattle.state.specs.Turn.{on_turn}
 use Rattle.control.specs.declared.foreach.Held.{Held}
 use Rattle.control.specs.declared.pair.Pair as coded
-use Rattle.state.specs.Dialogue.{Course, raises}
-use Rattle.state.specs.Nesting.{tree_of}
-use Rattle.state.specs.Outcome.{Outcome}
-use Rattle.state.specs.Reaches.{Reaches}
-use Rattle.state.specs.Status.{Status}
-use Rattle.state.specs.View.{FitsState}
 use Rattle.state.specs.declared.state.State.{State}
 
 -- the pair that one of the code's stands for

@@ -1,16 +1,14 @@
 -- What switch does.
-use Rattle.std.specs.Prelude.{ℕ, ◌==◌, ◌&&◌, nat_le, nat_lt, Bool, true, false, List, [], ◌∷◌, length, codes, Option, Some, None, if◌then◌else◌}
+use Rattle.std.specs.Prelude.{ℕ, ◌==◌, ◌&&◌, nat_le, Bool, true, false, List, [], ◌∷◌, length, codes, Option, Some, None, if◌then◌else◌, nat_lt}
+use Rattle.state.specs.Prelude.{Reads, Course, gives, raises, within, Status}
 use Rattle.std.specs.Str.{bytes_eq}
 use Rattle.acts.specs.Flaw as flaw
 use Rattle.control.specs.Eval.{passed}
 use Rattle.control.specs.declared.switch.Mode as coded
 use Rattle.control.specs.declared.switch.Mode.TheVariants as mode
-use Rattle.plan.specs.Plan.{Reads}
 use Rattle.state.specs.Arguments.{begins_with_dash}
-use Rattle.state.specs.Dialogue.{Course, gives, raises, within}
 use Rattle.state.specs.Listed.{with_list}
 use Rattle.state.specs.Piece.{TestText}
-use Rattle.state.specs.Status.{Status}
 use Rattle.tcltext.specs.Pattern.Glob.{plain}
 
 -- how a pattern is held against the text: byte by byte, or as string match does (switch(n))

@@ -1,5 +1,6 @@
 -- How the commands of the code, and what they hold, stand to those of the definition.
 use Rattle.std.specs.Prelude.{◌≡◌, ℕ, ◌<◌, List, Option, Some, None}
+use Rattle.state.specs.Prelude.{Course, Nests, Outcome, Status, FitsState}
 use Rattle.conditions.specs.Choosing as if_then
 use Rattle.conditions.specs.Expr as expr
 use Rattle.conditions.specs.Starting as for_loop
@@ -15,14 +16,10 @@ use Rattle.control.specs.declared.held.Held.{Held}
 use Rattle.control.specs.declared.held.Held.TheVariants as held
 use Rattle.control.specs.declared.table.Control as coded
 use Rattle.control.specs.declared.table.Control.TheVariants as control
-use Rattle.state.specs.Dialogue.{Course}
-use Rattle.state.specs.Nesting.{Nests, course_of}
-use Rattle.state.specs.Outcome.{Outcome}
-use Rattle.state.specs.Status.{Status}
+use Rattle.state.specs.Nesting.{course_of}
 use Rattle.state.specs.declared.nesting.Nesting.{Nesting}
 use Rattle.state.specs.declared.nesting.Nesting.TheVariants as nesting
 use Rattle.state.specs.declared.state.State.{State}
-use Rattle.state.specs.View.{FitsState}
 use Rattle.tclstate.specs.Pairs.{found}
 use Rattle.tclstate.specs.Procs.{Procedure}
 

@@ -1,12 +1,9 @@
 //! Calls of procedures (proc(n)).
 
 ghost use Rattle.std.specs.Prelude.{◌≡◌, ◌≤◌, IfOk, option_map};
+ghost use Rattle.state.specs.Prelude.{inside, Nests, tree_of, Status, FitsState, outcome_of};
 ghost use Rattle.control.specs.Calls as definition;
 ghost use Rattle.control.specs.View.{IsCalled, TicksFirst};
-ghost use Rattle.state.specs.Dialogue.{inside};
-ghost use Rattle.state.specs.Nesting.{Nests, tree_of};
-ghost use Rattle.state.specs.Status.{Status};
-ghost use Rattle.state.specs.View.{FitsState, outcome_of};
 ghost use Rattle.tclstate.specs.Pairs.{found};
 ghost use Rattle.tclstate.specs.Scopes.{entered};
 

@@ -1,12 +1,10 @@
 //! `catch s ?n?` (catch(n)).
 
 ghost use Rattle.std.specs.Prelude.{◌≡◌, ◌≤◌, IfOk};
+ghost use Rattle.state.specs.Prelude.{within, Nests, Status, FitsState, outcome_of};
 ghost use Rattle.control.specs.Catch as definition;
 ghost use Rattle.control.specs.View.{TicksFirst};
-ghost use Rattle.state.specs.Dialogue.{within};
-ghost use Rattle.state.specs.Nesting.{Nests};
-ghost use Rattle.state.specs.Status.{Status};
-ghost use Rattle.state.specs.View.{FitsState, code_of, outcome_of};
+ghost use Rattle.state.specs.View.{code_of};
 
 use crate::arguments::wrong_args;
 use acts::{Fault, NoMemory};

@@ -1,15 +1,13 @@
 //! `foreach vars list ?vars list ..? body` (foreach(n)).
 
 ghost use Rattle.std.specs.Prelude.{◌≡◌, ◌≤◌, [], map, IfOk, IfNone};
+ghost use Rattle.state.specs.Prelude.{inside, Nests, tree_of, Status, FitsState, outcome_of};
 ghost use Rattle.control.specs.Foreach as definition;
 ghost use Rattle.control.specs.Foreach.{assigns, behind, row};
 ghost use Rattle.control.specs.Looping.{Assigned, next_of, pair_of, turns_left};
 ghost use Rattle.state.specs.Turn.{on_turn};
 ghost use Rattle.control.specs.View.{TicksFirst};
-ghost use Rattle.state.specs.Dialogue.{inside};
-ghost use Rattle.state.specs.Nesting.{Nests, course_of, tree_of};
-ghost use Rattle.state.specs.Status.{Status};
-ghost use Rattle.state.specs.View.{FitsState, outcome_of};
+ghost use Rattle.state.specs.Nesting.{course_of};
 
 use crate::arguments::wrong_args;
 use crate::pair::Pair;

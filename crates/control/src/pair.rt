@@ -1,10 +1,9 @@
 //! Variables of `foreach`, with the elements that they are to take (foreach(n)).
 
-ghost use Rattle.std.specs.Prelude.{◌≡◌, ℕ, ◌<◌, length, drop, codes, IfOk, IfNone};
+ghost use Rattle.std.specs.Prelude.{◌≡◌, ℕ, ◌<◌, length, codes, IfOk, drop, IfNone};
+ghost use Rattle.state.specs.Prelude.{Status, FitsState};
 ghost use Rattle.control.specs.Foreach.{asked, assigned, assigns, behind, dealt, first_of, with_names, with_pair};
 ghost use Rattle.control.specs.Looping.{Assigned, Comes, pair_of};
-ghost use Rattle.state.specs.Status.{Status};
-ghost use Rattle.state.specs.View.{FitsState};
 
 use crate::listed::elements_of;
 use acts::{Fault, NoMemory};

@@ -1,13 +1,11 @@
 //! `switch ?-exact|-glob? ?--? t {p b ..}`, or `switch .. t p b ..` (switch(n)).
 
 ghost use Rattle.std.specs.Prelude.{◌≡◌, ◌≤◌, IfOk, option_copied};
+ghost use Rattle.state.specs.Prelude.{Nests, Status, FitsState};
 ghost use Rattle.control.specs.Eval.{next_of};
 ghost use Rattle.control.specs.Looping.{Comes};
 ghost use Rattle.control.specs.Switch as definition;
 ghost use Rattle.control.specs.Switch.{is_default, mode_of};
-ghost use Rattle.state.specs.Nesting.{Nests};
-ghost use Rattle.state.specs.Status.{Status};
-ghost use Rattle.state.specs.View.{FitsState};
 
 use crate::arguments::{bad_argument, wrong_args};
 use crate::eval::{Held, run};

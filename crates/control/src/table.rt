@@ -1,12 +1,11 @@
 //! The table of names.
 
 ghost use Rattle.std.specs.Prelude.{◌≡◌, ◌≤◌, IfOk, option_map};
+ghost use Rattle.state.specs.Prelude.{Status, FitsState, outcome_of};
 ghost use Rattle.control.specs.Commands as definition;
 ghost use Rattle.control.specs.View.{IsCalled, control_of, next_of, scripts_held};
 ghost use Rattle.conditions.specs.GoesOn.{Comes};
 ghost use Rattle.state.specs.Nesting.{Advances};
-ghost use Rattle.state.specs.Status.{Status};
-ghost use Rattle.state.specs.View.{FitsState, outcome_of};
 
 use crate::held::{
     Held, from_call, from_catch, from_eval, from_expr, from_for, from_foreach, from_if, from_while,

@@ -2,7 +2,7 @@
 use Rattle.std.proofs.Common.{◌≡◌, ◌∙◌, ℕ, ◌+◌, ◌*◌, ◌^◌, ◌<◌, ◌≤◌, ◌↔◌, ◌⊎◌, inl, inr, List, [], ◌∷◌, ◌++◌, length, Option, Some, None, sum_by, refl, sym, ap, subst, arith}
 use Rattle.std.proofs.lemmas.List.{append-nil, length-append}
 use Rattle.std.proofs.lemmas.List.Sums.{sum_by-cons}
-use Rattle.acts.specs.Deed.{Deed, Reply, deed_of, reply_of}
+use Rattle.state.specs.Prelude.{Deed, Reply, deed_of, reply_of, Ends, Asks, Dialogue, IsTree, Status}
 use Rattle.acts.specs.Deed as said
 use Rattle.acts.specs.History.{History}
 use Rattle.acts.specs.declared.act.Act.{Act}
@@ -22,7 +22,6 @@ use Rattle.machine.specs.declared.waits.Waits.{Waits}
 use Rattle.machine.specs.declared.end.End.{End}
 use Rattle.machine.proofs.Silent.{goes_exact}
 use Rattle.plan.specs.Exact.{Same, Begins, Rests}
-use Rattle.plan.specs.Plan.{Ends, Asks}
 use Rattle.plan.specs.Runs.{Runs, ends}
 use Rattle.plan.proofs.Exact as exact
 use Rattle.plan.proofs.Exact.{then_same}
@@ -34,10 +33,7 @@ use Rattle.runs.specs.Run.{Run, whole}
 use Rattle.runs.specs.Scripts.{plan_of}
 use Rattle.runs.proofs.AllRuns.{acts_are_bounded, waits_hold}
 use Rattle.runs.proofs.Finite.{finite}
-use Rattle.state.specs.Dialogue.{Dialogue}
-use Rattle.state.specs.Piece.{IsTree}
 use Rattle.state.specs.Rows.{HoldTogether, Holds, RowsHold}
-use Rattle.state.specs.Status.{Status}
 use Rattle.state.specs.declared.state.State.{State}
 
 -- rows that hold at most their sizes hold together at most the sum of these

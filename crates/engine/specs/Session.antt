@@ -1,6 +1,6 @@
 -- Sessions, as their callers see them.
 use Rattle.std.specs.Prelude.{◌≡◌, ℕ, ◌≤◌, ◌↔◌, List, [], ◌∷◌, ◌++◌, length, Option, Some, None}
-use Rattle.acts.specs.Deed.{Deed, Reply, deed_of}
+use Rattle.state.specs.Prelude.{Deed, Reply, deed_of, NoMemory, Dialogue, IsTree, Status, FitsState}
 use Rattle.acts.specs.History.{History}
 use Rattle.acts.specs.Limits.{IsLimit}
 use Rattle.acts.specs.declared.answer.Answer.{Answer}
@@ -13,18 +13,13 @@ use Rattle.machine.specs.declared.phase.Phase.TheVariants as phase
 use Rattle.engine.specs.declared.session.Session.{Session}
 use Rattle.engine.specs.declared.session.Step.{Step}
 use Rattle.engine.specs.declared.session.Step.TheVariants as step
-use Rattle.memory.specs.declared.NoMemory.{NoMemory}
 use Rattle.plan.specs.Exact.{Same, Begins, Rests}
 use Rattle.plan.specs.Runs.{Runs}
 use Rattle.runs.specs.Bounds.{BeginsRun}
 use Rattle.runs.specs.Ending.{Ending, Over}
 use Rattle.runs.specs.Run.{Run, whole}
 use Rattle.runs.specs.Scripts.{plan_of}
-use Rattle.state.specs.Dialogue.{Dialogue}
-use Rattle.state.specs.Piece.{IsTree}
 use Rattle.state.specs.Rows.{HoldTogether, Holds}
-use Rattle.state.specs.Status.{Status}
-use Rattle.state.specs.View.{FitsState}
 
 -- the session is at this place of the runs of a script with these arguments and so many ticks: it
 -- made these acts, which were answered so, and what it is still to do has exactly the rests of

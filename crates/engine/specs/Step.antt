@@ -1,6 +1,6 @@
 -- What a session gives.
 use Rattle.std.specs.Prelude.{◌≡◌, List, ℕ}
-use Rattle.acts.specs.Deed.{deed_of}
+use Rattle.state.specs.Prelude.{deed_of}
 use Rattle.acts.specs.History.{History}
 use Rattle.acts.specs.declared.act.Act.{Act}
 use Rattle.machine.specs.declared.phase.Phase.{Phase}

@@ -1,16 +1,14 @@
 -- What holds of a formula where it holds of all that may follow it.
 use Rattle.std.proofs.Common.{ℕ, List, [], ◌∷◌, ◌++◌, Bool, true, false, Result, Ok, Err, if◌then◌else◌}
-use Rattle.acts.specs.Flaw.{Flaw}
+use Rattle.state.specs.Prelude.{Flaw, Course, Status}
 use Rattle.meanings.specs.Meaning.{Meaning, Gives, Raises, Splits, Matches, truth}
 use Rattle.operators.specs.Binary.{binary}
 use Rattle.operators.specs.Function as function
 use Rattle.operators.specs.Truth.{truth_of}
 use Rattle.operators.specs.Unary.{unary}
 use Rattle.operators.specs.Value.{written, result}
-use Rattle.state.specs.Dialogue.{Course}
 use Rattle.state.specs.Meant.{on_meaning}
 use Rattle.state.specs.Piece.{TestText}
-use Rattle.state.specs.Status.{Status}
 use Rattle.state.proofs.Closed.{Closed, listed_closed, raises_closed}
 use Rattle.tclparse.specs.Formula.{Formula, numeral, text, call, prefix, row, choice, Links, no_links, link, Formulas, no_formulas, formula}
 use Rattle.tclparse.specs.declared.operator.Infix.{Infix}

@@ -3,8 +3,7 @@ use Rattle.std.proofs.Common.{◌≡◌, ◌∙◌, ◌+◌, ◌≤◌, ℕ, Lis
 use Rattle.std.proofs.lemmas.List.Sums.{sum_by-append}
 use Rattle.std.specs.declared.rc.Rc.{Rc}
 use Rattle.std.specs.Prelude.{Vec}
-use Rattle.state.specs.Dialogue.{Course}
-use Rattle.state.specs.Status.{Status}
+use Rattle.state.specs.Prelude.{Course, Status}
 use Rattle.tclparse.specs.View.{commands_of}
 use Rattle.tclparse.specs.declared.tree.Command.{Command}
 use Rattle.words.specs.View as words

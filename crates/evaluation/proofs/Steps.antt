@@ -1,8 +1,7 @@
 -- The operands of a formula, one after the other.
 use Rattle.std.proofs.Common.{◌≡◌, ◌∙◌, ℕ, suc, ◌+◌, ◌<◌, ◌≤◌, List, length, drop, get_or, Bool, Result, Ok, Err, IfOk, if◌then◌else◌, refl, sym, ap, subst, arith, add-one, drop-cons}
 use Rattle.std.specs.declared.rc.Rc.{Rc}
-use Rattle.acts.specs.Flaw.{flaw_of}
-use Rattle.acts.specs.declared.fault.Fault.{Fault}
+use Rattle.state.specs.Prelude.{flaw_of, Fault, Course, raises, Reaches, Status}
 use Rattle.formulas.specs.View.{formula_of, link_view, row_view, links_then, formulas_then}
 use Rattle.formulas.specs.declared.tree.Choice as the_choice
 use Rattle.formulas.specs.declared.tree.Formula.{Formula, Choice}
@@ -11,9 +10,6 @@ use Rattle.formulas.specs.declared.tree.Row as the_row
 use Rattle.formulas.proofs.Trees.{view_Link, view_Choice, row_parts, choice_parts}
 use Rattle.operators.specs.declared.operand.Operand.{Operand}
 use Rattle.operators.specs.Truth.{truth_of}
-use Rattle.state.specs.Dialogue.{Course, raises}
-use Rattle.state.specs.Reaches.{Reaches}
-use Rattle.state.specs.Status.{Status}
 use Rattle.state.proofs.Reaches.{same_reaches, then_reaches}
 use Rattle.tclparse.specs.Formula as tree
 use Rattle.evaluation.specs.declared.open.Evaluated.{Evaluated}

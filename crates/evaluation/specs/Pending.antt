@@ -1,12 +1,9 @@
 -- What is done with an operator behind its left operand.
 use Rattle.std.specs.Prelude.{◌≡◌, ℕ, List, Bool, Result, Ok, Err}
-use Rattle.acts.specs.Flaw.{flaw_of}
-use Rattle.acts.specs.declared.fault.Fault.{Fault}
+use Rattle.state.specs.Prelude.{flaw_of, Fault, Course, raises, Status}
 use Rattle.meanings.specs.Meaning.{Meaning}
 use Rattle.operators.specs.Binary.{binary}
 use Rattle.operators.specs.Truth.{truth_of}
-use Rattle.state.specs.Dialogue.{Course, raises}
-use Rattle.state.specs.Status.{Status}
 use Rattle.evaluation.specs.declared.pending.Opened.{Opened}
 use Rattle.evaluation.specs.declared.pending.Opened.TheVariants as opened
 use Rattle.evaluation.specs.declared.pending.Pending.{Pending}

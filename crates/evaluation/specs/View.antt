@@ -1,7 +1,7 @@
 -- What is done with a formula that is evaluated up to a script in it.
-use Rattle.std.specs.Prelude.{ℕ, List, [], ◌∷◌, ◌++◌, drop, Vec, if◌then◌else◌}
+use Rattle.std.specs.Prelude.{ℕ, List, [], ◌∷◌, ◌++◌, if◌then◌else◌, drop, Vec}
+use Rattle.state.specs.Prelude.{flaw_of, Course, raises, Status}
 use Rattle.std.specs.declared.rc.Rc.{Rc}
-use Rattle.acts.specs.Flaw.{flaw_of}
 use Rattle.formulas.specs.View.{formula_of, links_then, formulas_then}
 use Rattle.formulas.specs.declared.tree.Formula.{Formula}
 use Rattle.formulas.specs.declared.tree.Choice.{Choice, out-Choice}
@@ -9,8 +9,6 @@ use Rattle.formulas.specs.declared.tree.Row.{Row, out-Row}
 use Rattle.operators.specs.Function as function
 use Rattle.operators.specs.Truth.{truth_of}
 use Rattle.operators.specs.Unary.{unary}
-use Rattle.state.specs.Dialogue.{Course, raises}
-use Rattle.state.specs.Status.{Status}
 use Rattle.tclparse.specs.Formula as tree
 use Rattle.tclparse.specs.View.{commands_of}
 use Rattle.words.specs.Words.{nested}

@@ -1,11 +1,9 @@
 //! The operands of a formula, in order, up to a script in one of them (expr(n)).
 
 ghost use Rattle.std.specs.Prelude.{◌≡◌, ◌+◌, ℕ, List, IfOk};
+ghost use Rattle.state.specs.Prelude.{Course, Reaches, Status};
 ghost use Rattle.operators.specs.Function.{call as called};
 ghost use Rattle.formulas.specs.View.{formula_of, link_view, row_view};
-ghost use Rattle.state.specs.Dialogue.{Course};
-ghost use Rattle.state.specs.Reaches.{Reaches};
-ghost use Rattle.state.specs.Status.{Status};
 ghost use Rattle.evaluation.specs.Evaluated as meant;
 ghost use Rattle.state.specs.Meant.{on_meaning};
 ghost use Rattle.evaluation.specs.Pending.{TruthIs};

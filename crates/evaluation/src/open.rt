@@ -1,12 +1,10 @@
 //! What is left of a formula around a script in it.
 
 ghost use Rattle.std.specs.Prelude.{◌≡◌, ◌+◌, ℕ, List, [], ◌∷◌, IfOk};
+ghost use Rattle.state.specs.Prelude.{Course, Reaches, Status};
 ghost use Rattle.meanings.specs.Meaning.{Meaning};
 ghost use Rattle.meanings.specs.View.{Answers};
 ghost use Rattle.operators.specs.Unary.{unary as meant};
-ghost use Rattle.state.specs.Dialogue.{Course};
-ghost use Rattle.state.specs.Reaches.{Reaches};
-ghost use Rattle.state.specs.Status.{Status};
 ghost use Rattle.words.specs.Scripts as words;
 ghost use Rattle.words.specs.View.{course_of_met};
 ghost use Rattle.state.specs.Meant.{on_meaning};

@@ -2,10 +2,8 @@
 //! evaluated (expr(n), operators).
 
 ghost use Rattle.std.specs.Prelude.{◌≡◌, ℕ, List, IfOk};
+ghost use Rattle.state.specs.Prelude.{Course, Status, Reaches};
 ghost use Rattle.meanings.specs.View.{Answers};
-ghost use Rattle.state.specs.Dialogue.{Course};
-ghost use Rattle.state.specs.Status.{Status};
-ghost use Rattle.state.specs.Reaches.{Reaches};
 ghost use Rattle.evaluation.specs.Evaluated.{joined as joined_as};
 ghost use Rattle.state.specs.Meant.{on_meaning};
 ghost use Rattle.evaluation.specs.View.{IsDirect, course_of};

@@ -1,9 +1,7 @@
 //! A formula goes on behind a script in it (expr(n)).
 
 ghost use Rattle.std.specs.Prelude.{◌≡◌, ℕ, List, IfOk};
-ghost use Rattle.state.specs.Dialogue.{Course};
-ghost use Rattle.state.specs.Reaches.{Reaches};
-ghost use Rattle.state.specs.Status.{Status};
+ghost use Rattle.state.specs.Prelude.{Course, Reaches, Status};
 ghost use Rattle.evaluation.specs.Scripts.{MeetsFewer, scripts_behind, scripts_in_around};
 ghost use Rattle.evaluation.specs.declared.open.Around.TheVariants.{Link};
 ghost use Rattle.evaluation.specs.View.{behind, course_of, resumed};

@@ -2,12 +2,9 @@
 use Rattle.std.proofs.Common.{◌≡◌, ◌∙◌, ℕ, ◌==◌, suc, Bool, true, false, List, [], ◌∷◌, length, option_map, Option, Some, None, Result, Err, ℤ, IfSome, refl, sym, ap, subst, arith}
 use Rattle.std.proofs.lemmas.Bool.Decides.{nat_tests}
 use Rattle.acts.specs.Deed as said
-use Rattle.acts.specs.Deed.{Reply}
+use Rattle.state.specs.Prelude.{Reply, text_of, Id, Raise, Ends, Calls, Course, ask, gives, inside, raises, within, tree_of, Outcome, Leaves, Error, TurnTree, Reaches, here, Status, lines, shut, outcome_of}
 use Rattle.acts.specs.Flaw as flaw
-use Rattle.acts.specs.Flaw.{text_of}
 use Rattle.acts.specs.declared.act.Timer.{Timer}
-use Rattle.acts.specs.declared.id.Id.{Id}
-use Rattle.acts.specs.declared.raise.Raise.{Raise}
 use Rattle.acts.specs.declared.raise.Raise.TheVariants as raise
 use Rattle.acts.specs.declared.row.Row.{Row}
 use Rattle.dialog.specs.Branches.{Branches}
@@ -18,17 +15,12 @@ use Rattle.dialog.specs.Standing.{Effective, all_of, pruned}
 use Rattle.dialog.specs.declared.choice.Choice.{Choice}
 use Rattle.dialog.specs.declared.choice.Trigger.TheVariants as after
 use Rattle.kinds.specs.Answers.{IsFailure}
-use Rattle.plan.specs.Plan.{Ends, Calls}
 use Rattle.state.proofs.Nestings.{inside_over, text_reaches}
 use Rattle.state.proofs.Reaches.{same_reaches, then_reaches}
 use Rattle.state.proofs.Ticks.{tick_taken}
-use Rattle.state.specs.Dialogue.{Course, ask, gives, inside, raises, within, written}
-use Rattle.state.specs.Nesting.{tree_of}
-use Rattle.state.specs.Outcome.{Outcome, Leaves, Error}
-use Rattle.state.specs.Piece.{ArgumentText, BranchText, ChoiceText, Script, TurnTree}
-use Rattle.state.specs.Reaches.{Reaches, here, reads}
-use Rattle.state.specs.Status.{Status, lines, shut}
-use Rattle.state.specs.View.{outcome_of}
+use Rattle.state.specs.Dialogue.{written}
+use Rattle.state.specs.Piece.{ArgumentText, BranchText, ChoiceText, Script}
+use Rattle.state.specs.Reaches.{reads}
 use Rattle.state.specs.declared.outcome.Leave.{Leave}
 use Rattle.state.specs.declared.state.State.{State}
 use Rattle.tclparse.specs.Grammar.{IsArgument, IsScript}

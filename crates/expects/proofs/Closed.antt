@@ -4,11 +4,9 @@ use Rattle.dialog.specs.Branches.{Branches}
 use Rattle.dialog.specs.Reads.{Outcome as Said}
 use Rattle.dialog.specs.Standing.{put_at}
 use Rattle.state.proofs.Closed.{Closed, Turns, raises_closed}
-use Rattle.state.specs.Dialogue.{Course, gives}
+use Rattle.state.specs.Prelude.{Course, gives, Gives, Status}
 use Rattle.state.specs.Faults.{flaw_of_fault}
-use Rattle.state.specs.Outcome.{Gives}
 use Rattle.state.specs.Piece.{ArgumentText, ArgumentTree, BranchText}
-use Rattle.state.specs.Status.{Status}
 use Rattle.tclparse.specs.Fault.{Fault}
 use Rattle.tclparse.specs.Tree as tree
 use Rattle.words.proofs.Closed.{words_closed}

@@ -1,15 +1,10 @@
 -- What is at hand of a turn or a command, where it is known how it came about.
 use Rattle.std.proofs.Common.{◌≡◌, ◌∙◌, ℕ, List, Result, Ok, Err, IfOk, refl, sym, ap}
-use Rattle.memory.specs.declared.NoMemory.{NoMemory}
-use Rattle.plan.specs.Plan.{Ends, goes}
+use Rattle.state.specs.Prelude.{NoMemory, Ends, Course, Outcome, Leaves, Error, TurnTree, Reaches, Status, FitsState, outcome_of}
+use Rattle.plan.specs.Plan.{goes}
 use Rattle.state.proofs.Reaches.{same_reaches, then_reaches}
 use Rattle.state.specs.Budget.{again_of}
-use Rattle.state.specs.Dialogue.{Course}
-use Rattle.state.specs.Outcome.{Outcome, Leaves, Error}
-use Rattle.state.specs.Piece.{Turn, TurnTree}
-use Rattle.state.specs.Reaches.{Reaches}
-use Rattle.state.specs.Status.{Status}
-use Rattle.state.specs.View.{FitsState, outcome_of}
+use Rattle.state.specs.Piece.{Turn}
 use Rattle.state.specs.declared.outcome.Leave.{Leave}
 use Rattle.state.specs.declared.state.State.{State}
 use Rattle.expects.specs.View.{Comes, course_of_talk, course_of_turned}

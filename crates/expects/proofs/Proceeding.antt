@@ -1,34 +1,29 @@
 -- What a turn of expect keeps to.
 use Rattle.std.proofs.Common.{◌≡◌, ℕ, zero, suc, ◌+◌, ◌*◌, ◌-◌, ◌<◌, ◌≤◌, ◌==◌, Bool, true, false, List, [], ◌∷◌, map, Option, Some, None, Result, Ok, Err, if◌then◌else◌, refl, arith}
 use Rattle.acts.specs.declared.act.Timer.{Timer}
-use Rattle.acts.specs.declared.id.Id.{Id}
+use Rattle.state.specs.Prelude.{Id, Deed, Reply, Flaw, Peer, Ends, worth, Course, ask, gives, inside, within, Outcome, Gives, Leaves, Stops, Error, Return, Break, Continue, Again, AgainRunning, ScriptTree, TurnTree, Status, lines, shut, Scopes}
 use Rattle.acts.specs.declared.row.Row.{Row}
-use Rattle.acts.specs.Deed.{Deed, Reply}
 use Rattle.acts.specs.Deed as said
-use Rattle.acts.specs.Flaw.{Flaw}
 use Rattle.acts.specs.Fits.{fits}
 use Rattle.dialog.specs.Choice.{Chosen, Share, Nothing, Front, Whole, Taken, consumed_to, share_of}
 use Rattle.dialog.specs.Lines.{line_of, with_row, rows_of}
 use Rattle.dialog.specs.LogState.{goes_out, is_logged}
-use Rattle.dialog.specs.Peers.{Peer, arrived, line, opened}
+use Rattle.dialog.specs.Peers.{arrived, line, opened}
 use Rattle.dialog.specs.Standing.{Effective, pruned}
 use Rattle.dialog.specs.declared.choice.Trigger.{Trigger}
 use Rattle.dialog.specs.declared.choice.Trigger.TheVariants as after
 use Rattle.dialog.proofs.Opened.{count_arrived, count_kept, count_shut}
 use Rattle.matchbuf.proofs.Windows.{windows_hold}
-use Rattle.plan.specs.Plan.{Ends, goes}
+use Rattle.plan.specs.Plan.{goes}
 use Rattle.state.proofs.Judged.{replied_cut}
-use Rattle.state.specs.Behaves.{worth}
 use Rattle.state.specs.Budget.{budget, left_after}
-use Rattle.state.specs.Dialogue.{Course, ask, gives, inside, is_no_more, stopping, tick_of, within, written}
-use Rattle.state.specs.Outcome.{Outcome, Gives, Leaves, Stops, Error, Return, Break, Continue, Again, AgainRunning}
+use Rattle.state.specs.Dialogue.{is_no_more, stopping, tick_of, written}
 use Rattle.state.specs.Outcome as stop
-use Rattle.state.specs.Piece.{Piece, ScriptTree, Turn, TurnTree}
+use Rattle.state.specs.Piece.{Piece, Turn}
 use Rattle.state.specs.Placed.{noted, shown}
 use Rattle.state.specs.Proceeds.{Proceeds}
 use Rattle.state.specs.Rows.{Holds, RowsHold}
-use Rattle.state.specs.Status.{Status, at_id, lines, shut}
-use Rattle.tclstate.specs.Scopes.{Scopes}
+use Rattle.state.specs.Status.{at_id}
 use Rattle.expects.specs.Clock.{clock_of, later}
 use Rattle.expects.specs.Report.{Written, on_written, reported}
 use Rattle.kinds.specs.Kinds.{on_ok}

@@ -1,19 +1,11 @@
 -- What follows writes of variables, and errors that end a command.
 use Rattle.std.proofs.Common.{◌≡◌, ◌∙◌, List, ℕ, Option, Some, None, Result, refl, sym, ap}
-use Rattle.acts.specs.Flaw.{Flaw, flaw_of}
-use Rattle.acts.specs.declared.fault.Fault.{Fault}
-use Rattle.acts.specs.declared.raise.Raise.{Raise}
+use Rattle.state.specs.Prelude.{Flaw, flaw_of, Fault, Raise, Ends, Course, raises, Outcome, Status, outcome_of, Scopes}
 use Rattle.acts.specs.declared.raise.Raise.TheVariants as raise
 use Rattle.dialog.specs.Choice.{Taken}
 use Rattle.expects.specs.Report.{Written, on_written, reported, reports}
 use Rattle.kinds.specs.Answers.{IsFailure}
-use Rattle.plan.specs.Plan.{Ends}
-use Rattle.state.specs.Dialogue.{Course, raises}
-use Rattle.state.specs.Outcome.{Outcome}
-use Rattle.state.specs.Status.{Status}
-use Rattle.state.specs.View.{outcome_of}
 use Rattle.state.specs.declared.outcome.Leave.{Leave}
-use Rattle.tclstate.specs.Scopes.{Scopes}
 
 module _ (taken : Option Taken) (s : Status) (next : Status → Course) (old new : Scopes)
     (same : s.scopes ≡ old) where

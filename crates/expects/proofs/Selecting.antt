@@ -1,6 +1,6 @@
 -- What a choice of the code comes to.
 use Rattle.std.proofs.Common.{◌≡◌, ◌∙◌, ℕ, List, [], Option, Some, None, IfSome, refl, sym, ap}
-use Rattle.acts.specs.declared.id.Id.{Id}
+use Rattle.state.specs.Prelude.{Id, Course, gives, TurnTree, Reaches, Status, lines, FitsState}
 use Rattle.dialog.proofs.Choices.{one_choice}
 use Rattle.dialog.specs.Branches.{Pair}
 use Rattle.dialog.specs.Choice.{Chosen, Chooses, Share, Nothing, Front, Whole, Taken, consumed_to, share_of}
@@ -12,11 +12,9 @@ use Rattle.dialog.specs.declared.choice.Trigger.{Trigger}
 use Rattle.state.proofs.FitIds.{StaysReapable, peers_fit}
 use Rattle.state.proofs.Fits.{ids_fit}
 use Rattle.state.proofs.Reaches.{same_reaches}
-use Rattle.state.specs.Dialogue.{Course, gives}
-use Rattle.state.specs.Piece.{ChoiceText, TurnTree}
-use Rattle.state.specs.Reaches.{Reaches, reads}
-use Rattle.state.specs.Status.{Status, at_id, lines}
-use Rattle.state.specs.View.{FitsState}
+use Rattle.state.specs.Piece.{ChoiceText}
+use Rattle.state.specs.Reaches.{reads}
+use Rattle.state.specs.Status.{at_id}
 use Rattle.state.specs.declared.state.State.{State}
 use Rattle.expects.specs.Turn.{consumed_by, does, selects, settled, taken_by}
 use Rattle.expects.specs.View.{HasChoice, IsSame, Selected, done, settles}

@@ -1,11 +1,9 @@
 -- The timer of a wait (expect(1), timeout).
 use Rattle.std.specs.Prelude.{ℕ, ℤ, pos, negsuc, List, codes, Option, Some, None, Result, Ok}
+use Rattle.state.specs.Prelude.{Flaw, bind, Status}
 use Rattle.acts.specs.declared.act.Timer.{Timer}
 use Rattle.acts.specs.declared.act.Timer.TheVariants as timer
-use Rattle.acts.specs.Flaw.{Flaw}
-use Rattle.acts.specs.Raise.{bind}
 use Rattle.kinds.specs.Words.{number}
-use Rattle.state.specs.Status.{Status}
 use Rattle.state.specs.Variables.{consulted}
 
 -- a timer that was started runs on, and where there is none there stays none (expect(1), timeout)

@@ -1,6 +1,6 @@
 -- What expect, expect_before and expect_after do.
 use Rattle.std.specs.Prelude.{ℕ, List, [], ◌∷◌, codes, Option, Some, None, Ok, Err, if◌then◌else◌}
-use Rattle.acts.specs.declared.id.Id.{Id}
+use Rattle.state.specs.Prelude.{Id, Reads, Course, gives, raises, TurnTree, Status, lines}
 use Rattle.acts.specs.Flaw as flaw
 use Rattle.acts.specs.Id.{id_text}
 use Rattle.dialog.specs.Branches.{Branches}
@@ -11,11 +11,9 @@ use Rattle.dialog.specs.Standing.{all_of, put_at}
 use Rattle.dialog.specs.declared.choice.Trigger.TheVariants as after
 use Rattle.dialog.specs.declared.standing.Side.{Side}
 use Rattle.expects.specs.Words.{Form, Waits, Stands, stands, is_braced}
-use Rattle.plan.specs.Plan.{Reads, goes}
-use Rattle.state.specs.Dialogue.{Course, gives, raises}
+use Rattle.plan.specs.Plan.{goes}
 use Rattle.state.specs.Faults.{flaw_of_fault}
-use Rattle.state.specs.Piece.{ArgumentText, ArgumentTree, BranchText, Turn, TurnTree}
-use Rattle.state.specs.Status.{Status, lines}
+use Rattle.state.specs.Piece.{ArgumentText, ArgumentTree, BranchText, Turn}
 use Rattle.state.specs.Variables.{consulted}
 use Rattle.tclparse.specs.Fault.{Fault}
 use Rattle.tclparse.specs.Tree as tree

@@ -1,16 +1,12 @@
 -- What parts of the code's turn come to.
 use Rattle.std.specs.Prelude.{◌≡◌, Option, Some, None, Result, Ok, Err}
-use Rattle.acts.specs.Flaw.{flaw_of}
-use Rattle.acts.specs.Raise.{Raises}
-use Rattle.acts.specs.declared.raise.Raise.{Raise}
+use Rattle.state.specs.Prelude.{flaw_of, Raises, Raise, Status, Scopes}
 use Rattle.acts.specs.declared.raise.Raise.TheVariants as raise
 use Rattle.dialog.specs.Choice.{Taken}
 use Rattle.dialog.specs.declared.choice.Taken as coded
 use Rattle.dialog.specs.Reads as misread
 use Rattle.expects.specs.Expect.{told}
 use Rattle.expects.specs.Report.{Written}
-use Rattle.state.specs.Status.{Status}
-use Rattle.tclstate.specs.Scopes.{Scopes}
 
 -- what a choice of the code has for expect_out
 abbrev pub taken_of : {A : Type 0} → coded.Taken A → Taken

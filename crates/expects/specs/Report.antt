@@ -1,14 +1,10 @@
 -- What a choice sets (expect(1), expect_out).
-use Rattle.std.specs.Prelude.{ℕ, ◌-ℤ◌, pos, Bool, true, false, List, drop, codes, decimal, Option, Some, None, Result, Ok, Err}
+use Rattle.std.specs.Prelude.{ℕ, pos, Bool, true, false, List, codes, decimal, Option, Some, None, Result, Ok, Err, ◌-ℤ◌, drop}
+use Rattle.state.specs.Prelude.{Id, Flaw, Course, raises, Status, Scopes}
 use Rattle.std.specs.Fmt.{signed_decimal}
-use Rattle.acts.specs.declared.id.Id.{Id}
-use Rattle.acts.specs.Flaw.{Flaw}
 use Rattle.acts.specs.Id.{id_text}
 use Rattle.dialog.specs.Choice.{Taken}
 use Rattle.kinds.specs.Variables as variables
-use Rattle.state.specs.Dialogue.{Course, raises}
-use Rattle.state.specs.Status.{Status}
-use Rattle.tclstate.specs.Scopes.{Scopes}
 use Rattle.tcltext.specs.declared.pattern.search.Found.{Found}
 
 -- the variables that writes leave, and the error of the first that could not be made, if there was

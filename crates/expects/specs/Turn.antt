@@ -1,9 +1,8 @@
 -- The turn of expect: a test, the wait behind it, what an answer leads to, and the body of what is
 -- chosen (expect(1), expect).
 use Rattle.std.specs.Prelude.{ℕ, List, [], ◌∷◌, Option, Some, None}
+use Rattle.state.specs.Prelude.{Id, Reply, Reads, Course, gives, leaves, raises, stops, ask, within, Outcome, Gives, Leaves, Stops, Again, AgainRunning, TurnTree, Status, lines, shut}
 use Rattle.acts.specs.declared.act.Timer.{Timer}
-use Rattle.acts.specs.declared.id.Id.{Id}
-use Rattle.acts.specs.Deed.{Reply}
 use Rattle.acts.specs.Deed as said
 use Rattle.acts.specs.Flaw as flaw
 use Rattle.acts.specs.Id.{id_text}
@@ -16,12 +15,11 @@ use Rattle.dialog.specs.declared.choice.Trigger.TheVariants as after
 use Rattle.expects.specs.Clock.{clock_of, later}
 use Rattle.expects.specs.Report.{reports}
 use Rattle.kinds.specs.Kinds.{on_ok}
-use Rattle.plan.specs.Plan.{Reads, goes}
-use Rattle.state.specs.Dialogue.{Course, gives, leaves, raises, stops, ask, tick, within}
-use Rattle.state.specs.Outcome.{Outcome, Gives, Leaves, Stops, Again, AgainRunning}
-use Rattle.state.specs.Piece.{ChoiceText, Turn, TurnTree}
+use Rattle.plan.specs.Plan.{goes}
+use Rattle.state.specs.Dialogue.{tick}
+use Rattle.state.specs.Piece.{ChoiceText, Turn}
 use Rattle.state.specs.Placed.{placed}
-use Rattle.state.specs.Status.{Status, at_id, lines, shut}
+use Rattle.state.specs.Status.{at_id}
 
 -- what a choice consumes is consumed (expect(1), expect)
 abbrev pub consumed : Trigger → Chosen → Status → Status

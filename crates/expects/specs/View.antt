@@ -1,8 +1,7 @@
 -- How what the code holds stands to the definition.
 use Rattle.std.specs.Prelude.{◌≡◌, ℕ, List, [], Option, Some, None, Err}
-use Rattle.acts.specs.Deed.{Deed, Reply, deed_of}
+use Rattle.state.specs.Prelude.{Deed, Reply, deed_of, Id, Ends, Asks, Calls, Course, gives, tree_of, Outcome, TurnTree, Reaches, Status, lines, shut, FitsState, outcome_of}
 use Rattle.acts.specs.Deed as said
-use Rattle.acts.specs.declared.id.Id.{Id}
 use Rattle.acts.specs.declared.row.Row.{Row}
 use Rattle.dialog.specs.Branches.{Pair}
 use Rattle.dialog.specs.Choice.{Chosen, Chooses, Taken}
@@ -25,18 +24,13 @@ use Rattle.expects.specs.declared.turn.Waits.TheVariants as waits
 use Rattle.expects.specs.Expect.{by_words}
 use Rattle.expects.specs.Turn.{arrives, behind, consumed_by, does, taken_by, waited}
 use Rattle.expects.specs.Words.{Form, Waits, Stands}
-use Rattle.plan.specs.Plan.{Ends, Asks, Calls, goes}
+use Rattle.plan.specs.Plan.{goes}
 use Rattle.dialog.specs.Lines.{Line}
 use Rattle.dialog.specs.LogState.{is_logged}
 use Rattle.state.specs.Budget.{again_of}
-use Rattle.state.specs.Dialogue.{Course, gives, replied, written}
-use Rattle.state.specs.Nesting.{tree_of}
-use Rattle.state.specs.Outcome.{Outcome}
-use Rattle.state.specs.Piece.{Script, Turn, TurnTree}
+use Rattle.state.specs.Dialogue.{replied, written}
+use Rattle.state.specs.Piece.{Script, Turn}
 use Rattle.state.specs.Placed.{noted}
-use Rattle.state.specs.Reaches.{Reaches}
-use Rattle.state.specs.Status.{Status, lines, shut}
-use Rattle.state.specs.View.{FitsState, outcome_of}
 use Rattle.state.specs.declared.outcome.Leave.TheVariants as leave
 use Rattle.state.specs.declared.outcome.Stop.TheVariants as halt
 use Rattle.state.specs.declared.state.State.{State}

@@ -1,13 +1,11 @@
 //! The timer of a wait (expect(1), timeout).
 
 ghost use Rattle.std.specs.Prelude.{◌≡◌, is_some, IsOk, IsTrue};
-ghost use Rattle.acts.specs.Raise.{Answers};
+ghost use Rattle.state.specs.Prelude.{Answers, Status, FitsState};
 ghost use Rattle.expects.specs.Clock as definition;
-ghost use Rattle.state.specs.Status.{Status};
-ghost use Rattle.state.specs.View.{FitsState};
 
 use acts::{Raise, Timer};
-use kinds::words::number_of;
+use kinds::words::number_in;
 use state::State;
 use state::variables::consulted;
 use std::alloc::Allocator;
@@ -51,7 +49,7 @@ fn started<A: Allocator + Copy>(
         return Ok(timer_of(seconds));
     }
     match consulted(state, TIMEOUT) {
-        Some(text) => Ok(timer_of(number_of(alloc, text.as_slice())?)),
+        Some(text) => Ok(timer_of(number_in(alloc, text)?)),
         None => Ok(Timer::Start(SECONDS)),
     }
 }

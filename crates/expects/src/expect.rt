@@ -1,16 +1,13 @@
 //! The words of the three commands (expect(1), expect, expect_before and expect_after).
 
 ghost use Rattle.std.specs.Prelude.{◌≡◌, ◌≤◌, ℕ, IfOk, MatchOption};
+ghost use Rattle.state.specs.Prelude.{Raises, Reaches, Status, FitsState};
 ghost use Rattle.acts.specs.Flaw as flaw;
-ghost use Rattle.acts.specs.Raise.{Raises};
 ghost use Rattle.dialog.specs.Misreads as misread;
 ghost use Rattle.expects.specs.Expect as definition;
 ghost use Rattle.expects.specs.Parts.{Tells};
 ghost use Rattle.expects.specs.View.{Comes, IsPlainBegun, IsPlainOpening, course_of_begun, course_of_opening, form_of};
 ghost use Rattle.expects.specs.Words.{Form as Meant};
-ghost use Rattle.state.specs.Reaches.{Reaches};
-ghost use Rattle.state.specs.Status.{Status};
-ghost use Rattle.state.specs.View.{FitsState};
 
 use crate::form::{Form, is_braced};
 use crate::resuming::shut;

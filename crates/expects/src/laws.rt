@@ -1,11 +1,9 @@
 //! What holds of every turn of `expect`.
 
 ghost use Rattle.std.specs.Prelude.{ℕ, ◌+◌, ◌*◌};
+ghost use Rattle.state.specs.Prelude.{worth, TurnTree, Status};
 ghost use Rattle.expects.specs.Turn as definition;
-ghost use Rattle.state.specs.Behaves.{worth};
-ghost use Rattle.state.specs.Piece.{TurnTree};
 ghost use Rattle.state.specs.Proceeds.{Proceeds};
-ghost use Rattle.state.specs.Status.{Status};
 
 /// A turn leaves no more ticks than there were and comes to less with each script and turn behind
 /// it, pays for its acts by its ticks, and each of its waits tells of buffers that hold at most

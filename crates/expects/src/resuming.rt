@@ -1,13 +1,11 @@
 //! What follows the body of what was chosen (expect(1), expect and exp_continue).
 
 ghost use Rattle.std.specs.Prelude.{◌≡◌, ◌≤◌, IfOk};
+ghost use Rattle.state.specs.Prelude.{Raises, Leaves, Status, FitsState, outcome_of};
 ghost use Rattle.acts.specs.Flaw as flaw;
-ghost use Rattle.acts.specs.Raise.{Raises};
 ghost use Rattle.expects.specs.Turn as definition;
 ghost use Rattle.expects.specs.View.{Comes, IsPlainOpening, TurnsBehind, course_of_opening, turn_of};
-ghost use Rattle.state.specs.Outcome.{Leaves};
-ghost use Rattle.state.specs.Status.{Status};
-ghost use Rattle.state.specs.View.{FitsState, code_of, outcome_of};
+ghost use Rattle.state.specs.View.{code_of};
 
 use crate::turn::{Opening, Turn};
 use acts::{Fault, Id, NoMemory, Raise, Timer};

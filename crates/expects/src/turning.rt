@@ -17,9 +17,7 @@ ghost use Rattle.std.specs.Prelude.{
 ghost use Rattle.dialog.specs.Choice.{Chooses};
 ghost use Rattle.expects.specs.Turn as definition;
 ghost use Rattle.expects.specs.View.{Comes, HasChoice, IsPlain, Selected, course_of_turned, done, settles, turn_of};
-ghost use Rattle.state.specs.Dialogue.{within};
-ghost use Rattle.state.specs.Status.{Status};
-ghost use Rattle.state.specs.View.{FitsState};
+ghost use Rattle.state.specs.Prelude.{within, Status, FitsState};
 
 use crate::clock::{clock_of, later};
 use crate::report::report;

@@ -1,12 +1,10 @@
 //! What the answer to an act of `expect` leads to (expect(1), expect).
 
 ghost use Rattle.std.specs.Prelude.{◌≡◌, ◌≤◌, IfOk, IsOk};
-ghost use Rattle.acts.specs.Deed.{deed_of, reply_of};
+ghost use Rattle.state.specs.Prelude.{deed_of, reply_of, Status, shut, FitsState};
 ghost use Rattle.expects.specs.Turn as definition;
 ghost use Rattle.expects.specs.View.{Brings, Comes, IsOnTheWay, bytes_of, course_of_talk, has_failed, next_of, notes, rows_waited, settles, turn_of};
 ghost use Rattle.state.specs.Dialogue.{written};
-ghost use Rattle.state.specs.Status.{Status, shut};
-ghost use Rattle.state.specs.View.{FitsState};
 
 use crate::turn::{Talk, Turn, Turned, Waits};
 use crate::turning::{select, settle};

@@ -1,11 +1,13 @@
 -- What a command does that runs no script: its acts, the changes that it makes, and how it ends.
 use Rattle.std.specs.Prelude.{ℕ, suc, List, Result, Ok, Err}
 use Rattle.acts.specs.Deed.{Deed, Reply}
+use Rattle.acts.specs.Deed as said
 use Rattle.acts.specs.Flaw.{Flaw, text_of}
 use Rattle.plan.specs.Plan.{Ends}
 use Rattle.kinds.specs.Edits.{Edit, Opening, edited, opened_by}
 use Rattle.state.specs.Dialogue.{Course, ask, raises}
-use Rattle.state.specs.Outcome.{Outcome, Gives, Leaves, Error}
+use Rattle.state.specs.Outcome.{Outcome, Gives, Leaves, Stops, Error}
+use Rattle.state.specs.Outcome as stop
 use Rattle.state.specs.Rows.{Holds}
 use Rattle.state.specs.Status.{Status}
 
@@ -25,6 +27,16 @@ gives value = Over (Gives value)
 -- it is over with an error
 abbrev pub fails : {n : ℕ} → Flaw → Exchange n
 fails flaw = Over (Leaves Error (text_of flaw))
+
+-- on as an answer says; an error is how the command ends (Tcl(n), return codes)
+abbrev pub settled : {n : ℕ} → Result (Exchange n) Flaw → Exchange n
+settled (Ok exchange) = exchange
+settled (Err flaw) = fails flaw
+
+-- on after a write; one that failed stops the run (this project's own rule)
+abbrev pub written : {n : ℕ} → Exchange n → Reply → Exchange n
+written next (said.Failed sent) = Over (Stops stop.WriterFailed)
+written next _ = next
 
 -- it as a part of a run; it takes no tick
 abbrev pub course : {n : ℕ} → Exchange n → Status → Course

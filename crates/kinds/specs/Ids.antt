@@ -3,7 +3,7 @@ use Rattle.std.specs.Prelude.{ℕ, List, codes, Option, Some, None, Result, Ok, 
 use Rattle.acts.specs.declared.id.Id.{Id}
 use Rattle.acts.specs.Flaw.{Flaw}
 use Rattle.acts.specs.Flaw as flaw
-use Rattle.dialog.specs.Channels.{named}
+use Rattle.dialog.specs.Channels.{named, connection}
 use Rattle.state.specs.Status.{Status, lines}
 use Rattle.state.specs.Variables.{consulted}
 
@@ -29,3 +29,13 @@ current_id s = said_by (consulted s.scopes (codes "spawn_id")) s
 abbrev pub chosen_id : Option (List ℕ) → Status → Result Id Flaw
 chosen_id None s = current_id s
 chosen_id (Some name) s = named_id name s
+
+-- a connection that is open, or the error that the text spells the channel of none
+abbrev pub joined : Option Id → List ℕ → Result Id Flaw
+joined (Some id) text = Ok id
+joined None text = Err (flaw.NoChannel text)
+
+-- the open connection whose channel a text spells; a channel that is not open is named as it stands
+-- (close(n); expect(1), spawn)
+abbrev pub connection_id : List ℕ → Status → Result Id Flaw
+connection_id text s = joined (connection (lines s) text) text

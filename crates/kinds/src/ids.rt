@@ -61,3 +61,21 @@ pub fn chosen_id<A: Allocator + Copy>(
         None => current_id(alloc, state),
     }
 }
+
+/// The open connection whose channel a text spells (close(n)).
+///
+/// # Errors
+/// No channel that is open is spelled so; or memory is refused for the error.
+pub fn connection_id<A: Allocator + Copy>(
+    alloc: A,
+    state: &State<A>,
+    text: &[u8],
+) -> Result<Id, Raise<A>>
+    ensures { (s : Status) → FitsState state.now s →
+        Answers (λ id. id) (definition.connection_id text.now s) result }
+{
+    match state.ids.table.connection(text) {
+        Some(id) => Ok(id),
+        None => Err(Raise::Fault(Fault::NoChannel(Vec::from_slice(alloc, text)?))),
+    }
+}

@@ -1,11 +1,9 @@
 -- What exit does.
 use Rattle.std.specs.Prelude.{ℕ, pos, List, [], ◌∷◌, codes, Result, Ok, Err}
-use Rattle.acts.specs.Flaw.{Flaw}
+use Rattle.state.specs.Prelude.{Flaw, bind, Outcome, Stops}
 use Rattle.acts.specs.Flaw as flaw
-use Rattle.acts.specs.Raise.{bind}
 use Rattle.kinds.specs.Words.{number}
 use Rattle.state.specs.Outcome as stop
-use Rattle.state.specs.Outcome.{Outcome, Stops}
 
 -- exit ?n? (exit(n))
 abbrev pub exit : List (List ℕ) → Result Outcome Flaw

@@ -1,10 +1,9 @@
 -- What exp_continue does.
 use Rattle.std.specs.Prelude.{ℕ, ◌&&◌, Bool, not, List, [], ◌∷◌, codes, Result, Ok, Err, if◌then◌else◌}
+use Rattle.state.specs.Prelude.{Flaw, Outcome, Leaves, Again, AgainRunning}
 use Rattle.std.specs.Str.{bytes_eq}
-use Rattle.acts.specs.Flaw.{Flaw}
 use Rattle.acts.specs.Flaw as flaw
 use Rattle.state.specs.Arguments.{is_flag}
-use Rattle.state.specs.Outcome.{Outcome, Leaves, Again, AgainRunning}
 
 -- the flag that keeps the timer running (expect(1), exp_continue)
 abbrev pub is_continue_timer : List ℕ → Bool

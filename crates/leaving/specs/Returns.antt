@@ -1,8 +1,7 @@
 -- What return does.
 use Rattle.std.specs.Prelude.{ℕ, List, [], ◌∷◌, codes, Result, Ok, Err}
-use Rattle.acts.specs.Flaw.{Flaw}
+use Rattle.state.specs.Prelude.{Flaw, Outcome, Leaves, Return}
 use Rattle.acts.specs.Flaw as flaw
-use Rattle.state.specs.Outcome.{Outcome, Leaves, Return}
 
 -- return ?v? (return(n))
 abbrev pub returns : List (List ℕ) → Result Outcome Flaw

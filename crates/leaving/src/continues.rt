@@ -1,8 +1,7 @@
 //! `continue` (continue(n)).
 
-ghost use Rattle.acts.specs.Raise.{Answers};
+ghost use Rattle.state.specs.Prelude.{Answers, outcome_of};
 ghost use Rattle.leaving.specs.Continues as definition;
-ghost use Rattle.state.specs.View.{outcome_of};
 
 use acts::Raise;
 use acts::raise::wrong_args;

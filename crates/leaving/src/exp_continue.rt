@@ -1,9 +1,8 @@
 //! `exp_continue ?-continue_timer?` (expect(1), exp_continue).
 
 ghost use Rattle.std.specs.Prelude.{◌≡◌};
-ghost use Rattle.acts.specs.Raise.{Answers, Raises};
+ghost use Rattle.state.specs.Prelude.{Answers, Raises, outcome_of};
 ghost use Rattle.leaving.specs.ExpContinue as definition;
-ghost use Rattle.state.specs.View.{outcome_of};
 
 use acts::Raise;
 use acts::raise::{bad_argument, wrong_args};

@@ -1,11 +1,9 @@
 -- What log_file does.
 use Rattle.std.specs.Prelude.{ℕ, suc, ◌&&◌, ◌||◌, ◌==◌, not, length, Bool, true, false, List, [], ◌∷◌, codes, Option, Some, None, Result, Ok, Err, if◌then◌else◌}
+use Rattle.state.specs.Prelude.{Deed, Reply, Flaw, bind, Course, Status}
 use Rattle.std.specs.Str.{bytes_eq}
-use Rattle.acts.specs.Deed.{Deed, Reply}
 use Rattle.acts.specs.Deed as said
-use Rattle.acts.specs.Flaw.{Flaw}
 use Rattle.acts.specs.Flaw as flaw
-use Rattle.acts.specs.Raise.{bind}
 use Rattle.acts.specs.declared.act.LogMode.{LogMode}
 use Rattle.acts.specs.declared.act.LogMode.TheVariants as mode
 use Rattle.kinds.specs.Edits.{EndsLog, OpensLog}
@@ -14,8 +12,6 @@ use Rattle.logs.specs.Request.{Request, request_by, request_of}
 use Rattle.logs.specs.declared.log_file.Waits.{Waits}
 use Rattle.logs.specs.declared.log_file.Waits.TheVariants as waits
 use Rattle.state.specs.Arguments.{is_flag}
-use Rattle.state.specs.Dialogue.{Course}
-use Rattle.state.specs.Status.{Status}
 
 -- the flag by which the log gets what arrives whatever log_user is (expect(1), log_file)
 abbrev pub is_all : List ℕ → Bool

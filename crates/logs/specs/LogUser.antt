@@ -1,9 +1,8 @@
 -- What log_user does.
 use Rattle.std.specs.Prelude.{ℕ, Bool, true, false, List, [], ◌∷◌, codes, Result, Ok, Err, if◌then◌else◌}
+use Rattle.state.specs.Prelude.{Flaw, bind}
 use Rattle.std.specs.Str.{bytes_eq}
-use Rattle.acts.specs.Flaw.{Flaw}
 use Rattle.acts.specs.Flaw as flaw
-use Rattle.acts.specs.Raise.{bind}
 use Rattle.kinds.specs.Edits.{ShowsArrivals}
 use Rattle.kinds.specs.Exchange.{Exchange, Edits, gives}
 

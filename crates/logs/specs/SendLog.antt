@@ -1,10 +1,8 @@
 -- What send_log does.
 use Rattle.std.specs.Prelude.{ℕ, List, codes, Result, Ok}
-use Rattle.acts.specs.Flaw.{Flaw}
-use Rattle.acts.specs.Raise.{bind}
+use Rattle.state.specs.Prelude.{Flaw, bind, Status}
 use Rattle.kinds.specs.Exchange.{Exchange}
 use Rattle.logs.specs.Text.{text_in}
-use Rattle.state.specs.Status.{Status}
 use Rattle.writing.specs.Channel.{note}
 
 -- send_log ?--? t: to the log, where one is open (expect(1), send_log)

@@ -1,7 +1,6 @@
 -- What send_user does.
 use Rattle.std.specs.Prelude.{ℕ, List, codes, Result, Ok}
-use Rattle.acts.specs.Flaw.{Flaw}
-use Rattle.acts.specs.Raise.{bind}
+use Rattle.state.specs.Prelude.{Flaw, bind}
 use Rattle.kinds.specs.Exchange.{Exchange}
 use Rattle.logs.specs.Text.{text_in}
 use Rattle.writing.specs.Channel.{tell}

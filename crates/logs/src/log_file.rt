@@ -1,13 +1,10 @@
 //! `log_file ?-a? ?-noappend? ?name?` (expect(1), log_file).
 
 ghost use Rattle.std.specs.Prelude.{◌≡◌, ◌≤◌, ℕ};
-ghost use Rattle.acts.specs.Deed.{deed_of, reply_of};
-ghost use Rattle.acts.specs.Raise.{Answers, Raises};
+ghost use Rattle.state.specs.Prelude.{deed_of, reply_of, Answers, Raises, Status, FitsState};
 ghost use Rattle.kinds.specs.Answers.{Goes, GoesOn, Talks};
 ghost use Rattle.logs.specs.LogFile as definition;
 ghost use Rattle.logs.specs.Request.{request_of};
-ghost use Rattle.state.specs.Status.{Status};
-ghost use Rattle.state.specs.View.{FitsState};
 ghost use Rattle.state.specs.declared.state.State.{State as Kept};
 
 use crate::settings::{end_log, start_log};

@@ -1,11 +1,9 @@
 //! `log_user 0|1` (expect(1), log_user).
 
 ghost use Rattle.std.specs.Prelude.{◌≤◌};
-ghost use Rattle.acts.specs.Raise.{Answers};
+ghost use Rattle.state.specs.Prelude.{Answers, Status, FitsState};
 ghost use Rattle.kinds.specs.Answers.{Sets};
 ghost use Rattle.logs.specs.LogUser as definition;
-ghost use Rattle.state.specs.Status.{Status};
-ghost use Rattle.state.specs.View.{FitsState};
 
 use crate::settings::show_arrivals;
 use acts::Raise;

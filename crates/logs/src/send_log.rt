@@ -2,8 +2,7 @@
 
 ghost use Rattle.kinds.specs.Answers.{Talks};
 ghost use Rattle.logs.specs.SendLog as definition;
-ghost use Rattle.state.specs.Status.{Status};
-ghost use Rattle.state.specs.View.{FitsState};
+ghost use Rattle.state.specs.Prelude.{Status, FitsState};
 ghost use Rattle.writing.specs.Channel.{next_of};
 
 use crate::text::read_text;

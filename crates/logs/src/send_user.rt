@@ -2,8 +2,7 @@
 
 ghost use Rattle.kinds.specs.Answers.{Talks};
 ghost use Rattle.logs.specs.SendUser as definition;
-ghost use Rattle.state.specs.Status.{Status};
-ghost use Rattle.state.specs.View.{FitsState};
+ghost use Rattle.state.specs.Prelude.{Status, FitsState};
 ghost use Rattle.state.specs.declared.state.State.{State as Kept};
 ghost use Rattle.writing.specs.Channel.{next_of};
 

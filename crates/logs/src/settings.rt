@@ -1,9 +1,8 @@
 //! The changes of what is written where.
 
 ghost use Rattle.std.specs.Prelude.{◌≡◌};
+ghost use Rattle.state.specs.Prelude.{Status, FitsState};
 ghost use Rattle.kinds.specs.Edits.{ShowsArrivals, EndsLog, OpensLog, edited, opened_by};
-ghost use Rattle.state.specs.Status.{Status};
-ghost use Rattle.state.specs.View.{FitsState};
 
 use state::State;
 use std::alloc::Allocator;

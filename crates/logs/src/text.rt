@@ -1,7 +1,7 @@
 //! The words of a command that takes a text, behind `--` or alone.
 
 ghost use Rattle.std.specs.Prelude.{◌≡◌};
-ghost use Rattle.acts.specs.Raise.{Answers, Raises};
+ghost use Rattle.state.specs.Prelude.{Answers, Raises};
 ghost use Rattle.logs.specs.Text as definition;
 
 use acts::Raise;

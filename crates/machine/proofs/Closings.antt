@@ -1,17 +1,14 @@
 -- The acts that close a run, one by one.
 use Rattle.std.proofs.Common.{◌≡◌, ℕ, List, [], ◌∷◌, map, true, false, refl}
-use Rattle.acts.specs.declared.id.Id.{Id}
-use Rattle.acts.specs.Deed.{Deed, Reply}
+use Rattle.state.specs.Prelude.{Id, Deed, Reply, Peer, Ends, Dialogue, Status, lines, shut}
 use Rattle.acts.specs.Deed as said
 use Rattle.acts.specs.Fits.{fits}
-use Rattle.dialog.specs.Peers.{Peer, opened, line}
-use Rattle.plan.specs.Plan.{Ends}
+use Rattle.dialog.specs.Peers.{opened, line}
 use Rattle.runs.specs.Closing.{does, closes, ends_with}
 use Rattle.runs.specs.Ending.{Ending, Over, With, stopped}
-use Rattle.state.specs.Dialogue.{Dialogue, judged, is_no_more}
+use Rattle.state.specs.Dialogue.{judged, is_no_more}
 use Rattle.state.specs.Outcome.{Stop}
 use Rattle.state.specs.Outcome as stop
-use Rattle.state.specs.Status.{Status, lines, shut}
 
 -- an open id is closed first
 pub closes_first : (e : Ending) (s : Status) (peer : Peer) (others : List Peer) (i : Id) →

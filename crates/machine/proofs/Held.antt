@@ -18,11 +18,9 @@ use Rattle.machine.proofs.Silent.{comes_goes, same_goes, then_goes}
 use Rattle.expects.specs.Expect.{expect}
 use Rattle.expects.specs.Words.{Form, named as form_of}
 use Rattle.runs.specs.Commands.{command, other_command}
-use Rattle.state.specs.Dialogue.{Course, gives}
+use Rattle.state.specs.Prelude.{Course, gives, Gives, Status}
 use Rattle.state.specs.Leaf.{course_of}
 use Rattle.state.specs.Nesting as nests
-use Rattle.state.specs.Outcome.{Gives}
-use Rattle.state.specs.Status.{Status}
 use Rattle.state.specs.declared.leaf.Leaf.TheVariants as at_hand
 use Rattle.state.specs.declared.nesting.Nesting.TheVariants as nesting
 use Rattle.state.specs.declared.outcome.Leave.{Leave}

@@ -21,16 +21,10 @@ use Rattle.machine.specs.declared.phase.Phase.TheVariants as phase
 use Rattle.acts.specs.declared.act.Act.{Act}
 use Rattle.machine.proofs.Silent.{reaches_goes, same_goes, then_goes, same_left}
 use Rattle.expects.specs.declared.turn.Turn.{Turn}
-use Rattle.plan.specs.Plan.{Ends}
+use Rattle.state.specs.Prelude.{Ends, Course, Dialogue, gives, raises, Shows, Outcome, Gives, ScriptText, ScriptTree, Reaches, Status, FitsState, outcome_of}
 use Rattle.runs.specs.Ending.{Over}
 use Rattle.runs.specs.Run.{initial, whole}
-use Rattle.state.specs.Dialogue.{Course, Dialogue, gives, raises}
-use Rattle.state.specs.Leaf.{HasOutcome, Shows, course_of}
-use Rattle.state.specs.Outcome.{Outcome, Gives}
-use Rattle.state.specs.Piece.{ScriptText, ScriptTree}
-use Rattle.state.specs.Reaches.{Reaches}
-use Rattle.state.specs.Status.{Status}
-use Rattle.state.specs.View.{FitsState, outcome_of}
+use Rattle.state.specs.Leaf.{HasOutcome, course_of}
 use Rattle.state.specs.declared.leaf.Leaf.{Leaf}
 use Rattle.state.specs.declared.leaf.Leaf.TheVariants as leaf
 use Rattle.state.specs.declared.outcome.Leave.{Leave}

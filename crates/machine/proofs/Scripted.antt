@@ -7,15 +7,13 @@ use Rattle.machine.specs.declared.frame.Frame.{Frame}
 use Rattle.machine.specs.declared.frame.Frame.TheVariants as frame
 use Rattle.machine.specs.declared.frame.Script.{Script}
 use Rattle.runs.specs.Commands.{command}
-use Rattle.plan.specs.Plan.{Ends, and_then, onward}
+use Rattle.state.specs.Prelude.{Ends, Course, Dialogue, stops, on_value, Outcome, Gives, Status}
+use Rattle.plan.specs.Plan.{and_then, onward}
 use Rattle.runs.specs.Ending.{Over}
 use Rattle.runs.specs.Scripts.{behind, script, one}
 use Rattle.machine.proofs.Silent.{same_goes, then_goes}
 use Rattle.state.proofs.Ticks.{tick_refused}
-use Rattle.state.specs.Dialogue.{Course, Dialogue, stops, on_value}
-use Rattle.state.specs.Outcome.{Outcome, Gives}
 use Rattle.state.specs.Outcome as stop
-use Rattle.state.specs.Status.{Status}
 use Rattle.tclparse.specs.Fault.{Fault}
 use Rattle.tclparse.specs.Seen.{fault_of}
 use Rattle.tclparse.specs.Tree.{Words, Commands, no_commands}

@@ -11,10 +11,8 @@ use Rattle.plan.proofs.Exact.{same, then_same, call_is_exact, read_is_exact}
 use Rattle.runs.specs.Ending.{Over}
 use Rattle.runs.specs.Scripts.{plan_of}
 use Rattle.runs.proofs.Trees.{one_tree}
-use Rattle.state.specs.Dialogue.{Course, Dialogue}
-use Rattle.state.specs.Piece.{IsTree}
+use Rattle.state.specs.Prelude.{Course, Dialogue, IsTree, Reaches}
 use Rattle.state.specs.Reaches as words_reach
-use Rattle.state.specs.Reaches.{Reaches}
 
 pub same_goes : {p q : Dialogue Over} → p ≡ q → Goes p q
 same_goes {p = p} is = subst (λ r. Goes p r) is here

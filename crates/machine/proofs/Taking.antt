@@ -18,9 +18,7 @@ use Rattle.expects.specs.declared.turn.Turn.{Turn}
 use Rattle.runs.specs.Commands.{command}
 use Rattle.runs.specs.Scripts.{script}
 use Rattle.state.proofs.Ticks.{tick_taken}
-use Rattle.state.specs.Dialogue.{Course}
-use Rattle.state.specs.Outcome.{Gives}
-use Rattle.state.specs.Status.{Status}
+use Rattle.state.specs.Prelude.{Course, Gives, Status}
 use Rattle.tclparse.specs.Seen.{fault_of}
 use Rattle.tclparse.specs.Tree.{no_commands}
 use Rattle.tclparse.specs.View.{words_of}

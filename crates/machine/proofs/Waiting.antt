@@ -10,9 +10,8 @@ use Rattle.expects.specs.View.{course_of_turned}
 use Rattle.expects.specs.declared.turn.Turn as turning
 use Rattle.expects.specs.declared.turn.Turned.TheVariants as came
 use Rattle.plan.specs.Plan.{goes}
-use Rattle.state.specs.Dialogue.{gives}
-use Rattle.state.specs.Piece.{Turn, TurnTree}
-use Rattle.state.specs.Status.{Status}
+use Rattle.state.specs.Prelude.{gives, TurnTree, Status}
+use Rattle.state.specs.Piece.{Turn}
 use Rattle.tclparse.specs.declared.script.Script.{Script}
 
 module _ {A : Type 0} (fs : List (Frame A)) where

@@ -1,5 +1,6 @@
 -- What is done next: the frames of a session.
-use Rattle.std.specs.Prelude.{◌≡◌, ℕ, ◌+◌, ◌*◌, List, [], ◌∷◌, map, reverse, drop, Option, option_map}
+use Rattle.std.specs.Prelude.{◌≡◌, ℕ, ◌+◌, ◌*◌, List, [], ◌∷◌, map, Option, option_map, reverse, drop}
+use Rattle.state.specs.Prelude.{Plan, Course, Dialogue, on_value, Outcome, Gives, Status}
 use Rattle.std.specs.declared.vec.Vec.{Vec}
 use Rattle.control.specs.View as control
 use Rattle.machine.specs.declared.frame.Frame.{Frame}
@@ -10,15 +11,12 @@ use Rattle.machine.specs.declared.frame.WordsOf.TheVariants as whose
 use Rattle.expects.specs.Expect.{by_words}
 use Rattle.expects.specs.Turn.{behind}
 use Rattle.expects.specs.View.{form_of, turn_of}
-use Rattle.plan.specs.Plan.{Plan, and_then, onward, after}
+use Rattle.plan.specs.Plan.{and_then, onward, after}
 use Rattle.runs.specs.Closing.{closing}
 use Rattle.runs.specs.Commands.{command}
 use Rattle.runs.specs.Ending.{Over}
 use Rattle.runs.specs.Run.{most_levels}
 use Rattle.runs.specs.Scripts.{script}
-use Rattle.state.specs.Dialogue.{Course, Dialogue, on_value}
-use Rattle.state.specs.Outcome.{Outcome, Gives}
-use Rattle.state.specs.Status.{Status}
 use Rattle.state.specs.declared.state.State.{State}
 use Rattle.tclparse.specs.Fault.{Fault}
 use Rattle.tclparse.specs.Grammar.{IsScript}

@@ -1,13 +1,11 @@
 -- What words come to that begin to be substituted.
 use Rattle.std.specs.Prelude.{◌≡◌, ℕ, List, Result, Ok, Err, Vec}
+use Rattle.state.specs.Prelude.{Course, Dialogue, Status, outcome_of}
 use Rattle.machine.specs.Frames.{left_of, onward_of}
 use Rattle.machine.specs.Goes.{Goes}
 use Rattle.machine.specs.declared.frame.Frame.{Frame}
 use Rattle.runs.specs.Ending.{Over}
 use Rattle.state.specs.Budget.{again_of}
-use Rattle.state.specs.Dialogue.{Course, Dialogue}
-use Rattle.state.specs.Status.{Status}
-use Rattle.state.specs.View.{outcome_of}
 use Rattle.state.specs.declared.outcome.Leave.{Leave}
 
 -- the dialogue goes on as what is done with their values, or as the frames say with an outcome

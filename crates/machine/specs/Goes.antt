@@ -1,11 +1,9 @@
 -- Silent steps: what a dialogue does before its next act.
-use Rattle.plan.specs.Plan.{Reads, Calls, and_then, onward}
+use Rattle.state.specs.Prelude.{Reads, Calls, Dialogue, Outcome, IsTree, Status}
+use Rattle.plan.specs.Plan.{and_then, onward}
 use Rattle.runs.specs.Ending.{Over}
 use Rattle.runs.specs.Scripts.{plan_of}
-use Rattle.state.specs.Dialogue.{Dialogue}
-use Rattle.state.specs.Outcome.{Outcome}
-use Rattle.state.specs.Piece.{Piece, Text, Tree, IsTree}
-use Rattle.state.specs.Status.{Status}
+use Rattle.state.specs.Piece.{Piece, Text, Tree}
 
 -- the one goes on as the other, once some pieces have begun and some texts are read (this project's
 -- own rule)

@@ -1,7 +1,7 @@
 -- Where a session stands.
 use Rattle.std.specs.Prelude.{◌≡◌, ℕ, ◌+◌, ◌*◌, ◌<◌, ◌≤◌, List, [], ◌∷◌, ◌++◌, Option, Some, None, Result, Ok, Err, IsOkAnd}
+use Rattle.state.specs.Prelude.{Deed, Reply, deed_of, reply_of, NoMemory, Ends, Asks, Dialogue, Course, gives, Outcome, Status, FitsState, outcome_of}
 use Rattle.std.specs.declared.rc.Rc.{Rc}
-use Rattle.acts.specs.Deed.{Deed, Reply, deed_of, reply_of}
 use Rattle.acts.specs.History.{History}
 use Rattle.acts.specs.declared.act.Act.{Act}
 use Rattle.acts.specs.declared.answer.Answer.{Answer}
@@ -22,19 +22,13 @@ use Rattle.machine.specs.declared.unwinding.Unwound.{Unwound}
 use Rattle.machine.specs.declared.unwinding.Unwound.TheVariants as unwound
 use Rattle.machine.specs.declared.phase.Phase.{Phase}
 use Rattle.machine.specs.declared.phase.Phase.TheVariants as phase
-use Rattle.memory.specs.declared.NoMemory.{NoMemory}
-use Rattle.plan.specs.Plan.{Ends, Asks}
 use Rattle.runs.specs.Commands.{command}
 use Rattle.runs.specs.Closing.{does, ends_with, reported}
 use Rattle.runs.specs.Ending.{Ending, Over, numbered}
 use Rattle.expects.specs.Turn.{turns}
 use Rattle.expects.specs.View.{turn_of}
 use Rattle.state.specs.Budget.{again_of}
-use Rattle.state.specs.Dialogue.{Dialogue, Course, gives}
 use Rattle.state.specs.Leaf.{course_of}
-use Rattle.state.specs.Outcome.{Outcome}
-use Rattle.state.specs.Status.{Status}
-use Rattle.state.specs.View.{FitsState, outcome_of}
 use Rattle.state.specs.declared.leaf.Leaf.{Leaf}
 use Rattle.state.specs.declared.leaf.Leaf.TheVariants as leaf
 use Rattle.state.specs.declared.state.State.{State}

@@ -1,5 +1,6 @@
 -- What the frame on top comes to where a value stands before it.
-use Rattle.std.specs.Prelude.{◌≡◌, ℕ, ◌+◌, ◌*◌, ◌⊎◌, List, [], ◌∷◌, Option, option_map}
+use Rattle.std.specs.Prelude.{◌≡◌, ℕ, ◌+◌, ◌*◌, List, [], ◌∷◌, Option, option_map, ◌⊎◌}
+use Rattle.state.specs.Prelude.{Course, stops, Gives, Status}
 use Rattle.std.specs.declared.rc.Rc.{Rc}
 use Rattle.std.specs.declared.vec.Vec.{Vec}
 use Rattle.control.specs.View as control
@@ -14,10 +15,7 @@ use Rattle.expects.specs.Turn.{behind as behind_body}
 use Rattle.expects.specs.View.{turn_of}
 use Rattle.runs.specs.Commands.{command}
 use Rattle.runs.specs.Scripts.{behind}
-use Rattle.state.specs.Dialogue.{Course, stops}
 use Rattle.state.specs.Outcome as stop
-use Rattle.state.specs.Outcome.{Gives}
-use Rattle.state.specs.Status.{Status}
 use Rattle.tclparse.specs.Seen.{fault_of}
 use Rattle.tclparse.specs.Tree.{no_commands}
 use Rattle.tclparse.specs.Tree as tree

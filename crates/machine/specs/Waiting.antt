@@ -1,14 +1,11 @@
 -- What waits for the answer to an act, and what follows it.
 use Rattle.std.specs.Prelude.{ℕ}
-use Rattle.acts.specs.Deed.{Deed, Reply}
+use Rattle.state.specs.Prelude.{Deed, Reply, Course, Status, outcome_of}
 use Rattle.commands.specs.View as table
 use Rattle.machine.specs.declared.waits.Waits.{Waits}
 use Rattle.machine.specs.declared.waits.Waits.TheVariants as waits
 use Rattle.expects.specs.View as turning
 use Rattle.state.specs.Budget.{again_of}
-use Rattle.state.specs.Dialogue.{Course}
-use Rattle.state.specs.Status.{Status}
-use Rattle.state.specs.View.{outcome_of}
 use Rattle.state.specs.declared.leaf.Leaf.{Leaf}
 use Rattle.state.specs.declared.leaf.Leaf.TheVariants as leaf
 

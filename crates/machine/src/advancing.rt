@@ -1,10 +1,9 @@
 //! The steps of a session between two acts.
 
 ghost use Rattle.std.specs.Prelude.{IfOk};
+ghost use Rattle.state.specs.Prelude.{Status, FitsState, outcome_of};
 ghost use Rattle.machine.specs.Frames.{onward_of, stack};
 ghost use Rattle.machine.specs.Phases.{IsTold, Stands};
-ghost use Rattle.state.specs.Status.{Status};
-ghost use Rattle.state.specs.View.{FitsState, outcome_of};
 
 use crate::closing::close_run;
 use crate::frame::Frame;

@@ -1,14 +1,12 @@
 //! Answers to a session's acts: what each leads on to.
 
-ghost use Rattle.std.specs.Prelude.{◌≡◌, ◌<◌, ◌+◌, ◌^◌, length, IfOk, IfErr};
-ghost use Rattle.acts.specs.Deed.{deed_of, reply_of};
+ghost use Rattle.std.specs.Prelude.{◌≡◌, ◌<◌, ◌+◌, length, IfOk, IfErr, ◌^◌};
+ghost use Rattle.state.specs.Prelude.{deed_of, reply_of, Dialogue, Status, FitsState};
 ghost use Rattle.machine.specs.Frames.{left_of, stack};
 ghost use Rattle.machine.specs.Phases.{GivesAgain, IsPlan, IsTold, Leads, MayFail, Stands, after_acts, deed_in, paired};
 ghost use Rattle.machine.specs.Waiting.{next_of};
 ghost use Rattle.runs.specs.Ending.{Over};
-ghost use Rattle.state.specs.Dialogue.{Dialogue, replied};
-ghost use Rattle.state.specs.Status.{Status};
-ghost use Rattle.state.specs.View.{FitsState};
+ghost use Rattle.state.specs.Dialogue.{replied};
 
 use crate::advancing::advance;
 use crate::closing::{closed, is_no_more};

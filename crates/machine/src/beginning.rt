@@ -1,10 +1,10 @@
 //! The beginning of a run: its variables, and nothing that is open.
 
 ghost use Rattle.std.specs.Prelude.{◌≡◌, ◌++◌, ◌∷◌, [], None, IfOk, OnOk};
+ghost use Rattle.state.specs.Prelude.{FitsState};
 ghost use Rattle.machine.specs.View.{words_of};
 ghost use Rattle.runs.specs.Run as run;
 ghost use Rattle.runs.specs.Run.{initial, variables};
-ghost use Rattle.state.specs.View.{FitsState};
 ghost use Rattle.tclstate.specs.Pairs.{found};
 ghost use Rattle.tclstate.specs.Scopes.{Text, scopes as scopes_of};
 

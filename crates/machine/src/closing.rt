@@ -1,7 +1,7 @@
 //! The acts that close a run (this project's own rule).
 
 ghost use Rattle.std.specs.Prelude.{◌≡◌, ℕ, List, [], IfOk};
-ghost use Rattle.acts.specs.Deed.{deed_of, reply_of};
+ghost use Rattle.state.specs.Prelude.{deed_of, reply_of, Status, FitsState, outcome_of};
 ghost use Rattle.dialog.specs.Peers.{opened};
 ghost use Rattle.machine.specs.Phases.{IsTold, Stands, closing_on};
 ghost use Rattle.machine.specs.View.{ending_of};
@@ -11,8 +11,7 @@ ghost use Rattle.runs.specs.Ending.{stopped};
 ghost use Rattle.state.specs.Dialogue as dialogues;
 ghost use Rattle.state.specs.Dialogue.{judged};
 ghost use Rattle.state.specs.Outcome as outcomes;
-ghost use Rattle.state.specs.Status.{Status};
-ghost use Rattle.state.specs.View.{FitsState, code_of, outcome_of, stop_of};
+ghost use Rattle.state.specs.View.{code_of, stop_of};
 
 use crate::end::End;
 use crate::phase::Phase;

@@ -1,13 +1,12 @@
 //! Scripts put on the stack: one that a command runs, and one that stands in a word.
 
 ghost use Rattle.std.specs.Prelude.{◌≡◌, ◌+◌, ◌*◌, ◌≤◌, [], ◌∷◌, IfOk};
+ghost use Rattle.state.specs.Prelude.{Status, FitsState, outcome_of};
 ghost use Rattle.machine.specs.Frames.{begun, call_of, left_of, onward_of, stack, weight, words_in, words_load};
 ghost use Rattle.machine.specs.Gathers.{Gathers, again_among};
 ghost use Rattle.machine.specs.Goes.{Goes};
 ghost use Rattle.machine.specs.declared.frame.Frame.TheVariants as frames_are;
 ghost use Rattle.state.specs.Budget.{again_of};
-ghost use Rattle.state.specs.Status.{Status};
-ghost use Rattle.state.specs.View.{FitsState, outcome_of};
 ghost use Rattle.tclparse.specs.View.{commands_of, words_of};
 ghost use Rattle.words.specs.Gathering.{gathering_on};
 ghost use Rattle.words.specs.Scripts.{scripts_left};

@@ -1,6 +1,7 @@
 //! What begins above the frames: a command, what its words say, a turn of `expect`.
 
 ghost use Rattle.std.specs.Prelude.{◌+◌, ◌≤◌, [], IfOk};
+ghost use Rattle.state.specs.Prelude.{Status, FitsState};
 ghost use Rattle.control.specs.View as control;
 ghost use Rattle.machine.specs.Frames.{call_of, left_of, load, stack, words_in};
 ghost use Rattle.machine.specs.Waiting as waiting;
@@ -10,8 +11,6 @@ ghost use Rattle.machine.specs.Phases.{call_load, Leads, course_of_next, more_of
 ghost use Rattle.runs.specs.Commands.{command, other_command};
 ghost use Rattle.state.specs.Leaf.{course_of};
 ghost use Rattle.state.specs.Nesting.{course_of as course_of_nesting};
-ghost use Rattle.state.specs.Status.{Status};
-ghost use Rattle.state.specs.View.{FitsState};
 ghost use Rattle.tclparse.specs.View.{words_of};
 ghost use Rattle.words.specs.Words.{words as meant_words};
 

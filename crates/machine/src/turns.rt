@@ -1,6 +1,7 @@
 //! Turns of `expect` under frames.
 
 ghost use Rattle.std.specs.Prelude.{◌≡◌, ◌+◌, ◌≤◌, IfOk};
+ghost use Rattle.state.specs.Prelude.{Status, FitsState};
 ghost use Rattle.machine.specs.Frames.{left_of, load, stack, words_in};
 ghost use Rattle.machine.specs.Goes.{Goes};
 ghost use Rattle.machine.specs.Phases.{Leads};
@@ -9,8 +10,6 @@ ghost use Rattle.expects.specs.Expect as definition;
 ghost use Rattle.expects.specs.Turn.{turns};
 ghost use Rattle.expects.specs.View.{IsPlain, IsPlainOpening, course_of_opening, course_of_talk, course_of_turned, form_of, turn_of};
 ghost use Rattle.state.specs.Leaf.{course_of};
-ghost use Rattle.state.specs.Status.{Status};
-ghost use Rattle.state.specs.View.{FitsState};
 
 use crate::frame::{Frame, WordsOf};
 use crate::nesting::{gather, put_script};

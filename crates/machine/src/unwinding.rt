@@ -1,6 +1,7 @@
 //! How frames go on with how the part within them ended, from the top down.
 
 ghost use Rattle.std.specs.Prelude.{◌≡◌, ◌+◌, ◌*◌, [], option_map, Err, IfOk, IfErr};
+ghost use Rattle.state.specs.Prelude.{Ends, Status, FitsState, outcome_of};
 ghost use Rattle.control.specs.View as control;
 ghost use Rattle.control.specs.View.{scripts_held};
 ghost use Rattle.machine.specs.Frames.{call_of, left_of, next_of, onward_of, stack, weight, weight_of, words_in, words_load, words_of_frame};
@@ -9,10 +10,7 @@ ghost use Rattle.expects.specs.View.{turn_of};
 ghost use Rattle.machine.specs.Phases.{IsEmptied, Lightens, Unwinds};
 ghost use Rattle.machine.specs.Taken.{course_of_taken, tick_of, weight_taken, words_taken};
 ghost use Rattle.runs.specs.Scripts.{behind as meant_behind};
-ghost use Rattle.plan.specs.Plan.{Ends};
 ghost use Rattle.state.specs.Budget.{again_of};
-ghost use Rattle.state.specs.Status.{Status};
-ghost use Rattle.state.specs.View.{FitsState, outcome_of};
 ghost use Rattle.tclparse.specs.Seen.{fault_of};
 ghost use Rattle.words.specs.Gathering.{gathering_on};
 ghost use Rattle.words.specs.Scripts.{scripts_left};

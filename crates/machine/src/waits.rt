@@ -1,10 +1,10 @@
 //! What waits for the answer to an act.
 
 ghost use Rattle.std.specs.Prelude.{◌≡◌};
+ghost use Rattle.state.specs.Prelude.{Status};
 ghost use Rattle.commands.specs.View as table;
 ghost use Rattle.machine.specs.Waiting.{again_in, next_of};
 ghost use Rattle.state.specs.Leaf.{course_of};
-ghost use Rattle.state.specs.Status.{Status};
 
 use state::Leaf;
 use std::alloc::Allocator;

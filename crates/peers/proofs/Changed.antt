@@ -1,14 +1,12 @@
 -- The state fits again where an open id was changed that may be waited for as before.
 use Rattle.std.proofs.Common.{◌≡◌, ◌==◌, ℕ, Bool, true, false, List, [], ◌∷◌, Some, is_some, if◌then◌else◌, refl, ap}
-use Rattle.acts.specs.declared.id.Id.{Id}
+use Rattle.state.specs.Prelude.{Id, Status, FitsState}
 use Rattle.dialog.proofs.Changes.{fits_size}
 use Rattle.dialog.specs.Lines.{Line, Listing, at_line, line_of, resized}
 use Rattle.dialog.specs.Peers.{FitsPeers, at_peer, set_nulls, sized}
 use Rattle.kinds.specs.Edits.{DropsNulls, Sizes, edited}
 use Rattle.state.proofs.FitIds.{peers_fit}
 use Rattle.state.proofs.Fits.{ids_fit}
-use Rattle.state.specs.Status.{Status}
-use Rattle.state.specs.View.{FitsState}
 use Rattle.state.specs.declared.state.State.{State}
 
 -- a change of an id that is not open changes no line

@@ -1,20 +1,14 @@
 -- What close does.
 use Rattle.std.specs.Prelude.{ℕ, List, [], ◌∷◌, codes, Result, Ok, Err, if◌then◌else◌}
-use Rattle.acts.specs.declared.id.Id.{Id}
-use Rattle.acts.specs.Deed.{Deed, Reply}
+use Rattle.state.specs.Prelude.{Id, Deed, Reply, Flaw, bind, Course, Status}
 use Rattle.acts.specs.Deed as said
-use Rattle.acts.specs.Flaw.{Flaw}
 use Rattle.acts.specs.Flaw as flaw
-use Rattle.acts.specs.Raise.{bind}
 use Rattle.kinds.specs.Edits.{Shuts}
 use Rattle.kinds.specs.Exchange.{Exchange, Edits, Performs, gives, course}
-use Rattle.kinds.specs.Ids.{current_id, named_id}
-use Rattle.peers.specs.Channels.{connection_id}
+use Rattle.kinds.specs.Ids.{connection_id, current_id, named_id}
 use Rattle.peers.specs.declared.close.Waits.{Waits}
 use Rattle.peers.specs.Words.{is_id_flag, misplaced, surplus}
 use Rattle.state.specs.Arguments.{is_flag}
-use Rattle.state.specs.Dialogue.{Course}
-use Rattle.state.specs.Status.{Status}
 
 -- the id is closed, and its standing pairs are gone (expect(1), close)
 abbrev pub over : Id → Exchange 3

@@ -1,5 +1,4 @@
 pub mod Words
-pub mod Channels
 pub mod Close
 pub mod Requests
 pub mod MatchMax

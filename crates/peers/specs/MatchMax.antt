@@ -1,9 +1,7 @@
 -- What match_max does.
 use Rattle.std.specs.Prelude.{ℕ, ◌&&◌, nat_le, Bool, ℤ, pos, negsuc, List, [], codes, decimal, Option, Some, None, option_map, Result, Ok, Err, if◌then◌else◌}
-use Rattle.acts.specs.declared.id.Id.{Id}
-use Rattle.acts.specs.Flaw.{Flaw}
+use Rattle.state.specs.Prelude.{Id, Flaw, bind, Status, lines}
 use Rattle.acts.specs.Flaw as flaw
-use Rattle.acts.specs.Raise.{bind}
 use Rattle.dialog.specs.Lines.{line_of}
 use Rattle.kinds.specs.Edits.{Sizes, SizesLater}
 use Rattle.kinds.specs.Exchange.{Exchange, Edits, gives}
@@ -11,7 +9,6 @@ use Rattle.kinds.specs.Ids.{chosen_id}
 use Rattle.kinds.specs.Words.{number}
 use Rattle.matchbuf.specs.Size.{greatest_size}
 use Rattle.peers.specs.Requests.{Whose, Later, Of, request}
-use Rattle.state.specs.Status.{Status, lines}
 
 -- the number is a size (expect(1), match_max; the greatest is this project's own)
 abbrev pub is_size : ℕ → Bool

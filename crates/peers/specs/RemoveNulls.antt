@@ -1,16 +1,13 @@
 -- What remove_nulls does.
 use Rattle.std.specs.Prelude.{ℕ, Bool, true, false, List, [], codes, Option, Some, None, option_map, Result, Ok, Err, if◌then◌else◌}
+use Rattle.state.specs.Prelude.{Id, Flaw, bind, Status, lines}
 use Rattle.std.specs.Str.{bytes_eq}
-use Rattle.acts.specs.declared.id.Id.{Id}
-use Rattle.acts.specs.Flaw.{Flaw}
 use Rattle.acts.specs.Flaw as flaw
-use Rattle.acts.specs.Raise.{bind}
 use Rattle.dialog.specs.Lines.{line_of}
 use Rattle.kinds.specs.Edits.{DropsNulls, DropsNullsLater}
 use Rattle.kinds.specs.Exchange.{Exchange, Edits, gives}
 use Rattle.kinds.specs.Ids.{chosen_id}
 use Rattle.peers.specs.Requests.{Whose, Later, Of, request}
-use Rattle.state.specs.Status.{Status, lines}
 
 -- whether nulls are removed, as a word says (expect(1), remove_nulls)
 abbrev pub drops_said : List ℕ → Result Bool Flaw

@@ -1,7 +1,7 @@
 -- The words of a command that reads a setting of ids, or sets it.
 use Rattle.std.specs.Prelude.{ℕ, ◌==◌, ◌||◌, Bool, true, false, not, List, [], ◌∷◌, length, codes, Option, Some, None, Result, Ok, Err, if◌then◌else◌}
+use Rattle.state.specs.Prelude.{Flaw}
 use Rattle.std.specs.Str.{bytes_eq}
-use Rattle.acts.specs.Flaw.{Flaw}
 use Rattle.acts.specs.Flaw as flaw
 use Rattle.peers.specs.Words.{is_id_flag, misplaced}
 use Rattle.state.specs.Arguments.{is_flag}

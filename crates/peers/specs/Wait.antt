@@ -1,21 +1,16 @@
 -- What wait does.
 use Rattle.std.specs.Prelude.{ℕ, List, [], ◌∷◌, ◌++◌, codes, decimal, Option, Some, None, Result, Ok, Err, if◌then◌else◌}
+use Rattle.state.specs.Prelude.{Id, Deed, Reply, Flaw, bind, Course, Status}
 use Rattle.std.specs.Str.{bytes_eq}
-use Rattle.acts.specs.declared.id.Id.{Id}
-use Rattle.acts.specs.Deed.{Deed, Reply}
 use Rattle.acts.specs.Deed as said
-use Rattle.acts.specs.Flaw.{Flaw}
 use Rattle.acts.specs.Flaw as flaw
 use Rattle.acts.specs.Id.{id_text}
-use Rattle.acts.specs.Raise.{bind}
 use Rattle.dialog.specs.Kinds.{Kind, Process, Socket}
 use Rattle.kinds.specs.Edits.{Reaps}
 use Rattle.kinds.specs.Exchange.{Exchange, Edits, Performs, gives, course}
 use Rattle.peers.specs.declared.wait.Waits.{Waits}
 use Rattle.peers.specs.Words.{is_id_flag, misplaced, surplus}
-use Rattle.state.specs.Dialogue.{Course}
 use Rattle.state.specs.Ids.{Unreaped, unreaped}
-use Rattle.state.specs.Status.{Status}
 use Rattle.state.specs.Variables.{consulted}
 
 -- the id, not yet waited for, that a text spells (expect(1), wait)

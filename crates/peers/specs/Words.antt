@@ -1,7 +1,7 @@
 -- The words of a command that takes an id behind a flag.
 use Rattle.std.specs.Prelude.{ℕ, ◌&&◌, Bool, not, List, codes, if◌then◌else◌}
+use Rattle.state.specs.Prelude.{Flaw}
 use Rattle.std.specs.Str.{bytes_eq}
-use Rattle.acts.specs.Flaw.{Flaw}
 use Rattle.acts.specs.Flaw as flaw
 use Rattle.state.specs.Arguments.{is_flag}
 

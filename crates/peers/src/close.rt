@@ -1,18 +1,15 @@
 //! `close ?-i id?`, `close channel` (expect(1), close; close(n)).
 
 ghost use Rattle.std.specs.Prelude.{◌≤◌};
-ghost use Rattle.acts.specs.Raise.{Answers};
+ghost use Rattle.state.specs.Prelude.{Answers, Status, FitsState};
 ghost use Rattle.kinds.specs.Answers.{GoesOn, Talks};
 ghost use Rattle.peers.specs.Close as definition;
-ghost use Rattle.state.specs.Status.{Status};
-ghost use Rattle.state.specs.View.{FitsState};
 
-use crate::channels::connection_id;
 use crate::ids::shut;
 use crate::words::{is_id_flag, misplaced, surplus};
 use acts::raise::{bad_argument, wrong_args};
 use acts::{Act, Id, Raise};
-use kinds::ids::{current_id, named_id};
+use kinds::ids::{connection_id, current_id, named_id};
 use state::arguments::is_flag;
 use state::leaf::empty;
 use state::{Leaf, State};

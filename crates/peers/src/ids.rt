@@ -1,9 +1,8 @@
 //! The changes of what is kept of ids.
 
-ghost use Rattle.std.specs.Prelude.{◌≡◌, ◌==◌, not, filter, OnErr, OnOk};
+ghost use Rattle.std.specs.Prelude.{◌≡◌, ◌==◌, not, OnErr, OnOk, filter};
+ghost use Rattle.state.specs.Prelude.{Status, FitsState};
 ghost use Rattle.kinds.specs.Edits.{DropsNulls, DropsNullsLater, Reaps, Shuts, Sizes, SizesLater, edited};
-ghost use Rattle.state.specs.Status.{Status};
-ghost use Rattle.state.specs.View.{FitsState};
 
 use acts::{Id, NoMemory};
 use matchbuf::MatchBufError;

@@ -1,7 +1,6 @@
 //! The commands that close ids, wait for processes, and read and set what is kept of ids.
 #![tactic(auto)]
 
-mod channels;
 pub mod close;
 mod ids;
 pub mod match_max;

@@ -1,11 +1,9 @@
 //! `match_max ?-d? ?-i id? ?size?` (expect(1), match_max).
 
 ghost use Rattle.std.specs.Prelude.{◌≡◌, ◌≤◌, IfOk, decimal, option_map};
-ghost use Rattle.acts.specs.Raise.{Answers};
+ghost use Rattle.state.specs.Prelude.{Answers, Status, FitsState};
 ghost use Rattle.kinds.specs.Answers.{Sets};
 ghost use Rattle.peers.specs.MatchMax as definition;
-ghost use Rattle.state.specs.Status.{Status};
-ghost use Rattle.state.specs.View.{FitsState};
 
 use crate::ids::{resize, resize_later};
 use crate::requests::{Request, Whose, read_request};

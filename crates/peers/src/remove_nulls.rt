@@ -1,11 +1,9 @@
 //! `remove_nulls ?-d? ?-i id? ?0|1?` (expect(1), remove_nulls).
 
 ghost use Rattle.std.specs.Prelude.{◌≡◌, ◌≤◌, IfOk};
-ghost use Rattle.acts.specs.Raise.{Answers};
+ghost use Rattle.state.specs.Prelude.{Answers, Status, FitsState};
 ghost use Rattle.kinds.specs.Answers.{Sets};
 ghost use Rattle.peers.specs.RemoveNulls as definition;
-ghost use Rattle.state.specs.Status.{Status};
-ghost use Rattle.state.specs.View.{FitsState};
 
 use crate::ids::{reset, reset_later};
 use crate::requests::{Request, Whose, read_request};

@@ -1,7 +1,7 @@
 //! The words of a command that reads a setting of ids, or sets it.
 
 ghost use Rattle.std.specs.Prelude.{◌≡◌, option_copied};
-ghost use Rattle.acts.specs.Raise.{Answers, Raises};
+ghost use Rattle.state.specs.Prelude.{Answers, Raises};
 ghost use Rattle.peers.specs.Requests as definition;
 ghost use Rattle.peers.specs.View.{request_of, whose_of};
 

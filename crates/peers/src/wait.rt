@@ -1,12 +1,10 @@
 //! `wait ?-i id?` (expect(1), wait).
 
 ghost use Rattle.std.specs.Prelude.{◌≡◌, ◌++◌, ◌≤◌, IfOk, OnOk, map, option_map};
-ghost use Rattle.acts.specs.Deed.{reply_of};
-ghost use Rattle.acts.specs.Raise.{Answers};
+ghost use Rattle.state.specs.Prelude.{reply_of, Answers, Status, FitsState};
 ghost use Rattle.kinds.specs.Answers.{GoesOn, Talks};
 ghost use Rattle.peers.specs.Wait as definition;
-ghost use Rattle.state.specs.Status.{Status};
-ghost use Rattle.state.specs.View.{FitsState, unreaped_of};
+ghost use Rattle.state.specs.View.{unreaped_of};
 
 use crate::ids::reap;
 use crate::words::{is_id_flag, misplaced, surplus};

@@ -1,7 +1,7 @@
 //! The words of a command that takes an id behind a flag.
 
 ghost use Rattle.std.specs.Prelude.{◌≡◌};
-ghost use Rattle.acts.specs.Raise.{Raises};
+ghost use Rattle.state.specs.Prelude.{Raises};
 ghost use Rattle.peers.specs.Words as definition;
 
 use acts::Raise;

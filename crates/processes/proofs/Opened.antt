@@ -1,9 +1,7 @@
 -- What comes of a command once the id of a process is open.
 use Rattle.std.proofs.Common.{ℕ, Result, Ok, Err}
-use Rattle.acts.specs.declared.id.Id.{Id}
-use Rattle.acts.specs.declared.raise.Raise.{Raise}
+use Rattle.state.specs.Prelude.{Id, Raise, Deed, Reply, Course, Status, FitsState}
 use Rattle.acts.specs.declared.raise.Raise.TheVariants as raise
-use Rattle.acts.specs.Deed.{Deed, Reply}
 use Rattle.dialog.specs.Kinds.{Process}
 use Rattle.kinds.specs.Answers.{GoesOn}
 use Rattle.kinds.specs.Edits.{OpensId, opened_by}
@@ -11,9 +9,6 @@ use Rattle.processes.specs.Launch.{enters_process, running}
 use Rattle.processes.specs.Numbers.{Opens}
 use Rattle.state.specs.declared.leaf.Leaf.{Leaf}
 use Rattle.state.specs.declared.state.State.{State}
-use Rattle.state.specs.Dialogue.{Course}
-use Rattle.state.specs.Status.{Status}
-use Rattle.state.specs.View.{FitsState}
 
 -- it goes on as it does where the id is open
 pub running_goes_on : {A W : Type 0} (next : W → Deed → Status → Reply → Course) (pid : ℕ)

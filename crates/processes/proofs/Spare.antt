@@ -1,20 +1,13 @@
 -- However many acts are to spare, a program is started by the same course.
 use Rattle.std.proofs.Common.{◌≡◌, ℕ, List, Result, Ok, Err, refl}
 use Rattle.std.specs.Prelude.{decimal}
-use Rattle.acts.specs.declared.id.Id.{Id}
-use Rattle.acts.specs.Deed.{Reply}
+use Rattle.state.specs.Prelude.{Id, Reply, Flaw, bind, ask, Status, Scopes}
 use Rattle.acts.specs.Deed as said
-use Rattle.acts.specs.Flaw.{Flaw}
-use Rattle.acts.specs.Raise.{bind}
 use Rattle.dialog.specs.Kinds.{Process}
 use Rattle.kinds.specs.Edits.{Binds, OpensId, opened_by}
-use Rattle.kinds.specs.Exchange.{Edits, course, gives}
+use Rattle.kinds.specs.Exchange.{Edits, course, gives, settled, written}
 use Rattle.processes.specs.Launch.{in_force, runs, started, starts}
 use Rattle.processes.specs.Numbers.{next_id}
-use Rattle.processes.specs.Onward.{settled, written}
-use Rattle.state.specs.Dialogue.{ask}
-use Rattle.state.specs.Status.{Status}
-use Rattle.tclstate.specs.Scopes.{Scopes}
 
 module _ (n m : ℕ) where
   entering : (value : List ℕ) (r : Result Scopes Flaw) (s : Status) →

@@ -1,21 +1,15 @@
 -- How a program is started, after its echo; n counts the acts that are to spare behind it.
 use Rattle.std.specs.Prelude.{ℕ, suc, Bool, true, false, List, [], ◌∷◌, ◌++◌, None, codes, decimal, Result, Ok}
-use Rattle.acts.specs.declared.id.Id.{Id}
-use Rattle.acts.specs.Deed.{Reply}
+use Rattle.state.specs.Prelude.{Id, Reply, Flaw, bind, Status, Scopes}
 use Rattle.acts.specs.Deed as said
-use Rattle.acts.specs.Flaw.{Flaw}
 use Rattle.acts.specs.Flaw as flaw
 use Rattle.acts.specs.Id.{id_text}
-use Rattle.acts.specs.Raise.{bind}
 use Rattle.dialog.specs.Kinds.{Process}
 use Rattle.dialog.specs.LogState.{goes_out, is_logged}
 use Rattle.kinds.specs.Edits.{Binds, OpensId, Skips}
-use Rattle.kinds.specs.Exchange.{Exchange, Edits, Opens, Performs, fails, gives}
+use Rattle.kinds.specs.Exchange.{Exchange, Edits, Opens, Performs, fails, gives, settled, written}
 use Rattle.kinds.specs.Variables.{put}
-use Rattle.state.specs.Status.{Status}
-use Rattle.tclstate.specs.Scopes.{Scopes}
 use Rattle.processes.specs.Numbers.{next_id}
-use Rattle.processes.specs.Onward.{settled, written}
 
 -- the name of a program, which is its first word (expect(1), spawn)
 abbrev pub name_of : List (List ℕ) → List ℕ

@@ -1,6 +1,5 @@
 pub mod View
 pub mod Numbers
-pub mod Onward
 pub mod Rebinds
 pub mod Sleep
 pub mod Socket

@@ -1,16 +1,12 @@
 -- The numbers of ids.
 use Rattle.std.specs.Prelude.{◌≡◌, Option, Some, None, Result, Ok, Err}
-use Rattle.acts.specs.declared.id.Id.{Id}
-use Rattle.acts.specs.declared.raise.Raise.{Raise}
+use Rattle.state.specs.Prelude.{Id, Raise, Flaw, flaw_of, Status, FitsState}
 use Rattle.acts.specs.declared.raise.Raise.TheVariants as raise
-use Rattle.acts.specs.Flaw.{Flaw, flaw_of}
 use Rattle.acts.specs.Flaw as flaw
 use Rattle.dialog.specs.Kinds.{Kind}
 use Rattle.kinds.specs.Edits.{OpensId, opened_by}
 use Rattle.state.specs.declared.state.State.{State}
 use Rattle.state.specs.Ids.{next_in}
-use Rattle.state.specs.Status.{Status}
-use Rattle.state.specs.View.{FitsState}
 
 -- the id of the next number, where there is one (this project's own rule)
 abbrev pub numbered : Option Id → Result Id Flaw

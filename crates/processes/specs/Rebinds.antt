@@ -1,13 +1,8 @@
 -- What a change of the variables answers, in the code and in the definition.
 use Rattle.std.specs.Prelude.{◌≡◌, Result, Ok, Err}
-use Rattle.acts.specs.declared.raise.Raise.{Raise}
-use Rattle.acts.specs.Flaw.{Flaw}
-use Rattle.acts.specs.Raise.{Fails}
+use Rattle.state.specs.Prelude.{Raise, Flaw, Fails, Status, FitsState, Scopes}
 use Rattle.kinds.specs.Edits.{Binds, edited}
 use Rattle.state.specs.declared.state.State.{State}
-use Rattle.state.specs.Status.{Status}
-use Rattle.state.specs.View.{FitsState}
-use Rattle.tclstate.specs.Scopes.{Scopes}
 
 -- the variables are those that are meant in both states, or there is an error, and nothing has
 -- changed

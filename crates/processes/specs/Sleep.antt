@@ -1,14 +1,10 @@
 -- What sleep does.
 use Rattle.std.specs.Prelude.{ℕ, ℤ, pos, negsuc, List, [], ◌∷◌, codes, Result, Ok, Err}
-use Rattle.acts.specs.Deed.{Deed, Reply}
+use Rattle.state.specs.Prelude.{Deed, Reply, Flaw, bind, Course, Status}
 use Rattle.acts.specs.Deed as said
-use Rattle.acts.specs.Flaw.{Flaw}
 use Rattle.acts.specs.Flaw as flaw
-use Rattle.acts.specs.Raise.{bind}
 use Rattle.kinds.specs.Exchange.{Exchange, Performs, gives, course}
 use Rattle.kinds.specs.Words.{number}
-use Rattle.state.specs.Dialogue.{Course}
-use Rattle.state.specs.Status.{Status}
 use Rattle.processes.specs.declared.sleep.Waits.{Waits}
 
 -- after the sleep, whatever its answer (expect(1), sleep)

@@ -1,20 +1,14 @@
 -- What socket does.
 use Rattle.std.specs.Prelude.{ℕ, nat_le, ◌&&◌, Bool, ℤ, pos, negsuc, List, [], ◌∷◌, codes, Result, Ok, Err, if◌then◌else◌}
-use Rattle.acts.specs.declared.id.Id.{Id}
-use Rattle.acts.specs.Deed.{Deed, Reply}
+use Rattle.state.specs.Prelude.{Id, Deed, Reply, Flaw, bind, Course, Status}
 use Rattle.acts.specs.Deed as said
-use Rattle.acts.specs.Flaw.{Flaw}
 use Rattle.acts.specs.Flaw as flaw
-use Rattle.acts.specs.Raise.{bind}
 use Rattle.dialog.specs.Channels.{channel_text}
 use Rattle.dialog.specs.Kinds.{Socket}
 use Rattle.kinds.specs.Edits.{OpensId, Skips}
-use Rattle.kinds.specs.Exchange.{Exchange, Edits, Opens, Performs, course, fails, gives}
+use Rattle.kinds.specs.Exchange.{Exchange, Edits, Opens, Performs, course, fails, gives, settled}
 use Rattle.kinds.specs.Words.{number}
-use Rattle.state.specs.Dialogue.{Course}
-use Rattle.state.specs.Status.{Status}
 use Rattle.processes.specs.Numbers.{next_id}
-use Rattle.processes.specs.Onward.{settled}
 use Rattle.processes.specs.declared.socket.Waits.{Waits}
 
 -- the id of a connection is open, and its channel is given (socket(n))

@@ -1,18 +1,12 @@
 -- What spawn does.
-use Rattle.std.specs.Prelude.{ℕ, Bool, true, false, List, [], ◌∷◌, codes, Option, Some, None, Result, Ok, Err, if◌then◌else◌}
+use Rattle.std.specs.Prelude.{ℕ, Bool, true, false, List, [], ◌∷◌, codes, Result, Err, if◌then◌else◌}
+use Rattle.state.specs.Prelude.{Id, Deed, Reply, Flaw, bind, Course, Status}
 use Rattle.std.specs.Str.{bytes_eq}
-use Rattle.acts.specs.declared.id.Id.{Id}
-use Rattle.acts.specs.Deed.{Deed, Reply}
-use Rattle.acts.specs.Flaw.{Flaw}
 use Rattle.acts.specs.Flaw as flaw
-use Rattle.acts.specs.Raise.{bind}
-use Rattle.dialog.specs.Channels.{connection}
-use Rattle.kinds.specs.Exchange.{Exchange, course}
+use Rattle.kinds.specs.Exchange.{Exchange, course, written}
+use Rattle.kinds.specs.Ids.{connection_id}
 use Rattle.state.specs.Arguments.{is_flag}
-use Rattle.state.specs.Dialogue.{Course}
-use Rattle.state.specs.Status.{Status, lines}
 use Rattle.processes.specs.Launch.{enters, launches, notes, started, starts}
-use Rattle.processes.specs.Onward.{written}
 use Rattle.processes.specs.View.{words_of, words_spawned}
 use Rattle.processes.specs.declared.spawn.Waits.{Waits}
 use Rattle.processes.specs.declared.spawn.Waits.TheVariants as waits
@@ -31,19 +25,9 @@ abbrev pub misplaced : List ℕ → Flaw
 misplaced w =
     if is_noecho w then flaw.WrongArgs (codes "spawn") else flaw.BadArgument w (codes "spawn")
 
--- an open connection, or the error that the text spells the channel of none
-abbrev pub joined : Option Id → List ℕ → Result Id Flaw
-joined (Some i) text = Ok i
-joined None text = Err (flaw.NoChannel text)
-
--- the open connection whose channel a text spells; one that is not open is named as it stands
--- (expect(1), spawn)
-abbrev pub channel_id : List ℕ → Status → Result Id Flaw
-channel_id text s = joined (connection (lines s) text) text
-
 -- the open connection of the one word behind the flag (expect(1), spawn)
 abbrev pub channel_said : List (List ℕ) → Status → Result Id Flaw
-channel_said (w ∷ []) s = channel_id w s
+channel_said (w ∷ []) s = connection_id w s
 channel_said _ s = Err (flaw.WrongArgs (codes "spawn"))
 
 -- the id of an open channel is in force, and 0 is given, as no process is started; no word may

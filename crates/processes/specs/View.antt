@@ -1,7 +1,7 @@
 -- How the code's words stand to those of the definition.
 use Rattle.std.specs.Prelude.{ℕ, List, [], map}
+use Rattle.state.specs.Prelude.{Deed}
 use Rattle.std.specs.declared.vec.Vec.{Vec}
-use Rattle.acts.specs.Deed.{Deed}
 use Rattle.acts.specs.Deed as said
 
 -- the words of a program that is to be started

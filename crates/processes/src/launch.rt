@@ -1,17 +1,13 @@
 //! How a program is started, after its echo (expect(1), spawn).
 
 ghost use Rattle.std.specs.Prelude.{◌≡◌, ℕ, IfOk};
-ghost use Rattle.acts.specs.Deed.{deed_of, reply_of};
+ghost use Rattle.state.specs.Prelude.{deed_of, reply_of, Raises, Status, FitsState};
 ghost use Rattle.acts.specs.Flaw as flaw;
-ghost use Rattle.acts.specs.Raise.{Raises};
-ghost use Rattle.dialog.specs.LogState.{goes_out};
 ghost use Rattle.kinds.specs.Answers.{Goes, GoesOn, Talks};
 ghost use Rattle.processes.specs.Launch as definition;
 ghost use Rattle.processes.specs.Rebinds.{Rebinds};
 ghost use Rattle.processes.specs.Spawn.{next_of};
 ghost use Rattle.processes.specs.View.{words_of, words_spawned};
-ghost use Rattle.state.specs.Status.{Status};
-ghost use Rattle.state.specs.View.{FitsState};
 
 use crate::numbers::{next_id, open_next, skip_next};
 use crate::spawn::Waits;

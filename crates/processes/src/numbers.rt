@@ -1,12 +1,10 @@
 //! The numbers of ids.
 
 ghost use Rattle.std.specs.Prelude.{◌≡◌};
-ghost use Rattle.acts.specs.Raise.{Answers};
+ghost use Rattle.state.specs.Prelude.{Answers, Status, FitsState};
 ghost use Rattle.dialog.specs.Views.{kind_of};
 ghost use Rattle.kinds.specs.Edits.{Skips, edited};
 ghost use Rattle.processes.specs.Numbers as definition;
-ghost use Rattle.state.specs.Status.{Status};
-ghost use Rattle.state.specs.View.{FitsState};
 
 use acts::{Fault, Id, Raise};
 use dialog::{Kind, OpenError};

@@ -2,8 +2,7 @@
 
 ghost use Rattle.kinds.specs.Answers.{GoesOn, Talks};
 ghost use Rattle.processes.specs.Sleep as definition;
-ghost use Rattle.state.specs.Status.{Status};
-ghost use Rattle.state.specs.View.{FitsState};
+ghost use Rattle.state.specs.Prelude.{Status, FitsState};
 
 use acts::raise::{bad_argument, wrong_args};
 use acts::{Act, Raise};

@@ -1,12 +1,9 @@
 //! `socket host port` (socket(n)).
 
 ghost use Rattle.std.specs.Prelude.{◌≡◌, ◌≤◌};
-ghost use Rattle.acts.specs.Deed.{deed_of, reply_of};
-ghost use Rattle.acts.specs.Raise.{Answers, Raises};
+ghost use Rattle.state.specs.Prelude.{deed_of, reply_of, Answers, Raises, Status, FitsState};
 ghost use Rattle.kinds.specs.Answers.{GoesOn, Talks};
 ghost use Rattle.processes.specs.Socket as definition;
-ghost use Rattle.state.specs.Status.{Status};
-ghost use Rattle.state.specs.View.{FitsState};
 
 use crate::numbers::{next_id, open_next, skip_next};
 use acts::decimal::push_decimal;

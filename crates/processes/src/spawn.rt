@@ -1,16 +1,14 @@
 //! `spawn ?-noecho? word ..`, `spawn ?-noecho? -open channel` (expect(1), spawn).
 
 ghost use Rattle.std.specs.Prelude.{◌≡◌, ◌≤◌};
-ghost use Rattle.acts.specs.Deed.{deed_of, reply_of};
-ghost use Rattle.acts.specs.Raise.{Answers, Raises};
+ghost use Rattle.state.specs.Prelude.{deed_of, reply_of, Answers, Raises, Status, FitsState};
 ghost use Rattle.kinds.specs.Answers.{GoesOn, Talks};
 ghost use Rattle.processes.specs.Spawn as definition;
-ghost use Rattle.state.specs.Status.{Status};
-ghost use Rattle.state.specs.View.{FitsState};
 
 use crate::launch::{enter, launch, note, started};
 use acts::raise::{bad_argument, wrong_args};
-use acts::{Act, Answer, Fault, Id, Raise};
+use acts::{Act, Answer, Id, Raise};
+use kinds::ids::connection_id;
 use state::arguments::is_flag;
 use state::leaf::{gives, stops};
 use state::{Leaf, State, Stop};
@@ -137,19 +135,8 @@ fn channel_said<A: Allocator + Copy>(
         Answers (λ id. id) (definition.channel_said words.now s) result }
 {
     match words {
-        [channel] => channel_id(alloc, state, channel.as_slice()),
+        [channel] => connection_id(alloc, state, channel.as_slice()),
         _ => Err(wrong_args(alloc, b"spawn")),
-    }
-}
-
-/// The open connection whose channel a text spells.
-fn channel_id<A: Allocator + Copy>(alloc: A, state: &State<A>, text: &[u8]) -> Result<Id, Raise<A>>
-    ensures { (s : Status) → FitsState state.now s →
-        Answers (λ id. id) (definition.channel_id text.now s) result }
-{
-    match state.ids.table.connection(text) {
-        Some(id) => Ok(id),
-        None => Err(Raise::Fault(Fault::NoChannel(Vec::from_slice(alloc, text)?))),
     }
 }
 

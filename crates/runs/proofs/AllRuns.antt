@@ -17,8 +17,7 @@ use Rattle.runs.proofs.Numbered.{told_alike}
 use Rattle.runs.proofs.Paid.{price, each_pays}
 use Rattle.runs.proofs.Trees.{one_tree}
 use Rattle.runs.proofs.Whole.{whole_pays, whole_keeps}
-use Rattle.state.specs.Behaves.{worth}
-use Rattle.state.specs.Piece.{IsTree}
+use Rattle.state.specs.Prelude.{worth, IsTree}
 use Rattle.state.specs.Rows.{Holds}
 
 pub answers_lead : AnswersLead

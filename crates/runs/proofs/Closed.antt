@@ -1,15 +1,13 @@
 -- Once a script is over, the open ids are closed in the order in which they stand.
 use Rattle.std.proofs.Common.{◌≡◌, ◌∙◌, ℕ, List, [], ◌∷◌, ◌++◌, Bool, true, false, if◌then◌else◌, sym, ap, subst, append_assoc}
-use Rattle.acts.specs.Deed.{Deed, Reply}
+use Rattle.state.specs.Prelude.{Deed, Reply, text_of, Peer, Ends, Dialogue, Outcome, Gives, Leaves, Stops, Error, Return, Break, Continue, Again, AgainRunning, IsTree, Status}
 use Rattle.acts.specs.Deed as said
 use Rattle.acts.specs.Fits.{fits}
 use Rattle.acts.specs.Flaw as flaw
-use Rattle.acts.specs.Flaw.{text_of}
 use Rattle.acts.specs.History.{History}
 use Rattle.dialog.specs.Lines.{Rise}
-use Rattle.dialog.specs.Peers.{Peer, numbers_of, opened}
+use Rattle.dialog.specs.Peers.{numbers_of, opened}
 use Rattle.dialog.proofs.Rising.{rise_front}
-use Rattle.plan.specs.Plan.{Ends}
 use Rattle.plan.specs.Runs.{Runs}
 use Rattle.plan.proofs.Exact as exact
 use Rattle.runs.specs.Closed.{closed_at, closed_by}
@@ -17,11 +15,8 @@ use Rattle.runs.specs.Closing.{does, closes, closes_log, ends_with, reported, re
 use Rattle.runs.specs.Ending.{Ending, Over, stopped}
 use Rattle.runs.specs.Laws.{ClosesRise}
 use Rattle.runs.specs.Scripts.{plan_of}
-use Rattle.state.specs.Dialogue.{Dialogue, is_no_more}
-use Rattle.state.specs.Outcome.{Outcome, Gives, Leaves, Stops, Error, Return, Break, Continue, Again, AgainRunning}
+use Rattle.state.specs.Dialogue.{is_no_more}
 use Rattle.state.specs.Outcome as stop
-use Rattle.state.specs.Piece.{IsTree}
-use Rattle.state.specs.Status.{Status}
 
 -- in each run the numbers of the ids that are closed are a beginning of these
 abbrev Front : List ℕ → Dialogue Over → Type 0

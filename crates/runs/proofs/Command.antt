@@ -9,9 +9,7 @@ use Rattle.expects.proofs.Closed.{expect_closed}
 use Rattle.expects.specs.Words.{Form, named as form_of}
 use Rattle.runs.specs.Commands.{called, chosen, command, formed}
 use Rattle.state.proofs.Closed.{Closed, Loops, Ticks, Turns}
-use Rattle.state.specs.Dialogue.{Course}
-use Rattle.state.specs.Outcome.{Gives}
-use Rattle.state.specs.Status.{Status}
+use Rattle.state.specs.Prelude.{Course, Gives, Status}
 use Rattle.tclstate.specs.Pairs.{found}
 use Rattle.tclstate.specs.Procs.{Procedure}
 

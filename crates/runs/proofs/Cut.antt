@@ -1,18 +1,16 @@
 -- Answers that cut a run off end it.
 use Rattle.std.proofs.Common.{ℕ, ◌+◌, ◌*◌, List, [], ◌∷◌, ◌++◌, Bool, true, false, if◌then◌else◌, refl}
-use Rattle.acts.specs.Deed.{Deed, Reply}
+use Rattle.state.specs.Prelude.{Deed, Reply, text_of, Peer, Ends, worth, Course, Dialogue, Outcome, Gives, Leaves, Stops, Error, Return, Break, Continue, Again, AgainRunning, IsTree, Status}
 use Rattle.acts.specs.Deed as said
 use Rattle.acts.specs.Fits.{fits}
 use Rattle.acts.specs.Flaw as flaw
-use Rattle.acts.specs.Flaw.{text_of}
 use Rattle.commands.specs.Commands as leaf
 use Rattle.commands.proofs.Behaves.{command_behaves}
-use Rattle.dialog.specs.Peers.{Peer, opened}
+use Rattle.dialog.specs.Peers.{opened}
 use Rattle.expects.proofs.Proceeding.{turns_proceed}
 use Rattle.expects.specs.Turn.{turns}
 use Rattle.plan.proofs.Last.{runs_close}
 use Rattle.plan.specs.Last.{Closes, EachCloses, IsOver}
-use Rattle.plan.specs.Plan.{Ends}
 use Rattle.runs.specs.Closing.{does, closes, closes_log, ends_with, reported, reports, closing}
 use Rattle.runs.specs.Ending.{Ending, Over, stopped}
 use Rattle.runs.specs.Laws.{NothingFollows}
@@ -21,13 +19,9 @@ use Rattle.runs.specs.Scripts.{plan_of}
 use Rattle.runs.proofs.Pieces.{Inherited, piece_holds, top}
 use Rattle.state.proofs.Cut.{CourseCloses, behaves_closes, proceeds_closes}
 use Rattle.state.proofs.Judged.{judged_cut, passes_cut}
-use Rattle.state.specs.Behaves.{worth}
 use Rattle.state.specs.Cut.{CutsOff, WasCut}
-use Rattle.state.specs.Dialogue.{Course, Dialogue, is_no_more}
-use Rattle.state.specs.Outcome.{Outcome, Gives, Leaves, Stops, Error, Return, Break, Continue, Again, AgainRunning}
+use Rattle.state.specs.Dialogue.{is_no_more}
 use Rattle.state.specs.Outcome as stop
-use Rattle.state.specs.Piece.{IsTree}
-use Rattle.state.specs.Status.{Status}
 
 -- the same at each rank, from any state
 abbrev ClosesFrom : ℕ → Status → Course → Type 0

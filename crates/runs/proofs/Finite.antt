@@ -13,12 +13,10 @@ use Rattle.runs.proofs.Pieces.{Inherited, one_holds, turns_hold, rank, top}
 use Rattle.runs.proofs.Trees.{has_tree}
 use Rattle.state.proofs.Behaves.{behaves_falls}
 use Rattle.state.proofs.Proceeding.{proceeds_falls}
-use Rattle.state.specs.Behaves.{worth}
+use Rattle.state.specs.Prelude.{worth, Course, on_value, Outcome, Gives, Leaves, Stops, Again, AgainRunning, IsTree, Status}
 use Rattle.state.specs.Budget.{again_of, budget, left_after}
-use Rattle.state.specs.Dialogue.{Course, on_value, tick_of}
-use Rattle.state.specs.Outcome.{Outcome, Gives, Leaves, Stops, Again, AgainRunning}
-use Rattle.state.specs.Piece.{Piece, Script, One, Loop, Turn, IsTree}
-use Rattle.state.specs.Status.{Status}
+use Rattle.state.specs.Dialogue.{tick_of}
+use Rattle.state.specs.Piece.{Piece, Script, One, Loop, Turn}
 use Rattle.tclparse.specs.Fault.{Fault}
 use Rattle.tclparse.specs.Tree.{Commands, no_commands}
 use Rattle.tclparse.specs.Tree as tree

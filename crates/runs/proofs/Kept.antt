@@ -1,30 +1,24 @@
 -- The rows of each wait hold.
 use Rattle.std.proofs.Common.{ℕ, ◌+◌, ◌*◌, List, [], ◌∷◌, ◌++◌, Bool, true, false, if◌then◌else◌}
-use Rattle.acts.specs.Deed.{Deed, Reply}
+use Rattle.state.specs.Prelude.{Deed, Reply, text_of, Peer, Ends, worth, Course, Dialogue, Outcome, Gives, Leaves, Stops, Error, Return, Break, Continue, Again, AgainRunning, IsTree, Status}
 use Rattle.acts.specs.Deed as said
 use Rattle.acts.specs.Fits.{fits}
 use Rattle.acts.specs.Flaw as flaw
-use Rattle.acts.specs.Flaw.{text_of}
 use Rattle.commands.specs.Commands as leaf
 use Rattle.commands.proofs.Behaves.{command_behaves}
-use Rattle.dialog.specs.Peers.{Peer, opened}
+use Rattle.dialog.specs.Peers.{opened}
 use Rattle.expects.proofs.Proceeding.{turns_proceed}
 use Rattle.expects.specs.Turn.{turns}
 use Rattle.plan.specs.Kept.{Keeps, EachKeeps}
-use Rattle.plan.specs.Plan.{Ends}
 use Rattle.runs.specs.Closing.{does, closes, closes_log, ends_with, reported, reports, closing}
 use Rattle.runs.specs.Ending.{Ending, Over, stopped}
 use Rattle.runs.specs.Scripts.{plan_of}
 use Rattle.runs.proofs.Pieces.{Inherited, piece_holds, top}
 use Rattle.state.proofs.Behaves.{behaves_keeps}
 use Rattle.state.proofs.Proceeding.{proceeds_keeps}
-use Rattle.state.specs.Behaves.{worth}
-use Rattle.state.specs.Dialogue.{Course, Dialogue, is_no_more}
-use Rattle.state.specs.Outcome.{Outcome, Gives, Leaves, Stops, Error, Return, Break, Continue, Again, AgainRunning}
+use Rattle.state.specs.Dialogue.{is_no_more}
 use Rattle.state.specs.Outcome as stop
-use Rattle.state.specs.Piece.{IsTree}
 use Rattle.state.specs.Rows.{Holds}
-use Rattle.state.specs.Status.{Status}
 
 -- any state may come
 abbrev pub AnyState : Status → Type 0

@@ -1,17 +1,15 @@
 -- Each piece pays for its acts out of what its state is worth.
 use Rattle.std.proofs.Common.{◌≡◌, ℕ, suc, ◌+◌, ◌*◌, ◌-◌, ◌≤◌, List, [], ◌∷◌, ◌++◌, length, Bool, true, false, if◌then◌else◌, refl, arith}
-use Rattle.acts.specs.Deed.{Deed, Reply}
+use Rattle.state.specs.Prelude.{Deed, Reply, text_of, Peer, Ends, worth, Course, Dialogue, Outcome, Gives, Leaves, Stops, Error, Return, Break, Continue, Again, AgainRunning, TurnTree, IsTree, Status}
 use Rattle.acts.specs.Deed as said
 use Rattle.acts.specs.Fits.{fits}
 use Rattle.acts.specs.Flaw as flaw
-use Rattle.acts.specs.Flaw.{text_of}
 use Rattle.commands.specs.Commands as leaf
 use Rattle.commands.proofs.Behaves.{command_behaves}
-use Rattle.dialog.specs.Peers.{Peer, opened}
+use Rattle.dialog.specs.Peers.{opened}
 use Rattle.expects.proofs.Proceeding.{turns_proceed}
 use Rattle.expects.specs.Turn.{turns}
 use Rattle.plan.specs.Paid.{Pays, EachPays}
-use Rattle.plan.specs.Plan.{Ends}
 use Rattle.plan.proofs.Paid.{more_pays}
 use Rattle.runs.specs.Closing.{does, closes, closes_log, ends_with, reported, reports, closing}
 use Rattle.runs.specs.Ending.{Ending, Over, stopped}
@@ -19,12 +17,10 @@ use Rattle.runs.specs.Scripts.{plan_of}
 use Rattle.runs.proofs.Pieces.{Inherited, piece_holds, rank, top}
 use Rattle.state.proofs.Behaves.{behaves_pays}
 use Rattle.state.proofs.Proceeding.{proceeds_pays}
-use Rattle.state.specs.Behaves.{worth, closing_of_log}
-use Rattle.state.specs.Dialogue.{Course, Dialogue, is_no_more}
-use Rattle.state.specs.Outcome.{Outcome, Gives, Leaves, Stops, Error, Return, Break, Continue, Again, AgainRunning}
+use Rattle.state.specs.Behaves.{closing_of_log}
+use Rattle.state.specs.Dialogue.{is_no_more}
 use Rattle.state.specs.Outcome as stop
-use Rattle.state.specs.Piece.{Piece, Script, One, Loop, Turn, TurnTree, IsTree}
-use Rattle.state.specs.Status.{Status}
+use Rattle.state.specs.Piece.{Piece, Script, One, Loop, Turn}
 
 -- a piece costs what its state is worth
 abbrev pub price : Piece → Status → ℕ

@@ -4,20 +4,16 @@ use Rattle.commands.specs.Commands as leaf
 use Rattle.conditions.proofs.Closed.{turns_closed}
 use Rattle.conditions.specs.Loop.{turns as loop_turns}
 use Rattle.dialog.specs.Standing.{Standing}
-use Rattle.plan.specs.Plan.{Ends, Reads, Calls}
+use Rattle.state.specs.Prelude.{Ends, Reads, Calls, Course, Outcome, LoopTree, TurnTree, Status, Scopes}
 use Rattle.runs.specs.Commands.{command}
 use Rattle.runs.specs.Scripts.{behind, script, plan_of}
 use Rattle.runs.proofs.Command.{command_closed}
 use Rattle.state.proofs.Closed.{Closed, Loops, Ticks, Turns, tick_closed, value_closed}
 use Rattle.state.specs.Cut.{PassesStops}
-use Rattle.state.specs.Dialogue.{Course}
-use Rattle.state.specs.Outcome.{Outcome}
-use Rattle.state.specs.Piece.{Piece, Script, One, Loop, Turn, LoopTree, TurnTree, Text, Tree}
-use Rattle.state.specs.Status.{Status}
+use Rattle.state.specs.Piece.{Piece, Script, One, Loop, Turn, Text, Tree}
 use Rattle.tclparse.specs.Fault.{Fault}
 use Rattle.tclparse.specs.Tree.{Words, Commands, no_commands}
 use Rattle.tclparse.specs.Tree as tree
-use Rattle.tclstate.specs.Scopes.{Scopes}
 use Rattle.words.proofs.Closed.{words_closed}
 use Rattle.words.specs.Words.{words}
 

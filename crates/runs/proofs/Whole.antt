@@ -7,8 +7,7 @@ use Rattle.runs.specs.Ending.{Over}
 use Rattle.runs.specs.Run.{whole}
 use Rattle.runs.proofs.Paid.{price, closing_pays}
 use Rattle.runs.proofs.Kept.{AnyState, closing_keeps}
-use Rattle.state.specs.Behaves.{worth}
-use Rattle.state.specs.Piece.{IsTree}
+use Rattle.state.specs.Prelude.{worth, IsTree}
 use Rattle.state.specs.Rows.{Holds}
 
 pub whole_pays : (text : List ℕ) (args : List (List ℕ)) (limit : ℕ) →

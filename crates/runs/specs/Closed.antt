@@ -1,6 +1,6 @@
 -- The ids that acts close.
 use Rattle.std.specs.Prelude.{ℕ, List, [], ◌∷◌, ◌++◌}
-use Rattle.acts.specs.Deed.{Deed}
+use Rattle.state.specs.Prelude.{Deed}
 use Rattle.acts.specs.Deed as said
 use Rattle.acts.specs.History.{History}
 

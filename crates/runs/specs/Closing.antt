@@ -1,17 +1,13 @@
 -- What a run does once its script is over (this project's own rule).
 use Rattle.std.specs.Prelude.{ℕ, pos, Bool, true, false, List, [], ◌∷◌, ◌++◌}
-use Rattle.acts.specs.Deed.{Deed, Reply}
+use Rattle.state.specs.Prelude.{Deed, Reply, text_of, Peer, Ends, Asks, Dialogue, Outcome, Gives, Leaves, Stops, Code, Error, Return, Break, Continue, Again, AgainRunning, Status}
 use Rattle.acts.specs.Deed as said
 use Rattle.acts.specs.Flaw as flaw
-use Rattle.acts.specs.Flaw.{text_of}
-use Rattle.dialog.specs.Peers.{Peer, opened}
-use Rattle.plan.specs.Plan.{Ends, Asks}
+use Rattle.dialog.specs.Peers.{opened}
 use Rattle.runs.specs.Ending.{Ending, Over, With, Unfit, stopped}
 use Rattle.runs.specs.Ending as ending
-use Rattle.state.specs.Dialogue.{Dialogue, judged}
-use Rattle.state.specs.Outcome.{Outcome, Gives, Leaves, Stops, Code, Error, Return, Break, Continue, Again, AgainRunning}
+use Rattle.state.specs.Dialogue.{judged}
 use Rattle.state.specs.Outcome as stop
-use Rattle.state.specs.Status.{Status}
 
 -- an act that closes a run, and what is done with its answer, where it fits
 abbrev pub does : Deed → (Reply → Dialogue Over) → Dialogue Over

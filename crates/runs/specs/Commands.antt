@@ -1,13 +1,12 @@
 -- What a command does: a procedure, one that runs scripts, one that says branches, or another.
 use Rattle.std.specs.Prelude.{ℕ, List, [], ◌∷◌, Option, Some, None}
+use Rattle.state.specs.Prelude.{Course, gives, Status}
 use Rattle.commands.specs.Commands as leaf
 use Rattle.control.specs.Calls.{call}
 use Rattle.control.specs.Commands.{does, named}
 use Rattle.control.specs.Control.{Control}
 use Rattle.expects.specs.Expect.{expect}
 use Rattle.expects.specs.Words.{Form, named as form_of}
-use Rattle.state.specs.Dialogue.{Course, gives}
-use Rattle.state.specs.Status.{Status}
 use Rattle.tclstate.specs.Pairs.{found}
 use Rattle.tclstate.specs.Procs.{Procedure}
 

@@ -1,6 +1,6 @@
 -- What holds of all runs.
 use Rattle.std.specs.Prelude.{◌≡◌, ℕ, ◌≤◌, List, [], ◌∷◌, ◌++◌, length}
-use Rattle.acts.specs.Deed.{Deed, Reply}
+use Rattle.state.specs.Prelude.{Deed, Reply, Outcome, IsTree, Status}
 use Rattle.acts.specs.History.{History}
 use Rattle.dialog.specs.Lines.{Rise}
 use Rattle.dialog.specs.Peers.{numbers_of, opened}
@@ -14,9 +14,6 @@ use Rattle.runs.specs.Ending.{Ending, Over}
 use Rattle.runs.specs.Run.{Run, HoldsThroughout}
 use Rattle.runs.specs.Scripts.{plan_of}
 use Rattle.state.specs.Cut.{CutsOff}
-use Rattle.state.specs.Outcome.{Outcome}
-use Rattle.state.specs.Piece.{IsTree}
-use Rattle.state.specs.Status.{Status}
 
 -- in all runs of one script, its arguments and a limit each event depends on the answers before it
 -- alone

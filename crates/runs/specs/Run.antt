@@ -1,17 +1,14 @@
 -- A whole run.
 use Rattle.std.specs.Prelude.{◌≡◌, ℕ, true, false, List, [], ◌∷◌, ◌++◌, length, codes, decimal}
+use Rattle.state.specs.Prelude.{Deed, Reply, Reads, Calls, Dialogue, ScriptText, IsTree, Status}
 use Rattle.acts.specs.History.{History, Past}
-use Rattle.acts.specs.Deed.{Deed, Reply}
 use Rattle.plan.specs.Kept.{Throughout}
-use Rattle.plan.specs.Plan.{Reads, Calls}
 use Rattle.plan.specs.Runs.{Runs}
 use Rattle.runs.specs.Closing.{closing}
 use Rattle.runs.specs.Ending.{Ending, Over, numbered}
 use Rattle.runs.specs.Scripts.{plan_of}
-use Rattle.state.specs.Dialogue.{Dialogue}
-use Rattle.state.specs.Piece.{Script, ScriptText, IsTree}
+use Rattle.state.specs.Piece.{Script}
 use Rattle.state.specs.Rows.{Holds}
-use Rattle.state.specs.Status.{Status}
 use Rattle.state.specs.View.{no_ids}
 use Rattle.tclstate.specs.Scopes.{Frame, Text}
 use Rattle.tcltext.specs.Canonical.{canonical}

@@ -1,13 +1,12 @@
 -- What scripts, commands, loops and turns of expect do.
 use Rattle.std.specs.Prelude.{ℕ, List, [], Option, Some, None}
+use Rattle.state.specs.Prelude.{Calls, Course, gives, raises, on_value, Status}
 use Rattle.conditions.specs.Loop as loops
 use Rattle.expects.specs.Turn.{turns}
-use Rattle.plan.specs.Plan.{Calls}
 use Rattle.runs.specs.Commands.{command}
-use Rattle.state.specs.Dialogue.{Course, gives, raises, tick, on_value}
+use Rattle.state.specs.Dialogue.{tick}
 use Rattle.state.specs.Faults.{flaw_of_fault}
 use Rattle.state.specs.Piece.{Piece, Script, One, Loop, Turn}
-use Rattle.state.specs.Status.{Status}
 use Rattle.tclparse.specs.Fault.{Fault}
 use Rattle.tclparse.specs.Tree.{Words, Commands, no_commands}
 use Rattle.tclparse.specs.Tree as tree

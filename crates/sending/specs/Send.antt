@@ -1,17 +1,12 @@
 -- What send does.
 use Rattle.std.specs.Prelude.{ℕ, Bool, List, [], ◌∷◌, codes, Option, Some, None, Result, Ok, Err, if◌then◌else◌}
+use Rattle.state.specs.Prelude.{Id, Deed, Reply, Flaw, bind, Course, Status}
 use Rattle.std.specs.Str.{bytes_eq}
-use Rattle.acts.specs.declared.id.Id.{Id}
-use Rattle.acts.specs.Deed.{Deed, Reply}
 use Rattle.acts.specs.Deed as said
-use Rattle.acts.specs.Flaw.{Flaw}
 use Rattle.acts.specs.Flaw as flaw
-use Rattle.acts.specs.Raise.{bind}
 use Rattle.kinds.specs.Exchange.{Exchange, Performs, gives, fails, course}
 use Rattle.kinds.specs.Ids.{chosen_id}
 use Rattle.state.specs.Arguments.{begins_with_dash}
-use Rattle.state.specs.Dialogue.{Course}
-use Rattle.state.specs.Status.{Status}
 use Rattle.sending.specs.declared.send.Waits.{Waits}
 use Rattle.sending.specs.declared.send.Waits.TheVariants as waits
 

@@ -1,11 +1,9 @@
 //! `send ?-i id? ?--? t` (expect(1), send).
 
 ghost use Rattle.std.specs.Prelude.{◌≡◌, IfOk, option_copied};
-ghost use Rattle.acts.specs.Deed.{reply_of};
+ghost use Rattle.state.specs.Prelude.{reply_of, Status, FitsState};
 ghost use Rattle.kinds.specs.Answers.{Goes, GoesOn, Talks};
 ghost use Rattle.sending.specs.Send as definition;
-ghost use Rattle.state.specs.Status.{Status};
-ghost use Rattle.state.specs.View.{FitsState};
 ghost use Rattle.state.specs.declared.state.State.{State as Kept};
 
 use acts::raise::{bad_flag, wrong_args};

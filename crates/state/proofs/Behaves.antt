@@ -1,26 +1,18 @@
 -- Commands that behave: how they are put together, and what the laws of all runs ask of them.
-use Rattle.std.proofs.Common.{ℕ, ◌+◌, ◌-◌, ◌≤◌, Bool, true, false, List, Option, Some, None, Result, Ok, Err, if◌then◌else◌, arith}
-use Rattle.acts.specs.declared.id.Id.{Id}
-use Rattle.acts.specs.Deed.{Deed, Reply}
-use Rattle.acts.specs.Deed as said
+use Rattle.std.proofs.Common.{ℕ, ◌+◌, ◌-◌, ◌≤◌, Bool, true, false, List, Ok, Err, if◌then◌else◌, arith}
+use Rattle.state.specs.Prelude.{Deed, Reply, Ends, Asks, Reads, Calls, Behaves, worth, Course, ask, Outcome, IsTree, Status}
 use Rattle.acts.specs.Fits.{fits}
 use Rattle.meanings.specs.Meaning.{Meaning, Gives, Raises, Splits, Matches}
 use Rattle.plan.specs.Finished.{Falls}
 use Rattle.plan.specs.Kept.{Keeps}
 use Rattle.plan.specs.Paid.{Pays}
-use Rattle.plan.specs.Plan.{Ends, Asks, Reads, Calls}
 use Rattle.state.proofs.Judged.{replied_cut}
-use Rattle.state.specs.Behaves.{Behaves, worth}
-use Rattle.state.specs.Dialogue.{Course, ask, is_no_more, stopping, written as after_write}
+use Rattle.state.specs.Dialogue.{is_no_more, stopping}
 use Rattle.state.specs.Listed.{with_list}
 use Rattle.state.specs.Meant.{meant}
 use Rattle.state.specs.Outcome as stop
-use Rattle.state.specs.Outcome.{Outcome, Stop}
-use Rattle.state.specs.Piece.{Piece, IsTree}
+use Rattle.state.specs.Piece.{Piece}
 use Rattle.state.specs.Rows.{Holds}
-use Rattle.state.specs.Status.{Status}
-use Rattle.state.specs.Variables.{reads, writes, found, stored, on_open, on_named, with_current}
-use Rattle.tclstate.specs.Scopes.{Scopes, Trouble, read, written}
 
 -- with more ticks and more to pay with a course behaves too
 pub more_behaves : (t u had more : ℕ) (c : Course) → t ≤ u → had ≤ more → Behaves t had c →
@@ -87,52 +79,6 @@ pub if_behaves : (t had : ℕ) (b : Bool) (c d : Course) → Behaves t had c →
     Behaves t had (if b then c else d)
 if_behaves t had true c d one other = one
 if_behaves t had false c d one other = other
-
--- what is done after a write
-pub written_behaves : (t had : ℕ) (s : Status) (next : Status → Course) (reply : Reply) →
-    s.left ≤ t → worth s ≤ had → Behaves t had (next s) → Behaves t had (after_write next s reply)
-written_behaves t had s next (said.Failed sent) le paid behaves = (le, paid)
-written_behaves t had s next _ le paid behaves = behaves
-
-module _ (t had : ℕ) (s : Status) (le : s.left ≤ t) (paid : worth s ≤ had) where
-  found_behaves : (r : Result (List ℕ) Trouble) (name : List ℕ) (next : List ℕ → Course) →
-      ((v : List ℕ) → Behaves t had (next v)) → Behaves t had (found r name s next)
-  found_behaves (Ok value) name next each = each value
-  found_behaves (Err trouble) name next each = (le, paid)
-
-  -- a variable is read, and on with its value
-  pub reads_behaves : (name : List ℕ) (index : Option (List ℕ)) (next : List ℕ → Course) →
-      ((v : List ℕ) → Behaves t had (next v)) → Behaves t had (reads name index s next)
-  reads_behaves name index next each = found_behaves (read s.scopes name index) _ next each
-
-  stored_behaves : (r : Result Scopes Trouble) (name : List ℕ) (next : Status → Course) →
-      ((scopes : Scopes) → Behaves t had (next (record s { scopes = scopes }))) →
-      Behaves t had (stored r name s next)
-  stored_behaves (Ok scopes) name next each = each scopes
-  stored_behaves (Err trouble) name next each = (le, paid)
-
-  -- a variable is written, and on
-  pub writes_behaves : (name : List ℕ) (index : Option (List ℕ)) (value : List ℕ)
-      (next : Status → Course) →
-      ((scopes : Scopes) → Behaves t had (next (record s { scopes = scopes }))) →
-      Behaves t had (writes name index value s next)
-  writes_behaves name index value next each =
-      stored_behaves (written s.scopes name index value) _ next each
-
-  open_behaves : (o : Option Id) (text : List ℕ) (next : Id → Course) →
-      ((i : Id) → Behaves t had (next i)) → Behaves t had (on_open o text s next)
-  open_behaves None text next each = (le, paid)
-  open_behaves (Some id) text next each = each id
-
-  named_behaves : (o : Option (List ℕ)) (next : Id → Course) →
-      ((i : Id) → Behaves t had (next i)) → Behaves t had (on_named o s next)
-  named_behaves None next each = (le, paid)
-  named_behaves (Some text) next each = open_behaves _ text next each
-
-  -- on with the id in force
-  pub current_behaves : (next : Id → Course) → ((i : Id) → Behaves t had (next i)) →
-      Behaves t had (with_current s next)
-  current_behaves next each = named_behaves _ next each
 
 -- a course that behaves falls, where the ticks that are left bound what remains behind it
 module _ (budget : Piece → Status → ℕ) (remains : Status → Outcome → ℕ) (rank : Piece → ℕ)

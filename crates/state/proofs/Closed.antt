@@ -1,21 +1,19 @@
 -- What holds of each course that is put together so.
 use Rattle.std.proofs.Common.{◌≡◌, ℕ, zero, suc, List, [], Option, Some, None, Result, Ok, Err, refl}
 use Rattle.acts.specs.Flaw as flaw
-use Rattle.acts.specs.Flaw.{text_of}
-use Rattle.plan.specs.Plan.{Ends, Reads, Calls, goes}
+use Rattle.state.specs.Prelude.{text_of, Ends, Reads, Calls, Course, inside, on_value, raises, within, Outcome, Gives, Leaves, Stops, Error, Return, Break, Continue, Again, AgainRunning, ListText, LoopTree, TurnTree, ScriptTree, ScriptText, Status, Scopes}
+use Rattle.plan.specs.Plan.{goes}
 use Rattle.meanings.specs.Meaning.{flaw_of_list}
 use Rattle.state.specs.Cut.{PassesStops}
-use Rattle.state.specs.Dialogue.{Course, inside, on_value, raises, tick, tick_of, within}
+use Rattle.state.specs.Dialogue.{tick, tick_of}
 use Rattle.state.specs.Listed.{on_list, with_list}
-use Rattle.state.specs.Outcome.{Outcome, Gives, Leaves, Stops, Error, Return, Break, Continue, Again, AgainRunning}
 use Rattle.state.specs.Outcome as stop
 use Rattle.dialog.specs.Standing.{Standing}
-use Rattle.state.specs.Piece.{Script, Loop, Turn, ListText, LoopTree, TurnTree, ScriptTree, ScriptText, Text, Tree}
-use Rattle.state.specs.Status.{Status}
+use Rattle.state.specs.Piece.{Script, Loop, Turn, Text, Tree}
 use Rattle.state.specs.Turn.{on_turn}
 use Rattle.state.specs.Variables.{reads, writes, found, stored, spelled, flaw_of_trouble, on_name, with_name}
 use Rattle.tclparse.specs.Variable.{named}
-use Rattle.tclstate.specs.Scopes.{Scopes, Trouble, read, written}
+use Rattle.tclstate.specs.Scopes.{Trouble, read, written}
 use Rattle.tcltext.specs.Flaw as list
 
 -- P says from which states which courses are so: ends are, and so is what begins with a script whose

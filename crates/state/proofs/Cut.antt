@@ -1,12 +1,9 @@
 -- Courses that answers cut off.
 use Rattle.std.proofs.Common.{ℕ, ◌+◌, ◌-◌}
 use Rattle.plan.specs.Last.{Closes}
-use Rattle.plan.specs.Plan.{Ends, Asks, Reads, Calls}
-use Rattle.state.specs.Behaves.{Behaves, worth}
+use Rattle.state.specs.Prelude.{Ends, Asks, Reads, Calls, Behaves, worth, Course, IsTree}
 use Rattle.state.specs.Budget.{budget, left_after}
 use Rattle.state.specs.Cut.{CutsOff, WasCut}
-use Rattle.state.specs.Dialogue.{Course}
-use Rattle.state.specs.Piece.{IsTree}
 use Rattle.state.specs.Proceeds.{Proceeds}
 use Rattle.state.proofs.Judged.{passes_cut}
 

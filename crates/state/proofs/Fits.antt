@@ -1,13 +1,12 @@
 -- The two states fit again where one part of both has changed.
-use Rattle.std.proofs.Common.{◌≡◌, ℕ, List, refl}
+use Rattle.std.proofs.Common.{ℕ, List, refl}
 use Rattle.dialog.specs.declared.log_state.LogState.{LogState}
 use Rattle.state.specs.Ids as definition
-use Rattle.state.specs.Status.{Status}
-use Rattle.state.specs.View.{FitsIds, FitsState}
+use Rattle.state.specs.Prelude.{Status, FitsState, Scopes}
+use Rattle.state.specs.View.{FitsIds}
 use Rattle.state.specs.declared.ids.Ids.{Ids}
 use Rattle.state.specs.declared.state.State.{State}
 use Rattle.tclstate.specs.Procs.{Procs}
-use Rattle.tclstate.specs.Scopes.{Scopes}
 
 module _ {A : Type 0} (state : State A) (s : Status) (fits : FitsState state s) where
   -- the variables

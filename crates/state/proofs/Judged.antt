@@ -1,15 +1,13 @@
 -- Answers that cut a course off.
 use Rattle.std.proofs.Common.{◌≡◌, ◌⊎◌, Bool, true, false, if◌then◌else◌, refl, sym, inl, inr}
 use Rattle.std.proofs.lemmas.Bool.{false≢true}
-use Rattle.acts.specs.Deed.{Deed, Reply}
+use Rattle.state.specs.Prelude.{Deed, Reply, Ends, Course, Dialogue, Outcome, Gives, Leaves, Stops, Status}
 use Rattle.acts.specs.Fits.{fits}
 use Rattle.plan.specs.Last.{IsOver}
-use Rattle.plan.specs.Plan.{Ends}
 use Rattle.state.specs.Cut.{CutsOff, IsCutOff, PassesStops, WasCut}
-use Rattle.state.specs.Dialogue.{Course, Dialogue, is_no_more, judged, replied}
-use Rattle.state.specs.Outcome.{Outcome, Stop, Gives, Leaves, Stops}
+use Rattle.state.specs.Dialogue.{is_no_more, judged, replied}
+use Rattle.state.specs.Outcome.{Stop}
 use Rattle.state.specs.Outcome as stop
-use Rattle.state.specs.Status.{Status}
 
 module _ {X : Type 0} (J : X → Type 0) (stopped : Stop → X) (none_cuts : J (stopped stop.NoMore))
     (other_cuts : J (stopped stop.BadAnswer)) where

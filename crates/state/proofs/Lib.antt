@@ -1,5 +1,4 @@
 pub mod Lists
-pub mod Stored
 pub mod Judged
 pub mod Cut
 pub mod Behaves

@@ -1,17 +1,13 @@
 -- What follows a text that is read as a list, where it is known what it is.
 use Rattle.std.proofs.Common.{◌≡◌, ℕ, List, [], Result, Ok, Err, MatchResult, sym, ap}
-use Rattle.acts.specs.declared.fault.Fault.{Fault}
-use Rattle.acts.specs.Flaw.{flaw_of}
+use Rattle.state.specs.Prelude.{Fault, flaw_of, Course, raises, ListText, Reaches, here, Status}
 use Rattle.acts.specs.Flaw as acts
 use Rattle.acts.specs.declared.raise.Raise.TheVariants as raise
 use Rattle.meanings.specs.Meaning.{Answer, Comes, Gives, IsSplit, flaw_of_list}
 use Rattle.meanings.specs.View.{IsNoList}
 use Rattle.state.proofs.Reaches.{same_reaches}
-use Rattle.state.specs.Dialogue.{Course, raises}
 use Rattle.state.specs.Listed.{with_list}
-use Rattle.state.specs.Piece.{ListText}
-use Rattle.state.specs.Reaches.{Reaches, here, reads}
-use Rattle.state.specs.Status.{Status}
+use Rattle.state.specs.Reaches.{reads}
 use Rattle.tcltext.specs.Elements.{IsList}
 use Rattle.tcltext.specs.Flaw.{Flaw}
 

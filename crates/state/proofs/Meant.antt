@@ -1,26 +1,14 @@
 -- What a function of texts comes to, as a course.
-use Rattle.std.proofs.Common.{◌≡◌, ℕ, List, Result, Ok, Err, MatchResult, IfOk, refl, sym, ap, subst}
-use Rattle.acts.specs.Deed.{Deed, Reply}
-use Rattle.acts.specs.Flaw.{flaw_of}
-use Rattle.acts.specs.declared.fault.Fault.{Fault}
-use Rattle.memory.specs.declared.NoMemory.{NoMemory}
+use Rattle.std.proofs.Common.{◌≡◌, ℕ, List, Result, Ok, Err, MatchResult, refl, sym, ap, subst}
+use Rattle.state.specs.Prelude.{flaw_of, Fault, Raise, Ends, Course, gives, raises, ListText, Reaches, Status}
 use Rattle.meanings.specs.Meaning.{Answer, Comes, Meaning, Gives, Raises, Splits, Matches, flaw_of_list}
 use Rattle.meanings.specs.View.{Answers}
-use Rattle.acts.specs.declared.raise.Raise.{Raise}
 use Rattle.acts.specs.declared.raise.Raise.TheVariants as raise
-use Rattle.plan.specs.Plan.{Ends}
 use Rattle.state.proofs.Reaches.{same_reaches, then_reaches}
-use Rattle.state.proofs.Shown.{over_after}
-use Rattle.state.specs.Dialogue.{Course, gives, raises}
-use Rattle.state.specs.declared.leaf.Leaf.{Leaf}
-use Rattle.state.specs.declared.state.State.{State}
-use Rattle.state.specs.Leaf.{IsMeant, Shows}
 use Rattle.state.specs.Listed.{on_list}
 use Rattle.state.specs.Meant.{meant, on_meaning, told}
-use Rattle.state.specs.Piece.{ListText, TestText}
-use Rattle.state.specs.Reaches.{Reaches, reads}
-use Rattle.state.specs.Status.{Status}
-use Rattle.state.specs.View.{FitsState}
+use Rattle.state.specs.Piece.{TestText}
+use Rattle.state.specs.Reaches.{reads}
 use Rattle.tcltext.specs.Flaw.{Flaw}
 
 -- on with a value; an error is raised
@@ -86,14 +74,3 @@ pub comes_reaches : (m : Meaning) (a : Answer) (s : Status) → Comes m a →
     Reaches (meant m s) (over_with s a)
 comes_reaches m a s comes =
     then_reaches (meaning_reaches m a s (λ value. gives value s) comes) (same_reaches (over_is a s))
-
-module _ {A W : Type 0} (next : W → Deed → Status → Reply → Course) {state : State A}
-    {s : Status} (m : Meaning) where
-  meant_shows : (l : Leaf A W) → FitsState state s → IsMeant l m → Shows next l state (meant m s)
-  meant_shows l fits is = over_after next l is.2 fits (comes_reaches m is.0 s is.1)
-
-  -- what has that answer shows that course
-  pub meant_shows_ok : (r : Result (Leaf A W) NoMemory) → FitsState state s →
-      IfOk r (λ l. IsMeant l m) → IfOk r (λ l. Shows next l state (meant m s))
-  meant_shows_ok (Ok l) fits is = meant_shows l fits is
-  meant_shows_ok (Err refusal) fits is = tt

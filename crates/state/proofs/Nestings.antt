@@ -1,20 +1,13 @@
 -- What a command that runs scripts has come to.
 use Rattle.std.proofs.Common.{◌≡◌, ◌∙◌, ℕ, suc, List, option_map, Result, refl, sym, ap, subst}
 use Rattle.acts.specs.Flaw as flaw
-use Rattle.acts.specs.Flaw.{text_of}
-use Rattle.plan.specs.Plan.{Ends}
+use Rattle.state.specs.Prelude.{text_of, Ends, Course, inside, within, Nests, tree_of, Outcome, Leaves, Error, ScriptText, ScriptTree, Reaches, here, Status, FitsState, outcome_of}
 use Rattle.state.proofs.Reaches.{same_reaches, then_reaches}
 use Rattle.state.specs.declared.nesting.Nesting.{Nesting}
 use Rattle.state.specs.declared.nesting.Nesting.TheVariants as nesting
 use Rattle.state.specs.declared.outcome.Leave.{Leave}
 use Rattle.state.specs.declared.state.State.{State}
-use Rattle.state.specs.Dialogue.{Course, inside, within}
-use Rattle.state.specs.Nesting.{Nests, tree_of}
-use Rattle.state.specs.Outcome.{Outcome, Leaves, Error}
-use Rattle.state.specs.Piece.{ScriptText, ScriptTree}
-use Rattle.state.specs.Reaches.{Reaches, here, reads}
-use Rattle.state.specs.Status.{Status}
-use Rattle.state.specs.View.{FitsState, outcome_of}
+use Rattle.state.specs.Reaches.{reads}
 use Rattle.tclparse.specs.Grammar.{IsScript}
 use Rattle.tclparse.specs.Seen.{fault_of}
 use Rattle.tclparse.specs.View.{commands_of}

@@ -1,17 +1,13 @@
 -- Courses that proceed, and what the laws of all runs ask of them.
 use Rattle.std.proofs.Common.{◌≡◌, ℕ, ◌+◌, ◌-◌, ◌≤◌, subst, arith}
-use Rattle.acts.specs.Deed.{Reply}
+use Rattle.state.specs.Prelude.{Reply, Ends, Asks, Reads, Calls, worth, Course, IsTree, Status}
 use Rattle.plan.specs.Finished.{Falls}
 use Rattle.plan.specs.Kept.{Keeps}
 use Rattle.plan.specs.Paid.{Pays}
-use Rattle.plan.specs.Plan.{Ends, Asks, Reads, Calls}
-use Rattle.state.specs.Behaves.{worth}
 use Rattle.state.specs.Budget.{budget, left_after}
-use Rattle.state.specs.Dialogue.{Course}
-use Rattle.state.specs.Piece.{Piece, IsTree}
+use Rattle.state.specs.Piece.{Piece}
 use Rattle.state.specs.Proceeds.{Proceeds}
 use Rattle.state.specs.Rows.{Holds}
-use Rattle.state.specs.Status.{Status}
 
 -- with more to leave and more to pay with a course proceeds too
 pub more_proceeds : (most had more higher : ℕ) (c : Course) → most ≤ more → had ≤ higher →

@@ -1,6 +1,6 @@
 -- What a piece may use up, so that none goes on for ever (this project's own rule).
 use Rattle.std.specs.Prelude.{ℕ, ◌+◌, ◌*◌}
-use Rattle.state.specs.Outcome.{Outcome, Gives, Leaves, Stops, Again, AgainRunning}
+use Rattle.state.specs.Outcome.{Outcome, Leaves, Again, AgainRunning}
 use Rattle.state.specs.Piece.{Piece, Script, One, Loop, Turn}
 use Rattle.state.specs.Status.{Status}
 

@@ -1,14 +1,12 @@
 -- How far a command that runs no script has come, as a course.
 use Rattle.std.specs.Prelude.{◌≡◌}
 use Rattle.acts.specs.Deed.{Deed, Reply, deed_of}
-use Rattle.meanings.specs.Meaning.{Answer, Comes, Meaning}
 use Rattle.plan.specs.Plan.{Ends, Asks}
 use Rattle.state.specs.declared.leaf.Leaf.{Leaf}
 use Rattle.state.specs.declared.leaf.Leaf.TheVariants as leaf
 use Rattle.state.specs.declared.state.State.{State}
 use Rattle.state.specs.Outcome.{Outcome}
 use Rattle.state.specs.Dialogue.{Course, replied}
-use Rattle.state.specs.Meant.{told}
 use Rattle.state.specs.Reaches.{Reaches}
 use Rattle.state.specs.Status.{Status}
 use Rattle.state.specs.View.{FitsState, outcome_of}
@@ -31,10 +29,6 @@ pub record Shows {A W : Type 0} (next : W → Deed → Status → Reply → Cour
 abbrev pub HasOutcome : {A W : Type 0} → Leaf A W → Outcome → Type 0
 HasOutcome (leaf.Has outcome) o = outcome_of outcome ≡ o
 HasOutcome (leaf.Asks act waits) o = ⊥
-
--- it has ended with what a function of texts comes to (Tcl(n), rule 2)
-abbrev pub IsMeant : {A W : Type 0} → Leaf A W → Meaning → Type 0
-IsMeant l meaning = (answer : Answer) × Comes meaning answer × HasOutcome l (told answer)
 
 -- it is as far as the other, and what waits in the one is told otherwise in the other
 abbrev pub Maps : {A W V : Type 0} → (W → V → Type 0) → Leaf A W → Leaf A V → Type 0

@@ -7,7 +7,6 @@ pub mod Reaches
 pub mod Listed
 pub mod Meant
 pub mod Variables
-pub mod Channels
 pub mod Rows
 pub mod Placed
 pub mod View
@@ -22,3 +21,4 @@ pub mod Arguments
 pub mod Stores
 pub mod Faults
 pub mod Turn
+pub mod Prelude

@@ -1,18 +1,14 @@
 -- What the calls on variables answer.
 use Rattle.std.specs.Prelude.{◌≡◌, ℕ, List, Option, Result, Ok, Err}
 use Rattle.acts.specs.declared.fault.Fault.{Fault}
-use Rattle.acts.specs.declared.id.Id.{Id}
-use Rattle.acts.specs.Flaw.{Flaw, flaw_of, text_of}
+use Rattle.acts.specs.Flaw.{flaw_of}
 use Rattle.tclstate.specs.declared.error.ScopeError.{ScopeError}
 use Rattle.tclstate.specs.declared.error.ScopeError.TheVariants as error
 use Rattle.tclstate.specs.Scopes.{NoVariable, IsArray, NotArray, NoElement}
-use Rattle.state.specs.declared.leaf.Leaf.{Leaf}
 use Rattle.state.specs.declared.state.State.{State}
 use Rattle.state.specs.Dialogue.{Course, raises}
-use Rattle.state.specs.Leaf.{HasOutcome}
-use Rattle.state.specs.Outcome.{Leaves, Error}
 use Rattle.state.specs.Status.{Status}
-use Rattle.state.specs.Variables.{spelled, flaw_of_trouble, writes, with_current}
+use Rattle.state.specs.Variables.{spelled, flaw_of_trouble, writes}
 use Rattle.state.specs.View.{FitsState}
 
 -- the error of a script for a name's trouble
@@ -45,10 +41,3 @@ abbrev pub Stores : {A T : Type 0} → Result T (Fault A) →
     State A → Status → List ℕ → Option (List ℕ) → List ℕ → Type 0
 Stores (Ok done) state s name index value = Written state s name index value
 Stores (Err fault) state s name index value = Unwritten fault state s name index value
-
--- the id that spawn_id names is open, or the command ends with the error that it is not
-abbrev pub Current : {A W : Type 0} → Result Id (Leaf A W) → Status → Type 0
-Current (Ok id) s = (next : Id → Course) → with_current s next ≡ next id
-Current (Err leaf) s =
-    (flaw : Flaw) × HasOutcome leaf (Leaves Error (text_of flaw)) ×
-    ((next : Id → Course) → with_current s next ≡ raises flaw s)

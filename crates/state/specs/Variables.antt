@@ -1,14 +1,12 @@
 -- The variables of a script, as commands read and write them.
-use Rattle.std.specs.Prelude.{ℕ, ℤ, List, [], ◌∷◌, ◌++◌, codes, Option, Some, None, Result, Ok, Err, if◌then◌else◌}
-use Rattle.acts.specs.declared.id.Id.{Id}
+use Rattle.std.specs.Prelude.{ℕ, ℤ, List, [], ◌∷◌, ◌++◌, Option, Some, None, Result, Ok, Err, if◌then◌else◌}
 use Rattle.acts.specs.Flaw.{Flaw}
 use Rattle.acts.specs.Flaw as flaw
-use Rattle.dialog.specs.Channels.{named}
 use Rattle.tcltext.specs.Numbers.{numeral, is_in_range}
 use Rattle.tclparse.specs.Variable as variable
 use Rattle.tclstate.specs.Scopes.{Scopes, Trouble, NoVariable, IsArray, NotArray, NoElement, read, read_global, written}
 use Rattle.state.specs.Dialogue.{Course, raises}
-use Rattle.state.specs.Status.{Status, lines}
+use Rattle.state.specs.Status.{Status}
 
 -- a name as a script asks for it: `a`, or `a(i)` (Tcl(n), rule 8)
 abbrev pub spelled : List ℕ → Option (List ℕ) → List ℕ
@@ -61,20 +59,6 @@ first_of (Err trouble) (Err other) = None
 -- one; an array counts as unset (expect(1), introduction)
 abbrev pub consulted : Scopes → List ℕ → Option (List ℕ)
 consulted scopes name = first_of (read scopes name None) (read_global scopes name None)
-
--- on with the open id that the text spells; an id that is not open is named as it stands
-abbrev pub on_open : Option Id → List ℕ → Status → (Id → Course) → Course
-on_open None text s next = raises (flaw.NotOpen (Some text)) s
-on_open (Some id) text s next = next id
-
--- on with the open id that a variable names, where it is set (expect(1), spawn)
-abbrev pub on_named : Option (List ℕ) → Status → (Id → Course) → Course
-on_named None s next = raises (flaw.NotOpen None) s
-on_named (Some text) s next = on_open (named (lines s) text) text s next
-
--- on with the id in force, which the variable spawn_id names (expect(1), spawn)
-abbrev pub with_current : Status → (Id → Course) → Course
-with_current s next = on_named (consulted s.scopes (codes "spawn_id")) s next
 
 -- a number that 64 bits hold
 abbrev pub kept : Option ℤ → Option ℤ

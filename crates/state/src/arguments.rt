@@ -1,18 +1,17 @@
 //! What is asked of the words of a command.
 
 ghost use Rattle.std.specs.Prelude.{◌≡◌, IfOk};
+ghost use Rattle.state.specs.Prelude.{text_of, Leaves, Error};
 ghost use Rattle.acts.specs.Flaw as flaw;
-ghost use Rattle.acts.specs.Flaw.{text_of};
 ghost use Rattle.state.specs.Arguments as words;
 ghost use Rattle.state.specs.Leaf.{HasOutcome};
-ghost use Rattle.state.specs.Outcome.{Leaves, Error};
 ghost use Rattle.state.specs.Variables.{whole_of};
 ghost use Rattle.tcltext.specs.Numbers as numbers;
 
 use crate::leaf::{Leaf, raises};
 use acts::{Fault, NoMemory};
 use std::alloc::Allocator;
-use tcltext::read_int;
+use tcltext::{Value, read_int};
 
 /// A command that was given another number of words than it takes.
 pub fn wrong_args<A: Allocator + Copy, W: Drop>(
@@ -23,20 +22,6 @@ pub fn wrong_args<A: Allocator + Copy, W: Drop>(
         HasOutcome leaf (Leaves Error (text_of (flaw.WrongArgs command.now)))) }
 {
     raises(alloc, &Fault::WrongArgs(Vec::from_slice(alloc, command)?))
-}
-
-/// A word that a command does not take.
-pub fn bad_argument<A: Allocator + Copy, W: Drop>(
-    alloc: A,
-    word: &[u8],
-    command: &[u8],
-) -> Result<Leaf<A, W>, NoMemory>
-    ensures { IfOk result (λ leaf.
-        HasOutcome leaf (Leaves Error (text_of (flaw.BadArgument word.now command.now)))) }
-{
-    let word = Vec::from_slice(alloc, word)?;
-    let command = Vec::from_slice(alloc, command)?;
-    raises(alloc, &Fault::BadArgument { word, command })
 }
 
 /// Whether a word begins with a dash.
@@ -60,8 +45,15 @@ pub fn whole_number(word: &[u8]) -> Option<i64>
     read_int(word)
 }
 
+/// The whole number within 64 bits that a value is, if it is one.
+pub fn whole_number_in<A: Allocator>(value: &Value<A>) -> Option<i64>
+    ensures { result ≡ whole_of value.now }
+{
+    value.number()
+}
+
 /// Whether a word is a whole number within 64 bits.
-pub fn is_number(word: &[u8]) -> bool
+fn is_number(word: &[u8]) -> bool
     ensures { result ≡ numbers.is_number word.now }
 {
     read_int(word).is_some()

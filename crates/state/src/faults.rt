@@ -1,7 +1,7 @@
 //! Why a text is no script, as the script's error.
 
 ghost use Rattle.std.specs.Prelude.{◌≡◌};
-ghost use Rattle.acts.specs.Flaw.{flaw_of};
+ghost use Rattle.state.specs.Prelude.{flaw_of};
 ghost use Rattle.state.specs.Faults.{flaw_of_fault};
 ghost use Rattle.tclparse.specs.Seen.{fault_of};
 

@@ -1,15 +1,13 @@
 //! How far a command that runs no script has come.
 
-ghost use Rattle.std.specs.Prelude.{◌≡◌, [], IfOk};
-ghost use Rattle.meanings.specs.Meaning.{Meaning};
-ghost use Rattle.meanings.specs.View.{Answers};
-ghost use Rattle.state.specs.Leaf.{HasOutcome, IsMeant, Maps};
+ghost use Rattle.std.specs.Prelude.{[], IfOk};
+ghost use Rattle.state.specs.Leaf.{HasOutcome, Maps};
 ghost use Rattle.state.specs.Outcome as outcome;
 ghost use Rattle.state.specs.View as definition;
-ghost use Rattle.state.specs.View.{code_of, stop_of};
+ghost use Rattle.state.specs.View.{stop_of};
 
-use crate::outcome::{Code, Leave, Outcome, Stop, raised};
-use acts::{Act, Fault, NoMemory, Raise};
+use crate::outcome::{Leave, Outcome, Stop, raised};
+use acts::{Act, Fault, NoMemory};
 use std::alloc::Allocator;
 use tcltext::Value;
 
@@ -54,13 +52,6 @@ pub fn empty<A: Allocator, W: Drop>() -> Leaf<A, W>
     Leaf::Has(Ok(Value::empty()))
 }
 
-/// The command is over with another code than ok, and a value.
-pub fn leaves<A: Allocator, W: Drop>(code: Code, value: Value<A>) -> Leaf<A, W>
-    ensures { HasOutcome result (outcome.Leaves (code_of code) value) }
-{
-    Leaf::Has(Err(Leave::Coded(code, value)))
-}
-
 /// The command is over with an error.
 pub fn raises<A: Allocator + Copy, W: Drop>(
     alloc: A,
@@ -69,21 +60,6 @@ pub fn raises<A: Allocator + Copy, W: Drop>(
     ensures { IfOk result (λ leaf. HasOutcome leaf (definition.raised fault.now)) }
 {
     Ok(Leaf::Has(raised(alloc, fault)?))
-}
-
-/// The command is over with what a function of texts came to: its value, or its error.
-pub fn answers<A: Allocator + Copy, W: Drop>(
-    alloc: A,
-    answer: Result<Value<A>, Raise<A>>,
-) -> Result<Leaf<A, W>, NoMemory>
-    ensures { (meaning : Meaning) → Answers meaning answer →
-        IfOk result (λ leaf. IsMeant leaf meaning) }
-{
-    match answer {
-        Ok(value) => Ok(gives(value)),
-        Err(Raise::Fault(fault)) => raises(alloc, &fault),
-        Err(Raise::NoMemory(refusal)) => Err(refusal),
-    }
 }
 
 /// The whole run stops.

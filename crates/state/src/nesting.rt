@@ -1,7 +1,7 @@
 //! How far a command has come that runs scripts.
 
 ghost use Rattle.std.specs.Prelude.{◌≡◌, IfOk};
-ghost use Rattle.state.specs.Nesting.{tree_of};
+ghost use Rattle.state.specs.Prelude.{tree_of};
 
 use crate::outcome::Outcome;
 use acts::NoMemory;

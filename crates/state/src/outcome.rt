@@ -1,8 +1,8 @@
 //! How a part of a run ends.
 
 ghost use Rattle.std.specs.Prelude.{◌≡◌, IfOk};
+ghost use Rattle.state.specs.Prelude.{outcome_of};
 ghost use Rattle.state.specs.View as definition;
-ghost use Rattle.state.specs.View.{outcome_of};
 
 use acts::{Fault, NoMemory};
 use std::alloc::Allocator;

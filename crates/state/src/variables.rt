@@ -1,16 +1,14 @@
 //! The variables of a script, as commands read and write them.
 
 ghost use Rattle.std.specs.Prelude.{◌≡◌, IfOk, is_some, option_copied};
+ghost use Rattle.state.specs.Prelude.{Status, FitsState};
 ghost use Rattle.std.specs.List.{list_all};
-ghost use Rattle.state.specs.Status.{Status};
-ghost use Rattle.state.specs.Stores.{Stores, IsTold, Current};
+ghost use Rattle.state.specs.Stores.{Stores, IsTold};
 ghost use Rattle.state.specs.Variables as variables;
-ghost use Rattle.state.specs.View.{FitsState};
 ghost use Rattle.tclparse.specs.Variable.{named};
 
-use crate::leaf::{Leaf, raises};
 use crate::state::State;
-use acts::{Fault, Id, NoMemory};
+use acts::{Fault, NoMemory};
 use std::alloc::Allocator;
 use tclparse::variable_name;
 use tclstate::ScopeError;
@@ -98,21 +96,4 @@ pub fn consulted<'a, A: Allocator + Copy>(state: &'a State<A>, name: &[u8]) -> O
         Ok(value) => Some(value),
         Err(_) => state.scopes.get_global(name, None).ok(),
     }
-}
-
-/// The id that the variable `spawn_id` names, where it is open, or else the error that it is not.
-pub fn current_id<A: Allocator + Copy, W: Drop>(
-    alloc: A,
-    state: &State<A>,
-) -> Result<Result<Id, Leaf<A, W>>, NoMemory>
-    ensures { (s : Status) → FitsState state.now s → IfOk result (λ r. Current r s) }
-{
-    let Some(text) = consulted(state, SPAWN_ID) else {
-        return Ok(Err(raises(alloc, &Fault::NotOpen(None))?));
-    };
-    if let Some(id) = state.ids.table.named(text.as_slice()) {
-        return Ok(Ok(id));
-    }
-    let name = Vec::from_slice(alloc, text.as_slice())?;
-    Ok(Err(raises(alloc, &Fault::NotOpen(Some(name)))?))
 }

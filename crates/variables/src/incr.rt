@@ -13,7 +13,7 @@ use kinds::words;
 use std::alloc::Allocator;
 use tclparse::Name;
 use tclstate::Scopes;
-use tcltext::{Value, print_int};
+use tcltext::Value;
 
 /// Adds one, or the number that is given, to that of a variable, and gives the sum.
 ///
@@ -29,7 +29,7 @@ pub fn begin<A: Allocator + Copy>(
 {
     match args {
         [word] => add(alloc, scopes, word.as_slice(), None),
-        [word, by] => add(alloc, scopes, word.as_slice(), Some(by.as_slice())),
+        [word, by] => add(alloc, scopes, word.as_slice(), Some(by)),
         _ => Err(wrong_args(alloc, b"incr")),
     }
 }
@@ -39,7 +39,7 @@ fn add<A: Allocator + Copy>(
     alloc: A,
     scopes: &mut Scopes<A>,
     word: &[u8],
-    by: Option<&[u8]>,
+    by: Option<&Value<A>>,
 ) -> Result<Value<A>, Raise<A>>
     ensures { Stores (definition.adds word.now (option_copied by.entry) scopes.old)
         scopes.old result scopes.new }
@@ -51,11 +51,11 @@ fn add<A: Allocator + Copy>(
 }
 
 /// The number to add: one, where no word says it.
-fn step_of<A: Allocator + Copy>(alloc: A, by: Option<&[u8]>) -> Result<i64, Raise<A>>
+fn step_of<A: Allocator + Copy>(alloc: A, by: Option<&Value<A>>) -> Result<i64, Raise<A>>
     ensures { Answers (λ n. n) (definition.step_of (option_copied by.entry)) result }
 {
     match by {
-        Some(by) => words::number_of(alloc, by),
+        Some(by) => words::number_in(alloc, by),
         None => Ok(1),
     }
 }
@@ -71,7 +71,7 @@ fn number_in<A: Allocator + Copy>(
         (definition.number_in name.now (option_copied index.entry) scopes.now) result }
 {
     match held(alloc, scopes, name, index)? {
-        Some(text) => Ok(words::number_of(alloc, text.as_slice())?),
+        Some(text) => Ok(words::number_in(alloc, text)?),
         None => Ok(0),
     }
 }
@@ -105,6 +105,6 @@ fn put<A: Allocator + Copy>(
     ensures { Stores (definition.put name.now (option_copied index.entry) number scopes.old)
         scopes.old result scopes.new }
 {
-    let text = Value::new(alloc, print_int(alloc, number)?)?;
+    let text = Value::int(alloc, number)?;
     Ok(values::put(alloc, scopes, name, index, text)?)
 }

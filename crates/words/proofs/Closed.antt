@@ -1,8 +1,7 @@
 -- What holds of a command's words where it holds of all that may follow them.
 use Rattle.std.proofs.Common.{ℕ, ◌++◌, List, [], ◌∷◌, Bool, true, false, Some, None, refl}
 use Rattle.state.proofs.Closed.{Closed, inside_closed, listed_closed, reads_closed, value_closed}
-use Rattle.state.specs.Dialogue.{Course, on_value}
-use Rattle.state.specs.Status.{Status}
+use Rattle.state.specs.Prelude.{Course, on_value, Status}
 use Rattle.tclparse.specs.Tree.{Commands, Parts, no_parts, byte, variable, element, script, Words, no_words, word}
 use Rattle.words.specs.Words.{nested, parts, expanded, words}
 

@@ -1,19 +1,15 @@
 -- The words of a command, one after the other.
 use Rattle.std.proofs.Common.{◌≡◌, ◌∙◌, ℕ, suc, ◌+◌, ◌<◌, List, [], ◌++◌, length, drop, get_or, Bool, true, Option, Some, None, IfSome, Result, Ok, Err, IfOk, sym, ap, subst, add-one, drop-cons}
 use Rattle.std.specs.Prelude.{IsSomeAnd}
-use Rattle.acts.specs.declared.fault.Fault.{Fault}
-use Rattle.acts.specs.Flaw.{flaw_of}
+use Rattle.state.specs.Prelude.{Fault, flaw_of, Course, raises, ListText, Status, Reaches, here}
 use Rattle.tcltext.specs.Flaw as list
 use Rattle.tcltext.specs.Elements.{IsList, HasFlaw}
 use Rattle.tclparse.specs.Tree.{Words, no_words, word}
 use Rattle.tclparse.specs.View.{word_view, words_then, parts_of}
 use Rattle.tclparse.specs.declared.tree.Word.{Word, out-Word}
 use Rattle.tclparse.proofs.Trees.{view_Word}
-use Rattle.state.specs.Dialogue.{Course, raises}
-use Rattle.state.specs.Piece.{ListText}
-use Rattle.state.specs.Status.{Status}
 use Rattle.words.specs.Gathering.{Adds, taken}
-use Rattle.state.specs.Reaches.{Reaches, here, reads}
+use Rattle.state.specs.Reaches.{reads}
 use Rattle.words.specs.Words.{parts, words, expanded}
 use Rattle.state.proofs.Reaches.{same_reaches}
 

@@ -1,8 +1,7 @@
 -- The indexes around a script, one after the other.
 use Rattle.std.proofs.Common.{◌≡◌, ◌∙◌, ℕ, List, [], ◌∷◌, ◌++◌, drop, length, Some, refl, sym, ap, arith}
 use Rattle.tclparse.specs.Tree.{Parts, Commands}
-use Rattle.state.specs.Dialogue.{Course}
-use Rattle.state.specs.Status.{Status}
+use Rattle.state.specs.Prelude.{Course, Status}
 use Rattle.state.specs.Variables.{reads}
 use Rattle.words.specs.declared.word.Outer.{Outer}
 use Rattle.words.specs.declared.word.Rest.{Rest}

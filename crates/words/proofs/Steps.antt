@@ -2,19 +2,16 @@
 use Rattle.std.proofs.Common.{◌≡◌, ◌∙◌, ℕ, suc, ◌+◌, ◌<◌, List, [], ◌∷◌, ◌++◌, length, drop, get_or, Option, Some, None, Ok, Err, Vec, sym, ap, subst, append_assoc, add-one, drop-cons}
 use Rattle.std.specs.declared.rc.Rc.{Rc}
 use Rattle.std.proofs.lemmas.List.{append-nil}
-use Rattle.acts.specs.declared.fault.Fault.{Fault}
-use Rattle.acts.specs.Flaw.{Flaw, flaw_of}
+use Rattle.state.specs.Prelude.{Fault, Flaw, flaw_of, Scopes, Course, raises, Status}
 use Rattle.tclparse.specs.Tree.{Parts, no_parts, variable, element, script, bytes_then}
 use Rattle.tclparse.specs.View.{part_view, parts_then, parts_of, commands_of}
 use Rattle.tclparse.specs.declared.tree.Part.{Part, Literal, Variable, Bracket, Element}
 use Rattle.tclparse.specs.declared.tree.Command.{Command}
 use Rattle.tclparse.proofs.Trees.{view_Literal, view_Variable, view_Element, view_Bracket}
-use Rattle.tclstate.specs.Scopes.{Scopes, Trouble, read}
+use Rattle.tclstate.specs.Scopes.{Trouble, read}
 use Rattle.tclstate.specs.ScopeError.{HasTrouble}
 use Rattle.tclstate.specs.declared.error.ScopeError.{ScopeError}
 use Rattle.tclstate.specs.declared.error.ScopeError.TheVariants as error
-use Rattle.state.specs.Dialogue.{Course, raises}
-use Rattle.state.specs.Status.{Status}
 use Rattle.state.specs.Stores.{IsTold}
 use Rattle.state.specs.Variables.{found, reads, spelled, flaw_of_trouble}
 use Rattle.words.specs.View.{Appends}

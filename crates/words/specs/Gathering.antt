@@ -1,18 +1,14 @@
 -- What is done with the words of a command that are substituted up to a script in one of them.
-use Rattle.std.specs.Prelude.{ℕ, List, ◌++◌, drop, Bool, Option, Some, None, Vec}
+use Rattle.std.specs.Prelude.{ℕ, List, ◌++◌, Bool, Option, Some, None, drop, Vec}
+use Rattle.state.specs.Prelude.{Fault, flaw_of, Course, raises, Status, Reaches}
 use Rattle.std.specs.declared.rc.Rc.{Rc}
-use Rattle.acts.specs.declared.fault.Fault.{Fault}
-use Rattle.acts.specs.Flaw.{flaw_of}
 use Rattle.tclparse.specs.Tree.{Words, no_words}
 use Rattle.tclparse.specs.View.{words_then, commands_of}
 use Rattle.tclparse.specs.declared.tree.Word.{Word}
-use Rattle.state.specs.Dialogue.{Course, raises}
-use Rattle.state.specs.Status.{Status}
 use Rattle.words.specs.declared.gathering.Gathering.{Gathering}
 use Rattle.words.specs.declared.gathering.Gathered.{Gathered}
 use Rattle.words.specs.declared.gathering.Gathered.TheVariants as gathered
 use Rattle.words.specs.Words.{nested, expanded, words}
-use Rattle.state.specs.Reaches.{Reaches}
 use Rattle.words.specs.View.{resumed}
 
 -- the words of a command from a place on

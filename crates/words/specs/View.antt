@@ -1,13 +1,10 @@
 -- What is done with a word that is evaluated up to a script, and with the words of a command.
-use Rattle.std.specs.Prelude.{◌≡◌, ℕ, List, [], ◌∷◌, ◌++◌, drop, Option, Some, None, Vec}
+use Rattle.std.specs.Prelude.{◌≡◌, ℕ, List, [], ◌∷◌, ◌++◌, Option, Some, None, drop, Vec}
+use Rattle.state.specs.Prelude.{Fault, flaw_of, Course, raises, Status}
 use Rattle.std.specs.declared.rc.Rc.{Rc}
-use Rattle.acts.specs.declared.fault.Fault.{Fault}
-use Rattle.acts.specs.Flaw.{flaw_of}
 use Rattle.tclparse.specs.Tree.{Parts, no_parts}
 use Rattle.tclparse.specs.View.{parts_then, commands_of}
 use Rattle.tclparse.specs.declared.tree.Part.{Part}
-use Rattle.state.specs.Dialogue.{Course, raises}
-use Rattle.state.specs.Status.{Status}
 use Rattle.state.specs.Variables.{reads}
 use Rattle.words.specs.declared.word.Rest.{Rest}
 use Rattle.words.specs.declared.word.Outer.{Outer}

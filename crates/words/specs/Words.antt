@@ -1,9 +1,8 @@
 -- What the words of a command stand for.
 use Rattle.std.specs.Prelude.{ℕ, zero, suc, Bool, true, false, List, [], ◌∷◌, ◌++◌, Some, None}
+use Rattle.state.specs.Prelude.{Course, inside, on_value, Status}
 use Rattle.tclparse.specs.Tree.{Parts, no_parts, byte, variable, element, script, Words, no_words, word, Commands}
-use Rattle.state.specs.Dialogue.{Course, inside, on_value}
 use Rattle.state.specs.Listed.{with_list}
-use Rattle.state.specs.Status.{Status}
 use Rattle.state.specs.Variables.{reads}
 
 -- a script in a word is one level deeper, and its value counts (Tcl(n), rule 7)

@@ -1,13 +1,11 @@
 //! The words of a command: each is substituted, in order, up to a script in one of them (Tcl(n),
 //! rules 2 and 5).
 
-ghost use Rattle.std.specs.Prelude.{◌≡◌, ℕ, List, [], ◌∷◌, ◌++◌, drop, IfOk};
-ghost use Rattle.state.specs.Dialogue.{Course};
-ghost use Rattle.state.specs.Status.{Status};
+ghost use Rattle.std.specs.Prelude.{◌≡◌, ℕ, List, [], ◌∷◌, ◌++◌, IfOk, drop};
+ghost use Rattle.state.specs.Prelude.{Course, Status, Reaches};
 ghost use Rattle.tclparse.specs.Tree.{no_words};
 ghost use Rattle.tclparse.specs.View.{words_of, words_then};
 ghost use Rattle.words.specs.Words.{words as meant};
-ghost use Rattle.state.specs.Reaches.{Reaches};
 ghost use Rattle.words.specs.Gathering.{Adds, course_of_gathered, gathering_on, taken, words_from};
 ghost use Rattle.words.specs.Scripts.{HasFewer, scripts_left, scripts_of};
 ghost use Rattle.words.specs.View.{course_of_met};

@@ -1,8 +1,7 @@
 //! One word: its parts are substituted, up to a script in it (Tcl(n), rules 7 to 9 and 11).
 
-ghost use Rattle.std.specs.Prelude.{◌≡◌, ◌≤◌, ◌+◌, ℕ, List, [], ◌∷◌, ◌++◌, drop, Some, IfOk, IfSome, MatchOption, option_copied};
-ghost use Rattle.state.specs.Dialogue.{Course};
-ghost use Rattle.state.specs.Status.{Status};
+ghost use Rattle.std.specs.Prelude.{◌≡◌, ◌≤◌, ◌+◌, ℕ, List, [], ◌∷◌, ◌++◌, Some, IfOk, IfSome, MatchOption, option_copied, drop};
+ghost use Rattle.state.specs.Prelude.{Course, Status};
 ghost use Rattle.state.specs.Variables.{reads};
 ghost use Rattle.tclparse.specs.Tree.{no_parts};
 ghost use Rattle.tclparse.specs.View.{part_view, parts_of, parts_then};

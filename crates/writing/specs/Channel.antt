@@ -1,13 +1,9 @@
 -- The channels that texts are written to.
 use Rattle.std.specs.Prelude.{ℕ, suc, List, [], ◌∷◌, if◌then◌else◌}
-use Rattle.acts.specs.Deed.{Deed, Reply}
+use Rattle.state.specs.Prelude.{Deed, Reply, Course, Status}
 use Rattle.acts.specs.Deed as said
-use Rattle.kinds.specs.Exchange.{Exchange, Over, Performs, gives, course}
-use Rattle.state.specs.Dialogue.{Course}
-use Rattle.state.specs.Outcome.{Outcome, Gives, Stops}
-use Rattle.state.specs.Outcome as stop
+use Rattle.kinds.specs.Exchange.{Exchange, Performs, gives, written, course}
 use Rattle.state.specs.Rows.{Holds}
-use Rattle.state.specs.Status.{Status}
 use Rattle.writing.specs.declared.channel.Channel.{Channel}
 use Rattle.writing.specs.declared.channel.Channel.TheVariants as channel
 use Rattle.writing.specs.declared.channel.Waits.{Waits}
@@ -25,32 +21,21 @@ holds channel.Output bytes = tt
 holds channel.Errors bytes = tt
 holds channel.Log bytes = tt
 
--- how a write ends: one that failed stops the run (this project's own rule)
-abbrev pub written : Reply → Outcome
-written (said.Failed sent) = Stops stop.WriterFailed
-written _ = Gives []
-
 -- bytes are written to a channel; where there are none, nothing is (this project's own rule)
 abbrev pub put : {n : ℕ} → Channel → List ℕ → Exchange (suc n)
 put to [] = gives []
 put to (b ∷ bs) =
-    Performs (write_to to (b ∷ bs)) (holds to (b ∷ bs)) (λ s reply. Over (written reply))
+    Performs (write_to to (b ∷ bs)) (holds to (b ∷ bs)) (λ s reply. written (gives []) reply)
 
 -- bytes are written to the log where one is open, whatever log_user is (expect(1), send_log)
 abbrev pub note : {n : ℕ} → List ℕ → Status → Exchange (suc n)
 note bytes s = if s.log.logging then put channel.Log bytes else gives []
 
--- what follows the write to standard output: that to the log, unless it failed (expect(1),
--- send_user)
-abbrev pub told : List ℕ → Status → Reply → Exchange 3
-told bytes s (said.Failed sent) = Over (Stops stop.WriterFailed)
-told bytes s _ = note bytes s
-
 -- bytes are written to standard output, and then to the log where one is open (expect(1),
 -- send_user)
 abbrev pub tell : List ℕ → Exchange 4
 tell [] = gives []
-tell (b ∷ bs) = Performs (said.Out (b ∷ bs)) tt (λ s reply. told (b ∷ bs) s reply)
+tell (b ∷ bs) = Performs (said.Out (b ∷ bs)) tt (λ s reply. written (note (b ∷ bs) s) reply)
 
 -- the bytes that an act writes to standard output (puts(n))
 abbrev pub bytes_told : Deed → List ℕ
@@ -59,8 +44,8 @@ bytes_told _ = []
 
 -- what follows the answer to a write: nothing, or that to the log (puts(n); expect(1), send_user)
 abbrev pub follows : Waits → Deed → Status → Reply → Exchange 3
-follows waits.Written deed s reply = Over (written reply)
-follows waits.Told deed s reply = told (bytes_told deed) s reply
+follows waits.Written deed s reply = written (gives []) reply
+follows waits.Told deed s reply = written (note (bytes_told deed) s) reply
 
 -- the same, as a part of a run
 abbrev pub next_of : Waits → Deed → Status → Reply → Course

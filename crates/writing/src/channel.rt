@@ -1,10 +1,8 @@
 //! The channels that texts are written to.
 
 ghost use Rattle.std.specs.Prelude.{◌≡◌, ℕ};
-ghost use Rattle.acts.specs.Deed.{deed_of, reply_of};
+ghost use Rattle.state.specs.Prelude.{deed_of, reply_of, Status, FitsState};
 ghost use Rattle.kinds.specs.Answers.{Goes, GoesOn};
-ghost use Rattle.state.specs.Status.{Status};
-ghost use Rattle.state.specs.View.{FitsState};
 ghost use Rattle.state.specs.declared.state.State.{State as Kept};
 ghost use Rattle.writing.specs.Channel as definition;
 

@@ -1,10 +1,8 @@
 //! `puts ?-nonewline? ?stdout|stderr? t` (puts(n)).
 
 ghost use Rattle.std.specs.Prelude.{◌≡◌, IfOk};
-ghost use Rattle.acts.specs.Raise.{Answers};
+ghost use Rattle.state.specs.Prelude.{Answers, Status, FitsState};
 ghost use Rattle.kinds.specs.Answers.{Talks};
-ghost use Rattle.state.specs.Status.{Status};
-ghost use Rattle.state.specs.View.{FitsState};
 ghost use Rattle.state.specs.declared.state.State.{State as Kept};
 ghost use Rattle.writing.specs.Channel.{next_of};
 ghost use Rattle.writing.specs.Puts as definition;

@@ -2,14 +2,13 @@ use Rattle.std.proofs.Common.{◌≡◌, ◌∙◌, None, Some, option_map, sym,
 use Rattle.std.proofs.lemmas.Result.{IfOk-weaker}
 use Rattle.std.specs.Prelude.{codes}
 use Rattle.acts.specs.Flaw as flaw
-use Rattle.acts.specs.Flaw.{text_of}
+use Rattle.state.specs.Prelude.{text_of, Leaves, Error}
 use Rattle.conditions.specs.Branches.{branches}
 use Rattle.conditions.specs.Choosing.{branches_of, next_of}
 use Rattle.conditions.specs.Conditional.{on_branches}
 use Rattle.state.proofs.Fits.{kept_fits}
 use Rattle.state.proofs.Nestings.{over}
 use Rattle.state.proofs.Reaches.{same_reaches, then_reaches}
-use Rattle.state.specs.Outcome.{Leaves, Error}
 use Rattle.conditions.proofs.conditional.begin.Goals as goal
 
 pub returns-in-Some-clause-nests : goal.returns-in-Some-clause-nests

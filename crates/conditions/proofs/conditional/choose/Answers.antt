@@ -8,11 +8,8 @@ use Rattle.conditions.specs.Weight.{scripts_in_text}
 use Rattle.conditions.specs.declared.test.Test.TheVariants as test
 use Rattle.evaluation.specs.Scripts.{scripts_behind}
 use Rattle.evaluation.specs.View.{resumed}
-use Rattle.plan.specs.Plan.{Ends}
+use Rattle.state.specs.Prelude.{Ends, Course, within, Outcome, Gives, here}
 use Rattle.state.proofs.Reaches.{same_reaches, then_reaches}
-use Rattle.state.specs.Dialogue.{Course, within}
-use Rattle.state.specs.Outcome.{Outcome, Gives}
-use Rattle.state.specs.Reaches.{here}
 use Rattle.tclparse.specs.View.{commands_of}
 use Rattle.words.proofs.Levels.{none_left}
 use Rattle.words.specs.Words.{nested}

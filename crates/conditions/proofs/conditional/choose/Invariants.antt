@@ -2,8 +2,7 @@ use Rattle.std.proofs.Common.{◌≡◌, ◌≤◌, length, map, sum_by}
 use Rattle.conditions.specs.Choosing.{branch_of, chosen_of, scripts_in_tests}
 use Rattle.conditions.specs.Conditional.{chooses}
 use Rattle.conditions.specs.Weight.{scripts_in_text}
-use Rattle.state.specs.Reaches.{Reaches}
-use Rattle.state.specs.Status.{Status}
+use Rattle.state.specs.Prelude.{Reaches, Status}
 use Rattle.conditions.proofs.conditional.choose.Given as goal
 
 -- the tests so far did not hold

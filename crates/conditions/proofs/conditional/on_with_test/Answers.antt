@@ -7,10 +7,8 @@ use Rattle.conditions.specs.Conditional.{chosen}
 use Rattle.conditions.specs.Test.{HasFewer, on_tested}
 use Rattle.conditions.specs.declared.test.Test.TheVariants as test
 use Rattle.evaluation.specs.Scripts.{scripts_behind}
-use Rattle.plan.specs.Plan.{Ends}
+use Rattle.state.specs.Prelude.{Ends, Course, Outcome}
 use Rattle.state.proofs.Reaches.{same_reaches, then_reaches}
-use Rattle.state.specs.Dialogue.{Course}
-use Rattle.state.specs.Outcome.{Outcome}
 use Rattle.conditions.proofs.conditional.on_with_test.Goals as goal
 
 pub returns-in-Holds-true-clause-reaches : goal.returns-in-Holds-true-clause-reaches

@@ -9,8 +9,7 @@ use Rattle.state.proofs.Fits.{kept_fits}
 use Rattle.state.proofs.Nestings.{over}
 use Rattle.state.proofs.Reaches.{same_reaches, then_reaches}
 use Rattle.state.specs.Nesting.{Advances}
-use Rattle.state.specs.Outcome.{Gives}
-use Rattle.state.specs.View.{outcome_of}
+use Rattle.state.specs.Prelude.{Gives, outcome_of}
 use Rattle.conditions.proofs.conditional.resumed.Goals as goal
 
 pub returns-in_default-clause-nests : goal.returns-in_default-clause-nests

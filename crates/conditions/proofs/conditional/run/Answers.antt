@@ -2,8 +2,7 @@ use Rattle.std.proofs.Common.{refl}
 use Rattle.std.proofs.lemmas.Result.{IfOk-weaker}
 use Rattle.conditions.specs.Choosing.{next_of}
 use Rattle.state.proofs.Reaches.{same_reaches}
-use Rattle.state.specs.Nesting.{tree_of}
-use Rattle.state.specs.Piece.{ScriptText}
+use Rattle.state.specs.Prelude.{tree_of, ScriptText}
 use Rattle.state.specs.Reaches.{reads}
 use Rattle.conditions.proofs.conditional.run.Goals as goal
 

@@ -1,8 +1,7 @@
 use Rattle.std.proofs.Common.{◌∙◌, ◌<◌, None, refl, sym, ap, subst}
 use Rattle.std.proofs.lemmas.Result.{IfOk-weaker}
 use Rattle.conditions.specs.Choosing.{behind_test, next_of, scripts_held, scripts_tested}
-use Rattle.state.specs.Dialogue.{inside}
-use Rattle.state.specs.Piece.{ScriptTree}
+use Rattle.state.specs.Prelude.{inside, ScriptTree}
 use Rattle.tclparse.specs.View.{commands_of}
 use Rattle.conditions.proofs.conditional.run_in_test.Goals as goal
 

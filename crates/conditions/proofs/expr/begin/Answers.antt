@@ -2,14 +2,12 @@ use Rattle.std.proofs.Common.{◌∙◌, refl, sym}
 use Rattle.std.proofs.lemmas.Result.{IfOk-weaker}
 use Rattle.std.specs.Prelude.{codes}
 use Rattle.acts.specs.Flaw as flaw
-use Rattle.acts.specs.Flaw.{text_of}
+use Rattle.state.specs.Prelude.{text_of, raised, Leaves, Error}
 use Rattle.conditions.proofs.Evaluating.{expr_none, expr_some}
 use Rattle.conditions.specs.Expr.{next_of, told}
 use Rattle.evaluation.specs.Evaluated.{evaluated}
 use Rattle.state.proofs.Nestings.{nests_after, over}
 use Rattle.state.proofs.Reaches.{same_reaches, then_reaches}
-use Rattle.state.specs.View.{raised}
-use Rattle.state.specs.Outcome.{Leaves, Error}
 use Rattle.conditions.proofs.expr.begin.Goals as goal
 
 pub returns-then-is_empty-clause-nests : goal.returns-then-is_empty-clause-nests

@@ -2,17 +2,13 @@ use Rattle.std.proofs.Common.{◌≡◌, ◌∙◌, ℕ, List, length, refl, sym
 use Rattle.std.proofs.lemmas.Result.{IfOk-weaker}
 use Rattle.std.specs.Prelude.{codes}
 use Rattle.acts.specs.Flaw as flaw
-use Rattle.acts.specs.Flaw.{text_of}
+use Rattle.state.specs.Prelude.{text_of, inside, on_value, tree_of, Leaves, Error, ScriptText}
 use Rattle.conditions.proofs.Beginning.{for_four, for_other}
 use Rattle.conditions.proofs.Comings.{comes_over, same_goes, then_goes}
 use Rattle.conditions.specs.ForLoop.{started}
 use Rattle.conditions.specs.GoesOn.{reads}
 use Rattle.conditions.specs.Starting.{next_of}
 use Rattle.state.proofs.Fits.{kept_fits}
-use Rattle.state.specs.Dialogue.{inside, on_value}
-use Rattle.state.specs.Nesting.{tree_of}
-use Rattle.state.specs.Outcome.{Leaves, Error}
-use Rattle.state.specs.Piece.{ScriptText}
 use Rattle.conditions.proofs.for_loop.begin.Goals as goal
 
 pub returns-in_default-clause-comes : goal.returns-in_default-clause-comes

@@ -8,9 +8,8 @@ use Rattle.conditions.specs.Loop.{again}
 use Rattle.conditions.specs.Turning.{loop_of, next_of, scripts_held, scripts_tested}
 use Rattle.conditions.specs.Weight.{scripts_in_text}
 use Rattle.state.proofs.Fits.{kept_fits}
-use Rattle.state.specs.View.{raised}
-use Rattle.state.specs.Nesting.{Advances, tree_of}
-use Rattle.state.specs.Piece.{ScriptText}
+use Rattle.state.specs.Prelude.{raised, tree_of, ScriptText}
+use Rattle.state.specs.Nesting.{Advances}
 use Rattle.conditions.proofs.for_loop.begin_turns.Goals as goal
 
 pub returns-in-Ok-clause-comes : goal.returns-in-Ok-clause-comes

@@ -3,8 +3,7 @@ use Rattle.conditions.proofs.Comings.{comes_over}
 use Rattle.conditions.proofs.Passing.{value_passes}
 use Rattle.conditions.specs.ForLoop.{started}
 use Rattle.conditions.specs.Starting.{next_of}
-use Rattle.state.specs.Dialogue.{on_value}
-use Rattle.state.specs.View.{outcome_of}
+use Rattle.state.specs.Prelude.{on_value, outcome_of}
 use Rattle.conditions.proofs.for_loop.resumed.Goals as goal
 
 pub returns-in-Start-clause-comes : goal.returns-in-Start-clause-comes

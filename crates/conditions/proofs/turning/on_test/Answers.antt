@@ -8,8 +8,7 @@ use Rattle.conditions.specs.Turning.{loop_of, next_of, scripts_held}
 use Rattle.conditions.specs.declared.test.Test.TheVariants as test
 use Rattle.evaluation.specs.Scripts.{scripts_behind}
 use Rattle.evaluation.specs.View.{resumed}
-use Rattle.state.specs.View.{raised}
-use Rattle.state.specs.Outcome.{Gives}
+use Rattle.state.specs.Prelude.{raised, Gives}
 use Rattle.tclparse.specs.View.{commands_of}
 use Rattle.words.specs.Words.{nested}
 use Rattle.conditions.proofs.turning.on_test.Goals as goal

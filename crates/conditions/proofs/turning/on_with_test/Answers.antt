@@ -7,8 +7,7 @@ use Rattle.conditions.specs.Test.{on_tested}
 use Rattle.conditions.specs.Turning.{loop_of, next_of}
 use Rattle.evaluation.specs.Scripts.{MeetsFewer, scripts_behind}
 use Rattle.evaluation.specs.View.{resumed}
-use Rattle.state.specs.Dialogue.{on_value}
-use Rattle.state.specs.View.{outcome_of}
+use Rattle.state.specs.Prelude.{on_value, outcome_of}
 use Rattle.conditions.proofs.turning.on_with_test.Goals as goal
 
 pub returns-in_ok-test-in-Ok-clause-comes : goal.returns-in_ok-test-in-Ok-clause-comes

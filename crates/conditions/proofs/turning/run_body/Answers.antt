@@ -5,9 +5,7 @@ use Rattle.conditions.specs.Loop.{behind_body}
 use Rattle.conditions.specs.Turning.{loop_of, next_of}
 use Rattle.state.proofs.Fits.{left_fits}
 use Rattle.state.proofs.Ticks.{tick_refused, tick_taken}
-use Rattle.state.specs.Dialogue.{inside}
-use Rattle.state.specs.Nesting.{tree_of}
-use Rattle.state.specs.Outcome.{Stops}
+use Rattle.state.specs.Prelude.{inside, tree_of, Stops}
 use Rattle.state.specs.Outcome as stop
 use Rattle.state.specs.declared.outcome.Leave.TheVariants as leave
 use Rattle.state.specs.declared.outcome.Stop.TheVariants as halt

@@ -5,8 +5,7 @@ use Rattle.conditions.proofs.Comings.{comes_from, same_goes}
 use Rattle.conditions.proofs.Turns.{steps_none, steps_some}
 use Rattle.conditions.specs.Loop.{again, on_step}
 use Rattle.conditions.specs.Turning.{loop_of, next_of}
-use Rattle.state.specs.Dialogue.{inside}
-use Rattle.state.specs.Nesting.{tree_of}
+use Rattle.state.specs.Prelude.{inside, tree_of}
 use Rattle.conditions.proofs.turning.step.Goals as goal
 
 pub returns-in_default-clause-comes : goal.returns-in_default-clause-comes

@@ -2,7 +2,7 @@ use Rattle.std.proofs.Common.{◌≡◌, length, refl, sym, ap, rules, arith}
 use Rattle.std.proofs.lemmas.Result.{IfOk-weaker}
 use Rattle.std.specs.Prelude.{codes}
 use Rattle.acts.specs.Flaw as flaw
-use Rattle.acts.specs.Flaw.{text_of}
+use Rattle.state.specs.Prelude.{text_of, raised, tree_of, Leaves, Error, ScriptText}
 use Rattle.conditions.proofs.Beginning.{while_other, while_two}
 use Rattle.conditions.proofs.Comings.{comes_after, comes_over, reaches_goes, same_goes, then_goes}
 use Rattle.conditions.specs.GoesOn.{reads}
@@ -10,10 +10,6 @@ use Rattle.conditions.specs.Loop.{again}
 use Rattle.conditions.specs.Turning.{loop_of, next_of}
 use Rattle.conditions.specs.WhileLoop.{looped}
 use Rattle.state.proofs.Fits.{kept_fits}
-use Rattle.state.specs.View.{raised}
-use Rattle.state.specs.Nesting.{tree_of}
-use Rattle.state.specs.Outcome.{Leaves, Error}
-use Rattle.state.specs.Piece.{ScriptText}
 use Rattle.conditions.proofs.while_loop.begin.Goals as goal
 
 pub returns-in_default-clause-comes : goal.returns-in_default-clause-comes

@@ -1,12 +1,10 @@
 use Rattle.std.proofs.Common.{◌≡◌, ◌∙◌, Some, None, option_map, sym, ap, subst}
 use Rattle.acts.specs.Flaw as flaw
-use Rattle.acts.specs.Flaw.{text_of}
+use Rattle.state.specs.Prelude.{text_of, Leaves, Error, Status}
 use Rattle.control.proofs.Calling.{call_refused, call_runs}
 use Rattle.control.specs.Calls as definition
 use Rattle.state.proofs.Fits.{kept_fits}
 use Rattle.state.proofs.Nestings.{nests_after, nests_from, over, text_reaches}
-use Rattle.state.specs.Outcome.{Leaves, Error}
-use Rattle.state.specs.Status.{Status}
 use Rattle.tclparse.specs.Grammar.{IsScript}
 use Rattle.tclparse.specs.Seen.{fault_of}
 use Rattle.tclparse.specs.View.{commands_of}

@@ -1,10 +1,8 @@
 use Rattle.std.proofs.Common.{◌∙◌, sym, ap}
 use Rattle.control.specs.Calls as definition
-use Rattle.plan.specs.Plan.{Ends}
+use Rattle.state.specs.Prelude.{Ends, Course, outcome_of}
 use Rattle.state.proofs.Fits.{scopes_fit}
 use Rattle.state.proofs.Nestings.{over}
-use Rattle.state.specs.Dialogue.{Course}
-use Rattle.state.specs.View.{outcome_of}
 use Rattle.tclstate.specs.Scopes.{popped}
 use Rattle.control.proofs.calls.resumed.Goals as goal
 

@@ -3,9 +3,7 @@ use Rattle.control.specs.Calls as definition
 use Rattle.control.proofs.Catching.{on_ok}
 use Rattle.state.proofs.Fits.{scopes_fit}
 use Rattle.state.proofs.Nestings.{inside_over, nests_from, script_nests}
-use Rattle.state.specs.Dialogue.{inside}
-use Rattle.state.specs.Nesting.{tree_of}
-use Rattle.state.specs.Status.{Status}
+use Rattle.state.specs.Prelude.{inside, tree_of, Status}
 use Rattle.tclstate.specs.Scopes.{entered}
 use Rattle.control.proofs.calls.run.Goals as goal
 

@@ -1,10 +1,9 @@
 use Rattle.std.proofs.Common.{◌≡◌, None}
 use Rattle.acts.specs.Flaw as flaw
-use Rattle.acts.specs.Flaw.{text_of}
+use Rattle.state.specs.Prelude.{text_of, Leaves, Error}
 use Rattle.control.specs.Catch as definition
 use Rattle.control.proofs.Catching.{into_unnamed}
 use Rattle.state.proofs.Nestings.{over}
-use Rattle.state.specs.Outcome.{Leaves, Error}
 use Rattle.tclparse.specs.Variable.{named}
 use Rattle.control.proofs.catch.run_into.Goals as goal
 

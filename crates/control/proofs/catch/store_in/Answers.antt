@@ -1,13 +1,10 @@
 use Rattle.std.proofs.Common.{◌≡◌, ◌∙◌, Ok, None, ap}
 use Rattle.std.specs.Prelude.{decimal}
 use Rattle.acts.specs.Flaw as flaw
-use Rattle.acts.specs.Flaw.{text_of}
+use Rattle.state.specs.Prelude.{text_of, gives, raised, Gives, Leaves, Error}
 use Rattle.control.specs.Catch as definition
 use Rattle.control.proofs.Catching.{stores_named, stores_none, stores_unnamed}
 use Rattle.state.proofs.Nestings.{over}
-use Rattle.state.specs.Dialogue.{gives}
-use Rattle.state.specs.View.{raised}
-use Rattle.state.specs.Outcome.{Gives, Leaves, Error}
 use Rattle.tclparse.specs.Variable.{named}
 use Rattle.control.proofs.catch.store_in.Goals as goal
 

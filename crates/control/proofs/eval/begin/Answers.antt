@@ -1,12 +1,11 @@
 use Rattle.std.proofs.Common.{◌∙◌, sym}
 use Rattle.acts.specs.Flaw as flaw
-use Rattle.acts.specs.Flaw.{text_of}
+use Rattle.state.specs.Prelude.{text_of, Leaves, Error}
 use Rattle.std.specs.Prelude.{codes}
 use Rattle.control.specs.Eval.{next_of}
 use Rattle.control.proofs.Catching.{on_ok}
 use Rattle.control.proofs.Evaluating.{eval_none, eval_some}
 use Rattle.state.proofs.Nestings.{nests_from, over}
-use Rattle.state.specs.Outcome.{Leaves, Error}
 use Rattle.control.proofs.eval.begin.Goals as goal
 
 pub returns-then-is_empty-clause-nests : goal.returns-then-is_empty-clause-nests

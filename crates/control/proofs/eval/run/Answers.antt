@@ -1,11 +1,9 @@
 use Rattle.std.proofs.Common.{◌≡◌, ◌∙◌, suc, rules, arith}
 use Rattle.acts.specs.Flaw as flaw
-use Rattle.acts.specs.Flaw.{text_of}
+use Rattle.state.specs.Prelude.{text_of, tree_of, Leaves, Error}
 use Rattle.control.specs.Eval.{next_of, passed}
 use Rattle.state.proofs.Fits.{kept_fits}
 use Rattle.state.proofs.Nestings.{inside_over, nests_after, over, script_nests, text_reaches}
-use Rattle.state.specs.Nesting.{tree_of}
-use Rattle.state.specs.Outcome.{Leaves, Error}
 use Rattle.control.specs.declared.eval.Held.TheVariants as held
 use Rattle.control.proofs.eval.run.Goals as goal
 

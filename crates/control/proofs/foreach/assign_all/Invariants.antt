@@ -2,8 +2,7 @@ use Rattle.std.proofs.Common.{◌≡◌, ◌-◌, ◌++◌, drop, length, map, t
 use Rattle.control.specs.Foreach.{behind, row}
 use Rattle.control.specs.Looping.{pair_of}
 use Rattle.control.proofs.Assigning.{Leaves}
-use Rattle.state.specs.Status.{Status}
-use Rattle.state.specs.View.{FitsState}
+use Rattle.state.specs.Prelude.{Status, FitsState}
 use Rattle.control.proofs.foreach.assign_all.Given as goal
 
 abbrev pub invariant-pairs : goal.invariant-pairs

@@ -1,12 +1,11 @@
 use Rattle.std.proofs.Common.{◌≡◌, length, false, rules}
 use Rattle.std.specs.Prelude.{codes}
 use Rattle.acts.specs.Flaw as flaw
-use Rattle.acts.specs.Flaw.{text_of}
+use Rattle.state.specs.Prelude.{text_of, Leaves, Error}
 use Rattle.control.proofs.Pairing.{foreach_other}
 use Rattle.control.specs.Foreach.{is_taken}
 use Rattle.control.specs.Looping.{next_of}
 use Rattle.state.proofs.Nestings.{over}
-use Rattle.state.specs.Outcome.{Leaves, Error}
 use Rattle.control.proofs.foreach.begin.Goals as goal
 
 pub returns-then-not-is_taken-clause-nests : goal.returns-then-not-is_taken-clause-nests

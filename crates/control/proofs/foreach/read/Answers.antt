@@ -2,7 +2,7 @@ use Rattle.std.proofs.Common.{◌≡◌, ◌∙◌, ◌-◌, ◌≤◌, [], ◌�
 use Rattle.std.proofs.lemmas.List.{map-append}
 use Rattle.std.specs.Prelude.{codes, max}
 use Rattle.acts.specs.Flaw as flaw
-use Rattle.acts.specs.Flaw.{text_of}
+use Rattle.state.specs.Prelude.{text_of, raised, tree_of, Leaves, Error, ScriptText, here}
 use Rattle.control.proofs.Catching.{on_ok}
 use Rattle.control.proofs.Pairing.{greater, most_behind, pairs_begin, pairs_body, pairs_wrong}
 use Rattle.control.specs.Foreach.{begins, most_asked, rows, turns, with_pairs}
@@ -10,11 +10,7 @@ use Rattle.control.specs.Looping.{next_of, pair_of}
 use Rattle.state.proofs.Fits.{kept_fits}
 use Rattle.state.proofs.Nestings.{nests_after, over}
 use Rattle.state.proofs.Reaches.{same_reaches, then_reaches}
-use Rattle.state.specs.View.{raised}
-use Rattle.state.specs.Nesting.{tree_of}
-use Rattle.state.specs.Outcome.{Leaves, Error}
-use Rattle.state.specs.Piece.{ScriptText}
-use Rattle.state.specs.Reaches.{here, reads}
+use Rattle.state.specs.Reaches.{reads}
 use Rattle.control.proofs.foreach.read.Goals as goal
 
 pub pairs-init : goal.pairs-init

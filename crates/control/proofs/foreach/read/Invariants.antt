@@ -2,9 +2,7 @@ use Rattle.std.proofs.Common.{◌≡◌, length, map}
 use Rattle.std.specs.Prelude.{ℕ, List, []}
 use Rattle.control.specs.Foreach.{Pair, most_asked, with_pairs}
 use Rattle.control.specs.Looping.{pair_of}
-use Rattle.state.specs.Dialogue.{Course}
-use Rattle.state.specs.Reaches.{Reaches}
-use Rattle.state.specs.Status.{Status}
+use Rattle.state.specs.Prelude.{Course, Reaches, Status}
 use Rattle.control.proofs.foreach.read.Given as goal
 
 abbrev pub invariant-pairs : goal.invariant-pairs

@@ -8,10 +8,7 @@ use Rattle.state.proofs.Fits.{left_fits}
 use Rattle.state.proofs.Nestings.{over}
 use Rattle.state.proofs.Reaches.{same_reaches}
 use Rattle.state.proofs.Ticks.{tick_refused, tick_taken}
-use Rattle.state.specs.Dialogue.{inside}
-use Rattle.state.specs.View.{raised}
-use Rattle.state.specs.Nesting.{tree_of}
-use Rattle.state.specs.Outcome.{Gives, Stops}
+use Rattle.state.specs.Prelude.{inside, raised, tree_of, Gives, Stops}
 use Rattle.state.specs.Outcome as stop
 use Rattle.state.specs.declared.outcome.Leave.TheVariants as leave
 use Rattle.state.specs.declared.outcome.Stop.TheVariants as halt

@@ -1,8 +1,7 @@
 use Rattle.std.proofs.Common.{◌≡◌, drop}
 use Rattle.control.specs.Foreach.{dealt}
 use Rattle.control.proofs.Assigning.{Leaves}
-use Rattle.state.specs.Status.{Status}
-use Rattle.state.specs.View.{FitsState}
+use Rattle.state.specs.Prelude.{Status, FitsState}
 use Rattle.control.proofs.pair.assign_all.Given as goal
 
 abbrev pub invariant-loop-name : goal.invariant-loop-name

@@ -2,12 +2,11 @@ use Rattle.std.proofs.Common.{◌≡◌, ◌∙◌, length, sym, ap, arith}
 use Rattle.std.specs.Prelude.{codes}
 use Rattle.std.specs.Str.{bytes_eq}
 use Rattle.acts.specs.Flaw as flaw
-use Rattle.acts.specs.Flaw.{text_of}
+use Rattle.state.specs.Prelude.{text_of, Leaves, Error}
 use Rattle.control.specs.Eval.{next_of}
 use Rattle.control.specs.Switch.{mode_of}
 use Rattle.control.proofs.Choosing.{behind_none, behind_wrong}
 use Rattle.state.proofs.Nestings.{over}
-use Rattle.state.specs.Outcome.{Leaves, Error}
 use Rattle.control.proofs.switch.behind_flag.Goals as goal
 
 pub returns-in_default-clause-nests : goal.returns-in_default-clause-nests

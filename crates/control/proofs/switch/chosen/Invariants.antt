@@ -1,8 +1,6 @@
 use Rattle.std.proofs.Common.{ℕ, List, Option, length}
 use Rattle.control.specs.Switch.{chosen, mode_of}
-use Rattle.state.specs.Dialogue.{Course}
-use Rattle.state.specs.Reaches.{Reaches}
-use Rattle.state.specs.Status.{Status}
+use Rattle.state.specs.Prelude.{Course, Reaches, Status}
 use Rattle.control.proofs.switch.chosen.Given as goal
 
 abbrev pub invariant-arms : goal.invariant-arms

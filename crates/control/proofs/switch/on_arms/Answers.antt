@@ -1,15 +1,13 @@
 use Rattle.std.proofs.Common.{◌≡◌, ◌∙◌, Ok, Some, option_copied, [], refl, sym, ap}
 use Rattle.std.specs.Prelude.{codes}
 use Rattle.acts.specs.Flaw as flaw
-use Rattle.acts.specs.Flaw.{text_of}
+use Rattle.state.specs.Prelude.{text_of, raised, Gives, Leaves, Error}
 use Rattle.control.specs.Eval.{next_of}
 use Rattle.control.specs.Switch.{left_over, mode_of, runs_body}
 use Rattle.control.proofs.Catching.{on_ok}
 use Rattle.control.proofs.Choosing.{arms_left, arms_tried}
 use Rattle.state.proofs.Nestings.{nests_after, over}
 use Rattle.state.proofs.Reaches.{same_reaches, then_reaches}
-use Rattle.state.specs.View.{raised}
-use Rattle.state.specs.Outcome.{Gives, Leaves, Error}
 use Rattle.control.proofs.switch.on_arms.Goals as goal
 
 pub returns-in-Some-clause-nests : goal.returns-in-Some-clause-nests

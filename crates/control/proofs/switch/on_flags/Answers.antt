@@ -1,11 +1,10 @@
 use Rattle.std.proofs.Common.{◌≡◌, length, arith}
 use Rattle.std.specs.Prelude.{codes}
 use Rattle.acts.specs.Flaw as flaw
-use Rattle.acts.specs.Flaw.{text_of}
+use Rattle.state.specs.Prelude.{text_of, Leaves, Error}
 use Rattle.control.specs.Eval.{next_of}
 use Rattle.control.proofs.Choosing.{flags_none}
 use Rattle.state.proofs.Nestings.{over}
-use Rattle.state.specs.Outcome.{Leaves, Error}
 use Rattle.control.proofs.switch.on_flags.Goals as goal
 
 pub returns-in_default-clause-nests : goal.returns-in_default-clause-nests

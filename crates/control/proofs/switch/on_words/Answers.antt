@@ -1,15 +1,13 @@
 use Rattle.std.proofs.Common.{◌≡◌, ◌<◌, length, refl, sym, ap, rules, arith}
 use Rattle.std.specs.Prelude.{codes}
 use Rattle.acts.specs.Flaw as flaw
-use Rattle.acts.specs.Flaw.{text_of}
+use Rattle.state.specs.Prelude.{text_of, raised, Leaves, Error}
 use Rattle.control.specs.Eval.{next_of}
 use Rattle.control.specs.Switch.{mode_of, on_arms}
 use Rattle.control.proofs.Catching.{on_ok}
 use Rattle.control.proofs.Choosing.{words_arms, words_few, words_list}
 use Rattle.state.proofs.Nestings.{nests_after, nests_from, over}
 use Rattle.state.proofs.Reaches.{same_reaches, then_reaches}
-use Rattle.state.specs.View.{raised}
-use Rattle.state.specs.Outcome.{Leaves, Error}
 use Rattle.control.proofs.switch.on_words.Goals as goal
 
 pub returns-in_ok-wrong_args-in-empty-clause-nests :

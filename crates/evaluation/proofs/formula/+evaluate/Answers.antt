@@ -8,8 +8,7 @@ use Rattle.formulas.specs.declared.tree.Row.{Row, out-Row}
 use Rattle.formulas.specs.declared.tree.Choice.{Choice, out-Choice}
 use Rattle.meanings.specs.View.{Answers}
 use Rattle.operators.specs.Function.{call as called}
-use Rattle.state.specs.Dialogue.{Course}
-use Rattle.state.specs.Status.{Status}
+use Rattle.state.specs.Prelude.{Course, Status}
 use Rattle.state.proofs.Reaches.{same_reaches, then_reaches}
 use Rattle.tclparse.specs.Formula as tree
 use Rattle.tclparse.specs.View.{parts_of}

@@ -1,8 +1,6 @@
 use Rattle.std.proofs.Common.{◌≡◌, ◌≤◌, ℕ, List, ◌-◌, length}
 use Rattle.formulas.specs.declared.tree.Row.{out-Row}
-use Rattle.state.specs.Dialogue.{Course}
-use Rattle.state.specs.Reaches.{Reaches}
-use Rattle.state.specs.Status.{Status}
+use Rattle.state.specs.Prelude.{Course, Reaches, Status}
 use Rattle.evaluation.specs.Evaluated.{linked, arguments}
 use Rattle.evaluation.specs.Scripts.{scripts_in_all, scripts_in_links}
 use Rattle.evaluation.specs.View.{formulas_from, links_from}

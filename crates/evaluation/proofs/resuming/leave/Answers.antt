@@ -1,8 +1,7 @@
 use Rattle.std.proofs.Common.{◌∙◌, List, ℕ, sym, ap}
 use Rattle.operators.specs.Function.{call as called}
 use Rattle.state.proofs.Reaches.{same_reaches}
-use Rattle.state.specs.Dialogue.{Course}
-use Rattle.state.specs.Status.{Status}
+use Rattle.state.specs.Prelude.{Course, Status}
 use Rattle.evaluation.specs.Evaluated.{arguments}
 use Rattle.state.specs.Meant.{on_meaning}
 use Rattle.evaluation.specs.View.{behind, formulas_from}

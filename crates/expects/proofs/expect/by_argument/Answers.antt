@@ -1,11 +1,10 @@
 use Rattle.std.proofs.Common.{◌∙◌, refl, ap}
-use Rattle.acts.specs.Flaw.{text_of}
+use Rattle.state.specs.Prelude.{text_of, Leaves, Error}
 use Rattle.expects.proofs.Answering.{argument_reaches}
 use Rattle.expects.proofs.Comings.{over_is}
 use Rattle.expects.specs.View.{form_of}
 use Rattle.state.proofs.Reaches.{same_reaches, then_reaches}
 use Rattle.state.specs.Faults.{flaw_of_fault}
-use Rattle.state.specs.Outcome.{Leaves, Error}
 use Rattle.tclparse.specs.Seen.{fault_of}
 use Rattle.expects.proofs.expect.by_argument.Goals as goal
 

@@ -1,14 +1,12 @@
 use Rattle.std.proofs.Common.{◌≡◌, ◌∙◌, ◌==◌, true, false, length, sym, ap, subst}
 use Rattle.acts.specs.Flaw as flaw
-use Rattle.acts.specs.Raise.{Raises}
+use Rattle.state.specs.Prelude.{Raises, raises, lines}
 use Rattle.dialog.specs.Standing.{pruned}
 use Rattle.expects.proofs.Answering.{again_on, again_over}
 use Rattle.expects.proofs.Comings.{begins_as, comes_as}
 use Rattle.expects.proofs.Reporting.{failed_is}
 use Rattle.expects.specs.Turn.{first_of, leaving, named_by, renewed}
 use Rattle.expects.specs.View.{course_of_opening, turn_of}
-use Rattle.state.specs.Dialogue.{raises}
-use Rattle.state.specs.Status.{lines}
 use Rattle.expects.proofs.resuming.again.Goals as goal
 
 pub returns-then-is_empty-clause-comes : goal.returns-then-is_empty-clause-comes

@@ -1,8 +1,7 @@
 use Rattle.std.proofs.Common.{◌+◌, ◌≤◌}
 use Rattle.machine.specs.Frames.{load, onward_of, stack}
 use Rattle.state.specs.Budget.{again_of}
-use Rattle.state.specs.Status.{Status}
-use Rattle.state.specs.View.{FitsState, outcome_of}
+use Rattle.state.specs.Prelude.{Status, FitsState, outcome_of}
 use Rattle.machine.proofs.Machines.{Comes}
 use Rattle.machine.proofs.advancing.advance.Given as goal
 

@@ -1,9 +1,7 @@
 use Rattle.std.proofs.Common.{◌≡◌, ◌∙◌, ◌∷◌, [], suc, None, sym, ap, rules, arith}
 use Rattle.machine.specs.Frames.{call_of, left_of, onward_of, stack}
 use Rattle.machine.specs.declared.frame.Frame.TheVariants as frame
-use Rattle.plan.specs.Plan.{Ends}
-use Rattle.state.specs.Dialogue.{Course}
-use Rattle.state.specs.Outcome.{Gives}
+use Rattle.state.specs.Prelude.{Ends, Course, Gives}
 use Rattle.tclparse.specs.View.{commands_of}
 use Rattle.words.specs.Gathering.{gathering_on}
 use Rattle.words.specs.Words.{nested}

@@ -4,8 +4,7 @@ use Rattle.machine.specs.Taken.{IsOver, IsTaken}
 use Rattle.machine.proofs.Machines.{top_goes, unwinds_from}
 use Rattle.machine.proofs.Silent.{same_goes, then_goes}
 use Rattle.state.proofs.Fits.{left_fits}
-use Rattle.state.specs.Status.{Status}
-use Rattle.state.specs.View.{outcome_of}
+use Rattle.state.specs.Prelude.{Status, outcome_of}
 use Rattle.machine.proofs.unwinding.resume.Goals as goal
 
 pub returns-in_ok-value_on-in-Some-clause-unwinds :

@@ -1,7 +1,5 @@
 use Rattle.std.proofs.Common.{◌≡◌, ◌≤◌, ℕ, List, ◌-◌, length}
-use Rattle.state.specs.Dialogue.{Course}
-use Rattle.state.specs.Status.{Status}
-use Rattle.state.specs.Reaches.{Reaches}
+use Rattle.state.specs.Prelude.{Course, Status, Reaches}
 use Rattle.words.specs.Scripts.{scripts_of}
 use Rattle.words.specs.Words.{words}
 use Rattle.words.proofs.Command.{left}

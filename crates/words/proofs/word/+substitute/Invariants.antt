@@ -1,6 +1,5 @@
 use Rattle.std.proofs.Common.{◌≡◌, ◌≤◌, ℕ, List, ◌-◌, length}
-use Rattle.state.specs.Dialogue.{Course}
-use Rattle.state.specs.Status.{Status}
+use Rattle.state.specs.Prelude.{Course, Status}
 use Rattle.words.specs.Words.{parts}
 use Rattle.words.specs.Scripts.{scripts_in}
 use Rattle.words.proofs.Steps.{left}

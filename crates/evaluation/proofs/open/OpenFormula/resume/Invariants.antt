@@ -1,7 +1,5 @@
 use Rattle.std.proofs.Common.{◌≡◌, ℕ, List, length}
-use Rattle.state.specs.Dialogue.{Course}
-use Rattle.state.specs.Reaches.{Reaches}
-use Rattle.state.specs.Status.{Status}
+use Rattle.state.specs.Prelude.{Course, Reaches, Status}
 use Rattle.evaluation.specs.Scripts.{scripts_behind}
 use Rattle.evaluation.specs.View.{after, course_of, resumed}
 use Rattle.evaluation.proofs.Outer.{Remains}

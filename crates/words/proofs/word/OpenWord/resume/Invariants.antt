@@ -1,6 +1,5 @@
 use Rattle.std.proofs.Common.{◌≡◌, ℕ, List, length}
-use Rattle.state.specs.Dialogue.{Course}
-use Rattle.state.specs.Status.{Status}
+use Rattle.state.specs.Prelude.{Course, Status}
 use Rattle.words.specs.Scripts.{scripts_behind}
 use Rattle.words.specs.View.{after, course_of_met, resumed}
 use Rattle.words.proofs.Scripts.{Remains}
