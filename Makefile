@@ -6,7 +6,8 @@
 # make deb      makes a Debian package of out/rx and all that make install puts in place: out/rx_*.deb
 # make test     the gate: every proof from nothing, the must-fail edits, the tests and the programs
 # Beside the gate:
-# make house    rules of this repository that the prover does not know, and its links, in a moment
+# make house    rules of this repository that the prover does not know, its links and its tables of
+#               commands, in a moment
 # make guide    runs what the README, the guide and the man page show, and compares (RX=out/rx)
 # make rows     runs the rows, and writes how many there are to the stored output of rowtests
 # make edits    the edits of edits/ that the prover must refuse, for the crates that changed (SINCE=COMMIT)
@@ -80,6 +81,7 @@ test:
 house:
 	tools/house
 	tools/links
+	tools/commands
 
 # The program is not built here, so that another one can be tried, as an installed one.
 guide:
