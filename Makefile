@@ -10,13 +10,14 @@
 #               commands, in a moment
 # make guide    runs what the README, the guide and the man page show, and compares (RX=out/rx)
 # make rows     runs the rows, and writes how many there are to the stored output of rowtests
+# make rows-now runs them as they stand, without any proof, in a few minutes (FAMILIES="leaving logs")
 # make edits    the edits of edits/ that the prover must refuse, for the crates that changed (SINCE=COMMIT)
 # make live     out/rx against programs and servers of the distribution
 # make compare  random scripts against tclsh8.6, dialogues against expect (SCRIPTS=N, DIALOGUES=N, SEED=S)
 # make bench    times of out/rx beside those of tclsh8.6 and jimsh, and dialogues beside expect
 # make soak     a long dialogue, live: whether something is lost and whether memory grows
-.PHONY: demo rx install built install-documents uninstall deb test house guide rows edits live compare bench \
-	soak clean
+.PHONY: demo rx install built install-documents uninstall deb test house guide rows rows-now edits live \
+	compare bench soak clean
 
 FIRST := $(CURDIR)/examples/hello-cat
 PREFIX ?= /usr/local
@@ -89,6 +90,9 @@ guide:
 
 rows:
 	tools/rows
+
+rows-now:
+	tools/rows-now $(FAMILIES)
 
 edits:
 	tools/edits $(SINCE)
