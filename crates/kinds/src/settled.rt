@@ -4,7 +4,6 @@ ghost use Rattle.std.specs.Prelude.{IfOk};
 ghost use Rattle.kinds.specs.Answers.{IsFailure, Settles};
 
 use acts::{NoMemory, Raise};
-use state::leaf::raises;
 use state::outcome::raised;
 use state::{Leaf, Outcome};
 use std::alloc::Allocator;
@@ -20,8 +19,10 @@ pub fn settle<A: Allocator + Copy, W: Drop>(
     ensures { IfOk result (λ leaf. Settles answer leaf) }
 {
     match answer {
-        Ok(leaf) => Ok(leaf),
-        Err(Raise::Fault(fault)) => raises(alloc, &fault),
+        // Not `Ok(leaf)`, which would move an act where there is an outcome alone.
+        Ok(Leaf::Has(outcome)) => Ok(Leaf::Has(outcome)),
+        Ok(Leaf::Asks(act, waits)) => Ok(Leaf::Asks(act, waits)),
+        Err(Raise::Fault(fault)) => Ok(Leaf::Has(raised(alloc, &fault)?)),
         Err(Raise::NoMemory(refusal)) => Err(refusal),
     }
 }
