@@ -37,6 +37,7 @@ pub(crate) enum Acting {
 }
 
 /// Begins one of them, up to its first act.
+#[inline(always)]
 #[tactic(auto, using(kinds::proofs::Comes::talks_comes, kinds::proofs::Comes::fails_comes))]
 pub(crate) fn call<A: Allocator + Copy>(
     alloc: A,
@@ -64,6 +65,7 @@ pub(crate) fn call<A: Allocator + Copy>(
 }
 
 /// Goes on with the answer to the act of one of them.
+#[inline(always)]
 #[tactic(auto, using(kinds::proofs::Comes::goes_on_comes))]
 pub(crate) fn answered<A: Allocator + Copy>(
     alloc: A,

@@ -22,6 +22,7 @@ pub(crate) enum Exit {
 }
 
 /// Does one of them.
+#[inline(always)]
 pub(crate) fn call<A: Allocator + Copy>(
     alloc: A,
     exit: Exit,

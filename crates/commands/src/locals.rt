@@ -23,6 +23,7 @@ pub(crate) enum Local {
 }
 
 /// Does one of them.
+#[inline(always)]
 #[tactic(auto, using(crate::proofs::Settled::stores_settle, crate::proofs::Settled::keeps_settle))]
 pub(crate) fn call<A: Allocator + Copy>(
     alloc: A,

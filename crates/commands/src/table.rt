@@ -1,4 +1,8 @@
 //! The table of the commands: what each one begins, and what goes on with an answer.
+//!
+//! What a command answers is wide, and a short command would take a few instructions in a hundred
+//! more to hand it from one function to the next. So the tables of the kinds are put into this one,
+//! and this one into its caller.
 #![tactic(auto, using(state::proofs::Reaches::same_reaches))]
 
 ghost use Rattle.std.specs.Prelude.{◌≡◌, ◌≤◌, IfOk};
@@ -28,6 +32,7 @@ use tcltext::Value;
 ///
 /// # Errors
 /// `NoMemory` where memory is refused.
+#[inline(always)]
 pub fn begin<A: Allocator + Copy>(
     alloc: A,
     state: &mut State<A>,
@@ -45,6 +50,7 @@ pub fn begin<A: Allocator + Copy>(
 }
 
 /// Begins the command of a name with the words behind it.
+#[inline(always)]
 fn call_named<A: Allocator + Copy>(
     alloc: A,
     state: &mut State<A>,
@@ -87,6 +93,7 @@ fn without_acts<A: Allocator>(leaf: Leaf<A, NoWaits>) -> Leaf<A, Waits<A>>
 }
 
 /// Begins a command with the words behind its name.
+#[inline(always)]
 fn call<A: Allocator + Copy>(
     alloc: A,
     state: &mut State<A>,
@@ -116,6 +123,7 @@ fn call<A: Allocator + Copy>(
 ///
 /// # Errors
 /// `NoMemory` where memory is refused.
+#[inline(always)]
 pub fn answered<A: Allocator + Copy>(
     alloc: A,
     state: &mut State<A>,

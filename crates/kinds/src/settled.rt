@@ -12,6 +12,7 @@ use std::alloc::Allocator;
 ///
 /// # Errors
 /// `NoMemory` where the command was refused memory, or the text of its error is.
+#[inline(always)]
 pub fn settle<A: Allocator + Copy, W: Drop>(
     alloc: A,
     answer: Result<Leaf<A, W>, Raise<A>>,

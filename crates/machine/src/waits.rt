@@ -17,6 +17,7 @@ pub enum Waits<A: Allocator> {
 }
 
 /// How far a command that runs no script has come.
+#[inline(always)]
 pub fn plainly<A: Allocator>(leaf: Leaf<A, commands::Waits<A>>) -> Leaf<A, Waits<A>>
     ensures course { (s : Status) → course_of next_of result s ≡ course_of table.next_of leaf s }
     ensures again { again_in result ≡ again_in leaf }
