@@ -8,22 +8,21 @@ use Rattle.commands.specs.Settings as setting
 use Rattle.commands.specs.declared.builtin.Builtin.{Builtin}
 use Rattle.commands.specs.declared.builtin.Builtin.TheVariants as builtin
 use Rattle.kinds.proofs.Behaves.{exits_behave, sets_behave, talks_behave}
-use Rattle.procedures.proofs.Behaves.{proc_behaves}
+use Rattle.kinds.proofs.Locals.{definings_behave, locals_behave}
+use Rattle.procedures.specs.Proc.{proc}
 use Rattle.pure.specs.Pure.{says}
-use Rattle.state.proofs.Behaves.{meant_behaves, more_behaves}
-use Rattle.state.specs.Behaves.{Behaves, worth}
-use Rattle.state.specs.Status.{Status}
-use Rattle.variables.proofs.Courses.{readings_behave}
+use Rattle.state.proofs.Behaves.{meant_behaves}
+use Rattle.state.specs.Prelude.{Behaves, worth, Status}
 
 does_behaves : (builtin : Builtin) (args : List (List ℕ)) (s : Status) →
     Behaves s.left (worth s + 4) (does builtin args s)
 does_behaves (builtin.Exit own) args s = exits_behave (exit.does own args) s
-does_behaves (builtin.Local own) args s = readings_behave (local.does own args s.scopes) s
+does_behaves (builtin.Local own) args s =
+    locals_behave (local.does own args s.scopes) s (worth s + 4) (omega arith)
 does_behaves (builtin.Setting own) args s = sets_behave (setting.does own args s) s
 does_behaves (builtin.Acting own) args s = talks_behave (acting.does own args s) s
 does_behaves builtin.Proc args s =
-    more_behaves s.left s.left (worth s + 3) (worth s + 4) (does builtin.Proc args s)
-    (omega arith) (omega arith) (proc_behaves args s)
+    definings_behave (proc args s.procedures) s (worth s + 4) (omega arith)
 does_behaves (builtin.Text own) args s =
     meant_behaves s.left (worth s + 4) s (omega arith) (omega arith) (says own args)
 

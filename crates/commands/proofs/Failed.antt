@@ -1,15 +1,12 @@
 -- An error of one command is one of all commands.
 use Rattle.std.proofs.Common.{ℕ, Err}
-use Rattle.acts.specs.Deed.{Deed, Reply}
-use Rattle.acts.specs.declared.raise.Raise.{Raise}
+use Rattle.state.specs.Prelude.{Deed, Reply, Raise, Course, Status}
 use Rattle.acts.specs.declared.raise.Raise.TheVariants as raise
 use Rattle.commands.specs.View.{next_of}
 use Rattle.kinds.proofs.Comes.{goes_on_comes}
 use Rattle.kinds.specs.Answers.{Comes, GoesOn}
 use Rattle.kinds.specs.Exchange.{Exchange, course}
 use Rattle.state.specs.declared.state.State.{State}
-use Rattle.state.specs.Dialogue.{Course}
-use Rattle.state.specs.Status.{Status}
 
 -- an error is told alike, whatever would have waited
 pub failed_comes : {A W : Type 0} (own : W → Deed → Status → Reply → Course) (state : State A)

@@ -1,6 +1,6 @@
 -- The commands that ask acts.
 use Rattle.std.specs.Prelude.{ℕ, List, Result}
-use Rattle.acts.specs.Flaw.{Flaw}
+use Rattle.state.specs.Prelude.{Flaw, Status}
 use Rattle.commands.specs.declared.acting.Acting.{Acting}
 use Rattle.commands.specs.declared.acting.Acting.TheVariants as acting
 use Rattle.kinds.specs.Exchange.{Exchange}
@@ -14,7 +14,6 @@ use Rattle.processes.specs.Sleep.{sleep}
 use Rattle.processes.specs.Socket.{socket}
 use Rattle.processes.specs.Spawn.{spawn}
 use Rattle.sending.specs.Send.{send}
-use Rattle.state.specs.Status.{Status}
 use Rattle.writing.specs.Puts.{puts}
 
 -- what each does with the words behind its name (expect(1); puts(n), socket(n), close(n))

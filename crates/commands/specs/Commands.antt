@@ -1,7 +1,7 @@
 -- Which command a name has, and what it does.
 use Rattle.std.specs.Prelude.{ℕ, List, [], ◌∷◌, codes, Option, Some, None, option_map, if◌then◌else◌}
 use Rattle.std.specs.Option.{option_or}
-use Rattle.acts.specs.Flaw.{Flaw}
+use Rattle.state.specs.Prelude.{Flaw, Course, gives, raises, Status}
 use Rattle.acts.specs.Flaw as flaw
 use Rattle.commands.specs.Acting as acting
 use Rattle.commands.specs.Exits as exit
@@ -15,14 +15,11 @@ use Rattle.commands.specs.declared.exits.Exit.TheVariants as exits_by
 use Rattle.commands.specs.declared.locals.Local.TheVariants as locals_by
 use Rattle.commands.specs.declared.settings.Setting.TheVariants as sets
 use Rattle.kinds.specs.Exchange.{talks}
-use Rattle.kinds.specs.Kinds.{exits}
+use Rattle.kinds.specs.Kinds.{exits, locals, definings}
 use Rattle.names.specs.Tables.{Table, found}
 use Rattle.procedures.specs.Proc.{proc}
 use Rattle.pure.specs.Pure as pure
-use Rattle.state.specs.Dialogue.{Course, gives, raises}
 use Rattle.state.specs.Meant.{meant}
-use Rattle.state.specs.Status.{Status}
-use Rattle.variables.specs.Courses.{readings}
 
 -- the names of the commands that are no functions of their words
 abbrev pub builtins : Table Builtin
@@ -65,10 +62,10 @@ named name = option_or (found builtins name) (option_map builtin.Text (pure.name
 -- what a command does with the words behind its name
 abbrev pub does : Builtin → List (List ℕ) → Status → Course
 does (builtin.Exit own) args s = exits (exit.does own args) s
-does (builtin.Local own) args s = readings (local.does own args s.scopes) s
+does (builtin.Local own) args s = locals (local.does own args s.scopes) s
 does (builtin.Setting own) args s = talks (setting.does own args s) s
 does (builtin.Acting own) args s = talks (acting.does own args s) s
-does builtin.Proc args s = proc args s
+does builtin.Proc args s = definings (proc args s.procedures) s
 does (builtin.Text own) args s = meant (pure.says own args) s
 
 -- the error of a name that no command has, which tells the names of commands that this profile

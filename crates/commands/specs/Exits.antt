@@ -1,6 +1,6 @@
 -- The commands that end a part of a script, or the whole run.
 use Rattle.std.specs.Prelude.{ℕ, List, Result}
-use Rattle.acts.specs.Flaw.{Flaw}
+use Rattle.state.specs.Prelude.{Flaw, Outcome}
 use Rattle.commands.specs.declared.exits.Exit.{Exit}
 use Rattle.commands.specs.declared.exits.Exit.TheVariants as exit
 use Rattle.leaving.specs.Breaks.{breaks}
@@ -9,7 +9,6 @@ use Rattle.leaving.specs.Error.{error}
 use Rattle.leaving.specs.Exit as leaving
 use Rattle.leaving.specs.ExpContinue.{exp_continue}
 use Rattle.leaving.specs.Returns.{returns}
-use Rattle.state.specs.Outcome.{Outcome}
 
 -- what each does with the words behind its name (the manual pages of these names; expect(1),
 -- exp_continue)

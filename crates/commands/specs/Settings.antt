@@ -1,13 +1,12 @@
 -- The commands that read or change what is set, and ask no act.
 use Rattle.std.specs.Prelude.{ℕ, List, Result}
-use Rattle.acts.specs.Flaw.{Flaw}
+use Rattle.state.specs.Prelude.{Flaw, Status}
 use Rattle.commands.specs.declared.settings.Setting.{Setting}
 use Rattle.commands.specs.declared.settings.Setting.TheVariants as setting
 use Rattle.kinds.specs.Exchange.{Exchange}
 use Rattle.logs.specs.LogUser.{log_user}
 use Rattle.peers.specs.MatchMax.{match_max}
 use Rattle.peers.specs.RemoveNulls.{remove_nulls}
-use Rattle.state.specs.Status.{Status}
 
 -- what each does with the words behind its name (expect(1), the commands of these names)
 abbrev pub does : Setting → List (List ℕ) → Status → Result (Exchange 0) Flaw

@@ -1,13 +1,11 @@
 //! The commands that ask acts: what each one begins, and what goes on with an answer.
 
 ghost use Rattle.std.specs.Prelude.{◌≤◌};
-ghost use Rattle.acts.specs.Deed.{deed_of, reply_of};
+ghost use Rattle.state.specs.Prelude.{deed_of, reply_of, Status, FitsState};
 ghost use Rattle.commands.specs.Acting as definition;
 ghost use Rattle.commands.specs.View.{next_of};
 ghost use Rattle.kinds.specs.Answers.{Comes};
 ghost use Rattle.kinds.specs.Exchange.{talks};
-ghost use Rattle.state.specs.Status.{Status};
-ghost use Rattle.state.specs.View.{FitsState};
 
 use crate::waits::Waits;
 use acts::{Act, Answer, Raise};

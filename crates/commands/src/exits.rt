@@ -1,8 +1,7 @@
 //! The commands that end a part of a script, or the whole run.
 
-ghost use Rattle.acts.specs.Raise.{Answers};
+ghost use Rattle.state.specs.Prelude.{Answers, outcome_of};
 ghost use Rattle.commands.specs.Exits as definition;
-ghost use Rattle.state.specs.View.{outcome_of};
 
 use acts::Raise;
 use leaving::{breaks, continues, error, exit, exp_continue, returns};

@@ -2,8 +2,7 @@
 
 ghost use Rattle.std.specs.Prelude.{ℕ, ◌+◌, List};
 ghost use Rattle.commands.specs.Commands.{command};
-ghost use Rattle.state.specs.Behaves.{Behaves, worth};
-ghost use Rattle.state.specs.Status.{Status};
+ghost use Rattle.state.specs.Prelude.{Behaves, worth, Status};
 
 /// Each command runs no script, uses up no more ticks than are left, pays for its acts out of four
 /// and of what its state is worth, and waits for what holds.

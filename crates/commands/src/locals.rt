@@ -1,7 +1,7 @@
 //! The commands that see and change the variables alone.
 
 ghost use Rattle.commands.specs.Locals as definition;
-ghost use Rattle.variables.specs.Readings.{Settles};
+ghost use Rattle.kinds.specs.Readings.{Leaves};
 
 use acts::Raise;
 use std::alloc::Allocator;
@@ -24,14 +24,14 @@ pub(crate) enum Local {
 
 /// Does one of them.
 #[inline(always)]
-#[tactic(auto, using(crate::proofs::Settled::stores_settle, crate::proofs::Settled::keeps_settle))]
+#[tactic(auto, using(kinds::proofs::Left::stores_leave, kinds::proofs::Left::keeps_leave))]
 pub(crate) fn call<A: Allocator + Copy>(
     alloc: A,
     scopes: &mut Scopes<A>,
     local: Local,
     args: &[Value<A>],
 ) -> Result<Value<A>, Raise<A>>
-    ensures { Settles (definition.does local args.now scopes.old) result scopes.new }
+    ensures { Leaves (definition.does local args.now scopes.old) result scopes.new }
 {
     match local {
         Local::Set => set::begin(alloc, scopes, args),

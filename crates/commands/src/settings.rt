@@ -3,8 +3,7 @@
 ghost use Rattle.std.specs.Prelude.{◌≤◌};
 ghost use Rattle.commands.specs.Settings as definition;
 ghost use Rattle.kinds.specs.Answers.{Sets};
-ghost use Rattle.state.specs.Status.{Status};
-ghost use Rattle.state.specs.View.{FitsState};
+ghost use Rattle.state.specs.Prelude.{Status, FitsState};
 
 use acts::Raise;
 use logs::log_user;

@@ -6,15 +6,10 @@
 #![tactic(auto, using(state::proofs::Reaches::same_reaches))]
 
 ghost use Rattle.std.specs.Prelude.{◌≡◌, ◌≤◌, IfOk};
-ghost use Rattle.acts.specs.Deed.{deed_of, reply_of};
-ghost use Rattle.acts.specs.Raise.{Raises};
+ghost use Rattle.state.specs.Prelude.{deed_of, reply_of, Raises, Shows, Status, FitsState};
 ghost use Rattle.commands.specs.Commands as definition;
-ghost use Rattle.commands.specs.View.{IsLifted, next_of};
+ghost use Rattle.commands.specs.View.{next_of};
 ghost use Rattle.kinds.specs.Answers.{Comes};
-ghost use Rattle.state.specs.Leaf.{Shows};
-ghost use Rattle.state.specs.NoWaits as nothing;
-ghost use Rattle.state.specs.Status.{Status};
-ghost use Rattle.state.specs.View.{FitsState};
 
 use crate::builtin::Builtin;
 use crate::left_out::is_left_out;
@@ -24,7 +19,7 @@ use acts::{Act, Answer, Fault, NoMemory, Raise};
 use kinds::settle;
 use procedures::proc;
 use state::leaf::empty;
-use state::{Leaf, NoWaits, State};
+use state::{Leaf, State};
 use std::alloc::Allocator;
 use tcltext::Value;
 
@@ -82,16 +77,6 @@ fn unknown<A: Allocator + Copy>(alloc: A, name: &[u8]) -> Raise<A>
     }
 }
 
-/// What a command has come to that makes no act.
-fn without_acts<A: Allocator>(leaf: Leaf<A, NoWaits>) -> Leaf<A, Waits<A>>
-    ensures { IsLifted nothing.next_of leaf result }
-{
-    match leaf {
-        Leaf::Has(outcome) => Leaf::Has(outcome),
-        Leaf::Asks(_, waits) => match waits {},
-    }
-}
-
 /// Begins a command with the words behind its name.
 #[inline(always)]
 fn call<A: Allocator + Copy>(
@@ -114,7 +99,7 @@ fn call<A: Allocator + Copy>(
         )?))),
         Builtin::Setting(own) => Ok(Leaf::Has(Ok(settings::call(alloc, state, own, args)?))),
         Builtin::Acting(own) => acting::call(alloc, state, own, args),
-        Builtin::Proc => Ok(without_acts(proc::begin(alloc, state, args)?)),
+        Builtin::Proc => Ok(Leaf::Has(Ok(proc::begin(alloc, &mut state.procs, args)?))),
         Builtin::Text(own) => Ok(Leaf::Has(Ok(own.apply(alloc, args)?))),
     }
 }

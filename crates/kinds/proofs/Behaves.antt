@@ -1,17 +1,13 @@
 -- What the commands of a kind keep to, whatever they mean.
 use Rattle.std.proofs.Common.{◌≡◌, ℕ, ◌+◌, ◌-◌, ◌≤◌, List, Result, Ok, Err, refl, arith}
-use Rattle.acts.specs.Flaw.{Flaw}
+use Rattle.state.specs.Prelude.{Flaw, Behaves, worth, Outcome, Status}
 use Rattle.dialog.proofs.Opened.{count_set_nulls, count_shut, count_sized}
 use Rattle.kinds.proofs.Opened.{worth_opened}
 use Rattle.kinds.proofs.Reaped.{count_reaped}
 use Rattle.kinds.specs.Edits.{Edit, Binds, Sizes, SizesLater, DropsNulls, DropsNullsLater, Shuts, Reaps, Skips, ShowsArrivals, EndsLog, Opening, OpensId, OpensLog, edited, opened_by}
 use Rattle.kinds.specs.Exchange.{Exchange, Over, Edits, Opens, Performs, course, talks}
-use Rattle.kinds.specs.Kinds.{exits, locals}
+use Rattle.kinds.specs.Kinds.{exits}
 use Rattle.state.proofs.Behaves.{ask_behaves}
-use Rattle.state.specs.Behaves.{Behaves, worth}
-use Rattle.state.specs.Outcome.{Outcome}
-use Rattle.state.specs.Status.{Status}
-use Rattle.tclstate.specs.Scopes.{Scopes}
 
 -- a change takes no tick, and opens nothing
 left_edited : (edit : Edit) (s : Status) → (edited edit s).left ≡ s.left
@@ -75,9 +71,3 @@ pub exits_behave : (r : Result Outcome Flaw) (s : Status) →
     Behaves s.left (worth s + 4) (exits r s)
 exits_behave (Ok outcome) s = (omega arith, omega arith)
 exits_behave (Err flaw) s = (omega arith, omega arith)
-
--- local commands
-pub locals_behave : (r : Result (Scopes × List ℕ) Flaw) (s : Status) →
-    Behaves s.left (worth s + 4) (locals r s)
-locals_behave (Ok done) s = (omega arith, omega arith)
-locals_behave (Err flaw) s = (omega arith, omega arith)

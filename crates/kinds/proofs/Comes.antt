@@ -1,18 +1,13 @@
 -- What a command of a kind answers is as far as its course.
 use Rattle.std.proofs.Common.{◌≡◌, ℕ, List, Result, Ok, Err, IfOk, IsOkAnd, refl, sym, ap, ◌∙◌}
-use Rattle.acts.specs.Deed.{Deed, Reply, deed_of}
-use Rattle.acts.specs.Flaw.{Flaw, flaw_of, text_of}
-use Rattle.acts.specs.Raise.{Fails, Raises}
-use Rattle.acts.specs.declared.raise.Raise.{Raise}
+use Rattle.state.specs.Prelude.{Deed, Reply, deed_of, Flaw, flaw_of, text_of, Fails, Raises, Raise, NoMemory, Ends, Asks, Course, raises, Shows, Outcome, Status, FitsState, outcome_of}
 use Rattle.acts.specs.declared.raise.Raise.TheVariants as raise
 use Rattle.kinds.specs.Answers.{Comes, EndsWith, Goes, GoesOn, Settles, Talks}
 use Rattle.kinds.specs.Edits.{edited, opened_by}
 use Rattle.kinds.specs.Exchange.{Exchange, Over, Edits, Opens, Performs, course, talks}
-use Rattle.kinds.specs.Kinds.{exits, locals}
+use Rattle.kinds.specs.Kinds.{exits}
 use Rattle.meanings.specs.Meaning.{Meaning}
 use Rattle.meanings.specs.View.{Answers as IsMeant}
-use Rattle.memory.specs.declared.NoMemory.{NoMemory}
-use Rattle.plan.specs.Plan.{Ends, Asks}
 use Rattle.state.proofs.Meant.{comes_reaches}
 use Rattle.state.proofs.Reaches.{same_reaches, then_reaches}
 use Rattle.state.proofs.Shown.{over_after}
@@ -22,13 +17,9 @@ use Rattle.state.specs.declared.outcome.Code.TheVariants as code
 use Rattle.state.specs.declared.outcome.Leave.{Leave}
 use Rattle.state.specs.declared.outcome.Leave.TheVariants as leave
 use Rattle.state.specs.declared.state.State.{State}
-use Rattle.state.specs.Dialogue.{Course, raises, replied}
-use Rattle.state.specs.Leaf.{Maps, Shows, course_of}
+use Rattle.state.specs.Dialogue.{replied}
+use Rattle.state.specs.Leaf.{Maps, course_of}
 use Rattle.state.specs.Meant.{meant}
-use Rattle.state.specs.Outcome.{Outcome}
-use Rattle.state.specs.Status.{Status}
-use Rattle.state.specs.View.{FitsState, outcome_of}
-use Rattle.tclstate.specs.Scopes.{Scopes}
 
 -- what waits is told otherwise, and goes on as before
 module _ {A W V : Type 0} (own : W → Deed → Status → Reply → Course)
@@ -165,26 +156,6 @@ module _ {A W : Type 0} (next : W → Deed → Status → Reply → Course) (sta
       Shows next (leaf.Has (Ok value)) state (talks meant s)
   sets_shows (Ok exchange) s value ends = ends_shows exchange s value ends
   sets_shows (Err flaw) s value ends = absurd ends
-
-  -- a local command
-  pub local_shows : (meant : Result (Scopes × List ℕ) Flaw) (s : Status) (scopes : Scopes)
-      (value : List ℕ) → meant ≡ Ok (scopes, value) →
-      FitsState state (record s { scopes = scopes }) →
-      Shows next (leaf.Has (Ok value)) state (locals meant s)
-  local_shows meant s scopes value is fits = record {
-    status = record s { scopes = scopes };
-    fits = fits;
-    reaches = same_reaches (ap (λ m. locals m s) is);
-  }
-
-  pub local_fails : (meant : Result (Scopes × List ℕ) Flaw) (s : Status) (why : Raise A) →
-      Fails meant why → FitsState state s → Comes next (locals meant s) (Err why) state
-  local_fails meant s (raise.Fault why) is fits = record {
-    status = s;
-    fits = fits;
-    reaches = same_reaches (ap (λ m. locals m s) is);
-  }
-  local_fails meant s (raise.NoMemory refusal) is fits = tt
 
   -- a function of its words
   pub meant_shows : (m : Meaning) (s : Status) (value : List ℕ) → IsMeant {A = A} m (Ok value) →

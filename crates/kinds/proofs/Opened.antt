@@ -1,9 +1,8 @@
 -- What there is to be closed once something was opened.
 use Rattle.std.proofs.Common.{◌≡◌, ◌+◌, ◌≤◌, Bool, true, false, List, [], ◌∷◌, ◌++◌, length, if◌then◌else◌, refl, arith}
-use Rattle.dialog.specs.Peers.{Peer, fresh, opened}
+use Rattle.state.specs.Prelude.{Peer, worth, Status}
+use Rattle.dialog.specs.Peers.{fresh, opened}
 use Rattle.kinds.specs.Edits.{Opening, OpensId, OpensLog, opened_by}
-use Rattle.state.specs.Behaves.{worth}
-use Rattle.state.specs.Status.{Status}
 
 count_more : (p : Peer) (ps : List Peer) → p.is_open ≡ true →
     length (opened (ps ++ p ∷ [])) ≡ length (opened ps) + 1

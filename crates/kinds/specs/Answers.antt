@@ -1,12 +1,7 @@
 -- What a command answers, in the code and in the definition.
 use Rattle.std.specs.Prelude.{◌≡◌, ℕ, List, Option, Result, Ok, Err, IsOkAnd}
-use Rattle.acts.specs.Deed.{Deed, Reply, deed_of}
-use Rattle.acts.specs.Flaw.{Flaw, flaw_of, text_of}
-use Rattle.acts.specs.Raise.{Fails}
-use Rattle.acts.specs.declared.fault.Fault.{Fault}
-use Rattle.acts.specs.declared.raise.Raise.{Raise}
+use Rattle.state.specs.Prelude.{Deed, Reply, deed_of, Flaw, flaw_of, text_of, Fails, Fault, Raise, Ends, Course, Shows, Gives, Reaches, Status, FitsState, outcome_of, raised, Scopes}
 use Rattle.acts.specs.declared.raise.Raise.TheVariants as raise
-use Rattle.plan.specs.Plan.{Ends}
 use Rattle.kinds.specs.Edits.{edited, opened_by}
 use Rattle.kinds.specs.Exchange.{Exchange, Over, Edits, Opens, Performs, course}
 use Rattle.state.specs.declared.leaf.Leaf.{Leaf}
@@ -15,14 +10,8 @@ use Rattle.state.specs.declared.outcome.Code.TheVariants as code
 use Rattle.state.specs.declared.outcome.Leave.{Leave}
 use Rattle.state.specs.declared.outcome.Leave.TheVariants as leave
 use Rattle.state.specs.declared.state.State.{State}
-use Rattle.state.specs.Dialogue.{Course}
-use Rattle.state.specs.Leaf.{HasOutcome, Shows}
-use Rattle.state.specs.Outcome.{Gives}
-use Rattle.state.specs.Reaches.{Reaches}
-use Rattle.state.specs.Status.{Status}
+use Rattle.state.specs.Leaf.{HasOutcome}
 use Rattle.state.specs.Stores.{IsTold}
-use Rattle.state.specs.View.{FitsState, outcome_of, raised}
-use Rattle.tclstate.specs.Scopes.{Scopes}
 use Rattle.tclstate.specs.declared.error.ScopeError.{ScopeError}
 
 -- the exchange has come as far as the code, from this state on: both are over, or the same act
@@ -68,11 +57,18 @@ abbrev pub Sets : {A : Type 0} → Result (Exchange 0) Flaw → Status →
 Sets meant s (Ok value) state = IsOkAnd meant (λ exchange. EndsWith exchange s value state)
 Sets meant s (Err why) state = Fails meant why × FitsState state s
 
--- a local command: its value, and the variables that it leaves
-abbrev pub Stores : {A : Type 0} → Result (Scopes × List ℕ) Flaw → Scopes →
-    Result (List ℕ) (Raise A) → Scopes → Type 0
+-- a command that sees V alone: its value, and what it leaves; nothing has changed with an error
+abbrev pub Stores : {A V : Type 0} → Result (V × List ℕ) Flaw → V → Result (List ℕ) (Raise A) → V →
+    Type 0
 Stores meant old (Ok value) new = meant ≡ Ok (new, value)
 Stores meant old (Err why) new = Fails meant why × (new ≡ old)
+
+-- the same, but where memory was refused, nothing is said
+abbrev pub Keeps : {A V : Type 0} → Result (V × List ℕ) Flaw → V → Result (List ℕ) (Raise A) → V →
+    Type 0
+Keeps meant old (Ok value) new = meant ≡ Ok (new, value)
+Keeps meant old (Err (raise.Fault why)) new = (meant ≡ Err (flaw_of why)) × (new ≡ old)
+Keeps meant old (Err (raise.NoMemory refusal)) new = Unit {0}
 
 -- a change of the variables, or an error where there is none
 abbrev pub Puts : {A : Type 0} {T : Type 0} → Result Scopes Flaw → Scopes → Result T (Raise A) →

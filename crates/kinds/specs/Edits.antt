@@ -1,11 +1,10 @@
 -- The changes that commands make of what a run keeps.
 use Rattle.std.specs.Prelude.{ℕ, ◌==◌, ◌||◌, Bool, true, false, map}
-use Rattle.acts.specs.declared.id.Id.{Id}
+use Rattle.state.specs.Prelude.{Id, Peer, Status, shut, Scopes}
 use Rattle.dialog.specs.Kinds.{Kind}
-use Rattle.dialog.specs.Peers.{Peer, set_nulls, sized}
+use Rattle.dialog.specs.Peers.{set_nulls, sized}
 use Rattle.state.specs.Ids.{Ids, skipped, with_fresh}
-use Rattle.state.specs.Status.{Status, at_id, shut}
-use Rattle.tclstate.specs.Scopes.{Scopes}
+use Rattle.state.specs.Status.{at_id}
 
 -- an id, open or closed, was waited for, where it is that one (expect(1), wait)
 abbrev pub reaped : Id → Peer → Peer

@@ -1,15 +1,10 @@
 -- What a command does that runs no script: its acts, the changes that it makes, and how it ends.
 use Rattle.std.specs.Prelude.{ℕ, suc, List, Result, Ok, Err}
-use Rattle.acts.specs.Deed.{Deed, Reply}
+use Rattle.state.specs.Prelude.{Deed, Reply, Flaw, text_of, Ends, Course, ask, raises, Outcome, Gives, Leaves, Stops, Error, Status}
 use Rattle.acts.specs.Deed as said
-use Rattle.acts.specs.Flaw.{Flaw, text_of}
-use Rattle.plan.specs.Plan.{Ends}
 use Rattle.kinds.specs.Edits.{Edit, Opening, edited, opened_by}
-use Rattle.state.specs.Dialogue.{Course, ask, raises}
-use Rattle.state.specs.Outcome.{Outcome, Gives, Leaves, Stops, Error}
 use Rattle.state.specs.Outcome as stop
 use Rattle.state.specs.Rows.{Holds}
-use Rattle.state.specs.Status.{Status}
 
 -- so many acts and openings at most: it is over; a change is made, and on; something is opened, and
 -- on; an act is asked, and on with its answer from the state at that time

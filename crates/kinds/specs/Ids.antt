@@ -1,10 +1,8 @@
 -- The open ids that commands are about.
 use Rattle.std.specs.Prelude.{ℕ, List, codes, Option, Some, None, Result, Ok, Err}
-use Rattle.acts.specs.declared.id.Id.{Id}
-use Rattle.acts.specs.Flaw.{Flaw}
+use Rattle.state.specs.Prelude.{Id, Flaw, Status, lines}
 use Rattle.acts.specs.Flaw as flaw
 use Rattle.dialog.specs.Channels.{named, connection}
-use Rattle.state.specs.Status.{Status, lines}
 use Rattle.state.specs.Variables.{consulted}
 
 -- an id that is open, or the error that the text spells none

@@ -1,10 +1,8 @@
 //! The open ids that commands are about.
 
 ghost use Rattle.std.specs.Prelude.{option_copied};
-ghost use Rattle.acts.specs.Raise.{Answers};
+ghost use Rattle.state.specs.Prelude.{Answers, Status, FitsState};
 ghost use Rattle.kinds.specs.Ids as definition;
-ghost use Rattle.state.specs.Status.{Status};
-ghost use Rattle.state.specs.View.{FitsState};
 
 use acts::raise::not_open;
 use acts::{Fault, Id, Raise};

@@ -65,8 +65,8 @@ pub fn put<A: Allocator + Copy>(
     }
 }
 
-/// The script's error where a variable is not read or written.
-fn troubled<A: Allocator>(
+/// The script's error where a variable is not read, written or removed.
+pub fn troubled<A: Allocator>(
     alloc: A,
     error: ScopeError,
     name: &[u8],

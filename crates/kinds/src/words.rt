@@ -22,7 +22,7 @@ pub fn number_of<A: Allocator + Copy>(alloc: A, word: &[u8]) -> Result<i64, Rais
     }
 }
 
-/// The whole number within 64 bits that a value is, which a value that is one mostly keeps (expr(n),
+/// The whole number within 64 bits that a value is, which most values that are one keep (expr(n),
 /// operands).
 ///
 /// # Errors

@@ -1,3 +1,2 @@
 pub mod Named
-pub mod Readings
-pub mod Behaves
+pub mod Listed

@@ -1,75 +1,56 @@
 -- The formals of a procedure, as proc takes them.
 use Rattle.std.specs.Prelude.{ℕ, List, [], ◌∷◌, codes, Option, Some, None, Result, Ok, Err}
 use Rattle.acts.specs.Flaw as flaw
-use Rattle.acts.specs.Flaw.{Flaw}
-use Rattle.plan.specs.Plan.{Reads}
-use Rattle.state.specs.Dialogue.{Course, raises}
-use Rattle.state.specs.Listed.{with_list}
-use Rattle.state.specs.Piece.{ListText}
-use Rattle.state.specs.Status.{Status}
-use Rattle.tclparse.specs.Variable.{named}
+use Rattle.state.specs.Prelude.{Flaw, bind, ListText}
+use Rattle.kinds.specs.Readings.{Reading, Found, Reads, and_bind, elements}
+use Rattle.kinds.specs.Variables.{name_in}
 use Rattle.tclstate.specs.Formals.{Formal}
 use Rattle.tcltext.specs.Flaw as list
-
--- a formal is a list of a name, or of a name and its default (proc(n))
-abbrev pub formal_in : Result (List (List ℕ)) list.Flaw → Option Formal
-formal_in (Ok (name ∷ [])) = Some (record { name = name; default = None })
-formal_in (Ok (name ∷ default ∷ [])) = Some (record { name = name; default = Some default })
-formal_in _ = None
-
--- a text is read as a list, and on with the formal that it is, if it is one (proc(n))
-abbrev pub with_formal : List ℕ → (Option Formal → Course) → Course
-with_formal text next = Reads (ListText text) (λ list. next (formal_in list))
-
--- one formal more, where all are formals
-abbrev pub joined : Option Formal → Option (List Formal) → Option (List Formal)
-joined (Some f) (Some fs) = Some (f ∷ fs)
-joined _ _ = None
-
--- on with the formals that these texts are, if each is one (proc(n))
-abbrev pub with_formals : List (List ℕ) → (Option (List Formal) → Course) → Course
-with_formals [] next = next (Some [])
-with_formals (t ∷ ts) next =
-    with_formal t (λ formal. with_formals ts (λ formals. next (joined formal formals)))
 
 -- the error of formals that are none; all of their text is told (this project's own rule)
 abbrev pub bad_formals : List ℕ → Flaw
 bad_formals text = flaw.BadArgument text (codes "proc")
 
--- the error of a name that is not that of a variable as a whole (proc(n))
-abbrev pub flaw_in : List ℕ → Option (List ℕ × Option (List ℕ)) → Option Flaw
-flaw_in text None = Some flaw.BadVariable
-flaw_in text (Some (name, None)) = None
-flaw_in text (Some (name, Some index)) = Some (bad_formals text)
+-- a formal is a list of a name, or of a name and its default (proc(n))
+abbrev pub formal_in : List ℕ → Result (List (List ℕ)) list.Flaw → Result Formal Flaw
+formal_in text (Ok (name ∷ [])) = Ok (record { name = name; default = None })
+formal_in text (Ok (name ∷ default ∷ [])) = Ok (record { name = name; default = Some default })
+formal_in text _ = Err (bad_formals text)
 
--- the first of two errors
-abbrev pub first_of : Option Flaw → Option Flaw → Option Flaw
-first_of None other = other
-first_of (Some flaw) other = Some flaw
+-- an element of the text of all formals is read as one (proc(n))
+abbrev pub formal_of : List ℕ → List ℕ → Reading (Result Formal Flaw)
+formal_of text element = Reads (ListText element) (λ split. Found (formal_in text split))
 
--- the error of the first formal that has not the name of a variable as a whole (proc(n))
-abbrev pub first_flaw : List ℕ → List Formal → Option Flaw
-first_flaw text [] = None
-first_flaw text (f ∷ fs) = first_of (flaw_in text (named f.name)) (first_flaw text fs)
+-- its elements are read as formals in turn, up to the first that is none (proc(n))
+abbrev pub each_of : List ℕ → List (List ℕ) → Reading (Result (List Formal) Flaw)
+each_of text [] = Found (Ok [])
+each_of text (e ∷ es) =
+    and_bind (formal_of text e) (λ f. and_bind (each_of text es) (λ fs. Found (Ok (f ∷ fs))))
 
--- the formals, where there is no error
-abbrev pub checked : Option Flaw → List Formal → Result (List Formal) Flaw
-checked None fs = Ok fs
-checked (Some flaw) fs = Err flaw
+-- a text is read as a list of formals (proc(n))
+abbrev pub listed : List ℕ → Reading (Result (List Formal) Flaw)
+listed text = and_bind (elements text) (λ es. each_of text es)
 
--- the formals, where each element is one, and then where their names can be those of variables
--- (proc(n))
-abbrev pub usable : List ℕ → Option (List Formal) → Result (List Formal) Flaw
-usable text None = Err (bad_formals text)
-usable text (Some fs) = checked (first_flaw text fs) fs
+-- no index stands behind the name of a formal, or there is the error (proc(n))
+abbrev pub without_index : List ℕ → Option (List ℕ) → Result (Unit {0}) Flaw
+without_index text None = Ok tt
+without_index text (Some index) = Err (bad_formals text)
 
--- on with formals, or with the script's error
-abbrev pub on_formals : Result (List Formal) Flaw → Status → (List Formal → Course) → Course
-on_formals (Ok fs) s next = next fs
-on_formals (Err flaw) s next = raises flaw s
+-- a name is that of a variable as a whole, or there is the error (proc(n))
+abbrev pub whole : List ℕ → List ℕ → Result (Unit {0}) Flaw
+whole text name = bind (name_in name) (λ n. without_index text n.1)
 
--- a text is read as a list of formals, and on with them; the text that is no list, the element that
--- is no formal and the name that is not that of a variable are told in this order (proc(n))
-abbrev pub with_formals_of : List ℕ → Status → (List Formal → Course) → Course
-with_formals_of text s next = with_list text s (λ words.
-    with_formals words (λ formals. on_formals (usable text formals) s next))
+-- each formal has the name of a variable as a whole, or there is the error of the first that has
+-- not (proc(n))
+abbrev pub all_whole : List ℕ → List Formal → Result (Unit {0}) Flaw
+all_whole text [] = Ok tt
+all_whole text (f ∷ fs) = bind (whole text f.name) (λ done. all_whole text fs)
+
+-- the formals, where their names can be those of variables (proc(n))
+abbrev pub usable : List ℕ → List Formal → Result (List Formal) Flaw
+usable text fs = bind (all_whole text fs) (λ done. Ok fs)
+
+-- the formals that a text is; the text that is no list, the element that is no formal and the name
+-- that is not that of a variable are told in this order (proc(n))
+abbrev pub formals_of : List ℕ → Reading (Result (List Formal) Flaw)
+formals_of text = and_bind (listed text) (λ fs. Found (usable text fs))

@@ -1,3 +1,2 @@
 pub mod Formals
 pub mod Proc
-pub mod View

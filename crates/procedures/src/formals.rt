@@ -1,98 +1,80 @@
 //! The formals of a procedure, as `proc` takes them.
 
-ghost use Rattle.std.specs.Prelude.{◌≡◌, List, codes, IfOk, option_map};
-ghost use Rattle.acts.specs.Flaw as flaw;
-ghost use Rattle.acts.specs.Flaw.{flaw_of};
+ghost use Rattle.acts.specs.Raise.{Answers, Raises};
+ghost use Rattle.kinds.specs.Readings.{Finds};
 ghost use Rattle.procedures.specs.Formals as definition;
-ghost use Rattle.procedures.specs.Formals.{on_formals, with_formals_of};
-ghost use Rattle.procedures.specs.View.{read_as};
-ghost use Rattle.state.specs.Dialogue.{Course};
-ghost use Rattle.state.specs.Reaches.{Reaches};
-ghost use Rattle.state.specs.Status.{Status};
-ghost use Rattle.tclparse.specs.Variable.{named};
-ghost use Rattle.tclstate.specs.Formals as meant;
 
-use acts::{Fault, NoMemory, Raise};
+use acts::Raise;
+use acts::raise::bad_argument;
+use kinds::variables::name_in;
 use meanings::no_list;
 use std::alloc::Allocator;
-use tclparse::variable_name;
 use tclstate::{Formal, Formals, FormalsError};
 
-/// The formals that a text is, each with the name of a variable as a whole, or the script's error.
-pub fn formals_of<A: Allocator + Copy>(
-    alloc: A,
-    text: &[u8],
-) -> Result<Result<Formals<A>, Fault<A>>, NoMemory>
-    ensures { (s : Status) (next : List meant.Formal → Course) → IfOk result (λ r.
-        Reaches (with_formals_of text.now s next) (on_formals (read_as r) s next)) }
+/// The formals that a text is, each with the name of a variable as a whole (proc(n)).
+///
+/// # Errors
+/// The text is no list; an element of it is no formal; a name is none of a variable as a whole. Or
+/// memory is refused.
+pub fn formals_of<A: Allocator + Copy>(alloc: A, text: &[u8]) -> Result<Formals<A>, Raise<A>>
+    ensures { Finds (λ formals. formals) (definition.formals_of text.now) result }
+{
+    let formals = listed(alloc, text)?;
+    Ok(usable(alloc, text, formals)?)
+}
+
+/// The formals that a text is, whatever their names are.
+fn listed<A: Allocator + Copy>(alloc: A, text: &[u8]) -> Result<Formals<A>, Raise<A>>
+    ensures { Finds (λ formals. formals) (definition.listed text.now) result }
 {
     match Formals::read(alloc, text) {
-        Ok(formals) => checked(alloc, text, formals),
-        Err(FormalsError::NotAList(fault)) => match no_list(fault) {
-            Raise::Fault(fault) => Ok(Err(fault)),
-            Raise::NoMemory(refusal) => Err(refusal),
-        },
-        Err(FormalsError::BadFormal) => Ok(Err(bad_formals(alloc, text)?)),
-        Err(FormalsError::NoMemory(refusal)) => Err(refusal),
+        Ok(formals) => Ok(formals),
+        Err(FormalsError::NotAList(fault)) => Err(no_list(fault)),
+        Err(FormalsError::BadFormal) => Err(bad_formals(alloc, text)),
+        Err(FormalsError::NoMemory(refusal)) => Err(Raise::NoMemory(refusal)),
     }
 }
 
-/// Formals, where each has the name of a variable as a whole, or the script's error.
-fn checked<A: Allocator + Copy>(
+/// Formals, where each has the name of a variable as a whole.
+fn usable<A: Allocator + Copy>(
     alloc: A,
     text: &[u8],
     formals: Formals<A>,
-) -> Result<Result<Formals<A>, Fault<A>>, NoMemory>
-    ensures { IfOk result (λ r.
-        read_as r ≡ definition.checked (definition.first_flaw text.now formals) formals) }
+) -> Result<Formals<A>, Raise<A>>
+    ensures { Answers (λ formals. formals) (definition.usable text.now formals) result }
 {
-    match first_fault(alloc, text, formals.as_slice())? {
-        Some(fault) => Ok(Err(fault)),
-        None => Ok(Ok(formals)),
-    }
+    all_whole(alloc, text, formals.as_slice())?;
+    Ok(formals)
 }
 
-/// The error of the first formal that has not the name of a variable as a whole.
-fn first_fault<A: Allocator + Copy>(
+/// Refuses formals of which one has not the name of a variable as a whole.
+fn all_whole<A: Allocator + Copy>(
     alloc: A,
     text: &[u8],
     formals: &[Formal<A>],
-) -> Result<Option<Fault<A>>, NoMemory>
-    ensures { IfOk result (λ fault.
-        option_map flaw_of fault ≡ definition.first_flaw text.now formals.now) }
+) -> Result<(), Raise<A>>
+    ensures { Answers (λ done. tt) (definition.all_whole text.now formals.now) result }
 {
     for formal in formals {
-        if let Some(fault) = fault_in(alloc, text, formal.name.as_slice())? {
-            return Ok(Some(fault));
-        }
+        whole(alloc, text, formal.name.as_slice())?;
     }
-    Ok(None)
+    Ok(())
 }
 
-/// The error of a name that is not that of a variable as a whole.
-fn fault_in<A: Allocator + Copy>(
-    alloc: A,
-    text: &[u8],
-    name: &[u8],
-) -> Result<Option<Fault<A>>, NoMemory>
-    ensures { IfOk result (λ fault.
-        option_map flaw_of fault ≡ definition.flaw_in text.now (named name.now)) }
+/// Refuses a name that is not that of a variable as a whole.
+fn whole<A: Allocator + Copy>(alloc: A, text: &[u8], name: &[u8]) -> Result<(), Raise<A>>
+    ensures { Answers (λ done. tt) (definition.whole text.now name.now) result }
 {
-    let Ok(name) = variable_name(name) else {
-        return Ok(Some(Fault::BadVariable));
-    };
-    if name.index.is_none() {
-        return Ok(None);
+    let name = name_in(name)?;
+    match name.index {
+        None => Ok(()),
+        Some(_) => Err(bad_formals(alloc, text)),
     }
-    Ok(Some(bad_formals(alloc, text)?))
 }
 
-/// The error of a text that is no formals.
-fn bad_formals<A: Allocator + Copy>(alloc: A, text: &[u8]) -> Result<Fault<A>, NoMemory>
-    ensures { IfOk result (λ fault. flaw_of fault ≡ flaw.BadArgument text.now (codes "proc")) }
+/// A text that is no formals.
+fn bad_formals<A: Allocator + Copy>(alloc: A, text: &[u8]) -> Raise<A>
+    ensures { Raises (definition.bad_formals text.now) result }
 {
-    Ok(Fault::BadArgument {
-        word: Vec::from_slice(alloc, text)?,
-        command: Vec::from_slice(alloc, b"proc")?,
-    })
+    bad_argument(alloc, text, b"proc")
 }

@@ -2,5 +2,4 @@
 #![tactic(auto)]
 
 mod formals;
-pub mod laws;
 pub mod proc;

@@ -1,6 +1,4 @@
-pub mod Reached
 pub mod Lists
 pub mod Taking
 pub mod Elements
 pub mod Taken
-pub mod Courses

@@ -1,14 +1,12 @@
 -- What follows where a text is taken out of a variable, or let go of, and written back.
 use Rattle.std.proofs.Common.{◌≡◌, ℕ, List, [], Option, Result, Ok, Err, IfOk, OnOk, OnErr, refl, sym, ap, ◌∙◌}
-use Rattle.acts.specs.Flaw.{Flaw, flaw_of}
-use Rattle.acts.specs.Raise.{bind}
-use Rattle.acts.specs.declared.raise.Raise.{Raise}
+use Rattle.state.specs.Prelude.{Flaw, flaw_of, bind, Raise, Scopes}
 use Rattle.acts.specs.declared.raise.Raise.TheVariants as raise
-use Rattle.kinds.specs.Answers.{Stores}
+use Rattle.kinds.specs.Answers.{Keeps, Stores}
 use Rattle.kinds.specs.Variables.{put}
 use Rattle.tclstate.proofs.Rewritten.{written_again, can_write}
-use Rattle.tclstate.specs.Scopes.{Scopes, read, written}
-use Rattle.variables.specs.Keeps.{Keeps, Rewrites}
+use Rattle.tclstate.specs.Scopes.{read, written}
+use Rattle.variables.specs.Taken.{Rewrites}
 use Rattle.variables.specs.Values.{puts}
 
 -- what is written in the place of what was taken is all that counts

@@ -2,10 +2,8 @@
 use Rattle.std.specs.Prelude.{ℕ, List, ◌∷◌, ◌++◌, codes, Option, Result, Err}
 use Rattle.std.specs.List.{concat}
 use Rattle.acts.specs.Flaw as flaw
-use Rattle.acts.specs.Flaw.{Flaw}
-use Rattle.acts.specs.Raise.{bind}
+use Rattle.state.specs.Prelude.{Flaw, bind, Scopes}
 use Rattle.kinds.specs.Variables.{name_in}
-use Rattle.tclstate.specs.Scopes.{Scopes}
 use Rattle.variables.specs.Values.{puts, text_in}
 
 -- a text is put behind that of a variable, and the whole is given; a missing one counts as empty

@@ -2,6 +2,7 @@
 use Rattle.std.specs.Prelude.{ℕ, List, [], ◌∷◌, codes, Option, Some, None, Err, if◌then◌else◌}
 use Rattle.std.specs.Str.{bytes_eq}
 use Rattle.acts.specs.Flaw as flaw
+use Rattle.kinds.specs.Readings.{Done, Reading, Found}
 use Rattle.tclstate.specs.Scopes.{Scopes}
 use Rattle.variables.specs.declared.array.Subcommand.{Subcommand}
 use Rattle.variables.specs.declared.array.Subcommand.TheVariants as subcommand
@@ -12,7 +13,6 @@ use Rattle.variables.specs.Array.Set.{set}
 use Rattle.variables.specs.Array.Size.{size}
 use Rattle.variables.specs.Array.Unset.{unset}
 use Rattle.variables.specs.Array.Words.{wrong_words}
-use Rattle.variables.specs.Readings.{Reading, Found}
 pub mod Words
 pub mod Indexes
 pub mod Exists
@@ -34,7 +34,7 @@ named name =
     else None
 
 -- what a subcommand does with the words behind its name (array(n))
-abbrev pub does : Subcommand → List (List ℕ) → Scopes → Reading
+abbrev pub does : Subcommand → List (List ℕ) → Scopes → Reading (Done Scopes)
 does subcommand.Exists words v = Found (v, exists words v)
 does subcommand.Get words v = get words v
 does subcommand.Names words v = names words v
@@ -43,11 +43,11 @@ does subcommand.Size words v = Found (v, size words v)
 does subcommand.Unset words v = unset words v
 
 -- the subcommand that a name has; a name without one is the error (array(n))
-abbrev pub called : Option Subcommand → List ℕ → List (List ℕ) → Scopes → Reading
+abbrev pub called : Option Subcommand → List ℕ → List (List ℕ) → Scopes → Reading (Done Scopes)
 called (Some found) name words v = does found words v
 called None name words v = Found (v, Err (flaw.BadArgument name (codes "array")))
 
 -- array subcommand ..: the name comes before the number of the words behind it (array(n))
-abbrev pub array : List (List ℕ) → Scopes → Reading
+abbrev pub array : List (List ℕ) → Scopes → Reading (Done Scopes)
 array [] v = wrong_words v
 array (name ∷ words) v = called (named name) name words v

@@ -1,10 +1,9 @@
 -- What global does.
 use Rattle.std.specs.Prelude.{ℕ, List, [], ◌∷◌, codes, Option, Some, None, Result, Ok, Err}
 use Rattle.acts.specs.Flaw as flaw
-use Rattle.acts.specs.Flaw.{Flaw}
-use Rattle.acts.specs.Raise.{bind}
+use Rattle.state.specs.Prelude.{Flaw, bind, Scopes}
 use Rattle.kinds.specs.Variables.{name_in}
-use Rattle.tclstate.specs.Scopes.{Scopes, linked}
+use Rattle.tclstate.specs.Scopes.{linked}
 
 -- no index stands behind the name that a word says, or there is the error (global(n))
 abbrev pub without_index : List ℕ → Option (List ℕ) → Result (Unit {0}) Flaw

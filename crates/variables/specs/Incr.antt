@@ -2,11 +2,9 @@
 use Rattle.std.specs.Prelude.{ℕ, ℤ, pos, ◌+ℤ◌, List, [], ◌∷◌, codes, Option, Some, None, Result, Ok, Err, if◌then◌else◌}
 use Rattle.std.specs.Fmt.{signed_decimal}
 use Rattle.acts.specs.Flaw as flaw
-use Rattle.acts.specs.Flaw.{Flaw}
-use Rattle.acts.specs.Raise.{bind}
+use Rattle.state.specs.Prelude.{Flaw, bind, Scopes}
 use Rattle.kinds.specs.Variables.{name_in}
 use Rattle.kinds.specs.Words.{number}
-use Rattle.tclstate.specs.Scopes.{Scopes}
 use Rattle.tcltext.specs.Numbers.{is_in_range}
 use Rattle.variables.specs.Values.{held, puts}
 

@@ -2,11 +2,10 @@
 use Rattle.std.specs.Prelude.{ℕ, List, [], ◌∷◌, codes, Bool, true, false, Result, Ok, Err, if◌then◌else◌}
 use Rattle.std.specs.Str.{bytes_eq}
 use Rattle.acts.specs.Flaw as flaw
-use Rattle.acts.specs.Flaw.{Flaw}
-use Rattle.acts.specs.Raise.{bind}
+use Rattle.state.specs.Prelude.{Flaw, bind, Scopes}
 use Rattle.kinds.specs.Variables.{name_in}
 use Rattle.meanings.specs.Meaning.{truth}
-use Rattle.tclstate.specs.Scopes.{Scopes, Trouble, IsArray, read}
+use Rattle.tclstate.specs.Scopes.{Trouble, IsArray, read}
 
 -- a variable is there that can be read, or is an array (info(n), info exists)
 abbrev pub is_there : Result (List ℕ) Trouble → Bool

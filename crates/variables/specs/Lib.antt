@@ -1,6 +1,5 @@
 pub mod Values
-pub mod Keeps
-pub mod Readings
+pub mod Taken
 pub mod Set
 pub mod Append
 pub mod Incr
@@ -10,6 +9,4 @@ pub mod Unset
 pub mod Unsets
 pub mod Global
 pub mod Info
-pub mod Finds
 pub mod Array
-pub mod Courses

@@ -1,10 +1,8 @@
 -- What set does.
 use Rattle.std.specs.Prelude.{ℕ, List, [], ◌∷◌, codes, Result, Ok, Err}
 use Rattle.acts.specs.Flaw as flaw
-use Rattle.acts.specs.Flaw.{Flaw}
-use Rattle.acts.specs.Raise.{bind}
+use Rattle.state.specs.Prelude.{Flaw, bind, Scopes}
 use Rattle.kinds.specs.Variables.{name_in, value_of}
-use Rattle.tclstate.specs.Scopes.{Scopes}
 use Rattle.variables.specs.Values.{puts}
 
 -- the value of what a word names (set(n))

@@ -3,12 +3,12 @@ use Rattle.std.specs.Prelude.{ℕ, List, [], ◌∷◌, codes, Bool, true, false
 use Rattle.std.specs.List.{list_all}
 use Rattle.std.specs.Str.{bytes_eq}
 use Rattle.acts.specs.Flaw as flaw
-use Rattle.acts.specs.Flaw.{Flaw}
-use Rattle.acts.specs.Raise.{bind}
+use Rattle.state.specs.Prelude.{Flaw, bind, Scopes}
+use Rattle.kinds.specs.Readings.{Done}
 use Rattle.kinds.specs.Variables.{name_in}
 use Rattle.state.specs.Variables.{flaw_of_trouble, spelled}
 use Rattle.tclparse.specs.Variable.{named}
-use Rattle.tclstate.specs.Scopes.{Scopes, Trouble, NoVariable, NoElement, removed}
+use Rattle.tclstate.specs.Scopes.{Trouble, NoVariable, NoElement, removed}
 
 -- what is left where a name is removed; a missing one is passed over quietly, or is the script's
 -- error (unset(n))
@@ -27,29 +27,28 @@ abbrev pub clears_word : Bool → List ℕ → Scopes → Result Scopes Flaw
 clears_word quiet w v = bind (name_in w) (λ n. clears quiet n.0 n.1 v)
 
 -- on with what is left, or with an error nothing more is done (unset(n))
-abbrev pub onward : Result Scopes Flaw → Scopes → (Scopes → Scopes × Result (List ℕ) Flaw) →
-    Scopes × Result (List ℕ) Flaw
+abbrev pub onward : Result Scopes Flaw → Scopes → (Scopes → Done Scopes) → Done Scopes
 onward (Ok new) v next = next new
 onward (Err flaw) v next = (v, Err flaw)
 
 -- what the words name is removed in turn, up to the first error; what was removed before it stays
 -- so (unset(n))
-abbrev pub removes : Bool → List (List ℕ) → Scopes → Scopes × Result (List ℕ) Flaw
+abbrev pub removes : Bool → List (List ℕ) → Scopes → Done Scopes
 removes quiet [] v = (v, Ok [])
 removes quiet (w ∷ ws) v = onward (clears_word quiet w v) v (removes quiet ws)
 
 -- nothing is removed where a word names no variable (unset(n))
-abbrev pub removes_named : Bool → List (List ℕ) → Scopes → Scopes × Result (List ℕ) Flaw
+abbrev pub removes_named : Bool → List (List ℕ) → Scopes → Done Scopes
 removes_named quiet words v =
     if list_all (λ w. is_some (named w)) words then removes quiet words v
     else (v, Err flaw.BadVariable)
 
 -- another number of words than unset takes (unset(n))
-abbrev pub wrong_words : Scopes → Scopes × Result (List ℕ) Flaw
+abbrev pub wrong_words : Scopes → Done Scopes
 wrong_words v = (v, Err (flaw.WrongArgs (codes "unset")))
 
 -- at least one word stands behind the flags (unset(n))
-abbrev pub some_words : Bool → List (List ℕ) → Scopes → Scopes × Result (List ℕ) Flaw
+abbrev pub some_words : Bool → List (List ℕ) → Scopes → Done Scopes
 some_words quiet [] v = wrong_words v
 some_words quiet (w ∷ ws) v = removes_named quiet (w ∷ ws) v
 
@@ -58,14 +57,14 @@ abbrev pub is_nocomplain : List ℕ → Bool
 is_nocomplain w = bytes_eq w (codes "-nocomplain")
 
 -- the words behind that flag: -- may stand first, and every other word is a name (unset(n))
-abbrev pub behind_flag : Bool → List (List ℕ) → Scopes → Scopes × Result (List ℕ) Flaw
+abbrev pub behind_flag : Bool → List (List ℕ) → Scopes → Done Scopes
 behind_flag quiet [] v = wrong_words v
 behind_flag quiet (w ∷ ws) v =
     if bytes_eq w (codes "--") then some_words quiet ws v
     else removes_named quiet (w ∷ ws) v
 
 -- unset ?-nocomplain? ?--? n .. (unset(n))
-abbrev pub unset : List (List ℕ) → Scopes → Scopes × Result (List ℕ) Flaw
+abbrev pub unset : List (List ℕ) → Scopes → Done Scopes
 unset [] v = wrong_words v
 unset (w ∷ ws) v =
     if is_nocomplain w then behind_flag true ws v else behind_flag false (w ∷ ws) v

@@ -1,10 +1,9 @@
 -- What variables hold: it may be missing, and what is written is given.
 use Rattle.std.specs.Prelude.{ℕ, List, [], Option, Some, None, Result, Ok, Err}
-use Rattle.acts.specs.Flaw.{Flaw}
-use Rattle.acts.specs.Raise.{bind}
+use Rattle.state.specs.Prelude.{Flaw, bind, Scopes}
 use Rattle.kinds.specs.Variables.{put}
 use Rattle.state.specs.Variables.{flaw_of_trouble, spelled}
-use Rattle.tclstate.specs.Scopes.{Scopes, Trouble, NoVariable, NoElement, read}
+use Rattle.tclstate.specs.Scopes.{Trouble, NoVariable, NoElement, read}
 
 -- a text, unless it is missing; any other trouble is the script's error (append(n), incr(n))
 abbrev pub found : Result (List ℕ) Trouble → List ℕ → Result (Option (List ℕ)) Flaw

@@ -3,7 +3,7 @@
 ghost use Rattle.std.specs.Prelude.{◌≡◌, ◌++◌, IfOk, OnOk, option_copied};
 ghost use Rattle.std.specs.List.{concat};
 ghost use Rattle.variables.specs.Append as definition;
-ghost use Rattle.variables.specs.Keeps.{Keeps};
+ghost use Rattle.kinds.specs.Answers.{Keeps};
 
 use crate::values::{put_back, taken};
 use acts::raise::wrong_args;

@@ -4,7 +4,7 @@ ghost use Rattle.std.specs.Prelude.{◌≡◌};
 ghost use Rattle.acts.specs.Raise.{Answers};
 ghost use Rattle.variables.specs.Array as definition;
 ghost use Rattle.variables.specs.Array.Words as asked;
-ghost use Rattle.variables.specs.Readings.{Settles};
+ghost use Rattle.kinds.specs.Readings.{Leaves};
 
 mod exists;
 mod get;
@@ -60,7 +60,7 @@ impl Subcommand {
         scopes: &mut Scopes<A>,
         words: &[Value<A>],
     ) -> Result<Value<A>, Raise<A>>
-        ensures { Settles (definition.does self words.now scopes.old) result scopes.new }
+        ensures { Leaves (definition.does self words.now scopes.old) result scopes.new }
     {
         match self {
             Subcommand::Exists => exists::exists(alloc, scopes, words),
@@ -82,7 +82,7 @@ pub fn begin<A: Allocator + Copy>(
     scopes: &mut Scopes<A>,
     args: &[Value<A>],
 ) -> Result<Value<A>, Raise<A>>
-    ensures { Settles (definition.array args.now scopes.old) result scopes.new }
+    ensures { Leaves (definition.array args.now scopes.old) result scopes.new }
 {
     let [name, words @ ..] = args else {
         return Err(wrong_args(alloc, b"array"));

@@ -3,7 +3,7 @@
 ghost use Rattle.std.specs.Prelude.{◌≡◌, OnOk};
 ghost use Rattle.acts.specs.Raise.{Answers};
 ghost use Rattle.variables.specs.Global as definition;
-ghost use Rattle.variables.specs.Keeps.{Keeps};
+ghost use Rattle.kinds.specs.Answers.{Keeps};
 
 use acts::raise::{bad_argument, wrong_args};
 use acts::{NoMemory, Raise};

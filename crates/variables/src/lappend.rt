@@ -2,10 +2,10 @@
 
 ghost use Rattle.std.specs.Prelude.{◌≡◌, ◌++◌, ℕ, List, IfOk, option_copied};
 ghost use Rattle.tcltext.specs.Canonical.{canonical, IsCanonical};
-ghost use Rattle.variables.specs.Keeps.{Keeps};
+ghost use Rattle.kinds.specs.Answers.{Keeps};
 ghost use Rattle.variables.specs.Lappend as definition;
 ghost use Rattle.variables.specs.Lists.{HoldsList};
-ghost use Rattle.variables.specs.Readings.{Settles};
+ghost use Rattle.kinds.specs.Readings.{Leaves};
 ghost use Rattle.variables.specs.Values.{puts};
 
 use crate::values::{held, put_back, release};
@@ -28,7 +28,7 @@ pub fn begin<A: Allocator + Copy>(
     scopes: &mut Scopes<A>,
     args: &[Value<A>],
 ) -> Result<Value<A>, Raise<A>>
-    ensures { Settles (definition.lappend args.now scopes.old) result scopes.new }
+    ensures { Leaves (definition.lappend args.now scopes.old) result scopes.new }
 {
     match args {
         [] => Err(wrong_args(alloc, b"lappend")),
@@ -43,7 +43,7 @@ fn append<A: Allocator + Copy>(
     word: &[u8],
     elements: &[Value<A>],
 ) -> Result<Value<A>, Raise<A>>
-    ensures { Settles (definition.appends word.now elements.now scopes.old) result scopes.new }
+    ensures { Leaves (definition.appends word.now elements.now scopes.old) result scopes.new }
 {
     let Name { name, index } = name_in(word)?;
     Ok(extend(alloc, scopes, name, index, elements)?)
@@ -57,7 +57,7 @@ fn extend<A: Allocator + Copy>(
     index: Option<&[u8]>,
     more: &[Value<A>],
 ) -> Result<Value<A>, Raise<A>>
-    ensures { Settles
+    ensures { Leaves
         (definition.extends name.now (option_copied index.entry) more.now scopes.old)
         result scopes.new }
 {

@@ -2,14 +2,13 @@
 
 ghost use Rattle.std.specs.Prelude.{◌≡◌, option_copied};
 ghost use Rattle.kinds.specs.Answers.{Puts};
-ghost use Rattle.variables.specs.Keeps.{Leaves};
+ghost use Rattle.kinds.specs.Readings.{Found, Leaves};
 ghost use Rattle.variables.specs.Unset as definition;
 ghost use Rattle.variables.specs.Unsets.{is_missing};
 
-use crate::values::troubled;
 use acts::raise::wrong_args;
 use acts::{Fault, Raise};
-use kinds::variables::name_in;
+use kinds::variables::{name_in, troubled};
 use state::variables::all_named;
 use std::alloc::Allocator;
 use tclparse::Name;
@@ -26,7 +25,7 @@ pub fn begin<A: Allocator + Copy>(
     scopes: &mut Scopes<A>,
     args: &[Value<A>],
 ) -> Result<Value<A>, Raise<A>>
-    ensures { Leaves (definition.unset args.now scopes.old) result scopes.new }
+    ensures { Leaves (Found (definition.unset args.now scopes.old)) result scopes.new }
 {
     let [word, rest @ ..] = args else {
         return Err(wrong_args(alloc, b"unset"));
@@ -53,7 +52,8 @@ fn behind_flag<A: Allocator + Copy>(
     quiet: bool,
     args: &[Value<A>],
 ) -> Result<Value<A>, Raise<A>>
-    ensures { Leaves (definition.behind_flag quiet args.now scopes.old) result scopes.new }
+    ensures { Leaves (Found (definition.behind_flag quiet args.now scopes.old))
+        result scopes.new }
 {
     let [word, rest @ ..] = args else {
         return Err(wrong_args(alloc, b"unset"));
@@ -72,7 +72,8 @@ fn some_words<A: Allocator + Copy>(
     quiet: bool,
     words: &[Value<A>],
 ) -> Result<Value<A>, Raise<A>>
-    ensures { Leaves (definition.some_words quiet words.now scopes.old) result scopes.new }
+    ensures { Leaves (Found (definition.some_words quiet words.now scopes.old))
+        result scopes.new }
 {
     if words.is_empty() {
         Err(wrong_args(alloc, b"unset"))
@@ -88,7 +89,8 @@ fn remove_named<A: Allocator + Copy>(
     quiet: bool,
     words: &[Value<A>],
 ) -> Result<Value<A>, Raise<A>>
-    ensures { Leaves (definition.removes_named quiet words.now scopes.old) result scopes.new }
+    ensures { Leaves (Found (definition.removes_named quiet words.now scopes.old))
+        result scopes.new }
 {
     if all_named(words) {
         remove_all(alloc, scopes, quiet, words)
@@ -104,7 +106,7 @@ fn remove_all<A: Allocator + Copy>(
     quiet: bool,
     words: &[Value<A>],
 ) -> Result<Value<A>, Raise<A>>
-    ensures { Leaves (definition.removes quiet words.now scopes.old) result scopes.new }
+    ensures { Leaves (Found (definition.removes quiet words.now scopes.old)) result scopes.new }
 {
     for word in words {
         remove_word(alloc, scopes, quiet, word.as_slice())?;

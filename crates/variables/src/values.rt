@@ -2,32 +2,16 @@
 
 ghost use Rattle.std.specs.Prelude.{OnOk, option_copied};
 ghost use Rattle.acts.specs.Raise.{Answers};
-ghost use Rattle.kinds.specs.Answers.{IsTroubled, Stores};
+ghost use Rattle.kinds.specs.Answers.{Keeps, Stores};
 ghost use Rattle.tclstate.specs.Scopes.{Scopes as Variables};
-ghost use Rattle.variables.specs.Keeps.{Keeps, Rewrites, Takes};
+ghost use Rattle.variables.specs.Taken.{Rewrites, Takes};
 ghost use Rattle.variables.specs.Values as definition;
 
 use acts::{NoMemory, Raise};
-use kinds::variables;
-use state::variables::trouble;
+use kinds::variables::{self, troubled};
 use std::alloc::Allocator;
 use tclstate::{ScopeError, Scopes};
 use tcltext::Value;
-
-/// The script's error where a variable is not read, written or removed.
-pub fn troubled<A: Allocator>(
-    alloc: A,
-    error: ScopeError,
-    name: &[u8],
-    index: Option<&[u8]>,
-) -> Raise<A>
-    ensures { IsTroubled result error name.now (option_copied index.entry) }
-{
-    match trouble(alloc, error, name, index) {
-        Ok(fault) => Raise::Fault(fault),
-        Err(refusal) => Raise::NoMemory(refusal),
-    }
-}
 
 /// The text of a variable or an element, unless it is missing.
 ///

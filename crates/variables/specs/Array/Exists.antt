@@ -1,10 +1,9 @@
 -- What array exists does.
 use Rattle.std.specs.Prelude.{ℕ, List, Result, Ok}
-use Rattle.acts.specs.Flaw.{Flaw}
-use Rattle.acts.specs.Raise.{bind}
+use Rattle.state.specs.Prelude.{Flaw, bind, Scopes}
 use Rattle.kinds.specs.Variables.{name_in}
 use Rattle.meanings.specs.Meaning.{truth}
-use Rattle.tclstate.specs.Scopes.{Scopes, read}
+use Rattle.tclstate.specs.Scopes.{read}
 use Rattle.variables.specs.Array.Words.{is_array, one_word}
 
 -- whether a word names an array (array(n), array exists)

@@ -1,13 +1,11 @@
 -- What array get does.
 use Rattle.std.specs.Prelude.{ℕ, List, [], ◌∷◌, Option, Some, Result, Ok}
-use Rattle.acts.specs.Flaw.{Flaw}
-use Rattle.acts.specs.Raise.{bind}
+use Rattle.state.specs.Prelude.{Flaw, bind, Scopes}
+use Rattle.kinds.specs.Readings.{Done, Reading, Found, after, once}
 use Rattle.kinds.specs.Variables.{name_in, value_of}
-use Rattle.tclstate.specs.Scopes.{Scopes}
 use Rattle.tcltext.specs.Canonical.{canonical}
-use Rattle.variables.specs.Array.Indexes.{with_indexes}
+use Rattle.variables.specs.Array.Indexes.{indexes}
 use Rattle.variables.specs.Array.Words.{with_pattern}
-use Rattle.variables.specs.Readings.{Reading, Found, after}
 
 -- each index and the value of its element, which are read in turn (array(n), array get; set(n))
 abbrev pub values : List ℕ → List (List ℕ) → Scopes → Result (List (List ℕ)) Flaw
@@ -21,14 +19,14 @@ list_values name indexes v = bind (values name indexes v) (λ elements. Ok (cano
 
 -- the list of an array's indexes and values, or of those whose indexes a pattern takes (array(n),
 -- array get)
-abbrev pub lists : List ℕ → Option (List ℕ) → Option (List ℕ) → Scopes → Reading
+abbrev pub lists : List ℕ → Option (List ℕ) → Option (List ℕ) → Scopes → Reading (Done Scopes)
 lists name index pattern v =
-    with_indexes name index pattern v (λ indexes. Found (v, list_values name indexes v))
+    once (indexes name index pattern v) v (λ found. Found (v, list_values name found v))
 
 -- the same of what a word names (array(n), array get)
-abbrev pub lists_named : List ℕ → Option (List ℕ) → Scopes → Reading
+abbrev pub lists_named : List ℕ → Option (List ℕ) → Scopes → Reading (Done Scopes)
 lists_named word pattern v = after (name_in word) v (λ n. lists n.0 n.1 pattern v)
 
 -- array get a ?w? (array(n))
-abbrev pub get : List (List ℕ) → Scopes → Reading
+abbrev pub get : List (List ℕ) → Scopes → Reading (Done Scopes)
 get words v = with_pattern words v (λ word pattern. lists_named word pattern v)

@@ -1,9 +1,8 @@
 -- What array size does.
 use Rattle.std.specs.Prelude.{ℕ, List, Option, Some, None, Result, Ok, decimal}
-use Rattle.acts.specs.Flaw.{Flaw}
-use Rattle.acts.specs.Raise.{bind}
+use Rattle.state.specs.Prelude.{Flaw, bind, Scopes}
 use Rattle.kinds.specs.Variables.{name_in}
-use Rattle.tclstate.specs.Scopes.{Scopes, size_of}
+use Rattle.tclstate.specs.Scopes.{size_of}
 use Rattle.variables.specs.Array.Words.{one_word}
 
 -- the number of an array's elements, 0 for what is none, as an element (array(n), array size)

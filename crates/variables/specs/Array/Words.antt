@@ -2,11 +2,11 @@
 use Rattle.std.specs.Prelude.{ℕ, List, [], ◌∷◌, codes, Bool, true, false, Option, Some, None, Result, Ok, Err}
 use Rattle.acts.specs.Flaw as flaw
 use Rattle.acts.specs.Flaw.{Flaw}
+use Rattle.kinds.specs.Readings.{Done, Reading, Found}
 use Rattle.tclstate.specs.Scopes.{Scopes, Trouble, IsArray}
-use Rattle.variables.specs.Readings.{Reading, Found}
 
 -- another number of words than array takes (array(n))
-abbrev pub wrong_words : Scopes → Reading
+abbrev pub wrong_words : Scopes → Reading (Done Scopes)
 wrong_words v = Found (v, Err (flaw.WrongArgs (codes "array")))
 
 -- the word of an array alone (array(n), array exists and array size)
@@ -15,7 +15,8 @@ one_word (n ∷ []) = Ok n
 one_word _ = Err (flaw.WrongArgs (codes "array"))
 
 -- on with the word of an array, and a pattern where one stands behind it (array(n), array names)
-abbrev pub with_pattern : List (List ℕ) → Scopes → (List ℕ → Option (List ℕ) → Reading) → Reading
+abbrev pub with_pattern : List (List ℕ) → Scopes →
+    (List ℕ → Option (List ℕ) → Reading (Done Scopes)) → Reading (Done Scopes)
 with_pattern (n ∷ []) v next = next n None
 with_pattern (n ∷ w ∷ []) v next = next n (Some w)
 with_pattern _ v next = wrong_words v

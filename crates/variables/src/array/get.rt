@@ -3,7 +3,7 @@
 ghost use Rattle.std.specs.Prelude.{◌≡◌, ◌∷◌, ◌++◌, [], OnOk, option_copied};
 ghost use Rattle.acts.specs.Raise.{Answers};
 ghost use Rattle.variables.specs.Array.Get as definition;
-ghost use Rattle.variables.specs.Readings.{Settles};
+ghost use Rattle.kinds.specs.Readings.{Leaves};
 
 use super::indexes::indexes;
 use acts::raise::wrong_args;
@@ -20,7 +20,7 @@ pub fn get<A: Allocator + Copy>(
     scopes: &Scopes<A>,
     words: &[Value<A>],
 ) -> Result<Value<A>, Raise<A>>
-    ensures { Settles (definition.get words.now scopes.now) result scopes.now }
+    ensures { Leaves (definition.get words.now scopes.now) result scopes.now }
 {
     match words {
         [word] => list_named(alloc, scopes, word.as_slice(), None),
@@ -36,7 +36,7 @@ fn list_named<A: Allocator + Copy>(
     word: &[u8],
     pattern: Option<&[u8]>,
 ) -> Result<Value<A>, Raise<A>>
-    ensures { Settles
+    ensures { Leaves
         (definition.lists_named word.now (option_copied pattern.entry) scopes.now)
         result scopes.now }
 {
@@ -52,7 +52,7 @@ fn list<A: Allocator + Copy>(
     index: Option<&[u8]>,
     pattern: Option<&[u8]>,
 ) -> Result<Value<A>, Raise<A>>
-    ensures { Settles (definition.lists
+    ensures { Leaves (definition.lists
         name.now (option_copied index.entry) (option_copied pattern.entry) scopes.now)
         result scopes.now }
 {

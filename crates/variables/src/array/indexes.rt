@@ -1,10 +1,8 @@
 //! The indexes of an array, and those of them that a pattern takes (array(n), array names).
 
-ghost use Rattle.std.specs.Prelude.{◌≡◌, ℕ, List, IfOk, option_copied};
-ghost use Rattle.tclstate.specs.Scopes.{Scopes as Variables};
+ghost use Rattle.std.specs.Prelude.{◌≡◌, IfOk, option_copied};
+ghost use Rattle.kinds.specs.Readings.{ComesTo, Finds};
 ghost use Rattle.variables.specs.Array.Indexes as definition;
-ghost use Rattle.variables.specs.Finds.{Finds};
-ghost use Rattle.variables.specs.Readings.{Leads, Reading};
 
 use acts::{Fault, NoMemory, Raise};
 use std::alloc::Allocator;
@@ -23,9 +21,9 @@ pub fn indexes<A: Allocator + Copy>(
     index: Option<&[u8]>,
     pattern: Option<&[u8]>,
 ) -> Result<Vec<Value<A>, A>, Raise<A>>
-    ensures { Finds result (definition.with_indexes
+    ensures { Finds (λ all. all.items) (definition.indexes
         name.now (option_copied index.entry) (option_copied pattern.entry) scopes.now)
-        scopes.now }
+        result }
 {
     let all = all(alloc, scopes, name, index)?;
     match pattern {
@@ -57,7 +55,7 @@ fn matched<A: Allocator + Copy>(
     word: &[u8],
     texts: &[Value<A>],
 ) -> Result<Vec<Value<A>, A>, Raise<A>>
-    ensures { (v : Variables) → Finds result (definition.matched word.now texts.now v) v }
+    ensures { Finds (λ found. found.items) (definition.matched word.now texts.now) result }
 {
     match Pattern::plain(alloc, word) {
         Ok(pattern) => Ok(taken(alloc, &pattern, texts)?),
@@ -72,8 +70,8 @@ fn taken<A: Allocator + Copy>(
     pattern: &Pattern<A>,
     texts: &[Value<A>],
 ) -> Result<Vec<Value<A>, A>, NoMemory>
-    ensures { IfOk result (λ found. (next : List (List ℕ) → Reading) →
-        Leads (definition.taken pattern.now.items texts.now next) (next found.items)) }
+    ensures { IfOk result (λ found.
+        ComesTo (definition.taken pattern.now.items texts.now) found.items) }
 {
     let mut found = Vec::new(alloc);
     for text in texts {

@@ -2,7 +2,7 @@
 
 ghost use Rattle.std.specs.Prelude.{option_copied};
 ghost use Rattle.variables.specs.Array.Names as definition;
-ghost use Rattle.variables.specs.Readings.{Settles};
+ghost use Rattle.kinds.specs.Readings.{Leaves};
 
 use super::indexes::indexes;
 use acts::Raise;
@@ -19,7 +19,7 @@ pub fn names<A: Allocator + Copy>(
     scopes: &Scopes<A>,
     words: &[Value<A>],
 ) -> Result<Value<A>, Raise<A>>
-    ensures { Settles (definition.names words.now scopes.now) result scopes.now }
+    ensures { Leaves (definition.names words.now scopes.now) result scopes.now }
 {
     match words {
         [word] => list_named(alloc, scopes, word.as_slice(), None),
@@ -35,7 +35,7 @@ fn list_named<A: Allocator + Copy>(
     word: &[u8],
     pattern: Option<&[u8]>,
 ) -> Result<Value<A>, Raise<A>>
-    ensures { Settles
+    ensures { Leaves
         (definition.lists_named word.now (option_copied pattern.entry) scopes.now)
         result scopes.now }
 {
@@ -51,7 +51,7 @@ fn list<A: Allocator + Copy>(
     index: Option<&[u8]>,
     pattern: Option<&[u8]>,
 ) -> Result<Value<A>, Raise<A>>
-    ensures { Settles (definition.lists
+    ensures { Leaves (definition.lists
         name.now (option_copied index.entry) (option_copied pattern.entry) scopes.now)
         result scopes.now }
 {

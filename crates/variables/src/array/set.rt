@@ -3,13 +3,11 @@
 ghost use Rattle.acts.specs.Raise.{Answers};
 ghost use Rattle.kinds.specs.Answers.{Puts};
 ghost use Rattle.variables.specs.Array.Set as definition;
-ghost use Rattle.variables.specs.Keeps.{Leaves};
-ghost use Rattle.variables.specs.Readings.{Settles};
+ghost use Rattle.kinds.specs.Readings.{Found, Leaves};
 
-use crate::values::troubled;
 use acts::raise::{bad_argument, wrong_args};
 use acts::{Fault, Raise};
-use kinds::variables::{name_in, put};
+use kinds::variables::{name_in, put, troubled};
 use meanings::elements;
 use std::alloc::Allocator;
 use tclparse::Name;
@@ -22,7 +20,7 @@ pub fn set<A: Allocator + Copy>(
     scopes: &mut Scopes<A>,
     words: &[Value<A>],
 ) -> Result<Value<A>, Raise<A>>
-    ensures { Settles (definition.set words.now scopes.old) result scopes.new }
+    ensures { Leaves (definition.set words.now scopes.old) result scopes.new }
 {
     match words {
         [word, list] => set_named(alloc, scopes, word.as_slice(), list.as_slice()),
@@ -37,7 +35,7 @@ fn set_named<A: Allocator + Copy>(
     word: &[u8],
     list: &[u8],
 ) -> Result<Value<A>, Raise<A>>
-    ensures { Settles (definition.sets word.now list.now scopes.old) result scopes.new }
+    ensures { Leaves (definition.sets word.now list.now scopes.old) result scopes.new }
 {
     let name = array_in(alloc, word)?;
     Ok(set_list(alloc, scopes, name, list)?)
@@ -63,7 +61,7 @@ fn set_list<A: Allocator + Copy>(
     name: &[u8],
     list: &[u8],
 ) -> Result<Value<A>, Raise<A>>
-    ensures { Settles (definition.sets_list name.now list.now scopes.old) result scopes.new }
+    ensures { Leaves (definition.sets_list name.now list.now scopes.old) result scopes.new }
 {
     match elements(alloc, list) {
         Ok(elements) => fill_evenly(alloc, scopes, name, list, &elements),
@@ -79,7 +77,8 @@ fn fill_evenly<A: Allocator + Copy>(
     list: &[u8],
     elements: &[Value<A>],
 ) -> Result<Value<A>, Raise<A>>
-    ensures { Leaves (definition.fills_evenly name.now list.now elements.now scopes.old)
+    ensures { Leaves
+        (Found (definition.fills_evenly name.now list.now elements.now scopes.old))
         result scopes.new }
 {
     if elements.len() % 2 == 0 {
@@ -96,7 +95,8 @@ fn fill<A: Allocator + Copy>(
     name: &[u8],
     elements: &[Value<A>],
 ) -> Result<Value<A>, Raise<A>>
-    ensures { Leaves (definition.fills name.now elements.now scopes.old) result scopes.new }
+    ensures { Leaves (Found (definition.fills name.now elements.now scopes.old))
+        result scopes.new }
 {
     make(alloc, scopes, name)?;
     Ok(write_all(alloc, scopes, name, elements)?)
@@ -119,7 +119,7 @@ fn write_all<A: Allocator + Copy>(
     name: &[u8],
     elements: &[Value<A>],
 ) -> Result<Value<A>, Raise<A>>
-    ensures { Leaves (definition.writes_all name.now elements.now scopes.old)
+    ensures { Leaves (Found (definition.writes_all name.now elements.now scopes.old))
         result scopes.new }
 {
     let mut rest = elements;

@@ -2,8 +2,7 @@
 
 ghost use Rattle.std.specs.Prelude.{reverse, option_copied};
 ghost use Rattle.variables.specs.Array.Unset as definition;
-ghost use Rattle.variables.specs.Keeps.{Leaves};
-ghost use Rattle.variables.specs.Readings.{Settles};
+ghost use Rattle.kinds.specs.Readings.{Found, Leaves};
 
 use super::exists::is_array;
 use super::indexes::indexes;
@@ -22,7 +21,7 @@ pub fn unset<A: Allocator + Copy>(
     scopes: &mut Scopes<A>,
     words: &[Value<A>],
 ) -> Result<Value<A>, Raise<A>>
-    ensures { Settles (definition.unset words.now scopes.old) result scopes.new }
+    ensures { Leaves (definition.unset words.now scopes.old) result scopes.new }
 {
     match words {
         [word] => unset_named(alloc, scopes, word.as_slice(), None),
@@ -38,7 +37,7 @@ fn unset_named<A: Allocator + Copy>(
     word: &[u8],
     pattern: Option<&[u8]>,
 ) -> Result<Value<A>, Raise<A>>
-    ensures { Settles
+    ensures { Leaves
         (definition.unsets_named word.now (option_copied pattern.entry) scopes.old)
         result scopes.new }
 {
@@ -56,7 +55,7 @@ fn drop_array<A: Allocator + Copy>(
     name: &[u8],
     index: Option<&[u8]>,
 ) -> Result<Value<A>, Raise<A>>
-    ensures { Leaves (definition.drops name.now (option_copied index.entry) scopes.old)
+    ensures { Leaves (Found (definition.drops name.now (option_copied index.entry) scopes.old))
         result scopes.new }
 {
     if is_array(scopes, name, index) {
@@ -73,7 +72,7 @@ fn remove_matched<A: Allocator + Copy>(
     index: Option<&[u8]>,
     pattern: &[u8],
 ) -> Result<Value<A>, Raise<A>>
-    ensures { Settles (definition.removes_matched
+    ensures { Leaves (definition.removes_matched
         name.now (option_copied index.entry) pattern.now scopes.old) result scopes.new }
 {
     match indexes(alloc, scopes, name, index, Some(pattern)) {
@@ -90,7 +89,7 @@ fn remove_all<A: Allocator + Copy>(
     name: &[u8],
     mut indexes: Vec<Value<A>, A>,
 ) -> Result<Value<A>, Raise<A>>
-    ensures { Leaves (definition.removes name.now (reverse indexes.items) scopes.old)
+    ensures { Leaves (Found (definition.removes name.now (reverse indexes.items) scopes.old))
         result scopes.new }
 {
     while let Some(index) = indexes.pop() {

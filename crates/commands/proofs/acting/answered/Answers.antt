@@ -1,5 +1,5 @@
 use Rattle.std.proofs.Common.{Err, rules}
-use Rattle.acts.specs.Deed.{deed_of, reply_of}
+use Rattle.state.specs.Prelude.{deed_of, reply_of, Shows}
 use Rattle.kinds.proofs.Comes.{goes_shows}
 use Rattle.logs.specs.LogFile as log_file
 use Rattle.peers.specs.Close as close
@@ -8,7 +8,6 @@ use Rattle.processes.specs.Sleep as sleep
 use Rattle.processes.specs.Socket as socket
 use Rattle.processes.specs.Spawn as spawn
 use Rattle.sending.specs.Send as send
-use Rattle.state.specs.Leaf.{Shows}
 use Rattle.writing.specs.Channel as channel
 use Rattle.commands.proofs.Failed.{failed_comes}
 use Rattle.commands.specs.View.{next_of}

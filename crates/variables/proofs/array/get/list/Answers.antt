@@ -1,13 +1,17 @@
-use Rattle.std.proofs.Common.{option_copied}
-use Rattle.variables.proofs.Reached.{finds_fail}
+use Rattle.std.proofs.Common.{ℕ, List, option_copied}
+use Rattle.kinds.proofs.Left.{once_fails}
+use Rattle.kinds.specs.Readings.{Done, Found, Reading}
+use Rattle.tclstate.specs.Scopes.{Scopes}
 use Rattle.variables.specs.Array.Get.{list_values}
-use Rattle.variables.specs.Array.Indexes.{with_indexes}
-use Rattle.variables.specs.Readings.{Found}
+use Rattle.variables.specs.Array.Indexes.{indexes}
 use Rattle.variables.proofs.array.get.list.Goals as goal
 
 pub returns-in-Err : goal.returns-in-Err
 returns-in-Err g c =
     let v = c.args.scopes.now in
-    finds_fail v
-    (with_indexes c.args.name.now (option_copied c.args.index) (option_copied c.args.pattern) v)
-    (λ indexes. Found (v, list_values c.args.name.now indexes v)) c.in-Err.why c.in-Err.ensures
+    let name = c.args.name.now in
+    let next : List (List ℕ) → Reading (Done Scopes) =
+    λ found. Found (v, list_values name found v) in
+    once_fails (λ found. found.items) v
+    (indexes name (option_copied c.args.index) (option_copied c.args.pattern) v) next
+    c.in-Err.why c.in-Err.ensures

@@ -1,6 +1,5 @@
 use Rattle.std.proofs.Common.{◌≡◌, ◌++◌, ℕ, List, Ok, Result, drop}
-use Rattle.acts.specs.Flaw.{Flaw}
-use Rattle.acts.specs.Raise.{bind}
+use Rattle.state.specs.Prelude.{Flaw, bind}
 use Rattle.variables.specs.Array.Get.{values}
 use Rattle.variables.proofs.array.get.values.Given as goal
 

@@ -8,4 +8,4 @@ returns-in-Some g c =
     matched_indexes c.matched.result c.args.name.now (option_copied c.args.index)
     c.in-Some.pattern.now c.deref.result.now (option_copied c.args.pattern) v
     (c.deref.ensures.value ∙ c.in_ok-all.ensures) (ap option_copied c.in-Some.is)
-    (c.matched.ensures v)
+    c.matched.ensures

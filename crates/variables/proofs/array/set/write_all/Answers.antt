@@ -1,6 +1,5 @@
 use Rattle.std.proofs.Common.{◌∙◌, ◌-◌, ◌≤◌, Result, length, drop, take, ap, rules, arith}
-use Rattle.acts.specs.Flaw.{Flaw}
-use Rattle.tclstate.specs.Scopes.{Scopes}
+use Rattle.state.specs.Prelude.{Flaw, Scopes}
 use Rattle.variables.proofs.Elements.{writes_first}
 use Rattle.variables.specs.Array.Set.{writes_all}
 use Rattle.variables.specs.Unset.{onward}
