@@ -35,11 +35,11 @@ pub fn begin<A: Allocator + Copy>(
 }
 
 /// Adds a number to that of what a word names.
-fn add<A: Allocator + Copy>(
+fn add<'a, A: Allocator + Copy>(
     alloc: A,
     scopes: &mut Scopes<A>,
-    word: &[u8],
-    by: Option<&Value<A>>,
+    word: &'a [u8],
+    by: Option<&'a Value<A>>,
 ) -> Result<Value<A>, Raise<A>>
     ensures { Stores (definition.adds word.now (option_copied by.entry) scopes.old)
         scopes.old result scopes.new }
