@@ -2,3 +2,4 @@ pub mod Lists
 pub mod Taking
 pub mod Elements
 pub mod Taken
+pub mod Indexed

@@ -1,6 +1,5 @@
 -- What array unset does.
-use Rattle.std.specs.Prelude.{ℕ, List, [], ◌∷◌, false, reverse, Option, Some, None, Result, Ok, if◌then◌else◌}
-use Rattle.acts.specs.Flaw.{Flaw}
+use Rattle.std.specs.Prelude.{ℕ, List, [], ◌∷◌, false, reverse, Option, Some, None, Ok, if◌then◌else◌}
 use Rattle.kinds.specs.Readings.{Done, Reading, Found, after, once}
 use Rattle.kinds.specs.Variables.{name_in}
 use Rattle.tclstate.specs.Scopes.{Scopes, read}

@@ -1,8 +1,9 @@
 use Rattle.std.proofs.Common.{◌≡◌, ◌++◌, ◌∷◌, [], ◌+◌, drop}
+use Rattle.std.proofs.Math.ListN.{drop_of_length-le}
 use Rattle.std.specs.Prelude.{◌↔◌, IsTrue, true, false}
 use Rattle.state.proofs.Lists.{split_at}
 use Rattle.tcltext.specs.Pattern.Match.{Whole}
-use Rattle.variables.proofs.Taking.{one_taken, one_passed}
+use Rattle.variables.proofs.Taking.{all_taken, one_taken, one_passed}
 use Rattle.variables.proofs.array.indexes.taken.Goals as goal
 use Rattle.variables.proofs.array.indexes.taken.Goals.{then-whole+in_ok-share+in_ok-push, else-whole}
 
@@ -30,3 +31,10 @@ loop-text-preserved g c =
           (one_passed items texts (drop i texts) (drop (i + 1) texts) found t is
           c.loop-text.invariant passes)
     ]
+
+pub returns : goal.returns
+returns g c =
+    let texts = c.args.texts.now in
+    let rest = drop c.loop-text.text-index texts in
+    all_taken c.args.pattern.now.items texts rest c.loop-text.found.items
+    (drop_of_length-le texts c.loop-text-test.false) c.loop-text.invariant

@@ -1,5 +1,6 @@
 use Rattle.std.proofs.Common.{ℕ, List, Some, option_copied}
 use Rattle.std.specs.Prelude.{reverse}
+use Rattle.std.specs.declared.vec.Vec.{Vec}
 use Rattle.kinds.proofs.Left.{once_fails, once_leaves}
 use Rattle.kinds.specs.Readings.{Done, Found, Reading}
 use Rattle.tclstate.specs.Scopes.{Scopes}
@@ -24,6 +25,6 @@ returns-in-Err g c =
     let v = c.args.scopes.now in
     let next : List (List ℕ) → Reading (Done Scopes) =
     λ found. Found (removes name (reverse found) v) in
-    once_fails (λ found. found.items) v
+    once_fails (λ (found : Vec (List ℕ) g.row.A.Denot). found.items) v
     (indexes name (option_copied c.args.index) (Some c.args.pattern.now) v) next
     c.in-Err.why c.in-Err.ensures
