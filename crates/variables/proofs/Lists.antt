@@ -1,5 +1,5 @@
 -- Which list a variable has.
-use Rattle.std.proofs.Common.{◌≡◌, ℕ, List, [], Option, Some, None, Result, Ok, Err, IfErr, IfOk, refl, sym, ap, subst}
+use Rattle.std.proofs.Common.{◌≡◌, ℕ, List, [], Option, Some, None, Result, Ok, Err, IfErr, IfOk, refl, sym, subst}
 use Rattle.state.specs.Prelude.{Flaw, flaw_of, Fails, bind, Raise, Scopes}
 use Rattle.acts.specs.declared.raise.Raise.TheVariants as raise
 use Rattle.kinds.proofs.Readings.{list_comes, no_list_comes}
