@@ -1,5 +1,5 @@
 -- What the commands of a kind keep to, whatever they mean.
-use Rattle.std.proofs.Common.{◌≡◌, ℕ, ◌+◌, ◌-◌, ◌≤◌, List, Result, Ok, Err, refl, arith}
+use Rattle.std.proofs.Common.{◌≡◌, ℕ, ◌+◌, ◌-◌, ◌≤◌, Result, Ok, Err, refl, arith}
 use Rattle.state.specs.Prelude.{Flaw, Behaves, worth, Outcome, Status}
 use Rattle.dialog.proofs.Opened.{count_set_nulls, count_shut, count_sized}
 use Rattle.kinds.proofs.Opened.{worth_opened}

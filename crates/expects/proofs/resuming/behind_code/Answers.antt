@@ -18,3 +18,11 @@ returns-in-Break-clause-comes g c = λ s fits.
 pub returns-in-Continue-clause-comes : goal.returns-in-Continue-clause-comes
 returns-in-Continue-clause-comes g c = λ s fits.
     comes_as course_of_opening _ _ s _ fits (rw c.in-Continue.is refl)
+
+pub returns-in-Again-clause-comes : goal.returns-in-Again-clause-comes
+returns-in-Again-clause-comes g c = λ s fits. rw c.in-Again.is (c.again.ensures.comes s fits)
+
+pub returns-in-AgainRunning-clause-comes : goal.returns-in-AgainRunning-clause-comes
+returns-in-AgainRunning-clause-comes g c = λ s fits.
+    rw c.in-AgainRunning.is
+    (rw c.deref.ensures at (c.again-in-AgainRunning.ensures.comes s fits))

@@ -1,4 +1,3 @@
-use Rattle.std.proofs.Common.{◌≡◌, ◌∷◌, List, refl, sym, ap, ◌∙◌}
 use Rattle.state.proofs.FitIds.{closed_fit, first_closes}
 use Rattle.state.proofs.ids.Ids.close_oldest.Goals as goal
 

@@ -1,5 +1,4 @@
 use Rattle.std.proofs.Common.{sym, ◌∙◌, ap}
-use Rattle.dialog.specs.Views.{kind_of}
 use Rattle.state.specs.declared.size.Size.{Size}
 use Rattle.state.proofs.FitIds.{fresh_fits, next_is}
 use Rattle.state.proofs.ids.Ids.open.Goals as goal
