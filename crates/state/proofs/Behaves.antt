@@ -34,7 +34,7 @@ more_behaves t u had more (Reads text next) le up behaves =
 more_behaves t u had more (Calls piece state next) le up behaves = absurd behaves
 
 -- a text that is read as a list, and what is done with its elements
-pub with_list_behaves : (t had : ℕ) (s : Status) → s.left ≤ t → worth s ≤ had →
+with_list_behaves : (t had : ℕ) (s : Status) → s.left ≤ t → worth s ≤ had →
     (text : List ℕ) (next : List (List ℕ) → Course) →
     ((elements : List (List ℕ)) → Behaves t had (next elements)) →
     Behaves t had (with_list text s next)
@@ -73,12 +73,6 @@ ask_behaves t had deed s next holds le paid each = (
       (omega arith) (each reply),
   replied_cut deed s next,
 )
-
--- one of two courses
-pub if_behaves : (t had : ℕ) (b : Bool) (c d : Course) → Behaves t had c → Behaves t had d →
-    Behaves t had (if b then c else d)
-if_behaves t had true c d one other = one
-if_behaves t had false c d one other = other
 
 -- a course that behaves falls, where the ticks that are left bound what remains behind it
 module _ (budget : Piece → Status → ℕ) (remains : Status → Outcome → ℕ) (rank : Piece → ℕ)

@@ -11,7 +11,6 @@ pub mod Rows
 pub mod Placed
 pub mod View
 pub mod Leaf
-pub mod NoWaits
 pub mod Nesting
 pub mod Cut
 pub mod Behaves

@@ -34,10 +34,6 @@ impl<A: Allocator, W: Drop> Leaf<A, W> {
     }
 }
 
-/// What waits in a command that makes no act: nothing does.
-#[derive(Clone, Copy)]
-pub enum NoWaits {}
-
 /// The command is over with a value.
 pub fn gives<A: Allocator, W: Drop>(value: Value<A>) -> Leaf<A, W>
     ensures { HasOutcome result (outcome.Gives value) }

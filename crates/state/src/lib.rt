@@ -12,7 +12,7 @@ pub mod state;
 pub mod variables;
 
 pub use ids::{Ids, Unreaped};
-pub use leaf::{Leaf, NoWaits};
+pub use leaf::Leaf;
 pub use nesting::Nesting;
 pub use outcome::{Code, Leave, Outcome, Stop};
 pub use size::Size;

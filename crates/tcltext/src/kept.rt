@@ -39,6 +39,7 @@ pub(crate) fn len<A: Allocator>(kept: &Counted<Option<Elements<A>>>) -> Option<u
     len
 }
 
+/// How many there are of the elements that are kept.
 fn len_of<A: Allocator>(elements: &Option<Elements<A>>) -> Option<usize>
     ensures { Both result elements.now (λ n v. n ≡ length v) }
 {
@@ -67,6 +68,7 @@ pub(crate) fn at<A: Allocator + Copy>(
     told
 }
 
+/// The element at a place of those that are kept.
 fn at_of<A: Allocator + Copy>(
     alloc: A,
     elements: &Option<Elements<A>>,
@@ -100,6 +102,7 @@ pub(crate) fn part<A: Allocator + Copy>(
     told
 }
 
+/// Those from a place on, so many at most, of the elements that are kept.
 fn part_of<A: Allocator + Copy>(
     alloc: A,
     elements: &Option<Elements<A>>,

@@ -2,14 +2,11 @@
 
 ghost use Rattle.std.specs.Prelude.{◌≡◌, IfOk};
 
-use crate::short::Short;
+use crate::short::{IN_PLACE, Short};
 use memory::NoMemory;
 use std::alloc::Allocator;
 use std::marker::Model;
 use std::rc::Rc;
-
-/// How many bytes an element in place has at most.
-const IN_PLACE: usize = 14;
 
 /// The text of an element, which contracts see as a list of bytes: a few bytes in place, more
 /// behind a counted pointer.
@@ -46,17 +43,6 @@ impl<A: Allocator> Element<A> {
             Form::Short(short) => short.as_slice(),
             Form::Long(bytes) => bytes.as_slice(),
         }
-    }
-
-    /// The same text once more; long ones are not copied.
-    pub(crate) fn share(&self) -> Result<Element<A>, NoMemory>
-        ensures { IfOk result (λ same. same ≡ self.now) }
-    {
-        let form = match &self.form {
-            Form::Short(short) => Form::Short(short.copied()),
-            Form::Long(bytes) => Form::Long(bytes.clone()?),
-        };
-        Ok(Element { form })
     }
 }
 

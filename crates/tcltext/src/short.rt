@@ -4,6 +4,9 @@ ghost use Rattle.std.specs.Prelude.{◌≡◌, ◌<◌, [], length, min, IfSome,
 
 use std::marker::Model;
 
+/// How many bytes a text has at most that lies in place where it is no number.
+pub(crate) const IN_PLACE: usize = 14;
+
 /// A text of at most so many bytes, which contracts see as a list of bytes. It takes no memory
 /// beside its own.
 #[derive(Drop)]

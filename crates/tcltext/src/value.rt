@@ -7,15 +7,12 @@ ghost use Rattle.tcltext.specs.Numeral.{IsNumeral, IsInRange};
 
 use crate::kept::keep;
 use crate::kept_elements::Elements;
-use crate::short::Short;
+use crate::short::{IN_PLACE, Short};
 use counted_slot::Counted;
 use memory::NoMemory;
 use std::alloc::Allocator;
 use std::marker::Model;
 use std::rc::Rc;
-
-/// How many bytes a text in place has at most.
-const IN_PLACE: usize = 14;
 
 /// How many bytes the text of a number that is kept has at most.
 const DIGITS: usize = 10;
