@@ -1,4 +1,5 @@
 pub mod Words
+pub mod Usage
 pub mod Ids
 pub mod Variables
 pub mod Edits

@@ -3,6 +3,7 @@
 
 pub mod ids;
 mod settled;
+pub mod usage;
 pub mod variables;
 pub mod words;
 

@@ -1,4 +1,3 @@
-pub mod Text
 pub mod SendUser
 pub mod SendLog
 pub mod SendError

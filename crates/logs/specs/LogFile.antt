@@ -1,52 +1,35 @@
 -- What log_file does.
-use Rattle.std.specs.Prelude.{ℕ, suc, ◌&&◌, ◌||◌, ◌==◌, not, length, Bool, true, false, List, [], ◌∷◌, codes, Option, Some, None, Result, Ok, Err, if◌then◌else◌}
+use Rattle.std.specs.Prelude.{ℕ, suc, Bool, List, [], ◌∷◌, codes, Option, Some, None, Result, Ok, if◌then◌else◌}
 use Rattle.state.specs.Prelude.{Deed, Reply, Flaw, bind, Course, Status}
-use Rattle.std.specs.Str.{bytes_eq}
 use Rattle.acts.specs.Deed as said
 use Rattle.acts.specs.Flaw as flaw
 use Rattle.acts.specs.declared.act.LogMode.{LogMode}
 use Rattle.acts.specs.declared.act.LogMode.TheVariants as mode
 use Rattle.kinds.specs.Edits.{EndsLog, OpensLog}
 use Rattle.kinds.specs.Exchange.{Exchange, Edits, Opens, Performs, gives, fails, course}
+use Rattle.kinds.specs.Usage.{after_flag, at_most_one}
 use Rattle.logs.specs.Request.{Request, request_by, request_of}
 use Rattle.logs.specs.declared.log_file.Waits.{Waits}
 use Rattle.logs.specs.declared.log_file.Waits.TheVariants as waits
-use Rattle.state.specs.Arguments.{is_flag}
 
--- the flag by which the log gets what arrives whatever log_user is (expect(1), log_file)
-abbrev pub is_all : List ℕ → Bool
-is_all w = bytes_eq w (codes "-a")
+-- the bytes that the file has are dropped, or kept (expect(1), log_file)
+abbrev pub mode_by : Bool → LogMode
+mode_by drops = if drops then mode.Truncate else mode.Append
 
--- the flag by which the bytes that the file has are dropped (expect(1), log_file)
-abbrev pub is_noappend : List ℕ → Bool
-is_noappend w = bytes_eq w (codes "-noappend")
+-- the name after the flags, if there is one (expect(1), log_file)
+abbrev pub by_name : Bool → Bool × List (List ℕ) → Result Request Flaw
+by_name all (drops, words) =
+    bind (at_most_one (codes "-a" ∷ codes "-noappend" ∷ []) (codes "log_file") words) (λ name.
+    Ok (request_by all (mode_by drops) name))
 
--- the error of a word for which the command has no room: where it would be a flag and is none, it
--- is told for itself, else there are too many words (this project's own rule)
-abbrev pub misplaced : List ℕ → Flaw
-misplaced w =
-    if (not (is_all w) && not (is_noappend w)) && is_flag w
-    then flaw.BadArgument w (codes "log_file")
-    else flaw.WrongArgs (codes "log_file")
-
--- the name behind the flags, if there is one: a word alone, unless it would be a flag (expect(1),
--- log_file)
-abbrev pub by_name : Bool → LogMode → List (List ℕ) → Result Request Flaw
-by_name all mode [] = Ok (request_by all mode None)
-by_name all mode (w ∷ ws) =
-    if not (length ws == 0) || is_flag w then Err (misplaced w)
-    else Ok (request_by all mode (Some w))
-
--- the words behind the first flag (expect(1), log_file)
-abbrev pub by_mode : Bool → List (List ℕ) → Result Request Flaw
-by_mode all [] = by_name all mode.Append []
-by_mode all (w ∷ ws) =
-    if is_noappend w then by_name all mode.Truncate ws else by_name all mode.Append (w ∷ ws)
+-- the words after the first flag, by which the log gets what arrives whatever log_user is
+-- (expect(1), log_file)
+abbrev pub by_mode : Bool × List (List ℕ) → Result Request Flaw
+by_mode (all, words) = by_name all (after_flag (codes "-noappend") words)
 
 -- ?-a? ?-noappend? ?name? (expect(1), log_file)
 abbrev pub request : List (List ℕ) → Result Request Flaw
-request [] = by_mode false []
-request (w ∷ ws) = if is_all w then by_mode true ws else by_mode false (w ∷ ws)
+request args = by_mode (after_flag (codes "-a") args)
 
 -- what an answer to the opening of a log comes to: it is open, and gets all or what is shown, or
 -- it cannot be opened (expect(1), log_file)

@@ -1,11 +1,12 @@
 -- What send_error does.
-use Rattle.std.specs.Prelude.{ℕ, List, codes, Result, Ok}
+use Rattle.std.specs.Prelude.{ℕ, List, [], ◌∷◌, codes, Result, Ok}
 use Rattle.state.specs.Prelude.{Flaw, bind}
 use Rattle.kinds.specs.Exchange.{Exchange}
-use Rattle.logs.specs.Text.{text_in}
+use Rattle.kinds.specs.Usage.{text_in}
 use Rattle.writing.specs.Channel.{put}
 use Rattle.writing.specs.declared.channel.Channel.TheVariants as channel
 
 -- send_error ?--? t: to standard error (expect(1), send_error)
 abbrev pub send_error : List (List ℕ) → Result (Exchange 4) Flaw
-send_error args = bind (text_in (codes "send_error") args) (λ text. Ok (put channel.Errors text))
+send_error args =
+    bind (text_in (codes "--" ∷ []) (codes "send_error") args) (λ text. Ok (put channel.Errors text))

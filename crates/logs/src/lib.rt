@@ -7,4 +7,3 @@ pub mod send_error;
 pub mod send_log;
 pub mod send_user;
 mod settings;
-mod text;

@@ -1,20 +1,24 @@
 //! `log_file ?-a? ?-noappend? ?name?` (expect(1), log_file).
 
-ghost use Rattle.std.specs.Prelude.{◌≡◌, ◌≤◌, ℕ};
-ghost use Rattle.state.specs.Prelude.{deed_of, reply_of, Answers, Raises, Status, FitsState};
+ghost use Rattle.std.specs.Prelude.{◌≡◌, ◌≤◌, ℕ, IfOk, option_copied, option_map};
+ghost use Rattle.state.specs.Prelude.{deed_of, reply_of, Answers, Status, FitsState};
 ghost use Rattle.kinds.specs.Answers.{Goes, GoesOn, Talks};
 ghost use Rattle.logs.specs.LogFile as definition;
 ghost use Rattle.logs.specs.Request.{request_of};
 ghost use Rattle.state.specs.declared.state.State.{State as Kept};
 
 use crate::settings::{end_log, start_log};
-use acts::raise::{bad_argument, wrong_args};
-use acts::{Act, Answer, Fault, LogMode, Raise};
-use state::arguments::is_flag;
+use acts::{Act, Answer, Fault, LogMode, NoMemory, Raise};
+use kinds::usage::{Usage, after_flag};
 use state::leaf::empty;
 use state::{Leaf, State};
 use std::alloc::Allocator;
 use tcltext::Value;
+
+const USAGE: Usage<'static> = Usage {
+    command: b"log_file",
+    flags: &[b"-a", b"-noappend"],
+};
 
 /// What the words ask for.
 #[derive(Debug, Drop)]
@@ -84,74 +88,28 @@ pub fn answered<A: Allocator + Copy>(
 fn read_request<A: Allocator + Copy>(alloc: A, args: &[Value<A>]) -> Result<Request<A>, Raise<A>>
     ensures { Answers request_of (definition.request args.now) result }
 {
-    match args {
-        [flag, words @ ..] if is_all(flag.as_slice()) => read_mode(alloc, true, words),
-        _ => read_mode(alloc, false, args),
-    }
-}
-
-/// Reads the words behind the first flag.
-fn read_mode<A: Allocator + Copy>(
-    alloc: A,
-    all: bool,
-    words: &[Value<A>],
-) -> Result<Request<A>, Raise<A>>
-    ensures { Answers request_of (definition.by_mode all words.now) result }
-{
-    match words {
-        [flag, more @ ..] if is_noappend(flag.as_slice()) => {
-            read_name(alloc, all, LogMode::Truncate, more)
-        }
-        _ => read_name(alloc, all, LogMode::Append, words),
-    }
-}
-
-/// Reads the name behind the flags, if there is one.
-fn read_name<A: Allocator + Copy>(
-    alloc: A,
-    all: bool,
-    mode: LogMode,
-    words: &[Value<A>],
-) -> Result<Request<A>, Raise<A>>
-    ensures { Answers request_of (definition.by_name all mode words.now) result }
-{
-    let [word, more @ ..] = words else {
-        return Ok(Request {
-            all,
-            mode,
-            name: None,
-        });
+    let (all, words) = after_flag(args, b"-a");
+    let (drops, words) = after_flag(words, b"-noappend");
+    let name = USAGE.at_most_one(alloc, words)?;
+    let mode = if drops {
+        LogMode::Truncate
+    } else {
+        LogMode::Append
     };
-    if !more.is_empty() || is_flag(word.as_slice()) {
-        return Err(misplaced(alloc, word.as_slice()));
-    }
-    let name = Some(Vec::from_slice(alloc, word.as_slice())?);
+    let name = copied(alloc, name)?;
     Ok(Request { all, mode, name })
 }
 
-/// Whether a word is the flag by which a log gets all.
-fn is_all(word: &[u8]) -> bool
-    ensures { result ≡ definition.is_all word.now }
+/// A copy of a name, where there is one.
+fn copied<A: Allocator + Copy>(
+    alloc: A,
+    name: Option<&[u8]>,
+) -> Result<Option<Vec<u8, A>>, NoMemory>
+    ensures { IfOk result (λ copy. option_map (λ n. n.items) copy ≡ option_copied name.entry) }
 {
-    word == b"-a".as_slice()
-}
-
-/// Whether a word is the flag by which the bytes of the file are dropped.
-fn is_noappend(word: &[u8]) -> bool
-    ensures { result ≡ definition.is_noappend word.now }
-{
-    word == b"-noappend".as_slice()
-}
-
-/// Refuses a word for which the command has no room: where it would be a flag and is none, it is
-/// told for itself.
-fn misplaced<A: Allocator + Copy>(alloc: A, word: &[u8]) -> Raise<A>
-    ensures { Raises (definition.misplaced word.now) result }
-{
-    if !is_all(word) && !is_noappend(word) && is_flag(word) {
-        bad_argument(alloc, word, b"log_file")
-    } else {
-        wrong_args(alloc, b"log_file")
+    match name {
+        Some(name) => Ok(Some(Vec::from_slice(alloc, name)?)),
+        None => Ok(None),
     }
 }
 

@@ -5,12 +5,17 @@ ghost use Rattle.logs.specs.SendLog as definition;
 ghost use Rattle.state.specs.Prelude.{Status, FitsState};
 ghost use Rattle.writing.specs.Channel.{next_of};
 
-use crate::text::read_text;
 use acts::Raise;
+use kinds::usage::Usage;
 use state::{Leaf, State};
 use std::alloc::Allocator;
 use tcltext::Value;
 use writing::channel::{Waits, note};
+
+const USAGE: Usage<'static> = Usage {
+    command: b"send_log",
+    flags: &[b"--"],
+};
 
 /// Begins to write a text to the log, where one is open.
 ///
@@ -24,6 +29,6 @@ pub fn begin<A: Allocator + Copy>(
     ensures { (s : Status) → FitsState state.now s →
         Talks next_of (definition.send_log args.now s) s result state.now }
 {
-    let text = read_text(alloc, b"send_log", args)?;
+    let text = USAGE.text(alloc, args)?;
     Ok(note(state, Vec::from_slice(alloc, text)?))
 }

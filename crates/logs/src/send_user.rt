@@ -6,12 +6,17 @@ ghost use Rattle.state.specs.Prelude.{Status, FitsState};
 ghost use Rattle.state.specs.declared.state.State.{State as Kept};
 ghost use Rattle.writing.specs.Channel.{next_of};
 
-use crate::text::read_text;
 use acts::Raise;
+use kinds::usage::Usage;
 use state::Leaf;
 use std::alloc::Allocator;
 use tcltext::Value;
 use writing::channel::{Waits, tell};
+
+const USAGE: Usage<'static> = Usage {
+    command: b"send_user",
+    flags: &[b"--"],
+};
 
 /// Begins to write a text to standard output, and to the log where one is open.
 ///
@@ -21,6 +26,6 @@ pub fn begin<A: Allocator + Copy>(alloc: A, args: &[Value<A>]) -> Result<Leaf<A,
     ensures { (s : Status) (state : Kept A) → FitsState state s →
         Talks next_of (definition.send_user args.now) s result state }
 {
-    let text = read_text(alloc, b"send_user", args)?;
+    let text = USAGE.text(alloc, args)?;
     Ok(tell(Vec::from_slice(alloc, text)?))
 }

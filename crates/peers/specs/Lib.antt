@@ -1,4 +1,3 @@
-pub mod Words
 pub mod Close
 pub mod Requests
 pub mod MatchMax

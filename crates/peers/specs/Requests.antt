@@ -1,10 +1,7 @@
 -- The words of a command that reads a setting of ids, or sets it.
-use Rattle.std.specs.Prelude.{ℕ, ◌==◌, ◌||◌, Bool, true, false, not, List, [], ◌∷◌, length, codes, Option, Some, None, Result, Ok, Err, if◌then◌else◌}
-use Rattle.state.specs.Prelude.{Flaw}
-use Rattle.std.specs.Str.{bytes_eq}
-use Rattle.acts.specs.Flaw as flaw
-use Rattle.peers.specs.Words.{is_id_flag, misplaced}
-use Rattle.state.specs.Arguments.{is_flag}
+use Rattle.std.specs.Prelude.{ℕ, Bool, true, false, List, [], ◌∷◌, codes, Option, Result, Ok}
+use Rattle.state.specs.Prelude.{Flaw, bind}
+use Rattle.kinds.specs.Usage.{after_flag, after_pair, at_most_one}
 
 -- whose setting it is: that of later ids, or that of the id of a name, or else of the id in force
 -- (expect(1), match_max and remove_nulls)
@@ -21,42 +18,25 @@ pub record Request : Type 0 where
 abbrev pub request_by : Whose → Option (List ℕ) → Request
 request_by whose value = record { whose = whose; value = value }
 
--- the flag by which the setting is that of later ids (expect(1), match_max and remove_nulls)
-abbrev pub is_later_flag : List ℕ → Bool
-is_later_flag w = bytes_eq w (codes "-d")
-
--- the error of a word for which the command has no room, whose flags are these two
--- (this project's own rule)
-abbrev pub no_room : List ℕ → List ℕ → Flaw
-no_room w command = if is_later_flag w then flaw.WrongArgs command else misplaced w command
-
--- the value behind the flags, if there is one (expect(1), match_max and remove_nulls)
-abbrev pub behind_flags : List ℕ → Whose → List (List ℕ) → Result Request Flaw
-behind_flags command whose [] = Ok (request_by whose None)
-behind_flags command whose (w ∷ ws) =
-    if not (length ws == 0) || is_flag w then Err (no_room w command)
-    else Ok (request_by whose (Some w))
-
 -- the id of a name, which is not looked at for the setting of later ids (expect(1), match_max)
 abbrev pub whose_name : Bool → Option (List ℕ) → Whose
 whose_name true name = Later
 whose_name false name = Of name
 
--- the name of the id, and what stands behind it (expect(1), match_max and remove_nulls)
-abbrev pub behind_id : List ℕ → Bool → List (List ℕ) → Result Request Flaw
-behind_id command later [] = Err (flaw.WrongArgs command)
-behind_id command later (name ∷ ws) = behind_flags command (whose_name later (Some name)) ws
+-- the flags of the two commands (expect(1), match_max and remove_nulls)
+abbrev pub flags : List (List ℕ)
+flags = codes "-d" ∷ codes "-i" ∷ []
 
--- the words behind the first flag (expect(1), match_max and remove_nulls)
-abbrev pub behind_later : List ℕ → Bool → List (List ℕ) → Result Request Flaw
-behind_later command later [] = behind_flags command (whose_name later None) []
-behind_later command later (w ∷ ws) =
-    if is_id_flag w then behind_id command later ws
-    else behind_flags command (whose_name later None) (w ∷ ws)
+-- the value after the flags, if there is one (expect(1), match_max and remove_nulls)
+abbrev pub by_value : List ℕ → Bool → Option (List ℕ) × List (List ℕ) → Result Request Flaw
+by_value command later (name, words) =
+    bind (at_most_one flags command words) (λ value.
+    Ok (request_by (whose_name later name) value))
+
+-- the id after the first flag, if one is named (expect(1), match_max and remove_nulls)
+abbrev pub by_id : List ℕ → Bool × List (List ℕ) → Result Request Flaw
+by_id command (later, words) = by_value command later (after_pair (codes "-i") words)
 
 -- ?-d? ?-i id? ?value? (expect(1), match_max and remove_nulls)
 abbrev pub request : List ℕ → List (List ℕ) → Result Request Flaw
-request command [] = behind_later command false []
-request command (w ∷ ws) =
-    if is_later_flag w then behind_later command true ws
-    else behind_later command false (w ∷ ws)
+request command args = by_id command (after_flag (codes "-d") args)

@@ -8,8 +8,8 @@ use Rattle.acts.specs.Id.{id_text}
 use Rattle.dialog.specs.Kinds.{Kind, Process, Socket}
 use Rattle.kinds.specs.Edits.{Reaps}
 use Rattle.kinds.specs.Exchange.{Exchange, Edits, Performs, gives, course}
+use Rattle.kinds.specs.Usage.{after_pair, no_more}
 use Rattle.peers.specs.declared.wait.Waits.{Waits}
-use Rattle.peers.specs.Words.{is_id_flag, misplaced, surplus}
 use Rattle.state.specs.Ids.{Unreaped, unreaped}
 use Rattle.state.specs.Variables.{consulted}
 
@@ -36,17 +36,19 @@ said_by None s = Err (flaw.NotOpen None)
 abbrev pub unreaped_current : Status → Result Unreaped Flaw
 unreaped_current s = said_by (consulted s.scopes (codes "spawn_id")) s
 
--- the flag, and the id that stands behind it, with nothing behind that (expect(1), wait)
-abbrev pub by_flag : List ℕ → List ℕ → List (List ℕ) → Status → Result Unreaped Flaw
-by_flag w name [] s =
-    if is_id_flag w then unreaped_named name s else Err (misplaced w (codes "wait"))
-by_flag w name (v ∷ vs) s = Err (surplus w v (codes "wait"))
+-- the id, not yet waited for, of a name, or else the one in force (expect(1), wait)
+abbrev pub unreaped_chosen : Option (List ℕ) → Status → Result Unreaped Flaw
+unreaped_chosen (Some name) s = unreaped_named name s
+unreaped_chosen None s = unreaped_current s
+
+-- the same, where no word stands after the flag (expect(1), wait)
+abbrev pub by_name : Option (List ℕ) × List (List ℕ) → Status → Result Unreaped Flaw
+by_name (name, words) s =
+    bind (no_more (codes "-i" ∷ []) (codes "wait") words) (λ _. unreaped_chosen name s)
 
 -- the id, not yet waited for, that the words are about (expect(1), wait)
 abbrev pub unreaped_said : List (List ℕ) → Status → Result Unreaped Flaw
-unreaped_said [] s = unreaped_current s
-unreaped_said (w ∷ []) s = Err (misplaced w (codes "wait"))
-unreaped_said (w ∷ name ∷ vs) s = by_flag w name vs s
+unreaped_said args s = by_name (after_pair (codes "-i") args) s
 
 -- how a process ended: with a status, or after a signal (expect(1), wait)
 abbrev pub end_text : Option ℕ → List ℕ

@@ -6,15 +6,18 @@ ghost use Rattle.kinds.specs.Answers.{GoesOn, Talks};
 ghost use Rattle.peers.specs.Close as definition;
 
 use crate::ids::shut;
-use crate::words::{is_id_flag, misplaced, surplus};
-use acts::raise::{bad_argument, wrong_args};
 use acts::{Act, Id, Raise};
 use kinds::ids::{connection_id, current_id, named_id};
-use state::arguments::is_flag;
+use kinds::usage::{Usage, after_pair};
 use state::leaf::empty;
 use state::{Leaf, State};
 use std::alloc::Allocator;
 use tcltext::Value;
+
+const USAGE: Usage<'static> = Usage {
+    command: b"close",
+    flags: &[b"-i"],
+};
 
 /// What waits for the answer to an act: once its connection is closed an id is no longer open, and
 /// the command is over.
@@ -61,41 +64,38 @@ fn id_said<A: Allocator + Copy>(
     ensures { (s : Status) → FitsState state.now s →
         Answers (λ id. id) (definition.id_said args.now s) result }
 {
-    match args {
-        [] => current_id(alloc, state),
-        [word] => by_word(alloc, state, word.as_slice()),
-        [flag, name, more @ ..] => by_flag(alloc, state, flag.as_slice(), name.as_slice(), more),
+    let (name, words) = after_pair(args, b"-i");
+    match name {
+        Some(name) => by_name(alloc, state, name, words),
+        None => by_channel(alloc, state, words),
     }
 }
 
-/// The open connection of the channel that a word alone is.
-fn by_word<A: Allocator + Copy>(alloc: A, state: &State<A>, word: &[u8]) -> Result<Id, Raise<A>>
-    ensures { (s : Status) → FitsState state.now s →
-        Answers (λ id. id) (definition.by_word word.now s) result }
-{
-    if is_id_flag(word) {
-        Err(wrong_args(alloc, b"close"))
-    } else if is_flag(word) {
-        Err(bad_argument(alloc, word, b"close"))
-    } else {
-        connection_id(alloc, state, word)
-    }
-}
-
-/// The open id that stands behind the flag, where nothing stands behind it.
-fn by_flag<A: Allocator + Copy>(
+/// The open id of a name, where no word stands after it.
+fn by_name<A: Allocator + Copy>(
     alloc: A,
     state: &State<A>,
-    flag: &[u8],
     name: &[u8],
-    more: &[Value<A>],
+    words: &[Value<A>],
 ) -> Result<Id, Raise<A>>
     ensures { (s : Status) → FitsState state.now s →
-        Answers (λ id. id) (definition.by_flag flag.now name.now more.now s) result }
+        Answers (λ id. id) (definition.by_name name.now words.now s) result }
 {
-    match more {
-        [] if is_id_flag(flag) => named_id(alloc, state, name),
-        [] => Err(misplaced(alloc, flag, b"close")),
-        [word, ..] => Err(surplus(alloc, flag, word.as_slice(), b"close")),
+    USAGE.no_more(alloc, words)?;
+    named_id(alloc, state, name)
+}
+
+/// The open connection of the channel that a word alone is, or else the id in force.
+fn by_channel<A: Allocator + Copy>(
+    alloc: A,
+    state: &State<A>,
+    words: &[Value<A>],
+) -> Result<Id, Raise<A>>
+    ensures { (s : Status) → FitsState state.now s →
+        Answers (λ id. id) (definition.by_channel words.now s) result }
+{
+    match USAGE.at_most_one(alloc, words)? {
+        Some(channel) => connection_id(alloc, state, channel),
+        None => current_id(alloc, state),
     }
 }

@@ -7,4 +7,3 @@ pub mod match_max;
 pub mod remove_nulls;
 pub mod requests;
 pub mod wait;
-mod words;

@@ -7,16 +7,21 @@ ghost use Rattle.peers.specs.Wait as definition;
 ghost use Rattle.state.specs.View.{unreaped_of};
 
 use crate::ids::reap;
-use crate::words::{is_id_flag, misplaced, surplus};
 use acts::decimal::push_decimal;
 use acts::raise::not_open;
 use acts::{Act, Answer, Fault, Id, NoMemory, Raise};
 use dialog::Kind;
+use kinds::usage::{Usage, after_pair};
 use state::leaf::gives;
 use state::variables::{SPAWN_ID, consulted};
 use state::{Leaf, State, Unreaped};
 use std::alloc::Allocator;
 use tcltext::Value;
+
+const USAGE: Usage<'static> = Usage {
+    command: b"wait",
+    flags: &[b"-i"],
+};
 
 /// What waits for the answer to an act: the process of this id has ended.
 #[derive(Clone, Copy, Debug, PartialEq, Eq)]
@@ -90,10 +95,11 @@ fn unreaped_said<A: Allocator + Copy>(
     ensures { (s : Status) → FitsState state.now s →
         Answers unreaped_of (definition.unreaped_said args.now s) result }
 {
-    match args {
-        [] => unreaped_current(alloc, state),
-        [word] => Err(misplaced(alloc, word.as_slice(), b"wait")),
-        [flag, name, more @ ..] => by_flag(alloc, state, flag.as_slice(), name.as_slice(), more),
+    let (name, words) = after_pair(args, b"-i");
+    USAGE.no_more(alloc, words)?;
+    match name {
+        Some(name) => unreaped_named(alloc, state, name),
+        None => unreaped_current(alloc, state),
     }
 }
 
@@ -105,24 +111,6 @@ fn unreaped_current<A: Allocator + Copy>(alloc: A, state: &State<A>) -> Result<U
     match consulted(state, SPAWN_ID) {
         Some(text) => unreaped_named(alloc, state, text.as_slice()),
         None => Err(Raise::Fault(Fault::NotOpen(None))),
-    }
-}
-
-/// The id, not yet waited for, that stands behind the flag, where nothing stands behind it.
-fn by_flag<A: Allocator + Copy>(
-    alloc: A,
-    state: &State<A>,
-    flag: &[u8],
-    name: &[u8],
-    more: &[Value<A>],
-) -> Result<Unreaped, Raise<A>>
-    ensures { (s : Status) → FitsState state.now s →
-        Answers unreaped_of (definition.by_flag flag.now name.now more.now s) result }
-{
-    match more {
-        [] if is_id_flag(flag) => unreaped_named(alloc, state, name),
-        [] => Err(misplaced(alloc, flag, b"wait")),
-        [word, ..] => Err(surplus(alloc, flag, word.as_slice(), b"wait")),
     }
 }
 

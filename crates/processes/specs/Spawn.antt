@@ -1,29 +1,20 @@
 -- What spawn does.
-use Rattle.std.specs.Prelude.{ℕ, Bool, true, false, List, [], ◌∷◌, codes, Result, Err, if◌then◌else◌}
+use Rattle.std.specs.Prelude.{ℕ, Bool, not, List, [], ◌∷◌, codes, Result, Err, if◌then◌else◌}
 use Rattle.state.specs.Prelude.{Id, Deed, Reply, Flaw, bind, Course, Status}
 use Rattle.std.specs.Str.{bytes_eq}
 use Rattle.acts.specs.Flaw as flaw
 use Rattle.kinds.specs.Exchange.{Exchange, course, written}
 use Rattle.kinds.specs.Ids.{connection_id}
+use Rattle.kinds.specs.Usage.{after_flag, misplaced}
 use Rattle.state.specs.Arguments.{is_flag}
 use Rattle.processes.specs.Launch.{enters, launches, notes, started, starts}
 use Rattle.processes.specs.View.{words_of, words_spawned}
 use Rattle.processes.specs.declared.spawn.Waits.{Waits}
 use Rattle.processes.specs.declared.spawn.Waits.TheVariants as waits
 
--- the flag that keeps a command from being echoed (expect(1), spawn)
-abbrev pub is_noecho : List ℕ → Bool
-is_noecho w = bytes_eq w (codes "-noecho")
-
 -- the flag behind which an open channel stands (expect(1), spawn)
 abbrev pub is_open_flag : List ℕ → Bool
 is_open_flag w = bytes_eq w (codes "-open")
-
--- a flag stands where a program is due: -noecho a second time is a word too many, another flag is
--- told for itself (this project's own rule)
-abbrev pub misplaced : List ℕ → Flaw
-misplaced w =
-    if is_noecho w then flaw.WrongArgs (codes "spawn") else flaw.BadArgument w (codes "spawn")
 
 -- the open connection of the one word behind the flag (expect(1), spawn)
 abbrev pub channel_said : List (List ℕ) → Status → Result Id Flaw
@@ -41,13 +32,16 @@ abbrev pub spawns : Bool → List (List ℕ) → Status → Result (Exchange 4) 
 spawns echo [] s = Err (flaw.WrongArgs (codes "spawn"))
 spawns echo (w ∷ ws) s =
     if is_open_flag w then by_channel ws s
-    else if is_flag w then Err (misplaced w)
+    else if is_flag w then Err (misplaced (codes "-noecho" ∷ []) (codes "spawn") w)
     else launches echo (w ∷ ws) s
+
+-- the words after the flag that keeps the command from being echoed (expect(1), spawn)
+abbrev pub by_echo : Bool × List (List ℕ) → Status → Result (Exchange 4) Flaw
+by_echo (quiet, words) s = spawns (not quiet) words s
 
 -- spawn ?-noecho? word .., spawn ?-noecho? -open channel (expect(1), spawn)
 abbrev pub spawn : List (List ℕ) → Status → Result (Exchange 4) Flaw
-spawn [] s = Err (flaw.WrongArgs (codes "spawn"))
-spawn (w ∷ ws) s = if is_noecho w then spawns false ws s else spawns true (w ∷ ws) s
+spawn args s = by_echo (after_flag (codes "-noecho") args) s
 
 -- what follows the answer to an act (expect(1), spawn)
 abbrev pub follows : {A : Type 0} → Waits A → Deed → Status → Reply → Exchange 3

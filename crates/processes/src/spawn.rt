@@ -1,19 +1,25 @@
 //! `spawn ?-noecho? word ..`, `spawn ?-noecho? -open channel` (expect(1), spawn).
 
 ghost use Rattle.std.specs.Prelude.{◌≡◌, ◌≤◌};
-ghost use Rattle.state.specs.Prelude.{deed_of, reply_of, Answers, Raises, Status, FitsState};
+ghost use Rattle.state.specs.Prelude.{deed_of, reply_of, Answers, Status, FitsState};
 ghost use Rattle.kinds.specs.Answers.{GoesOn, Talks};
 ghost use Rattle.processes.specs.Spawn as definition;
 
 use crate::launch::{enter, launch, note, started};
-use acts::raise::{bad_argument, wrong_args};
+use acts::raise::wrong_args;
 use acts::{Act, Answer, Id, Raise};
 use kinds::ids::connection_id;
+use kinds::usage::{Usage, after_flag};
 use state::arguments::is_flag;
 use state::leaf::{gives, stops};
 use state::{Leaf, State, Stop};
 use std::alloc::Allocator;
 use tcltext::Value;
+
+const USAGE: Usage<'static> = Usage {
+    command: b"spawn",
+    flags: &[b"-noecho"],
+};
 
 /// What waits for the answer to an act.
 #[derive(Debug, Drop)]
@@ -42,10 +48,8 @@ pub fn begin<A: Allocator + Copy>(
         Talks definition.next_of (definition.spawn args.now s) s result state.new }
     ensures left { state.new.left ≤ state.old.left }
 {
-    match args {
-        [flag, words @ ..] if is_noecho(flag.as_slice()) => spawn(alloc, state, false, words),
-        _ => spawn(alloc, state, true, args),
-    }
+    let (quiet, words) = after_flag(args, b"-noecho");
+    spawn(alloc, state, !quiet, words)
 }
 
 /// Goes on with the answer to a write of the echo or to the start of the program.
@@ -70,13 +74,6 @@ pub fn answered<A: Allocator + Copy>(
         (Waits::Shown(id, words), _) => Ok(note(alloc, state, id, words)?),
         (Waits::Noted(id, words), _) => Ok(Leaf::Asks(Act::Spawn(id, words), Waits::Started)),
     }
-}
-
-/// Whether a word is the flag that keeps the command from being echoed.
-fn is_noecho(word: &[u8]) -> bool
-    ensures { result ≡ definition.is_noecho word.now }
-{
-    word == b"-noecho".as_slice()
 }
 
 /// Whether a word is the flag behind which an open channel stands.
@@ -104,7 +101,7 @@ fn spawn<A: Allocator + Copy>(
         return enter_channel(alloc, state, more);
     }
     if is_flag(first.as_slice()) {
-        return Err(misplaced(alloc, first.as_slice()));
+        return Err(USAGE.misplaced(alloc, first.as_slice()));
     }
     launch(alloc, state, echo, words)
 }
@@ -137,16 +134,5 @@ fn channel_said<A: Allocator + Copy>(
     match words {
         [channel] => connection_id(alloc, state, channel.as_slice()),
         _ => Err(wrong_args(alloc, b"spawn")),
-    }
-}
-
-/// Refuses a flag where a program is due.
-fn misplaced<A: Allocator + Copy>(alloc: A, word: &[u8]) -> Raise<A>
-    ensures { Raises (definition.misplaced word.now) result }
-{
-    if is_noecho(word) {
-        wrong_args(alloc, b"spawn")
-    } else {
-        bad_argument(alloc, word, b"spawn")
     }
 }

@@ -1,19 +1,23 @@
 //! `send ?-i id? ?--? t` (expect(1), send).
 
-ghost use Rattle.std.specs.Prelude.{◌≡◌, IfOk, option_copied};
+ghost use Rattle.std.specs.Prelude.{IfOk};
 ghost use Rattle.state.specs.Prelude.{reply_of, Status, FitsState};
 ghost use Rattle.kinds.specs.Answers.{Goes, GoesOn, Talks};
 ghost use Rattle.sending.specs.Send as definition;
 ghost use Rattle.state.specs.declared.state.State.{State as Kept};
 
-use acts::raise::{bad_flag, wrong_args};
 use acts::{Act, Answer, Fault, Id, NoMemory, Raise};
 use kinds::ids::chosen_id;
-use state::arguments::begins_with_dash;
+use kinds::usage::{Usage, after_pair};
 use state::leaf::empty;
 use state::{Leaf, State};
 use std::alloc::Allocator;
 use tcltext::Value;
+
+const USAGE: Usage<'static> = Usage {
+    command: b"send",
+    flags: &[b"-i", b"--"],
+};
 
 /// What waits for the answer to an act.
 #[derive(Clone, Copy, Debug, PartialEq, Eq)]
@@ -22,7 +26,11 @@ pub enum Waits {
     Sent(Id),
 }
 
-/// Begins to send a text to the id that stands behind the flag, or to the id in force.
+/// Begins to send a text to the id that stands after the flag, or to the id in force.
+///
+/// # Errors
+/// The words are too few or too many, a flag stands among them, or the id is not open; or memory is
+/// refused.
 pub fn begin<A: Allocator + Copy>(
     alloc: A,
     state: &State<A>,
@@ -31,12 +39,10 @@ pub fn begin<A: Allocator + Copy>(
     ensures { (s : Status) → FitsState state.now s →
         Talks definition.next_of (definition.send args.now s) s result state.now }
 {
-    match args {
-        [flag, name, words @ ..] if is_id_flag(flag.as_slice()) => {
-            send_text(alloc, state, Some(name.as_slice()), words)
-        }
-        _ => send_text(alloc, state, None, args),
-    }
+    let (name, words) = after_pair(args, b"-i");
+    let text = USAGE.text(alloc, words)?;
+    let id = chosen_id(alloc, state, name)?;
+    Ok(send_bytes(alloc, id, text)?)
 }
 
 /// Goes on with the answer to the send.
@@ -53,62 +59,6 @@ pub fn answered<A: Allocator + Copy>(
         Answer::Failed(sent) => Err(Raise::Fault(Fault::SendFailed { id, sent })),
         _ => Ok(empty()),
     }
-}
-
-/// Whether a word is the flag behind which an id stands.
-fn is_id_flag(word: &[u8]) -> bool
-    ensures { result ≡ definition.is_id_flag word.now }
-{
-    word == b"-i".as_slice()
-}
-
-/// Whether a word is the flag behind which the text stands, though it begin with a dash.
-fn ends_flags(word: &[u8]) -> bool
-    ensures { result ≡ definition.ends_flags word.now }
-{
-    word == b"--".as_slice()
-}
-
-/// Sends the text of these words, which may stand behind the flag that ends the flags.
-fn send_text<A: Allocator + Copy>(
-    alloc: A,
-    state: &State<A>,
-    target: Option<&[u8]>,
-    words: &[Value<A>],
-) -> Result<Leaf<A, Waits>, Raise<A>>
-    ensures { (s : Status) → FitsState state.now s → Talks definition.next_of
-        (definition.sends_text (option_copied target.entry) words.now s) s result state.now }
-{
-    let [word, more @ ..] = words else {
-        return Err(wrong_args(alloc, b"send"));
-    };
-    if ends_flags(word.as_slice()) {
-        return send_alone(alloc, state, target, more);
-    }
-    if is_id_flag(word.as_slice()) {
-        return Err(wrong_args(alloc, b"send"));
-    }
-    if begins_with_dash(word.as_slice()) {
-        return Err(bad_flag(alloc, word.as_slice()));
-    }
-    send_alone(alloc, state, target, words)
-}
-
-/// Sends a text that stands alone to the id of a name, or else to the id in force.
-fn send_alone<A: Allocator + Copy>(
-    alloc: A,
-    state: &State<A>,
-    target: Option<&[u8]>,
-    words: &[Value<A>],
-) -> Result<Leaf<A, Waits>, Raise<A>>
-    ensures { (s : Status) → FitsState state.now s → Talks definition.next_of
-        (definition.sends_alone (option_copied target.entry) words.now s) s result state.now }
-{
-    let [text] = words else {
-        return Err(wrong_args(alloc, b"send"));
-    };
-    let id = chosen_id(alloc, state, target)?;
-    Ok(send_bytes(alloc, id, text.as_slice())?)
 }
 
 /// Sends a text to an id; where there are no bytes, nothing is sent.

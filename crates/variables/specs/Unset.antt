@@ -1,10 +1,10 @@
 -- What unset does.
 use Rattle.std.specs.Prelude.{ℕ, List, [], ◌∷◌, codes, Bool, true, false, Option, Result, Ok, Err, is_some, if◌then◌else◌}
 use Rattle.std.specs.List.{list_all}
-use Rattle.std.specs.Str.{bytes_eq}
 use Rattle.acts.specs.Flaw as flaw
 use Rattle.state.specs.Prelude.{Flaw, bind, Scopes}
 use Rattle.kinds.specs.Readings.{Done}
+use Rattle.kinds.specs.Usage.{after_flag}
 use Rattle.kinds.specs.Variables.{name_in}
 use Rattle.state.specs.Variables.{flaw_of_trouble, spelled}
 use Rattle.tclparse.specs.Variable.{named}
@@ -52,19 +52,11 @@ abbrev pub some_words : Bool → List (List ℕ) → Scopes → Done Scopes
 some_words quiet [] v = wrong_words v
 some_words quiet (w ∷ ws) v = removes_named quiet (w ∷ ws) v
 
--- the flag that passes over missing names (unset(n))
-abbrev pub is_nocomplain : List ℕ → Bool
-is_nocomplain w = bytes_eq w (codes "-nocomplain")
-
--- the words behind that flag: -- may stand first, and every other word is a name (unset(n))
-abbrev pub behind_flag : Bool → List (List ℕ) → Scopes → Done Scopes
-behind_flag quiet [] v = wrong_words v
-behind_flag quiet (w ∷ ws) v =
-    if bytes_eq w (codes "--") then some_words quiet ws v
-    else removes_named quiet (w ∷ ws) v
+-- the words after the flags, of which the first passes over missing names; after the other every
+-- word is a name (unset(n))
+abbrev pub by_quiet : Bool × List (List ℕ) → Scopes → Done Scopes
+by_quiet (quiet, words) v = some_words quiet (after_flag (codes "--") words).1 v
 
 -- unset ?-nocomplain? ?--? n .. (unset(n))
 abbrev pub unset : List (List ℕ) → Scopes → Done Scopes
-unset [] v = wrong_words v
-unset (w ∷ ws) v =
-    if is_nocomplain w then behind_flag true ws v else behind_flag false (w ∷ ws) v
+unset args v = by_quiet (after_flag (codes "-nocomplain") args) v

@@ -8,6 +8,7 @@ ghost use Rattle.variables.specs.Unsets.{is_missing};
 
 use acts::raise::wrong_args;
 use acts::{Fault, Raise};
+use kinds::usage::after_flag;
 use kinds::variables::{name_in, troubled};
 use state::variables::all_named;
 use std::alloc::Allocator;
@@ -27,42 +28,9 @@ pub fn begin<A: Allocator + Copy>(
 ) -> Result<Value<A>, Raise<A>>
     ensures { Leaves (Found (definition.unset args.now scopes.old)) result scopes.new }
 {
-    let [word, rest @ ..] = args else {
-        return Err(wrong_args(alloc, b"unset"));
-    };
-    if is_nocomplain(word.as_slice()) {
-        behind_flag(alloc, scopes, true, rest)
-    } else {
-        behind_flag(alloc, scopes, false, args)
-    }
-}
-
-/// Whether a word is the flag that passes over missing names.
-fn is_nocomplain(word: &[u8]) -> bool
-    ensures { result ≡ definition.is_nocomplain word.now }
-{
-    word == b"-nocomplain".as_slice()
-}
-
-/// Removes what the words behind the first flag name; `--` may stand before them, and every other
-/// word is a name, whatever it begins with.
-fn behind_flag<A: Allocator + Copy>(
-    alloc: A,
-    scopes: &mut Scopes<A>,
-    quiet: bool,
-    args: &[Value<A>],
-) -> Result<Value<A>, Raise<A>>
-    ensures { Leaves (Found (definition.behind_flag quiet args.now scopes.old))
-        result scopes.new }
-{
-    let [word, rest @ ..] = args else {
-        return Err(wrong_args(alloc, b"unset"));
-    };
-    if word.as_slice() == b"--".as_slice() {
-        some_words(alloc, scopes, quiet, rest)
-    } else {
-        remove_named(alloc, scopes, quiet, args)
-    }
+    let (quiet, words) = after_flag(args, b"-nocomplain");
+    let (_, words) = after_flag(words, b"--");
+    some_words(alloc, scopes, quiet, words)
 }
 
 /// Removes what the words name, where there is one.
