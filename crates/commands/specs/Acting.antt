@@ -4,17 +4,17 @@ use Rattle.state.specs.Prelude.{Flaw, Status}
 use Rattle.commands.specs.declared.acting.Acting.{Acting}
 use Rattle.commands.specs.declared.acting.Acting.TheVariants as acting
 use Rattle.kinds.specs.Exchange.{Exchange}
-use Rattle.logs.specs.LogFile.{log_file}
-use Rattle.logs.specs.SendError.{send_error}
-use Rattle.logs.specs.SendLog.{send_log}
-use Rattle.logs.specs.SendUser.{send_user}
-use Rattle.peers.specs.Close.{close}
-use Rattle.peers.specs.Wait.{wait}
+use Rattle.output.specs.LogFile.{log_file}
+use Rattle.output.specs.SendError.{send_error}
+use Rattle.output.specs.SendLog.{send_log}
+use Rattle.output.specs.SendUser.{send_user}
+use Rattle.processes.specs.Close.{close}
+use Rattle.processes.specs.Wait.{wait}
 use Rattle.processes.specs.Sleep.{sleep}
 use Rattle.processes.specs.Socket.{socket}
 use Rattle.processes.specs.Spawn.{spawn}
-use Rattle.sending.specs.Send.{send}
-use Rattle.writing.specs.Puts.{puts}
+use Rattle.processes.specs.Send.{send}
+use Rattle.output.specs.Puts.{puts}
 
 -- what each does with the words behind its name (expect(1); puts(n), socket(n), close(n))
 abbrev pub does : Acting → List (List ℕ) → Status → Result (Exchange 4) Flaw

@@ -4,9 +4,9 @@ use Rattle.state.specs.Prelude.{Flaw, Status}
 use Rattle.commands.specs.declared.settings.Setting.{Setting}
 use Rattle.commands.specs.declared.settings.Setting.TheVariants as setting
 use Rattle.kinds.specs.Exchange.{Exchange}
-use Rattle.logs.specs.LogUser.{log_user}
-use Rattle.peers.specs.MatchMax.{match_max}
-use Rattle.peers.specs.RemoveNulls.{remove_nulls}
+use Rattle.output.specs.LogUser.{log_user}
+use Rattle.processes.specs.MatchMax.{match_max}
+use Rattle.processes.specs.RemoveNulls.{remove_nulls}
 
 -- what each does with the words behind its name (expect(1), the commands of these names)
 abbrev pub does : Setting → List (List ℕ) → Status → Result (Exchange 0) Flaw

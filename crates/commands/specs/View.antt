@@ -2,14 +2,14 @@
 use Rattle.state.specs.Prelude.{Deed, Reply, Course, Status}
 use Rattle.commands.specs.declared.waits.Waits.{Waits}
 use Rattle.commands.specs.declared.waits.Waits.TheVariants as waits
-use Rattle.logs.specs.LogFile as log_file
-use Rattle.peers.specs.Close as close
-use Rattle.peers.specs.Wait as wait
+use Rattle.output.specs.LogFile as log_file
+use Rattle.processes.specs.Close as close
+use Rattle.processes.specs.Wait as wait
 use Rattle.processes.specs.Sleep as sleep
 use Rattle.processes.specs.Socket as socket
 use Rattle.processes.specs.Spawn as spawn
-use Rattle.sending.specs.Send as send
-use Rattle.writing.specs.Channel as channel
+use Rattle.processes.specs.Send as send
+use Rattle.output.specs.Channel as channel
 
 -- what follows the answer to an act of a command
 abbrev pub next_of : {A : Type 0} → Waits A → Deed → Status → Reply → Course

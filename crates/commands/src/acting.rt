@@ -9,14 +9,11 @@ ghost use Rattle.kinds.specs.Exchange.{talks};
 
 use crate::waits::Waits;
 use acts::{Act, Answer, Raise};
-use logs::{log_file, send_error, send_log, send_user};
-use peers::{close, wait};
-use processes::{sleep, socket, spawn};
-use sending::send;
+use output::{channel, log_file, puts, send_error, send_log, send_user};
+use processes::{close, send, sleep, socket, spawn, wait};
 use state::{Leaf, State};
 use std::alloc::Allocator;
 use tcltext::Value;
-use writing::{channel, puts};
 
 /// The commands that ask acts.
 #[derive(Clone, Copy, Debug, PartialEq, Eq)]

@@ -6,8 +6,8 @@ ghost use Rattle.kinds.specs.Answers.{Sets};
 ghost use Rattle.state.specs.Prelude.{Status, FitsState};
 
 use acts::Raise;
-use logs::log_user;
-use peers::{match_max, remove_nulls};
+use output::log_user;
+use processes::{match_max, remove_nulls};
 use state::State;
 use std::alloc::Allocator;
 use tcltext::Value;

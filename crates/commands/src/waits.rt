@@ -1,11 +1,8 @@
 //! What waits in a command for the answer to an act.
 
-use logs::log_file;
-use peers::{close, wait};
-use processes::{sleep, socket, spawn};
-use sending::send;
+use output::{channel, log_file};
+use processes::{close, send, sleep, socket, spawn, wait};
 use std::alloc::Allocator;
-use writing::channel;
 
 /// What waits in a command for the answer to an act, by the commands that make acts.
 #[derive(Drop)]

@@ -12,8 +12,8 @@ flags = codes "-continue_timer" ∷ []
 abbrev pub again : Bool → Outcome
 again running = if running then Leaves AgainRunning [] else Leaves Again []
 
--- the error of a word that is not the flag: where it stands alone it is told for itself, whatever it
--- is (this project's own rule)
+-- the error of a word that is not the flag: where it stands alone it is told for itself, whatever
+-- it is (this project's own rule)
 abbrev pub refused : Bool → List ℕ → Flaw
 refused alone w =
     if alone then flaw.BadArgument w (codes "exp_continue")

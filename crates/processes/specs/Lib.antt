@@ -5,3 +5,10 @@ pub mod Sleep
 pub mod Socket
 pub mod Launch
 pub mod Spawn
+pub mod Send
+pub mod Close
+pub mod Requests
+pub mod RequestsView
+pub mod MatchMax
+pub mod RemoveNulls
+pub mod Wait

@@ -1,8 +1,16 @@
-//! The commands that start programs and call servers, and let time pass.
+//! The commands that start programs and call servers, talk to them, wait for them and close them,
+//! and those that read and set what is kept of each.
 #![tactic(auto)]
 
+pub mod close;
+mod ids;
 mod launch;
+pub mod match_max;
 mod numbers;
+pub mod remove_nulls;
+pub mod requests;
+pub mod send;
 pub mod sleep;
 pub mod socket;
 pub mod spawn;
+pub mod wait;

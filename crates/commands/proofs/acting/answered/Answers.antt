@@ -1,14 +1,14 @@
 use Rattle.std.proofs.Common.{Err, rules}
 use Rattle.state.specs.Prelude.{deed_of, reply_of, Shows}
 use Rattle.kinds.proofs.Comes.{goes_shows}
-use Rattle.logs.specs.LogFile as log_file
-use Rattle.peers.specs.Close as close
-use Rattle.peers.specs.Wait as wait
+use Rattle.output.specs.LogFile as log_file
+use Rattle.processes.specs.Close as close
+use Rattle.processes.specs.Wait as wait
 use Rattle.processes.specs.Sleep as sleep
 use Rattle.processes.specs.Socket as socket
 use Rattle.processes.specs.Spawn as spawn
-use Rattle.sending.specs.Send as send
-use Rattle.writing.specs.Channel as channel
+use Rattle.processes.specs.Send as send
+use Rattle.output.specs.Channel as channel
 use Rattle.commands.proofs.Failed.{failed_comes}
 use Rattle.commands.specs.View.{next_of}
 use Rattle.kinds.specs.Answers.{Comes}

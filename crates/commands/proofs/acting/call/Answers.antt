@@ -1,19 +1,19 @@
 use Rattle.std.proofs.Common.{Ok, rules}
 use Rattle.kinds.proofs.Comes.{mapped_shows, talks_comes}
 use Rattle.kinds.specs.Exchange.{talks}
-use Rattle.logs.specs.LogFile as log_file
-use Rattle.peers.specs.Close as close
-use Rattle.peers.specs.Wait as wait
+use Rattle.output.specs.LogFile as log_file
+use Rattle.processes.specs.Close as close
+use Rattle.processes.specs.Wait as wait
 use Rattle.processes.specs.Sleep as sleep
 use Rattle.processes.specs.Socket as socket
 use Rattle.processes.specs.Spawn as spawn
-use Rattle.sending.specs.Send as send
+use Rattle.processes.specs.Send as send
 use Rattle.state.specs.Leaf.{Shows}
-use Rattle.writing.specs.Channel as channel
-use Rattle.writing.specs.Puts.{puts}
-use Rattle.logs.specs.SendError.{send_error}
-use Rattle.logs.specs.SendLog.{send_log}
-use Rattle.logs.specs.SendUser.{send_user}
+use Rattle.output.specs.Channel as channel
+use Rattle.output.specs.Puts.{puts}
+use Rattle.output.specs.SendError.{send_error}
+use Rattle.output.specs.SendLog.{send_log}
+use Rattle.output.specs.SendUser.{send_user}
 use Rattle.commands.proofs.acting.call.Goals as goal
 
 pub returns-in_ok-begin-in-Spawn-clause-shows : goal.returns-in_ok-begin-in-Spawn-clause-shows

@@ -1,6 +1,0 @@
-pub mod SendUser
-pub mod SendLog
-pub mod SendError
-pub mod LogUser
-pub mod Request
-pub mod LogFile

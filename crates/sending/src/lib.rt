@@ -1,4 +1,0 @@
-//! The command that writes to programs and servers.
-#![tactic(auto)]
-
-pub mod send;
