@@ -4,18 +4,18 @@ use Rattle.std.specs.Option.{option_or}
 use Rattle.state.specs.Prelude.{Flaw, Course, gives, raises, Status}
 use Rattle.acts.specs.Flaw as flaw
 use Rattle.commands.specs.Acting as acting
-use Rattle.commands.specs.Exits as exit
 use Rattle.commands.specs.LeftOut.{is_left_out}
 use Rattle.commands.specs.Locals as local
 use Rattle.commands.specs.Settings as setting
 use Rattle.commands.specs.declared.acting.Acting.TheVariants as acts
 use Rattle.commands.specs.declared.builtin.Builtin.{Builtin}
 use Rattle.commands.specs.declared.builtin.Builtin.TheVariants as builtin
-use Rattle.commands.specs.declared.exits.Exit.TheVariants as exits_by
 use Rattle.commands.specs.declared.locals.Local.TheVariants as locals_by
 use Rattle.commands.specs.declared.settings.Setting.TheVariants as sets
 use Rattle.kinds.specs.Exchange.{talks}
 use Rattle.kinds.specs.Kinds.{exits, locals, definings}
+use Rattle.leaving.specs.Exits.{leaves}
+use Rattle.leaving.specs.declared.exits.Exit.TheVariants as exits_by
 use Rattle.names.specs.Tables.{Table, found}
 use Rattle.procedures.specs.Proc.{proc}
 use Rattle.pure.specs.Pure as pure
@@ -61,7 +61,7 @@ named name = option_or (found builtins name) (option_map builtin.Text (pure.name
 
 -- what a command does with the words behind its name
 abbrev pub does : Builtin → List (List ℕ) → Status → Course
-does (builtin.Exit own) args s = exits (exit.does own args) s
+does (builtin.Exit own) args s = exits (leaves own args) s
 does (builtin.Local own) args s = locals (local.does own args s.scopes) s
 does (builtin.Setting own) args s = talks (setting.does own args s) s
 does (builtin.Acting own) args s = talks (acting.does own args s) s

@@ -1,5 +1,4 @@
 pub mod LeftOut
-pub mod Exits
 pub mod Locals
 pub mod Settings
 pub mod Acting

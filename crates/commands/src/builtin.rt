@@ -6,9 +6,9 @@ ghost use Rattle.commands.specs.Commands as definition;
 ghost use Rattle.names.specs.Tables.{found, so_long};
 
 use crate::acting::Acting;
-use crate::exits::Exit;
 use crate::locals::Local;
 use crate::settings::Setting;
+use leaving::Exit;
 use pure::Pure;
 
 /// The commands that run no script, by their kinds.

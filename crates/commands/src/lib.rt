@@ -3,7 +3,6 @@
 
 mod acting;
 mod builtin;
-mod exits;
 pub mod laws;
 mod left_out;
 mod locals;

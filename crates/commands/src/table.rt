@@ -14,9 +14,10 @@ ghost use Rattle.kinds.specs.Answers.{Comes};
 use crate::builtin::Builtin;
 use crate::left_out::is_left_out;
 use crate::waits::Waits;
-use crate::{acting, exits, locals, settings};
+use crate::{acting, locals, settings};
 use acts::{Act, Answer, Fault, NoMemory, Raise};
 use kinds::settle;
+use leaving::leave;
 use procedures::proc;
 use state::leaf::empty;
 use state::{Leaf, State};
@@ -90,7 +91,7 @@ fn call<A: Allocator + Copy>(
     ensures left { state.new.left ≤ state.old.left }
 {
     match builtin {
-        Builtin::Exit(own) => Ok(Leaf::Has(exits::call(alloc, own, args)?)),
+        Builtin::Exit(own) => Ok(Leaf::Has(leave(alloc, own, args)?)),
         Builtin::Local(own) => Ok(Leaf::Has(Ok(locals::call(
             alloc,
             &mut state.scopes,

@@ -1,6 +1,2 @@
-pub mod Breaks
-pub mod Continues
-pub mod Returns
-pub mod Error
-pub mod Exit
 pub mod ExpContinue
+pub mod Exits

@@ -20,7 +20,10 @@ const USAGE: Usage<'static> = Usage {
 ///
 /// # Errors
 /// Another word stands there; or memory is refused for the error.
-pub fn begin<A: Allocator + Copy>(alloc: A, args: &[Value<A>]) -> Result<Outcome<A>, Raise<A>>
+pub(crate) fn exp_continue<A: Allocator + Copy>(
+    alloc: A,
+    args: &[Value<A>],
+) -> Result<Outcome<A>, Raise<A>>
     ensures { Answers outcome_of (definition.exp_continue args.now) result }
 {
     let (running, words) = after_flag(args, b"-continue_timer");

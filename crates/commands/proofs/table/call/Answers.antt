@@ -19,7 +19,7 @@ use Rattle.commands.proofs.table.call.Goals as goal
 pub returns-in_ok-call-in-Local-clause-shows : goal.returns-in_ok-call-in-Local-clause-shows
 returns-in_ok-call-in-Local-clause-shows g c = λ s fits.
     let own = c.in-Local.own in
-    let new = c.call-in-Local.new.scopes in
+    let new = c.call.new.scopes in
     let value = c.in_ok-call-in-Local.field-0 in
     let args = c.args.args.now in
     let state = record c.args.state.now { scopes = new } in
@@ -34,7 +34,7 @@ returns-in_ok-call-in-Local-clause-shows g c = λ s fits.
 pub returns-in_err-call-in-Local-clause-shows : goal.returns-in_err-call-in-Local-clause-shows
 returns-in_err-call-in-Local-clause-shows g c = λ s fits.
     let own = c.in-Local.own in
-    let new = c.call-in-Local.new.scopes in
+    let new = c.call.new.scopes in
     let why = c.in_err-call-in-Local.field-0.0 in
     let args = c.args.args.now in
     let state = record c.args.state.now { scopes = new } in
