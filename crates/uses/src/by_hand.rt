@@ -2,9 +2,9 @@
 
 use crate::telling::{tell_act, tell_end};
 use crate::trouble::Trouble;
-use acts::{Answer, Id, Limits};
+use acts::{Answer, Id, Limits, NoMemory};
 use engine::{Session, Step};
-use std::alloc::{Allocator, Global};
+use std::alloc::Global;
 use std::io::Write;
 
 /// A dialogue that answers a question.
@@ -16,28 +16,32 @@ pub fn session<W: Write>(alloc: Global, out: &mut W) -> Result<(), Trouble> {
         return Ok(());
     };
     let mut session = Session::start(alloc, SCRIPT, &[], limits)?;
-    ask(out, b"by hand:", &mut session, None)?;
-    ask(out, b"by hand:", &mut session, Some(Answer::Started(1)))?;
-    let question = Vec::from_slice(alloc, b"name: ")?;
-    ask(
-        out,
-        b"by hand:",
-        &mut session,
-        Some(Answer::Arrive(Id(4), question)),
-    )?;
-    ask(out, b"by hand:", &mut session, Some(Answer::Done))?;
-    ask(out, b"by hand:", &mut session, Some(Answer::Done))
+    for turn in 0..5 {
+        ask(alloc, out, b"by hand:", &mut session, answer(alloc, turn)?)?;
+    }
+    Ok(())
+}
+
+/// The answer to the act before this turn, if there was one.
+fn answer(alloc: Global, turn: u32) -> Result<Option<Answer<Global>>, NoMemory> {
+    Ok(match turn {
+        1 => Some(Answer::Started(1)),
+        2 => Some(Answer::Arrive(Id(4), Vec::from_slice(alloc, b"name: ")?)),
+        3 | 4 => Some(Answer::Done),
+        _ => None,
+    })
 }
 
 /// Asks a session for its next act by the answer to the last one, and writes it, or how it ends.
-pub fn ask<A: Allocator + Copy, W: Write>(
+pub fn ask<W: Write>(
+    alloc: Global,
     out: &mut W,
     who: &[u8],
-    session: &mut Session<A>,
-    answer: Option<Answer<A>>,
+    session: &mut Session<Global>,
+    answer: Option<Answer<Global>>,
 ) -> Result<(), Trouble> {
     match session.next(answer)? {
-        Step::Act(act) => Ok(tell_act(out, who, act)?),
+        Step::Act(act) => tell_act(alloc, out, who, act),
         Step::End(end) => Ok(tell_end(out, who, end)?),
     }
 }

@@ -13,7 +13,9 @@ const SCRIPT: &[u8] = b"spawn -noecho cat
     expect morning { send_user \"it is morning\\n\" } evening { exit 1 }";
 
 /// A world in which every program is an echo: what is sent to it comes back.
+#[derive(Drop)]
 struct Echo<'a, W> {
+    alloc: Global,
     out: &'a mut W,
     heard: Option<(Id, Vec<u8, Global>)>,
 }
@@ -35,7 +37,7 @@ impl<W: Write> World<Global> for Echo<'_, W> {
 impl<W: Write> Echo<'_, W> {
     /// Keeps what was sent.
     fn hear(&mut self, id: Id, text: &[u8]) -> Answer<Global> {
-        match Vec::from_slice(Global, text) {
+        match Vec::from_slice(self.alloc, text) {
             Ok(text) => {
                 self.heard = Some((id, text));
                 Answer::Done
@@ -66,8 +68,11 @@ pub fn whole_run<W: Write>(alloc: Global, out: &mut W) -> Result<(), Trouble> {
     let Some(limits) = Limits::new(1_000) else {
         return Ok(());
     };
-    let mut world = Echo { out, heard: None };
+    let mut world = Echo {
+        alloc,
+        out,
+        heard: None,
+    };
     let end = run(alloc, SCRIPT, &[], limits, &mut world)?;
-    let Echo { out, heard: _ } = world;
-    Ok(tell_end(out, b"echo:", &end)?)
+    Ok(tell_end(world.out, b"echo:", &end)?)
 }

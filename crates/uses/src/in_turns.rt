@@ -21,8 +21,8 @@ pub fn sessions<W: Write>(alloc: Global, out: &mut W) -> Result<(), Trouble> {
     let mut greets = Session::start(alloc, GREETS, &[], limits)?;
     let mut asks = Session::start(alloc, ASKS, &[], limits)?;
     for turn in 0..7 {
-        ask(out, b"greets:", &mut greets, greeting(alloc, turn)?)?;
-        ask(out, b"asks:", &mut asks, asking(alloc, turn)?)?;
+        ask(alloc, out, b"greets:", &mut greets, greeting(alloc, turn)?)?;
+        ask(alloc, out, b"asks:", &mut asks, asking(alloc, turn)?)?;
     }
     Ok(())
 }

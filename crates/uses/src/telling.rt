@@ -1,14 +1,27 @@
 //! Acts and ends in plain words, a line each.
 
-use acts::Act;
+use crate::trouble::Trouble;
+use acts::decimal::push_decimal;
+use acts::{Act, Id, NoMemory, Row, Timer};
 use engine::End;
-use std::alloc::Allocator;
+use std::alloc::{Allocator, Global};
 use std::io::{self, Write};
 
-/// Writes who does what.
-pub fn tell_act<A: Allocator, W: Write>(out: &mut W, who: &[u8], act: &Act<A>) -> io::Result<()> {
-    let (does, what) = words_of(act);
-    tell(out, who, does, what)
+/// Writes who does what, and to which id.
+pub fn tell_act<W: Write>(
+    alloc: Global,
+    out: &mut W,
+    who: &[u8],
+    act: &Act<Global>,
+) -> Result<(), Trouble> {
+    match act {
+        Act::Spawn(id, words) => tell_of(alloc, out, who, b"starts", *id, first_of(words)),
+        Act::Send(id, text) => tell_of(alloc, out, who, b"sends to", *id, text.as_slice()),
+        Act::Close(id) => tell_close(alloc, out, who, *id),
+        Act::Wait { rows, timer } => tell_wait(alloc, out, who, rows.as_slice(), *timer),
+        Act::Out(text) => Ok(tell(out, who, b"shows", text.as_slice())?),
+        _ => Ok(tell(out, who, b"does", b"something else")?),
+    }
 }
 
 /// Writes how a dialogue ends.
@@ -16,7 +29,72 @@ pub fn tell_end<A: Allocator, W: Write>(out: &mut W, who: &[u8], end: &End<A>) -
     tell(out, who, b"ends", name_of(end))
 }
 
-/// Writes a line of three words.
+/// Writes what is done to an id.
+fn tell_of<W: Write>(
+    alloc: Global,
+    out: &mut W,
+    who: &[u8],
+    does: &[u8],
+    id: Id,
+    what: &[u8],
+) -> Result<(), Trouble> {
+    let text = named(alloc, id, what)?;
+    Ok(tell(out, who, does, text.as_slice())?)
+}
+
+/// Writes that an id is closed.
+fn tell_close<W: Write>(alloc: Global, out: &mut W, who: &[u8], id: Id) -> Result<(), Trouble> {
+    let name = id.text(alloc)?;
+    Ok(tell(out, who, b"closes", name.as_slice())?)
+}
+
+/// An id, and a text after it.
+fn named(alloc: Global, id: Id, what: &[u8]) -> Result<Vec<u8, Global>, NoMemory> {
+    let mut text = id.text(alloc)?;
+    text.push(b' ')?;
+    text.extend_from_slice(what)?;
+    Ok(text)
+}
+
+/// Writes a wait: how full the one buffer is, and how the time runs.
+fn tell_wait<W: Write>(
+    alloc: Global,
+    out: &mut W,
+    who: &[u8],
+    rows: &[Row],
+    timer: Timer,
+) -> Result<(), Trouble> {
+    let [row] = rows else {
+        return Ok(tell(out, who, b"waits for", b"several ids")?);
+    };
+    let held = held_of(alloc, *row, timer)?;
+    tell_of(alloc, out, who, b"waits for", row.id, held.as_slice())
+}
+
+/// How full a buffer is, and how the time runs.
+fn held_of(alloc: Global, row: Row, timer: Timer) -> Result<Vec<u8, Global>, NoMemory> {
+    let mut text = Vec::new(alloc);
+    push_decimal(&mut text, u64::from(row.held))?;
+    text.extend_from_slice(b" of ")?;
+    push_decimal(&mut text, u64::from(row.max))?;
+    text.extend_from_slice(b" bytes, ")?;
+    push_timer(&mut text, timer)?;
+    Ok(text)
+}
+
+/// Appends how the time runs.
+fn push_timer(text: &mut Vec<u8, Global>, timer: Timer) -> Result<(), NoMemory> {
+    match timer {
+        Timer::Start(seconds) => {
+            push_decimal(text, seconds)?;
+            Ok(text.extend_from_slice(b" seconds")?)
+        }
+        Timer::Running => Ok(text.extend_from_slice(b"time running")?),
+        Timer::Endless => Ok(text.extend_from_slice(b"no time")?),
+    }
+}
+
+/// Writes a line of three parts.
 fn tell<W: Write>(out: &mut W, who: &[u8], does: &[u8], what: &[u8]) -> io::Result<()> {
     out.write_all(who)?;
     out.write_all(b" ")?;
@@ -24,18 +102,6 @@ fn tell<W: Write>(out: &mut W, who: &[u8], does: &[u8], what: &[u8]) -> io::Resu
     out.write_all(b" ")?;
     out.write_all(what)?;
     out.write_all(b"\n")
-}
-
-/// What an act does, and to what.
-fn words_of<A: Allocator>(act: &Act<A>) -> (&[u8], &[u8]) {
-    match act {
-        Act::Spawn(_, words) => (b"starts", first_of(words)),
-        Act::Send(_, text) => (b"sends", text.as_slice()),
-        Act::Out(text) => (b"shows", text.as_slice()),
-        Act::Wait { .. } => (b"waits for", b"an arrival"),
-        Act::Close(_) => (b"closes", b"its program"),
-        _ => (b"does", b"something else"),
-    }
 }
 
 /// The first of some words.
