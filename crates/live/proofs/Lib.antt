@@ -1,1 +1,2 @@
 mod Arrivals
+pub mod Texts

@@ -1,4 +1,5 @@
 pub mod Arriving
 pub mod Early
 pub mod Live
+pub mod Outputs
 pub mod Look

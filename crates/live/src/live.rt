@@ -1,6 +1,8 @@
 //! The live world.
 
+ghost use Rattle.std.specs.Io.KnownBytes.{Appends};
 ghost use Rattle.live.specs.Live.{Lives};
+ghost use Rattle.live.specs.Outputs.{err_text, out_text};
 
 use crate::outputs::{open_log, write_log, write_text};
 use crate::peers::Peers;
@@ -58,8 +60,12 @@ where
         + Clock
         + AllocGlobal,
 {
-    ghost step = { λ _ act answer _. Lives act answer };
+    // Each answer fits, and the two writers get what went out by it, and nothing else.
+    ghost step = { λ before act answer after. Lives act answer
+        × Appends (O.contents before.out) (O.contents after.out) (out_text act answer)
+        × Appends (E.contents before.err) (E.contents after.err) (err_text act answer) };
 
+    #[tactic(auto, using(crate::proofs::Texts::grows_by_none))]
     fn act(&mut self, act: &Act<Global>) -> Answer<Global> {
         match act {
             Act::Out(text) => write_text(&mut self.out, text),

@@ -1,8 +1,11 @@
 //! Standard output, standard error and the log file.
 
-ghost use Rattle.std.specs.Prelude.{◌≡◌, true};
+ghost use Rattle.std.specs.Prelude.{◌≡◌, ◌-◌, ◌≤◌, length, true, IfSome};
+ghost use Rattle.std.specs.Io.KnownBytes.{Appends};
+ghost use Rattle.acts.specs.Deed as said;
 ghost use Rattle.acts.specs.Deed.{reply_of};
 ghost use Rattle.acts.specs.Fits as table;
+ghost use Rattle.live.specs.Outputs.{taken, went_out};
 
 use crate::system::{MOST_TRIES, refused, text_of};
 use acts::{Answer, LogMode};
@@ -14,20 +17,43 @@ use std::rt::Files;
 /// Writes a text, and says how many bytes went out where it fails. A write that was interrupted is
 /// tried again.
 pub fn write_text<W: Write>(writer: &mut W, text: &[u8]) -> Answer<Global>
-    ensures { table.fits_write text.now (reply_of result) ≡ true }
+    ensures fits { table.fits_write text.now (reply_of result) ≡ true }
+    ensures gets { Appends (W.contents writer.old) (W.contents writer.new)
+        (went_out text.now (reply_of result)) }
 {
     let mut rest = text;
-    'text: for _ in 0..MOST_TRIES {
+    for _ in 0..MOST_TRIES {
         if rest.is_empty() {
             return Answer::Done;
         }
-        match writer.write(rest) {
-            Ok(0) => break 'text,
-            Ok(count) => rest = &rest[count..],
-            Err(error) if error.kind() == ErrorKind::Interrupted => {}
-            Err(_) => break 'text,
-        }
+        let Some(count) = write_some(writer, rest) else {
+            return failed(text, rest);
+        };
+        rest = &rest[count..];
     }
+    failed(text, rest)
+}
+
+/// Writes some bytes from the front of a text, and says how many: none where the write was
+/// interrupted, and nothing where no more will go out.
+#[tactic(auto, using(crate::proofs::Texts::kept_grows))]
+fn write_some<W: Write>(writer: &mut W, text: &[u8]) -> Option<usize>
+    ensures within { IfSome result (λ count. count ≤ length text.now) }
+    ensures gets { Appends (W.contents writer.old) (W.contents writer.new)
+        (taken text.now result) }
+{
+    match writer.write(text) {
+        Ok(0) => None,
+        Ok(count) => Some(count),
+        Err(error) if error.kind() == ErrorKind::Interrupted => Some(0),
+        Err(_) => None,
+    }
+}
+
+/// That a text failed of which this is left.
+fn failed(text: &[u8], rest: &[u8]) -> Answer<Global>
+    ensures { reply_of result ≡ said.Failed (length text.now - length rest.now) }
+{
     Answer::Failed(text.len().saturating_sub(rest.len()) as u64)
 }
 

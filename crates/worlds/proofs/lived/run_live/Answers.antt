@@ -9,7 +9,7 @@ returns-in-Ok g c =
       begun,
       begins,
       runs_seen _ (MayRecord Steps g.S.Sink.adds g.S.Sink.has_failed) (λ pair. (tt, pair.1))
-          (λ before act reply after step. step)
+          (λ before act reply after step. (step.0.0, step.1))
           c.args.script.now c.args.args.now c.args.limits.ticks (c.in-Ok.world, begun)
           (c.run_recorded.new.world, c.run_recorded.new.made) c.run_recorded.result runs,
     )

@@ -1,0 +1,15 @@
+use Rattle.std.proofs.Common.{◌++◌, take}
+use Rattle.std.proofs.KnownBytes.{Appends-trans}
+use Rattle.live.proofs.Texts.{onward}
+use Rattle.live.proofs.outputs.write_text.Goals as goal
+
+pub loop-preserved : goal.loop-preserved
+loop-preserved g c =
+    let (sent, whole, gets) = c.loop.invariant in
+    let rest = c.loop.rest.now in
+    let n = c.in-Some.count in (
+      sent ++ take n rest,
+      onward c.args.text.now sent rest n whole,
+      Appends-trans _ _ _ sent (take n rest) gets
+          (rw c.in-Some.is at c.write_some.ensures.gets),
+    )

@@ -1,0 +1,9 @@
+use Rattle.std.proofs.Common.{◌≡◌, ℕ, List, ◌++◌}
+use Rattle.std.specs.Io.KnownBytes.{Appends}
+use Rattle.live.proofs.outputs.write_text.Given as goal
+
+-- what went out so far, which is what stands before the rest
+abbrev pub invariant-loop : goal.invariant-loop
+invariant-loop g l =
+    (sent : List ℕ) × (l.text ≡ sent ++ l.rest)
+    × Appends (g.W.Write.contents l.initial.writer) (g.W.Write.contents l.writer) sent
