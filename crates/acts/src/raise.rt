@@ -47,7 +47,7 @@ impl<A: Allocator, T: Drop> From<AllocFailed<T>> for Raise<A> {
     }
 }
 
-/// A command that was given another number of words than it takes.
+/// The error of a command that was given a wrong number of words.
 pub fn wrong_args<A: Allocator + Copy>(alloc: A, command: &[u8]) -> Raise<A>
     ensures { Raises (flaw.WrongArgs command.now) result }
 {
@@ -57,7 +57,7 @@ pub fn wrong_args<A: Allocator + Copy>(alloc: A, command: &[u8]) -> Raise<A>
     }
 }
 
-/// A word that a command does not take.
+/// The error of a word that a command does not take.
 pub fn bad_argument<A: Allocator + Copy>(alloc: A, word: &[u8], command: &[u8]) -> Raise<A>
     ensures { Raises (flaw.BadArgument word.now command.now) result }
 {
@@ -71,7 +71,7 @@ pub fn bad_argument<A: Allocator + Copy>(alloc: A, word: &[u8], command: &[u8]) 
     }
 }
 
-/// A word that begins with `-` and is no flag of the command.
+/// The error of a word that begins with `-` and is no flag of the command.
 pub fn bad_flag<A: Allocator + Copy>(alloc: A, word: &[u8]) -> Raise<A>
     ensures { Raises (flaw.BadFlag word.now) result }
 {
@@ -81,7 +81,7 @@ pub fn bad_flag<A: Allocator + Copy>(alloc: A, word: &[u8]) -> Raise<A>
     }
 }
 
-/// A text that is no whole number.
+/// The error of a text that is no whole number.
 pub fn not_a_number<A: Allocator + Copy>(alloc: A, text: &[u8]) -> Raise<A>
     ensures { Raises (flaw.NotANumber text.now) result }
 {
@@ -91,7 +91,7 @@ pub fn not_a_number<A: Allocator + Copy>(alloc: A, text: &[u8]) -> Raise<A>
     }
 }
 
-/// An id that is not open, by the text that names it.
+/// The error of an id that is not open, by the text that names it.
 pub fn not_open<A: Allocator + Copy>(alloc: A, text: &[u8]) -> Raise<A>
     ensures { Raises (flaw.NotOpen (Some text.now)) result }
 {

@@ -6,7 +6,7 @@ use std::alloc::Allocator;
 use std::process::Abort;
 use std::test::Fail;
 
-/// How many errors there are. A new one is named by [`wanted`], and gets a place below this.
+/// How many errors there are. A new one has to be added to [`wanted`], and gets a place below this.
 const FAULTS: u8 = 43;
 
 /// The text of each error, where the names in it are `a(i)` and `cmd` (this project's table).
@@ -58,7 +58,7 @@ fn wanted<A: Allocator>(fault: &Fault<A>) -> &'static [u8] {
     }
 }
 
-/// The error of a place that names nothing.
+/// The error at a place, if it is one that names nothing.
 fn plain_fault<A: Allocator>(place: u8) -> Option<Fault<A>> {
     Some(match place {
         0 => Fault::ListOpenBrace,
@@ -91,7 +91,7 @@ fn plain_fault<A: Allocator>(place: u8) -> Option<Fault<A>> {
     })
 }
 
-/// The error of a place that names something: the word `a(i)` and the command `cmd`.
+/// The error at a place, if it is one that names something: the word `a(i)` and the command `cmd`.
 fn naming_fault<A: Allocator>(
     word: Vec<u8, A>,
     command: Vec<u8, A>,
@@ -122,7 +122,7 @@ fn naming_fault<A: Allocator>(
     })
 }
 
-/// The error of a place.
+/// The error at a place.
 fn fault_at<A: Allocator + Copy>(alloc: A, place: u8) -> Result<Fault<A>, Fail> {
     if let Some(fault) = plain_fault(place) {
         return Ok(fault);

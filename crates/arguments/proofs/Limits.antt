@@ -1,4 +1,4 @@
--- The limits that words say.
+-- The limits that words name.
 use Rattle.std.proofs.Common.{◌≡◌, ◌≤◌, ◌<◌, ◌^◌, ℕ, List, Option, Some, None, IfNone, IsSome, decimal, sym, ◌∙◌, arith}
 use Rattle.std.specs.Prelude.{◌↔◌}
 use Rattle.std.proofs.lemmas.Fmt.{decimal_injective}
@@ -19,7 +19,7 @@ no_limits None number limit range spelled below = λ ticks (low, high, is).
     absurd (cc (range.1 (in_range number ticks same low high)))
 no_limits (Some x) number limit range spelled below = tt
 
--- words say one limit at most
+-- words name at most one limit
 pub one_limit : (limit : Option (List ℕ)) (a b : ℕ) → AreTicks limit a → AreTicks limit b → a ≡ b
 one_limit None a b e f = e ∙ sym f
 one_limit (Some limit) a b (low, high, is) (low', high', is') =

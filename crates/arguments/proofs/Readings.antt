@@ -1,4 +1,4 @@
--- The options that words say.
+-- The options that words name.
 use Rattle.std.proofs.Common.{◌≡◌, ◌≢◌, ◌-◌, List, [], ◌∷◌, ◌++◌, ℕ, Option, Some, None, IfNone, refl, sym, ap, subst, ◌∙◌, append_assoc, append-nil, flat_map, map, length, get_or, take, inl, inr, Vec, arith}
 use Rattle.std.specs.Prelude.{◌↔◌, ◌==◌, IsTrue, Bool, true, false, codes}
 use Rattle.std.specs.List.{filter}
@@ -19,12 +19,12 @@ values-append name xs ys =
     ∙ map-append (λ setting. setting.value) (filter (λ setting. same name setting.name) xs)
     (filter (λ setting. same name setting.name) ys)
 
--- an option more is one value more
+-- one more setting of an option is one more of its values
 values_more : (name : Name) (settings : List Setting) (s : Setting) → same name s.name ≡ true →
     values name (settings ++ s ∷ []) ≡ values name settings ++ s.value ∷ []
 values_more name settings s is = values-append name settings (s ∷ []) ∙ rw is
 
--- an option more is no value of another
+-- one more setting of an option adds no value to another option
 values_stay : (name : Name) (settings : List Setting) (s : Setting) → same name s.name ≡ false →
     values name (settings ++ s ∷ []) ≡ values name settings
 values_stay name settings s is =
@@ -36,7 +36,7 @@ lines-more texts text =
     ∙ ap (λ last. lines texts ++ last) (append-nil (text ++ codes "\n"))
     ∙ sym (append_assoc (lines texts) text (codes "\n"))
 
--- a text of `-c` is one line more
+-- one more text of `-c` is one more line
 pub one_line : (done : List Setting) (s : Setting) (text after : List ℕ) → s.name ≡ Command →
     text ≡ lines (values Command done) → after ≡ (text ++ s.value) ++ codes "\n" →
     after ≡ lines (values Command (done ++ s ∷ []))
@@ -45,7 +45,7 @@ one_line done s text after is put e =
     ∙ sym (ap lines (values_more Command done s (ap (same Command) is))
     ∙ lines-more (values Command done) s.value)
 
--- another option is none
+-- an option other than `-c` adds no line
 pub no_line : (done : List Setting) (s : Setting) (text : List ℕ) → same Command s.name ≡ false →
     text ≡ lines (values Command done) → text ≡ lines (values Command (done ++ s ∷ []))
 no_line done s text other put = put ∙ ap lines (sym (values_stay Command done s other))
@@ -79,7 +79,7 @@ setting_is : (a b : Name) (x y : List ℕ) → a ≡ b → x ≡ y →
     ◌≡◌ {A = Setting} (record { name = a; value = x }) (record { name = b; value = y })
 setting_is a b x y e f = cc
 
--- an option is told by its words, whatever stands behind it
+-- an option is determined by its words, whatever stands after it
 first_setting : (s t : Setting) (x y : List (List ℕ)) → spelled s ++ x ≡ spelled t ++ y →
     (s ≡ t) × (x ≡ y)
 first_setting s t x y e =
@@ -87,7 +87,7 @@ first_setting s t x y e =
     let valued : s.value ≡ t.value = cc e in
     (setting_is s.name t.name s.value t.value (one_name s.name t.name words) valued, cc e)
 
--- words behind which no option stands are read in one way
+-- words after which no option stands are read in one way
 pub one_reading : (done settings : List Setting) (rest others : List (List ℕ)) →
     flat_map spelled settings ++ others ≡ flat_map spelled done ++ rest →
     ((s : Setting) (behind : List (List ℕ)) → others ≢ spelled s ++ behind) →
@@ -108,7 +108,7 @@ one_reading (d ∷ done) (s ∷ settings) rest others e free none =
     let more = one_reading done settings rest others first.1 free none in
     (cc (first.0, more.0), more.1)
 
--- words begin with one list of options
+-- words begin with only one list of options
 pub one_beginning : (words : List (List ℕ)) (settings others : List Setting)
     (rest behind : List (List ℕ)) → BeginWith words settings rest → BeginWith words others behind →
     (others ≡ settings) × (behind ≡ rest)
@@ -150,7 +150,7 @@ one_more settings s words rest behind e is =
         ∙ ap (λ more. spelled x ++ more) (regroup xs)
         ∙ sym (append_assoc (spelled x) (flat_map spelled xs) (spelled s ++ behind))
 
--- no value is not one
+-- an empty list is not a list of one value
 clash : (x : List ℕ) → [] ≡ x ∷ [] → ⊥
 clash x e = cc e
 
@@ -162,7 +162,7 @@ one_value found None (Some y) e f = absurd (clash y (sym e ∙ f))
 one_value found (Some x) None e f = absurd (clash x (sym f ∙ e))
 one_value found (Some x) (Some y) e f = let same = sym e ∙ f in cc same
 
--- what holds, holds of nothing too
+-- what holds in any case also holds if an option is None
 pub none_of : {T P : Type 0} (found : Option T) → P → IfNone found P
 none_of None holds = holds
 none_of (Some x) holds = tt
@@ -231,7 +231,7 @@ call_is : (a a' : List (List ℕ)) (b b' m m' : Option (List ℕ)) (c c' : ℕ) 
     (record { commands = a'; replay = b'; made = m'; ticks = c'; script = d' })
 call_is a a' b b' m m' c c' d d' e f g h i = cc
 
--- words are the call that was read alone
+-- words are no other call than the one that was read
 pub only_call : (words : List (List ℕ)) (settings : List Setting) (rest : List (List ℕ))
     (replay made limit : Option (List ℕ)) (ticks : ℕ) (script : List (List ℕ)) →
     BeginWith words settings rest → AreOnce settings replay made limit → AreTicks limit ticks →
@@ -255,7 +255,7 @@ only_call words settings rest replay made limit ticks script begin once are only
     call_is other.commands (values Command settings) other.replay replay other.made made other.ticks
     ticks other.script script first second third fourth fifth
 
--- options among which there is no text of `-c`
+-- where no `-c` was found, there is no text of `-c`
 pub no_texts : (b : Bool) (texts : List (List ℕ)) → b ≡ false → IsTrue b ↔ (texts ≢ []) → texts ≡ []
 no_texts b [] e is = refl
 no_texts b (x ∷ texts) e is = let some = is.1 (λ none. cc none) in absurd (cc (some, e))
@@ -275,7 +275,7 @@ front_texts words rest settings e =
     ∙ ap (take (length words - length rest)) e
     ∙ take_at front (texts rest) (length words - length rest) many
 
--- the options among which none stands further are all
+-- where no further option follows, the lines of the options so far are those of all
 pub all_lines : (options rest : List (List ℕ)) (done settings : List Setting) (text : List ℕ) →
     options ≡ flat_map spelled done ++ rest →
     ((s : Setting) (behind : List (List ℕ)) → rest ≢ spelled s ++ behind) →
@@ -286,7 +286,7 @@ all_lines options rest done settings text e none put whole =
     (append-nil (flat_map spelled settings) ∙ sym whole ∙ e) (λ s behind f. cc f) none in
     put ∙ ap (λ all. lines (values Command all)) (sym same.0)
 
--- no words, and some
+-- whether there are no words, or some
 pub no_words : {A : Type 0} (words : List (Vec ℕ A)) → (length words == 0) ≡ true → texts words ≡ []
 no_words words e = ap texts (nil_from_length words (eqb-true (length words) 0 e))
 
@@ -294,7 +294,7 @@ pub some_words : {A : Type 0} (words : List (Vec ℕ A)) → (length words == 0)
 some_words [] e none = cc e
 some_words (word ∷ words) e none = cc none
 
--- the flag before a file, and nothing behind it
+-- the flag before a file, and nothing after it
 no_script : (first : List ℕ) (behind script : List (List ℕ)) → first ≡ codes "-f" → behind ≡ [] →
     AreScript (first ∷ behind) script → ⊥
 no_script first behind script flag none (inl (is, some, same)) = some none

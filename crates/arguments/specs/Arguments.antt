@@ -7,7 +7,7 @@ use Rattle.arguments.specs.declared.arguments.Name.{Name as ReadName}
 use Rattle.arguments.specs.declared.arguments.Name.TheVariants as read
 use Rattle.arguments.specs.declared.arguments.Setting.{Setting as ReadSetting}
 
--- what words say
+-- the texts of words
 abbrev pub texts : {A : Type 0} → List (Vec ℕ A) → List (List ℕ)
 texts words = map (λ word. word.items) words
 
@@ -25,7 +25,7 @@ word_of Replay = codes "--replay"
 word_of Record = codes "--record"
 word_of Limit = codes "--limit"
 
--- whether two options are one
+-- whether two options are the same
 abbrev pub same : Name → Name → Bool
 same Command Command = true
 same Replay Replay = true
@@ -33,12 +33,12 @@ same Record Record = true
 same Limit Limit = true
 same one other = false
 
--- an option with the value behind it
+-- an option with the value after it
 pub record Setting : Type 0 where
   pub name : Name
   pub value : List ℕ
 
--- its words
+-- the words of an option and its value
 abbrev pub spelled : Setting → List (List ℕ)
 spelled setting = word_of setting.name ∷ setting.value ∷ []
 
@@ -56,7 +56,7 @@ AreTicks (Some limit) ticks = (1 ≤ ticks) × (ticks ≤ 1000000000000) × (lim
 abbrev pub IsFile : List ℕ → Type 0
 IsFile word = (rest : List ℕ) → word ≡ codes "-" ++ rest → rest ≡ []
 
--- the words behind the options are the script's file and its arguments: behind `-f` any word is a
+-- the words after the options are the script's file and its arguments: after `-f` any word is a
 -- file; there may be no word at all
 abbrev pub AreScript : List (List ℕ) → List (List ℕ) → Type 0
 AreScript [] script = script ≡ []
@@ -74,7 +74,7 @@ pub record Call : Type 0 where
   pub ticks : ℕ
   pub script : List (List ℕ)
 
--- words are a call: options in any order, each but `-c` at most once, and behind them the script,
+-- words are a call: options in any order, each but `-c` at most once, and after them the script,
 -- which may be left out where there is a `-c`
 pub record IsCall (words : List (List ℕ)) (call : Call) : Type 0 where
   pub settings : List Setting
@@ -93,14 +93,14 @@ pub record IsCall (words : List (List ℕ)) (call : Call) : Type 0 where
 abbrev pub IsOneCall : List (List ℕ) → Call → Type 0
 IsOneCall words call = IsCall words call × ((other : Call) → IsCall words other → other ≡ call)
 
--- the option that was read
+-- the option that one of the code stands for
 abbrev pub name_of : ReadName → Name
 name_of read.Command = Command
 name_of read.Replay = Replay
 name_of read.Record = Record
 name_of read.Limit = Limit
 
--- what an option that was read says
+-- the option with its value that one of the code stands for
 abbrev pub setting_of : ReadSetting → Setting
 setting_of setting = record { name = name_of setting.name; value = setting.value.now }
 
@@ -114,6 +114,6 @@ pub record Holds {A : Type 0} (found : Arguments A) (call : Call) : Type 0 where
   pub ticks : found.limits.ticks ≡ call.ticks
   pub script : texts found.script.now ≡ call.script
 
--- what is put before the text of a script's file: each text of `-c`, and a newline behind it
+-- what is put before the text of a script's file: each text of `-c`, and a newline after it
 abbrev pub lines : List (List ℕ) → List ℕ
 lines commands = flat_map (λ text. text ++ codes "\n") commands

@@ -4,7 +4,7 @@ use Rattle.std.specs.Option.{option_copied, option_to_list}
 use Rattle.arguments.specs.declared.arguments.Options.{Options}
 use Rattle.arguments.specs.Arguments.{Command, Limit, Record, Replay, Setting, spelled, values}
 
--- words begin with these options, and no further one stands behind them
+-- words begin with these options, and no further one stands after them
 pub record BeginWith (words : List (List ℕ)) (settings : List Setting) (rest : List (List ℕ))
     : Type 0 where
   pub spells : words ≡ flat_map spelled settings ++ rest

@@ -9,7 +9,7 @@ use acts::decimal::read_decimal;
 use acts::{Limits, NoMemory};
 use std::alloc::Allocator;
 
-/// How many ticks a run may take where no argument says so.
+/// How many ticks a run may take where no argument limits them.
 const DEFAULT_TICKS: u64 = 10_000_000;
 
 /// What a call of the program asks for.
@@ -37,7 +37,7 @@ enum Name {
     Limit,
 }
 
-/// An option with the value behind it.
+/// An option with the value after it.
 #[derive(Clone, Copy)]
 struct Setting<'a> {
     name: Name,
@@ -62,7 +62,7 @@ impl<'a> Options<'a> {
         limit: None,
     };
 
-    /// One option more, which is not there yet unless it is `-c`.
+    /// These options and one more; `None` where that one is there already and is not `-c`.
     fn with(self, setting: Setting<'a>) -> Option<Options<'a>>
         ensures more { IfSome result (λ more. (settings : List Said)
             → AreOptions self.entry settings
@@ -103,7 +103,8 @@ impl<'a> Options<'a> {
 
 impl<'a, A: Allocator> Arguments<'a, A> {
     /// Reads the words of a call: `[-c cmds]... [--replay F] [--record G] [--limit N] [[-f] file
-    /// [args]]`, the options in any order. It asks for no memory.
+    /// [args]]`, the options in any order. It asks for no memory. `None` where the words are not
+    /// such a call.
     pub fn read(words: &'a [Vec<u8, A>]) -> Option<Arguments<'a, A>>
         ensures call { IfSome result (λ found. (call : Call)
             × IsOneCall (texts words.entry.now) call × Holds found call) }
@@ -124,7 +125,7 @@ impl<'a, A: Allocator> Arguments<'a, A> {
         })
     }
 
-    /// What is put before the text of the script's file: each text of `-c`, and a newline behind
+    /// What is put before the text of the script's file: each text of `-c`, and a newline after
     /// it.
     pub fn commands<B: Allocator>(&self, alloc: B) -> Result<Vec<u8, B>, NoMemory>
         ensures { IfOk result (λ text. (call : Call)
@@ -143,7 +144,8 @@ impl<'a, A: Allocator> Arguments<'a, A> {
     }
 }
 
-/// The options in front, their words, and the words behind them.
+/// The options that the words begin with, the words of those options, and the words after them;
+/// `None` where an option other than `-c` stands there twice.
 fn options_of<'a, A: Allocator>(
     words: &'a [Vec<u8, A>],
 ) -> Option<(Options<'a>, &'a [Vec<u8, A>], &'a [Vec<u8, A>])>
@@ -164,7 +166,7 @@ fn options_of<'a, A: Allocator>(
     Some((options, front, rest))
 }
 
-/// The option at the front with its value, and the words behind it.
+/// The option at the front with its value, and the words after both.
 fn setting_at<'a, A: Allocator>(words: &'a [Vec<u8, A>]) -> Option<(Setting<'a>, &'a [Vec<u8, A>])>
     ensures found { IfSome result (λ found. texts words.entry.now
         ≡ spelled (setting_of found.0) ++ texts found.1.now) }
@@ -195,7 +197,7 @@ fn option_of(word: &[u8]) -> Option<Name>
     }
 }
 
-/// The script's file and its arguments, which are the words behind the options.
+/// The script's file and its arguments, which are the words after the options.
 fn script_of<'a, A: Allocator>(words: &'a [Vec<u8, A>]) -> Option<&'a [Vec<u8, A>]>
     ensures script { IfSome result (λ script.
         AreScript (texts words.entry.now) (texts script.now)) }
@@ -220,7 +222,8 @@ fn script_of<'a, A: Allocator>(words: &'a [Vec<u8, A>]) -> Option<&'a [Vec<u8, A
     }
 }
 
-/// How long a run may go on, by the word that says it, if any.
+/// How long a run may go on, by the value of `--limit`, if it is given; `None` where that is not a
+/// limit.
 fn limits_of(limit: Option<&[u8]>) -> Option<Limits>
     ensures limits { IfSome result (λ limits. AreTicks (option_copied limit.entry) limits.ticks) }
     ensures none { IfNone result ((ticks : ℕ) → AreTicks (option_copied limit.entry) ticks → ⊥) }

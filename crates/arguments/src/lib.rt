@@ -1,4 +1,4 @@
-//! The words of a call of the program: its options, and behind them the script with its arguments.
+//! The words of a call of the program: its options, and after them the script with its arguments.
 #![tactic(auto)]
 
 pub mod arguments;

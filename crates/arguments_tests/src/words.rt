@@ -51,13 +51,13 @@ fn reads_calls(rt: HostRuntime) -> Result<(), Fail> {
         ("--record --replay s", "live 10000000 >--replay <s>"),
         ("--record g -c a", "a\nlive 10000000 >g"),
         ("", "live 10000000 <>"),
-        // What stands behind the file are its arguments, whatever they look like.
+        // The words after the file are the script's arguments, whatever they look like.
         ("s t", "live 10000000 <s> <t>"),
         ("s --limit 1", "live 10000000 <s> <--limit> <1>"),
         ("s -c a -f -- ", "live 10000000 <s> <-c> <a> <-f> <--> <>"),
         ("--limit 1 - --limit 2", "live 1 <-> <--limit> <2>"),
         ("--replay r s t", "r 10000000 <s> <t>"),
-        // Behind -f any word is the file.
+        // After -f any word is the file.
         ("-f s", "live 10000000 <s>"),
         ("-f - a", "live 10000000 <-> <a>"),
         ("-f -s -f t", "live 10000000 <-s> <-f> <t>"),
@@ -106,7 +106,7 @@ fn refuses_other_words(rt: HostRuntime) -> Result<(), Fail> {
         "--record",
         "--record g",
         "--record g --replay r",
-        // Options twice.
+        // Options that are given twice.
         "--replay r --replay q s",
         "--record g --record g s",
         "--record g --replay r --record h s",
@@ -115,7 +115,7 @@ fn refuses_other_words(rt: HostRuntime) -> Result<(), Fail> {
         "--limit 1 --replay r --limit 1 s",
         "--replay r --limit 1 --replay r s",
         "--limit 1 -c x --limit 1",
-        // Numbers that are no limit.
+        // Numbers that `--limit` does not take.
         "--limit 0 s",
         "--limit 01 s",
         "--limit +1 s",

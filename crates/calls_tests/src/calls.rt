@@ -106,7 +106,7 @@ fn reads_on_after_an_interruption(rt: HostRuntime) -> Result<(), Fail> {
     Ok(())
 }
 
-/// The status of a call, what it prints and what it tells.
+/// The status of a call, and what it writes to standard output and to standard error.
 fn performed(rt: &HostRuntime, words: &[Vec<u8>]) -> (u8, Vec<u8>, Vec<u8>) {
     let mut printed = Vec::new(rt.alloc());
     let mut told = Vec::new(rt.alloc());
@@ -119,7 +119,7 @@ fn performed(rt: &HostRuntime, words: &[Vec<u8>]) -> (u8, Vec<u8>, Vec<u8>) {
     (status, printed, told)
 }
 
-/// The status of a call, and what it prints and tells, as one text.
+/// The status of a call, and what it writes to the two outputs, as one text.
 fn shown(alloc: Global, status: u8, printed: &[u8], told: &[u8]) -> Result<String<Global>, Fail> {
     let printed = std::str::from_utf8(printed)?;
     let told = std::str::from_utf8(told)?;
@@ -135,7 +135,7 @@ fn words_of(alloc: Global, call: &[&str]) -> Result<Vec<Vec<u8>>, Fail> {
     Ok(words)
 }
 
-/// The status of a call, and what it prints and tells.
+/// The status of a call and what it writes to the two outputs, as one text.
 fn told(rt: &HostRuntime, call: &[&str]) -> Result<String<Global>, Fail> {
     let words = words_of(rt.alloc(), call)?;
     let (status, printed, told) = performed(rt, &words);
@@ -220,7 +220,7 @@ fn tells_the_usage(rt: HostRuntime) -> Result<(), Fail> {
     Ok(())
 }
 
-/// Texts of `-c` with a newline behind each, before the text of a file; `$argv0`, `$argv`, `$argc`.
+/// Texts of `-c` with a newline after each, before the text of a file; `$argv0`, `$argv`, `$argc`.
 const SCRIPTS: [(&[&str], &str); 10] = [
     (&["-c", "puts hi"], "0 hi\n"),
     (&["-c", "puts b", "-c", "puts a"], "0 b\na\n"),

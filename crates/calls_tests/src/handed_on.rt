@@ -1,4 +1,4 @@
-//! What the library of the program hands on of the crates below it.
+//! What the library of the program re-exports from the crates below it.
 
 use acts::{Act, Answer, World};
 use std::test::Fail;

@@ -5,7 +5,7 @@ use std::test::Fail;
 use worlds::lived::lived;
 use worlds::{Counted, Sink};
 
-/// Scripts, the ticks that they may take, and the status, what is printed and what is told.
+/// Scripts, the ticks that they may take, their status, and what they write to the two outputs.
 const RUNS: [(&str, u64, u8, &str, &str); 10] = [
     ("", 1, 0, "", ""),
     ("exit 300", 1, 44, "", ""),
@@ -55,8 +55,8 @@ const RUNS: [(&str, u64, u8, &str, &str); 10] = [
     ("puts a; puts {b", 100, 1, "a\n", "missing close-brace\n"),
 ];
 
-/// The status of a script that runs live, what it prints and what it tells. Its record is made
-/// where there is a sink for it.
+/// The status of a script that runs live, and what it writes to standard output and to standard
+/// error. A record is made where there is a sink for it.
 pub fn ran<S: Sink>(
     rt: &HostRuntime,
     script: &str,

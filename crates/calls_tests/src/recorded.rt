@@ -32,7 +32,8 @@ const SCRIPTS: [(&str, u8); 6] = [
     ("spawn -noecho cat; while 1 {}", 3),
 ];
 
-/// The status of a run that is replayed, what it prints and what it tells.
+/// The status of a run that is replayed, and what it writes to standard output and to standard
+/// error.
 fn replayed(alloc: Global, script: &str, limits: Limits, record: &[u8]) -> (u8, Vec<u8>, Vec<u8>) {
     let mut printed = Vec::new(alloc);
     let mut told = Vec::new(alloc);

@@ -8,7 +8,7 @@ use Rattle.kinds.specs.Answers.{Comes, GoesOn}
 use Rattle.kinds.specs.Exchange.{Exchange, course}
 use Rattle.state.specs.declared.state.State.{State}
 
--- an error is told alike, whatever would have waited
+-- an error is reported alike, whatever state the command would have waited in
 pub failed_comes : {A W : Type 0} (own : W → Deed → Status → Reply → Course) (state : State A)
     {n : ℕ} (exchange : Exchange n) (s : Status) (why : Raise A) →
     GoesOn own exchange s (Err why) state →

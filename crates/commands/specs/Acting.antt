@@ -1,4 +1,4 @@
--- The commands that ask acts.
+-- The commands that ask for acts.
 use Rattle.std.specs.Prelude.{ℕ, List, Result}
 use Rattle.state.specs.Prelude.{Flaw, Status}
 use Rattle.commands.specs.declared.acting.Acting.{Acting}
@@ -16,7 +16,7 @@ use Rattle.processes.specs.Spawn.{spawn}
 use Rattle.processes.specs.Send.{send}
 use Rattle.output.specs.Puts.{puts}
 
--- what each does with the words behind its name (expect(1); puts(n), socket(n), close(n))
+-- what each does with the words after its name (expect(1); puts(n), socket(n), close(n))
 abbrev pub does : Acting → List (List ℕ) → Status → Result (Exchange 4) Flaw
 does acting.Puts args s = puts args
 does acting.Spawn args s = spawn args s

@@ -59,7 +59,7 @@ builtins =
 abbrev pub named : List ℕ → Option Builtin
 named name = option_or (found builtins name) (option_map builtin.Text (pure.named name))
 
--- what a command does with the words behind its name
+-- what a command does with the words after its name
 abbrev pub does : Builtin → List (List ℕ) → Status → Course
 does (builtin.Exit own) args s = exits (leaves own args) s
 does (builtin.Local own) args s = locals (local.does own args s.scopes) s
@@ -68,8 +68,8 @@ does (builtin.Acting own) args s = talks (acting.does own args s) s
 does builtin.Proc args s = definings (proc args s.procedures) s
 does (builtin.Text own) args s = meant (pure.says own args) s
 
--- the error of a name that no command has, which tells the names of commands that this profile
--- leaves out from all others (Tcl(n), rule 2)
+-- the error of a name that no command has, which distinguishes the names of commands that this
+-- profile leaves out from all others (Tcl(n), rule 2)
 abbrev pub unknown : List ℕ → Flaw
 unknown name = if is_left_out name then flaw.NotInProfile name else flaw.InvalidCommand name
 

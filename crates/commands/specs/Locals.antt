@@ -1,4 +1,4 @@
--- The commands that see and change the variables alone.
+-- The commands that read and change the variables alone.
 use Rattle.std.specs.Prelude.{ℕ, List}
 use Rattle.commands.specs.declared.locals.Local.{Local}
 use Rattle.commands.specs.declared.locals.Local.TheVariants as local
@@ -13,7 +13,7 @@ use Rattle.variables.specs.Lappend.{lappend}
 use Rattle.variables.specs.Set.{set}
 use Rattle.variables.specs.Unset.{unset}
 
--- what each does with the words behind its name (the manual pages of these names)
+-- what each does with the words after its name (the manual pages of these names)
 abbrev pub does : Local → List (List ℕ) → Scopes → Reading (Done Scopes)
 does local.Set args v = Found (kept v (set args v))
 does local.Append args v = Found (kept v (append args v))

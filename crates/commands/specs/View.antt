@@ -1,4 +1,4 @@
--- What waits in the commands of the code.
+-- How the waiting commands of the code continue.
 use Rattle.state.specs.Prelude.{Deed, Reply, Course, Status}
 use Rattle.commands.specs.declared.waits.Waits.{Waits}
 use Rattle.commands.specs.declared.waits.Waits.TheVariants as waits

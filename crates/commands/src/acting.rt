@@ -1,4 +1,4 @@
-//! The commands that ask acts: what each one begins, and what goes on with an answer.
+//! The commands that ask for acts: how each one begins, and how it continues with an answer.
 
 ghost use Rattle.std.specs.Prelude.{◌≤◌};
 ghost use Rattle.state.specs.Prelude.{deed_of, reply_of, Status, FitsState};
@@ -15,7 +15,7 @@ use state::{Leaf, State};
 use std::alloc::Allocator;
 use tcltext::Value;
 
-/// The commands that ask acts.
+/// The commands that ask for acts.
 #[derive(Clone, Copy, Debug, PartialEq, Eq)]
 pub(crate) enum Acting {
     Puts,
@@ -31,7 +31,7 @@ pub(crate) enum Acting {
     LogFile,
 }
 
-/// Begins one of them, up to its first act.
+/// Begins one of these commands, up to its first act.
 #[inline(always)]
 #[tactic(auto, using(kinds::proofs::Comes::talks_comes, kinds::proofs::Comes::fails_comes))]
 pub(crate) fn call<A: Allocator + Copy>(
@@ -59,7 +59,7 @@ pub(crate) fn call<A: Allocator + Copy>(
     }
 }
 
-/// Goes on with the answer to the act of one of them.
+/// Continues one of these commands with the answer to its act.
 #[inline(always)]
 #[tactic(auto, using(kinds::proofs::Comes::goes_on_comes))]
 pub(crate) fn answered<A: Allocator + Copy>(

@@ -16,11 +16,11 @@ use pure::Pure;
 pub(crate) enum Builtin {
     /// Ends a part of a script, or the run.
     Exit(Exit),
-    /// Sees and changes the variables alone.
+    /// Reads and changes the variables alone.
     Local(Local),
-    /// Reads or changes what is set.
+    /// Reads or changes a setting.
     Setting(Setting),
-    /// Asks acts.
+    /// Asks for acts.
     Acting(Acting),
     /// Defines a procedure.
     Proc,
@@ -43,7 +43,7 @@ impl Builtin {
     }
 }
 
-/// The command of a name, which is sought only among the names of its length.
+/// The command of a name, which is searched for only among the names of its length.
 fn of_its_length(name: &[u8]) -> Option<Builtin>
     ensures { result ≡ found definition.builtins name.now }
 {

@@ -1,4 +1,4 @@
-//! What each command keeps to, for the laws of all runs.
+//! What holds of each command, for the laws of all runs.
 
 ghost use Rattle.std.specs.Prelude.{ℕ, ◌+◌, List};
 ghost use Rattle.commands.specs.Commands.{command};

@@ -43,7 +43,7 @@ pub(crate) fn is_left_out(name: &[u8]) -> bool
     is_among(words.as_slice(), name)
 }
 
-/// Whether a name is one of these.
+/// Whether a name is one of `names`.
 fn is_among(names: &[&str], name: &[u8]) -> bool
     ensures { result ≡ list_any (λ known. bytes_eq known.now name.now) names.now }
 {

@@ -1,4 +1,4 @@
-//! The commands that see and change the variables alone.
+//! The commands that read and change the variables alone.
 
 ghost use Rattle.commands.specs.Locals as definition;
 ghost use Rattle.kinds.specs.Readings.{Leaves};
@@ -9,7 +9,7 @@ use tclstate::Scopes;
 use tcltext::Value;
 use variables::{append, array, global, incr, info, lappend, set, unset};
 
-/// The commands that see and change the variables alone.
+/// The commands that read and change the variables alone.
 #[derive(Clone, Copy, Debug, PartialEq, Eq)]
 pub(crate) enum Local {
     Set,
@@ -22,7 +22,7 @@ pub(crate) enum Local {
     Info,
 }
 
-/// Does one of them.
+/// Performs one of these commands.
 #[inline(always)]
 #[tactic(auto, using(kinds::proofs::Left::stores_leave, kinds::proofs::Left::keeps_leave))]
 pub(crate) fn call<A: Allocator + Copy>(

@@ -1,4 +1,4 @@
-//! The commands that read or change what is set, and ask no act.
+//! The commands that read or change settings, and ask for no act.
 
 ghost use Rattle.std.specs.Prelude.{◌≤◌};
 ghost use Rattle.commands.specs.Settings as definition;
@@ -12,7 +12,7 @@ use state::State;
 use std::alloc::Allocator;
 use tcltext::Value;
 
-/// The commands that read or change what is set, and ask no act.
+/// The commands that read or change settings, and ask for no act.
 #[derive(Clone, Copy, Debug, PartialEq, Eq)]
 pub(crate) enum Setting {
     MatchMax,
@@ -20,7 +20,7 @@ pub(crate) enum Setting {
     LogUser,
 }
 
-/// Does one of them.
+/// Performs one of these commands.
 #[inline(always)]
 pub(crate) fn call<A: Allocator + Copy>(
     alloc: A,

@@ -1,7 +1,7 @@
-//! The table of the commands: what each one begins, and what goes on with an answer.
+//! The table of the commands: how each one begins, and how it continues with an answer.
 //!
-//! What a command answers is wide, and a short command would take a few instructions in a hundred
-//! more to hand it from one function to the next. So the tables of the kinds are put into this one,
+//! The result of a command is wide, and passing it from one function to the next would cost a short
+//! command a few percent more instructions. So the tables of the kinds are inlined into this one,
 //! and this one into its caller.
 #![tactic(auto, using(state::proofs::Reaches::same_reaches))]
 
@@ -45,7 +45,7 @@ pub fn begin<A: Allocator + Copy>(
     settle(alloc, answer)
 }
 
-/// Begins the command of a name with the words behind it.
+/// Begins the command of a name with the words after it.
 #[inline(always)]
 fn call_named<A: Allocator + Copy>(
     alloc: A,
@@ -63,7 +63,7 @@ fn call_named<A: Allocator + Copy>(
     }
 }
 
-/// Refuses a name that no command has.
+/// The error of a name that no command has.
 fn unknown<A: Allocator + Copy>(alloc: A, name: &[u8]) -> Raise<A>
     ensures { Raises (definition.unknown name.now) result }
 {
@@ -78,7 +78,7 @@ fn unknown<A: Allocator + Copy>(alloc: A, name: &[u8]) -> Raise<A>
     }
 }
 
-/// Begins a command with the words behind its name.
+/// Begins a command with the words after its name.
 #[inline(always)]
 fn call<A: Allocator + Copy>(
     alloc: A,
@@ -105,7 +105,7 @@ fn call<A: Allocator + Copy>(
     }
 }
 
-/// Goes on with the answer to the act of a command, up to its next act.
+/// Continues a command with the answer to its act, up to its next act.
 ///
 /// # Errors
 /// `NoMemory` where memory is refused.

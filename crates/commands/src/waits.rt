@@ -1,10 +1,10 @@
-//! What waits in a command for the answer to an act.
+//! The states of commands that wait for the answer to an act.
 
 use output::{channel, log_file};
 use processes::{close, send, sleep, socket, spawn, wait};
 use std::alloc::Allocator;
 
-/// What waits in a command for the answer to an act, by the commands that make acts.
+/// The state of a command that waits for the answer to an act, for each command that asks for acts.
 #[derive(Drop)]
 pub enum Waits<A: Allocator> {
     Write(channel::Waits),

@@ -1,4 +1,4 @@
--- What while and for come to, where it is known what their words are.
+-- What while and for do first, where it is known what their words are.
 use Rattle.std.proofs.Common.{◌≡◌, ℕ, List, [], ◌∷◌, length, get_or, refl, arith}
 use Rattle.std.specs.Prelude.{codes}
 use Rattle.acts.specs.Flaw as flaw

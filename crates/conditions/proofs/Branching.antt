@@ -23,7 +23,7 @@ one_more first test body (Some more) =
     let all : Branches = record { tests = tests; otherwise = more.otherwise } in Some all in
     ap with_tests (sym (append_assoc first (last ∷ []) more.tests))
 
--- what is left of a list behind two elements, and behind one
+-- the rest of a list after two elements, and after one
 pub behind_two : {X : Type 0} (x y : X) (more : List X) →
     take (length (x ∷ y ∷ more) - 2) (drop 2 (x ∷ y ∷ more)) ≡ more
 behind_two x y more =
@@ -34,7 +34,7 @@ pub behind_one : {X : Type 0} (x : X) (more : List X) →
 behind_one x more =
     let n : length (x ∷ more) - 1 ≡ length more = omega arith in rw n (take-length more)
 
--- words behind a test, of which the next is then or a body
+-- words after a test, of which the next is then or a body
 pub behind_then : (words : List (List ℕ)) (test word : List ℕ) → 2 ≤ length words →
     test ≡ get_or words 0 test → word ≡ get_or words 1 word →
     bytes_eq word (codes "then") ≡ true →

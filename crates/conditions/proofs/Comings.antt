@@ -1,4 +1,4 @@
--- What a command has come to whose loop may have begun turns.
+-- What is at hand of a command whose loop may have begun turns.
 use Rattle.std.proofs.Common.{◌≡◌, ◌∙◌, ℕ, List, Result, sym, ap, subst}
 use Rattle.conditions.specs.GoesOn.{Comes, GoesOn, here, reads, turning}
 use Rattle.state.specs.Prelude.{Ends, Course, Nests, Outcome, Reaches, Status, FitsState, outcome_of}
@@ -17,7 +17,7 @@ then_goes here more = more
 then_goes (reads tree is first) more = reads tree is (then_goes first more)
 then_goes (turning first) more = turning (then_goes first more)
 
--- texts that are read
+-- a course that reaches another by texts that are read goes on as that one
 pub reaches_goes : {p q : Course} → Reaches p q → GoesOn p q
 reaches_goes reaches.here = here
 reaches_goes (reaches.reads tree is more) = reads tree is (reaches_goes more)
@@ -32,7 +32,7 @@ module _ {A H : Type 0} (next : H → Status → Outcome → Course) (state : St
     goes = reaches_goes nests.reaches;
   }
 
-  -- it has ended so
+  -- the command has ended with this outcome
   pub comes_over : (r : Result (List ℕ) (Leave A)) (o : Outcome) (s : Status) (course : Course) →
       FitsState state s → outcome_of r ≡ o → course ≡ Ends (s, o) →
       Comes next (nesting.Has r) state course
@@ -43,7 +43,7 @@ module _ {A H : Type 0} (next : H → Status → Outcome → Course) (state : St
         (ends ∙ ap (λ (x : Outcome). let c : Course = Ends (s, x) in c) (sym is));
   }
 
-  -- so has what comes to it
+  -- where one course comes to what is at hand, so does any course that goes on as that one
   pub comes_after : (n : Nesting A H) (c d : Course) → GoesOn c d → Comes next n state d →
       Comes next n state c
   comes_after n c d first comes = record {
@@ -56,7 +56,8 @@ module _ {A H : Type 0} (next : H → Status → Outcome → Course) (state : St
       Comes next n state c
   comes_from n c d is comes = subst (λ x. Comes next n state x) (sym is) comes
 
--- what is at hand is the same course for a larger command, to which it is handed on
+-- where what is at hand has the same course for a larger command, a course that comes to the one
+-- comes to the other
 pub comes_lifted : {A H K : Type 0} (own : H → Status → Outcome → Course)
     (all : K → Status → Outcome → Course) (state : State A) (n : Nesting A H)
     (lifted : Nesting A K) (course : Course) →

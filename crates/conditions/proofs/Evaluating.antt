@@ -1,4 +1,4 @@
--- What expr comes to, where it is known whether it has words.
+-- What expr does first, where it is known whether it has words.
 use Rattle.std.proofs.Common.{◌≡◌, ℕ, suc, ◌==◌, true, false, List, [], ◌∷◌, length, refl, arith}
 use Rattle.std.specs.Prelude.{codes}
 use Rattle.std.proofs.lemmas.Bool.Decides.{nat_tests}

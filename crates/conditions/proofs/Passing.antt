@@ -1,4 +1,4 @@
--- What is passed on of what a script ends with.
+-- Which outcomes of a script are passed on.
 use Rattle.std.proofs.Common.{◌≡◌, ℕ, List, Err, refl}
 use Rattle.state.specs.Prelude.{Ends, Course, on_value, Status, outcome_of}
 use Rattle.state.specs.declared.outcome.Leave.{Leave}

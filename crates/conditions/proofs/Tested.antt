@@ -1,4 +1,4 @@
--- What if does behind a test, where it is known what that comes to.
+-- What if does after a test, where it is known what the test gave.
 use Rattle.std.proofs.Common.{◌≡◌, ◌∙◌, ℕ, ◌+◌, ◌<◌, ◌≤◌, true, false, List, ◌∷◌, map, sum_by, Option, refl, sym, ap, arith}
 use Rattle.std.proofs.lemmas.List.Sums.{sum_by-cons}
 use Rattle.std.specs.Prelude.{Vec}
@@ -22,19 +22,19 @@ use Rattle.words.specs.Words.{nested}
 
 module _ {A : Type 0} (levels : ℕ) (it : Test A) (body : List ℕ) (more : List Branch)
     (otherwise : Option (List ℕ)) (s : Status) where
-  -- it holds, and its body runs
+  -- the test holds, and its body runs
   pub test_holds : (text : List ℕ) → it ≡ test.Holds true → text ≡ body →
       course_of_test levels it (chosen levels body more otherwise) s
       ≡ within levels text s passes
   test_holds text is same = rw is (ap (λ b. within levels b s passes) (sym same))
 
-  -- it does not hold, and the branches behind it follow
+  -- the test does not hold, and the branches after it follow
   pub test_fails : it ≡ test.Holds false →
       course_of_test levels it (chosen levels body more otherwise) s
       ≡ chooses levels more otherwise s
   test_fails is = rw is refl
 
-  -- a script is met in it
+  -- a script is met in the test
   pub test_met : (commands : Rc (Vec (Command A) A) A) (place : OpenFormula A) →
       it ≡ test.Script commands place →
       course_of_test levels it (chosen levels body more otherwise) s
@@ -42,12 +42,12 @@ module _ {A : Type 0} (levels : ℕ) (it : Test A) (body : List ℕ) (more : Lis
       (resumed levels place (on_tested (chosen levels body more otherwise)))
   test_met commands place is = rw is refl
 
-  -- it is the script's error
+  -- the test raises an error
   pub test_raised : (fault : Fault A) → it ≡ test.Fault fault →
       course_of_test levels it (chosen levels body more otherwise) s ≡ raises (flaw_of fault) s
   test_raised fault is = rw is refl
 
--- the first of some branches is looked at next
+-- the first of some branches is examined next
 pub next_branch : {A : Type 0} (levels : ℕ) (all rest : List (coded.Branch A))
     (first : coded.Branch A) (otherwise : Option (List ℕ)) (text : List ℕ) (s : Status)
     (it : Test A) (p : Course) → all ≡ first ∷ rest → text ≡ first.test →
@@ -63,7 +63,7 @@ next_branch levels all rest first otherwise text s it p is same before test =
     ∙ ap (λ x. begun_test levels x s next) (sym same)))
     test)
 
--- behind a script in its test fewer scripts are left than in the tests of all
+-- after a script in its test fewer scripts are left than in the tests of all
 pub fewer_left : {A : Type 0} (all rest : List (coded.Branch A)) (first : coded.Branch A)
     (text : List ℕ) (behind most : ℕ) → all ≡ first ∷ rest → text ≡ first.test →
     behind < scripts_in_text text → sum_by (λ b. scripts_in_text b.test) all ≤ most →
@@ -75,7 +75,7 @@ fewer_left all rest first text behind most is same fewer within =
     let left : behind < scripts_in_text first.test = rw same at fewer in
     omega arith
 
--- the branches behind it have no more scripts in their tests
+-- the tests of the branches after the first have no more scripts than those of all
 pub no_more_left : {A : Type 0} (all rest : List (coded.Branch A)) (first : coded.Branch A)
     (most : ℕ) → all ≡ first ∷ rest → sum_by (λ b. scripts_in_text b.test) all ≤ most →
     sum_by (λ b. scripts_in_text b.test) rest ≤ most

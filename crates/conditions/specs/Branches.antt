@@ -19,11 +19,11 @@ with_branch test body more = record {
   otherwise = more.otherwise;
 }
 
--- no branch is left, and this is what stands behind the last one (if(n))
+-- no branches, and the last body, if there is one (if(n))
 abbrev pub no_branch : Option (List ℕ) → Branches
 no_branch otherwise = record { tests = []; otherwise = otherwise }
 
--- the one word that is left (if(n))
+-- the only one of these words (if(n))
 abbrev pub alone : List (List ℕ) → Option (List ℕ)
 alone (word ∷ []) = Some word
 alone _ = None
@@ -34,8 +34,8 @@ last_body [] = None
 last_body (word ∷ more) = if bytes_eq word (codes "else") then alone more else alone (word ∷ more)
 
 abbrev mutual
-  -- a test, then if it is there, a body, and what follows it; None where the words are no branches
-  -- (if(n))
+  -- a test, the word then if it is there, a body, and what follows the body; None where the words
+  -- are no branches (if(n))
   pub branches : List (List ℕ) → Option Branches
   branches [] = None
   branches (test ∷ []) = None
@@ -43,12 +43,12 @@ abbrev mutual
       if bytes_eq word (codes "then") then with_body test more
       else option_map (with_branch test word) (behind more)
 
-  -- behind a test and then stand a body, and what follows it (if(n))
+  -- after a test and the word then: a body, and what follows it (if(n))
   pub with_body : List ℕ → List (List ℕ) → Option Branches
   with_body test [] = None
   with_body test (body ∷ more) = option_map (with_branch test body) (behind more)
 
-  -- behind a body the words end, or elseif and a branch follow, or the last body (if(n))
+  -- after a body: no more words, or elseif and a branch, or the last body (if(n))
   pub behind : List (List ℕ) → Option Branches
   behind [] = Some (no_branch None)
   behind (word ∷ more) =

@@ -1,4 +1,5 @@
--- How the branches of the code, and what if holds, stand to those of the definition.
+-- How the branches of the code, and what the command if holds, correspond to those of the
+-- definition.
 use Rattle.std.specs.Prelude.{◌≡◌, ℕ, ◌+◌, ◌<◌, length, map, option_map, sum_by, Option, Some, None}
 use Rattle.state.specs.Prelude.{Course, on_value, Outcome, Status}
 use Rattle.conditions.specs.Branches.{Branch, Branches, branches, no_branch, with_branch, behind as after_body}
@@ -27,13 +28,13 @@ branches_of all = record {
   otherwise = all.otherwise;
 }
 
--- what stands behind a body in the code, as branches
+-- what stands after a body in the code, as branches
 abbrev pub behind_of : {A : Type 0} → Behind A → Option Branches
 behind_of (behind.Branches words) = branches words.now
 behind_of (behind.End last) = Some (no_branch (option_map (λ body. body.now) last))
 behind_of behind.Wrong = None
 
--- the branches there have fewer words than that
+-- further branches, if there are any, have fewer than n words
 abbrev pub HasFewerWords : {A : Type 0} → Behind A → ℕ → Type 0
 HasFewerWords (behind.Branches words) n = length words.now < n
 HasFewerWords (behind.End last) n = Unit {0}
@@ -45,7 +46,7 @@ IsFront None found = found ≡ None
 IsFront (Some front) found =
     found ≡ option_map (with_branch front.test.now front.body.now) (after_body front.behind.now)
 
--- the body behind the first test that holds, of branches of the code
+-- the body after the first test that holds, of branches of the code
 abbrev pub chosen_of : {A : Type 0} → ℕ → all.Branches A → Status → Course
 chosen_of levels all s = chooses levels (branches_of all).tests (branches_of all).otherwise s
 
@@ -63,8 +64,8 @@ next_of held.Body = passes
 abbrev pub scripts_in_tests : {A : Type 0} → all.Branches A → ℕ
 scripts_in_tests all = sum_by (λ b. scripts_in_text b.test) all.tests.items
 
--- the scripts that if may still run behind a script in a test: those that are left in that test,
--- those in the tests behind it, and a body
+-- the scripts that if may still run after a script in a test: those in the rest of that test, those
+-- in the tests after it, and a body
 abbrev pub scripts_tested : {A : Type 0} → Tested A → ℕ
 scripts_tested own = 1 + scripts_behind own.formula + scripts_in_tests own.branches
 

@@ -1,4 +1,4 @@
--- What if does.
+-- What the command if does.
 use Rattle.std.specs.Prelude.{ℕ, List, [], ◌∷◌, codes, Bool, Option, Some, None, if◌then◌else◌}
 use Rattle.state.specs.Prelude.{Ends, Course, gives, raises, within, Outcome, Status}
 use Rattle.acts.specs.Flaw as flaw
@@ -6,7 +6,7 @@ use Rattle.conditions.specs.Branches.{Branch, Branches, branches}
 use Rattle.conditions.specs.Formulas.{with_formula}
 use Rattle.evaluation.specs.Evaluated.{tested}
 
--- what a body leaves is what if leaves (if(n))
+-- the outcome of a body is that of the command if (if(n))
 abbrev pub passes : Status → Outcome → Course
 passes s o = Ends (s, o)
 
@@ -15,7 +15,7 @@ abbrev pub last : ℕ → Option (List ℕ) → Status → Course
 last levels None s = gives [] s
 last levels (Some body) s = within levels body s passes
 
--- the body behind the first test that holds; the tests behind it are not read (if(n))
+-- the body after the first test that holds; the tests after it are not read (if(n))
 abbrev pub chooses : ℕ → List Branch → Option (List ℕ) → Status → Course
 chooses levels [] otherwise s = last levels otherwise s
 chooses levels (branch ∷ more) otherwise s =
@@ -27,7 +27,8 @@ abbrev pub chosen : ℕ → List ℕ → List Branch → Option (List ℕ) → S
 chosen levels body more otherwise s holds =
     if holds then within levels body s passes else chooses levels more otherwise s
 
--- on with the branches, where the words are some (if(n))
+-- the first test that holds is looked for, where the words make branches; otherwise the command if
+-- raises its error (if(n))
 abbrev pub on_branches : ℕ → Option Branches → Status → Course
 on_branches levels None s = raises (flaw.WrongArgs (codes "if")) s
 on_branches levels (Some found) s = chooses levels found.tests found.otherwise s

@@ -25,6 +25,6 @@ told s value = gives (result value) s
 abbrev pub next_of : {A : Type 0} → Held A → Status → Outcome → Course
 next_of held = on_value (resumed held.levels held.formula.value told)
 
--- the scripts that are left in the formula
+-- the scripts in the rest of the formula
 abbrev pub scripts_held : {A : Type 0} → Held A → ℕ
 scripts_held held = scripts_behind held.formula.value

@@ -12,11 +12,12 @@ abbrev pub flaw_of_formula : FormulaFault → Flaw
 flaw_of_formula (of_words fault) = flaw_of_fault fault
 flaw_of_formula syntax = flaw.BadExpression
 
--- on with a formula, where a text is one; else the reason is the script's error (expr(n))
+-- what follows a formula, where the text is one; else the reason why it is none is the script's
+-- error (expr(n))
 abbrev pub on_formula : Status → (Formula → Course) → Result Formula FormulaFault → Course
 on_formula s next (Ok formula) = next formula
 on_formula s next (Err why) = raises (flaw_of_formula why) s
 
--- a text is read as a formula, and on with it (expr(n))
+-- a text is read as a formula, and then comes what follows that (expr(n))
 abbrev pub with_formula : List ℕ → Status → (Formula → Course) → Course
 with_formula text s next = Reads (FormulaText text) (on_formula s next)

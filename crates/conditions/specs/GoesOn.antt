@@ -7,8 +7,8 @@ use Rattle.state.specs.Piece.{Text, Tree}
 use Rattle.state.specs.declared.nesting.Nesting.{Nesting}
 use Rattle.state.specs.declared.state.State.{State}
 
--- the one goes on as the other, once some texts are read as trees that they have, and turns of
--- loops begin (this project's own rule)
+-- the first course continues as the second, once some texts are read as trees that they have, and
+-- some turns of loops begin (this project's own rule)
 pub data GoesOn : Course → Course → Type 0 where
   here : {p : Course} → GoesOn p p
   reads : {text : Text} (tree : Tree text) {next : Tree text → Course} {q : Course} →
@@ -16,7 +16,7 @@ pub data GoesOn : Course → Course → Type 0 where
   turning : {loop : LoopTree} {levels : ℕ} {s : Status} {q : Course} →
       GoesOn (turns loop levels s) q → GoesOn (again loop levels s) q
 
--- for some state that the code's fits, the course goes on as what is at hand
+-- for some status that the code's state fits, the course continues as what is at hand
 pub record Comes {A H : Type 0} (next : H → Status → Outcome → Course) (n : Nesting A H)
     (state : State A) (course : Course) : Type 0 where
   pub status : Status

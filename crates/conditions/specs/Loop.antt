@@ -7,7 +7,7 @@ use Rattle.state.specs.Dialogue.{tick}
 use Rattle.state.specs.Piece.{Loop}
 use Rattle.state.specs.Turn.{on_turn}
 
--- after the script that stands behind a turn comes the next turn; break ends the loop, and its
+-- after the script that stands after a turn comes the next turn; break ends the loop, and its
 -- value is empty; all else passes, continue too (for(n))
 abbrev pub on_step : (Status → Course) → Status → Outcome → Course
 on_step next s (Gives value) = next s
@@ -15,8 +15,8 @@ on_step next s (Leaves Break value) = gives [] s
 on_step next s (Leaves code value) = leaves code value s
 on_step next s (Stops stop) = stops stop s
 
--- behind a turn's body the script runs that stands there, if there is one, and then comes the next
--- turn (for(n))
+-- after a turn's body runs the script that stands after each turn, if there is one, and then comes
+-- the next turn (for(n))
 abbrev pub steps : Option ScriptTree → ℕ → (Status → Course) → Status → Course
 steps None levels next s = next s
 steps (Some step) levels next s = inside levels step s (on_step next)
@@ -25,7 +25,7 @@ steps (Some step) levels next s = inside levels step s (on_step next)
 abbrev pub again : LoopTree → ℕ → Status → Course
 again loop levels s = goes (Loop loop levels) s
 
--- behind a turn's body (while(n), for(n))
+-- what follows a turn's body (while(n), for(n))
 abbrev pub behind_body : LoopTree → ℕ → Status → Outcome → Course
 behind_body loop levels = on_turn (steps loop.step levels (again loop levels))
 

@@ -1,4 +1,4 @@
--- What for holds while a script of it runs.
+-- What the command for holds while a script of it runs.
 use Rattle.std.specs.Prelude.{◌≡◌, ℕ}
 use Rattle.state.specs.Prelude.{Course, on_value, Outcome, Status}
 use Rattle.conditions.specs.ForLoop.{started}
@@ -16,12 +16,13 @@ next_of (held.Start start) =
     on_value (started start.value.levels start.value.test start.value.step start.value.body)
 next_of (held.Turns own) = turning.next_of own
 
--- the scripts that it may still run without a tick before them
+-- the scripts that for may still run without a tick before them
 abbrev pub scripts_held : {A : Type 0} → Held A → ℕ
 scripts_held (held.Start start) = scripts_in_text start.value.test
 scripts_held (held.Turns own) = turning.scripts_held own
 
--- what is at hand of a loop's turns is the same course as one of for
+-- what is at hand of a loop's turns has the same course when it is handed on as what is at hand of
+-- for
 abbrev pub IsLifted : {A : Type 0} → Nesting A (turns.Held A) → Nesting A (Held A) → Type 0
 IsLifted nesting lifted =
     (s : Status) → course_of turning.next_of nesting s ≡ course_of next_of lifted s

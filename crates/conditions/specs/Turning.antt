@@ -1,4 +1,4 @@
--- How the loops of the code stand to those of the definition.
+-- How the loops of the code correspond to those of the definition.
 use Rattle.std.specs.Prelude.{ℕ, ◌+◌, option_map}
 use Rattle.state.specs.Prelude.{Course, on_value, tree_of, Outcome, LoopTree, Status}
 use Rattle.conditions.specs.Loop.{again, behind_body, on_step, turned}
@@ -34,8 +34,9 @@ next_of held = next_at (loop_of held.turns.value) held.turns.value.levels held.a
 abbrev pub scripts_tested : {A : Type 0} → Loop A → ℕ
 scripts_tested own = scripts_in (formula_of own.test)
 
--- the scripts that a loop may still run without a tick before them, by where it stands: behind its
--- body the step and those of the test, behind the step those of the test
+-- the scripts that a loop may still run without a tick before them, by where it stands: after its
+-- body the script that stands after each turn and those of the test, after that script those of the
+-- test
 abbrev pub scripts_at : {A : Type 0} → ℕ → At A → ℕ
 scripts_at tested (at.Test place) = scripts_behind place.value
 scripts_at tested at.Body = 2 + tested

@@ -9,13 +9,13 @@ use Rattle.formulas.specs.View.{formula_of}
 use Rattle.formulas.specs.declared.tree.Formula as coded
 use Rattle.tclparse.specs.Formula.{Formula}
 
--- a formula that was read, or the script's error
+-- the course after a formula that was read, or the script's error
 abbrev pub course_of_read : {A : Type 0} →
     Result (coded.Formula A) (Fault A) → Status → (Formula → Course) → Course
 course_of_read (Ok formula) s next = next (formula_of formula)
 course_of_read (Err fault) s next = raises (flaw_of fault) s
 
--- the scripts that stand in it are those of its text
+-- a formula that was read has as many scripts in it as its text
 abbrev pub IsWeighed : {A : Type 0} → Result (coded.Formula A) (Fault A) → List ℕ → Type 0
 IsWeighed (Ok formula) text = scripts_in (formula_of formula) ≡ scripts_in_text text
 IsWeighed (Err fault) text = Unit {0}

@@ -10,7 +10,7 @@ abbrev pub scripts_read : Result Formula FormulaFault → ℕ
 scripts_read (Ok formula) = scripts_in formula
 scripts_read (Err why) = 0
 
--- the scripts that stand in the formula that a text is; only how long a run lasts is measured by it
--- (this project's own rule)
+-- the scripts that stand in the formula that a text is; this number serves only to measure how long
+-- a run lasts (this project's own rule)
 abbrev pub scripts_in_text : List ℕ → ℕ
 scripts_in_text text = scripts_read (each_formula text).0

@@ -1,4 +1,4 @@
--- What while does.
+-- What the command while does.
 use Rattle.std.specs.Prelude.{ℕ, List, [], ◌∷◌, codes, None}
 use Rattle.state.specs.Prelude.{Reads, Course, raises, ScriptText, Status}
 use Rattle.acts.specs.Flaw as flaw
@@ -6,7 +6,7 @@ use Rattle.conditions.specs.Formulas.{with_formula}
 use Rattle.conditions.specs.Loop.{again}
 use Rattle.tclparse.specs.Formula.{Formula}
 
--- the loop of a test; its body is read once too (while(n))
+-- the loop with this test; its body too is read once (while(n))
 abbrev pub looped : ℕ → List ℕ → Status → Formula → Course
 looped levels body s test =
     Reads (ScriptText body) (λ tree.

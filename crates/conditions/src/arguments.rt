@@ -9,7 +9,7 @@ use state::Outcome;
 use state::outcome::raised;
 use std::alloc::Allocator;
 
-/// A command that was given another number of words than it takes.
+/// The error of a command that was given another number of words than it takes.
 pub(crate) fn wrong_args<A: Allocator + Copy>(
     alloc: A,
     command: &[u8],

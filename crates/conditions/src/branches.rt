@@ -24,7 +24,7 @@ pub struct Branches<A: Allocator> {
     pub otherwise: Option<Value<A>>,
 }
 
-/// A test and its body at the front of some words, and the words behind them.
+/// A test and its body at the front of some words, and the words after them.
 #[derive(Drop)]
 pub(crate) struct Front<'a, A: Allocator> {
     pub test: &'a Value<A>,
@@ -32,19 +32,19 @@ pub(crate) struct Front<'a, A: Allocator> {
     pub behind: &'a [Value<A>],
 }
 
-/// What stands behind a body.
+/// What stands after a body.
 #[derive(Drop)]
 pub(crate) enum Behind<'a, A: Allocator> {
     /// `elseif`, and branches from the next word on.
     Branches(&'a [Value<A>]),
     /// The end, with the last body, if there is one.
     End(Option<&'a Value<A>>),
-    /// Neither.
+    /// Neither: the words make no branches.
     Wrong,
 }
 
 impl<A: Allocator + Copy> Branches<A> {
-    /// The branches that the words behind `if` make; `None` where they make none.
+    /// The branches that the words after `if` make; `None` where they make none.
     pub(crate) fn read(alloc: A, words: &[Value<A>]) -> Result<Option<Branches<A>>, NoMemory>
         ensures { IfOk result (λ found.
             option_map (λ b. branches_of b) found ≡ definition.branches words.now) }
@@ -103,7 +103,7 @@ fn with_body<'a, A: Allocator>(test: &'a Value<A>, words: &'a [Value<A>]) -> Opt
     Some(Front { test, body, behind })
 }
 
-/// What stands behind a body.
+/// What stands after a body.
 fn read_behind<A: Allocator>(words: &[Value<A>]) -> Behind<'_, A>
     ensures behind { behind_of result ≡ definition.behind words.now }
     ensures fewer { HasFewerWords result (length words.now) }
@@ -130,7 +130,7 @@ fn last_body<A: Allocator>(words: &[Value<A>]) -> Option<&Value<A>>
     }
 }
 
-/// The one word that is left; `None` where there is another number.
+/// The only one of these words; `None` where there is none, or more than one.
 fn alone<A: Allocator>(words: &[Value<A>]) -> Option<&Value<A>>
     ensures { option_map (λ word. word.now) result ≡ definition.alone words.now }
 {

@@ -23,8 +23,8 @@ use tclparse::Command;
 use tclstate::Scopes;
 use tcltext::Value;
 
-/// A test behind a script in it: what is left of the test, its body, the branches behind it, and
-/// the levels that may still stand in the command.
+/// A test while a script in it runs: the rest of the test, its body, the branches after it, and how
+/// many levels may still be nested in the command.
 #[derive(Drop)]
 pub struct Tested<A: Allocator> {
     pub formula: OpenFormula<A>,
@@ -43,6 +43,9 @@ pub enum Held<A: Allocator> {
 }
 
 /// Reads the words, and looks for the first test that holds.
+///
+/// # Errors
+/// `NoMemory` where memory is refused.
 pub fn begin<A: Allocator + Copy>(
     alloc: A,
     state: &mut State<A>,
@@ -59,7 +62,10 @@ pub fn begin<A: Allocator + Copy>(
     }
 }
 
-/// Hands the command how a script of it ended.
+/// Continues the command after a script of it ended with this outcome.
+///
+/// # Errors
+/// `NoMemory` where memory is refused.
 pub fn resumed<A: Allocator + Copy>(
     alloc: A,
     state: &mut State<A>,
@@ -87,7 +93,7 @@ pub fn resumed<A: Allocator + Copy>(
     }
 }
 
-/// Goes on with a test, behind a script in it.
+/// Continues with a test after a script in it gave this value.
 fn on_with_test<A: Allocator + Copy>(
     alloc: A,
     scopes: &Scopes<A>,

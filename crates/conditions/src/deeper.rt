@@ -35,7 +35,7 @@ pub(crate) fn deeper<A: Allocator + Copy, H: Drop>(
     }
 }
 
-/// The same, of the commands of a script in a word.
+/// Runs the commands of a script that stands in a word, one level deeper.
 pub(crate) fn nested<A: Allocator + Copy, H: Drop>(
     alloc: A,
     commands: Rc<Vec<Command<A>, A>, A>,

@@ -20,7 +20,7 @@ use state::{Nesting, Outcome, State};
 use std::alloc::Allocator;
 use tcltext::Value;
 
-/// A formula behind a script in it, and the levels that may still stand in that.
+/// A formula while a script in it runs, and how many levels may still be nested in the formula.
 #[derive(Drop)]
 pub struct Held<A: Allocator> {
     pub formula: Box<OpenFormula<A>, A>,
@@ -28,6 +28,9 @@ pub struct Held<A: Allocator> {
 }
 
 /// Evaluates the formula that the words make.
+///
+/// # Errors
+/// `NoMemory` where memory is refused.
 pub fn begin<A: Allocator + Copy>(
     alloc: A,
     state: &mut State<A>,
@@ -51,7 +54,10 @@ pub fn begin<A: Allocator + Copy>(
     }
 }
 
-/// Goes on with the value of the script in the formula.
+/// Continues the formula after the script in it ended with this outcome.
+///
+/// # Errors
+/// `NoMemory` where memory is refused.
 pub fn resumed<A: Allocator + Copy>(
     alloc: A,
     state: &mut State<A>,

@@ -20,7 +20,7 @@ use std::alloc::Allocator;
 use std::rc::Rc;
 use tcltext::Value;
 
-/// The words behind `start`, while that runs, and the levels that may still stand in the loop.
+/// The words after `start` while that runs, and how many levels may still be nested in the loop.
 #[derive(Drop)]
 pub struct Start<A: Allocator> {
     pub test: Value<A>,
@@ -36,7 +36,10 @@ pub enum Held<A: Allocator> {
     Turns(turning::Held<A>),
 }
 
-/// Runs `start`.
+/// Runs `start`, the script before the first turn.
+///
+/// # Errors
+/// `NoMemory` where memory is refused.
 pub fn begin<A: Allocator + Copy>(
     alloc: A,
     state: &mut State<A>,
@@ -64,7 +67,10 @@ pub fn begin<A: Allocator + Copy>(
     deeper(alloc, script, levels, held)
 }
 
-/// Hands the loop how a script of it ended.
+/// Continues the loop after a script of it ended with this outcome.
+///
+/// # Errors
+/// `NoMemory` where memory is refused.
 pub fn resumed<A: Allocator + Copy>(
     alloc: A,
     state: &mut State<A>,
@@ -122,7 +128,7 @@ fn begin_turns<A: Allocator + Copy>(
     }
 }
 
-/// How far the turns of a loop have come, as how far `for` has.
+/// What the turns of a loop do next, as what `for` does next.
 fn lifted<A: Allocator>(nesting: Nesting<A, turning::Held<A>>) -> Nesting<A, Held<A>>
     ensures lifted { IsLifted nesting result }
     ensures advances { (new old most : ℕ) →

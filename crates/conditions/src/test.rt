@@ -17,14 +17,14 @@ use std::rc::Rc;
 use tclparse::Command;
 use tclstate::Scopes;
 
-/// What a test comes to.
+/// What the evaluation of a test gives.
 #[derive(Drop)]
 pub enum Test<A: Allocator> {
     /// Its truth value.
     Holds(bool),
-    /// A script, whose value goes into the formula.
+    /// A script that must run first, and whose value goes into the formula.
     Script(Rc<Vec<Command<A>, A>, A>, OpenFormula<A>),
-    /// The script's error.
+    /// The error that the test raises.
     Fault(Fault<A>),
 }
 
@@ -48,7 +48,8 @@ pub(crate) fn of_text<A: Allocator + Copy>(
     }
 }
 
-/// Asks what a formula comes to for its truth value.
+/// Takes a formula's value as a truth value; a script or an error in the formula stays one of the
+/// test.
 pub(crate) fn of_evaluated<A: Allocator + Copy>(
     alloc: A,
     evaluated: Evaluated<A>,

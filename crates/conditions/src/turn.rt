@@ -9,7 +9,7 @@ use state::{Code, Leave, Outcome};
 use std::alloc::Allocator;
 use tcltext::Value;
 
-/// How a loop ends behind its body; none where it goes on (break(n); continue(n)).
+/// How a loop ends after its body; `None` where it continues (break(n); continue(n)).
 pub fn end_behind_body<A: Allocator>(outcome: Outcome<A>) -> Option<Outcome<A>>
     ensures { (next : Status → Course) (s : Status) →
         let course = on_turn next s (outcome_of outcome) in
@@ -26,7 +26,8 @@ pub fn end_behind_body<A: Allocator>(outcome: Outcome<A>) -> Option<Outcome<A>>
     }
 }
 
-/// How a loop ends behind the script that stands behind each turn; none where it goes on (for(n)).
+/// How a loop ends after the script that stands after each turn; `None` where it continues
+/// (for(n)).
 pub(crate) fn end_behind_step<A: Allocator>(outcome: Outcome<A>) -> Option<Outcome<A>>
     ensures { (next : Status → Course) (s : Status) →
         let course = on_step next s (outcome_of outcome) in

@@ -1,4 +1,4 @@
-//! Loops from a turn on: `while`, and `for` behind its start (while(n), for(n)).
+//! Loops from a turn on: `while`, and `for` after its start (while(n), for(n)).
 
 ghost use Rattle.std.specs.Prelude.{◌≡◌, ◌≤◌, ◌+◌, ℕ, IfOk};
 ghost use Rattle.state.specs.Prelude.{inside, on_value, Status, FitsState, outcome_of};
@@ -25,8 +25,8 @@ use std::rc::Rc;
 use tclparse::Script;
 use tcltext::Value;
 
-/// A loop: its test, its body, the script that stands behind each turn, if there is one, and the
-/// levels that may still stand in it.
+/// A loop: its test, its body, the script that stands after each turn, if there is one, and how
+/// many levels may still be nested in the loop.
 #[derive(Drop)]
 pub struct Loop<A: Allocator> {
     pub test: Formula<A>,
@@ -38,11 +38,11 @@ pub struct Loop<A: Allocator> {
 /// Where a loop stands while a script of it runs.
 #[derive(Drop)]
 pub enum At<A: Allocator> {
-    /// In a script in its test, with what is left of that.
+    /// In a script in its test, with the rest of the test.
     Test(Box<OpenFormula<A>, A>),
     /// In its body.
     Body,
-    /// In the script that stands behind each turn.
+    /// In the script that stands after each turn.
     Step,
 }
 
@@ -70,7 +70,7 @@ pub(crate) fn turn<A: Allocator + Copy>(
     on_test(alloc, state, turns, test)
 }
 
-/// Goes on with what a turn's test comes to.
+/// Continues with the result of a turn's test.
 fn on_test<A: Allocator + Copy>(
     alloc: A,
     state: &mut State<A>,
@@ -121,7 +121,10 @@ fn run_body<A: Allocator + Copy>(
     deeper(alloc, body, levels, Held { turns, at })
 }
 
-/// Hands a loop how a script of it ended.
+/// Continues a loop after a script of it ended with this outcome.
+///
+/// # Errors
+/// `NoMemory` where memory is refused.
 pub fn resumed<A: Allocator + Copy>(
     alloc: A,
     state: &mut State<A>,
@@ -142,7 +145,7 @@ pub fn resumed<A: Allocator + Copy>(
     }
 }
 
-/// Goes on with the test of a turn, behind a script in it.
+/// Continues with the test of a turn after a script in it ended with this outcome.
 fn on_with_test<A: Allocator + Copy>(
     alloc: A,
     state: &mut State<A>,
@@ -170,7 +173,8 @@ fn on_with_test<A: Allocator + Copy>(
     }
 }
 
-/// Goes on behind the body of a turn: with the script that stands there, or with the next turn.
+/// Continues after the body of a turn, with the script that stands after each turn or with the next
+/// turn, unless the outcome ends the loop.
 fn behind_turn<A: Allocator + Copy>(
     alloc: A,
     state: &mut State<A>,
@@ -190,7 +194,8 @@ fn behind_turn<A: Allocator + Copy>(
     }
 }
 
-/// Goes on behind the script that stands behind each turn: with the next turn.
+/// Continues after the script that stands after each turn, with the next turn, unless the outcome
+/// ends the loop.
 fn behind_step<A: Allocator + Copy>(
     alloc: A,
     state: &mut State<A>,
@@ -210,7 +215,7 @@ fn behind_step<A: Allocator + Copy>(
     }
 }
 
-/// Runs the script that stands behind each turn, or begins the next turn.
+/// Runs the script that stands after each turn, or begins the next turn.
 fn step<A: Allocator + Copy>(
     alloc: A,
     state: &mut State<A>,

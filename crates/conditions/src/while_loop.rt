@@ -17,6 +17,9 @@ use std::rc::Rc;
 use tcltext::Value;
 
 /// Reads the test and the body, and begins the first turn.
+///
+/// # Errors
+/// `NoMemory` where memory is refused.
 pub fn begin<A: Allocator + Copy>(
     alloc: A,
     state: &mut State<A>,

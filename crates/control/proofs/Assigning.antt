@@ -15,7 +15,7 @@ pub assigned_named : (word name : List ℕ) (index : Option (List ℕ)) (value :
     assigned word value s next ≡ writes name index value s next
 assigned_named word name index value s next is = rw is refl
 
--- the one at a place takes its element, and those behind it take theirs
+-- the variable at a place takes its element, and those after it take theirs
 pub next_dealt : (names : List (List ℕ)) (i : ℕ) (name word value : List ℕ)
     (elements left : List (List ℕ)) → i < length names → name ≡ get_or names i name →
     word ≡ name → value ≡ first_of elements → left ≡ drop 1 elements →
@@ -30,20 +30,21 @@ pub next_row : {A : Type 0} (pairs : List (coded.Pair A)) (i : ℕ) (pair : code
 next_row pairs i pair lt is =
     ap (λ ps. row (map (λ p. pair_of p) ps)) (split_at pairs i pair lt is)
 
--- some are set, and then the others
+-- some variables are set, and then the others
 assigns_append : (first rest : List (List ℕ × List ℕ)) (s : Status) (next : Status → Course) →
     assigns (first ++ rest) s next ≡ assigns first s (λ t. assigns rest t next)
 assigns_append [] rest s next = refl
 assigns_append (a ∷ first) rest s next = simp (assigns_append first rest)
 
--- for some state that the code's fits, the rest of what is set is left to be set
+-- for some state of the definition that the code's state fits, the rest of all that is to be set
+-- is still to be set
 pub record Leaves {A : Type 0} (state : State A) (s : Status) (all rest : List (List ℕ × List ℕ)) :
     Type 0 where
   pub status : Status
   pub fits : FitsState state status
   pub same : (next : Status → Course) → assigns all s next ≡ assigns rest status next
 
--- the same rest
+-- an equal rest may stand for it
 pub leaves_as : {A : Type 0} (state : State A) (s : Status)
     (all rest other : List (List ℕ × List ℕ)) → rest ≡ other → Leaves state s all rest →
     Leaves state s all other
@@ -51,7 +52,7 @@ leaves_as state s all rest other is l = rw is at l
 
 module _ {A : Type 0} (old new : State A) (s : Status) (all first rest : List (List ℕ × List ℕ))
     (told : Option (Fault A)) (l : Leaves old s all (first ++ rest)) where
-  -- some more are set
+  -- some more variables are set
   pub leaves_more : told ≡ None → Assigned told new (assigns first l.status) → Leaves new s all rest
   leaves_more none set =
       let done = rw none at set in
@@ -62,7 +63,7 @@ module _ {A : Type 0} (old new : State A) (s : Status) (all first rest : List (L
             ∙ done.same (λ t. assigns rest t next);
       }
 
-  -- one can't be set, and that is how all of it ends
+  -- a variable can't be set, and with that error all of it ends
   pub leaves_fault : (fault : Fault A) → told ≡ Some fault →
       Assigned told new (assigns first l.status) → Assigned (Some fault) new (assigns all s)
   leaves_fault fault some set =
@@ -74,7 +75,7 @@ module _ {A : Type 0} (old new : State A) (s : Status) (all first rest : List (L
             ∙ done.same (λ t. assigns rest t next);
       }
 
--- where nothing is left, all is set
+-- where no variable is left to be set, all are set
 pub all_set : {A : Type 0} (state : State A) (s : Status) (all rest : List (List ℕ × List ℕ)) →
     rest ≡ [] → Leaves state s all rest → Assigned None state (assigns all s)
 all_set state s all rest none l = record {

@@ -1,5 +1,5 @@
--- What holds of each call and of each command that runs scripts, where it holds of all that is put
--- together so.
+-- A property that is closed under the steps of which courses are made holds of each call and of
+-- each command that runs scripts.
 use Rattle.std.proofs.Common.{ℕ, List, [], ◌∷◌, Option, Some, None, refl}
 use Rattle.conditions.proofs.Closed.{conditional_closed, expr_closed, for_closed, while_closed}
 use Rattle.control.specs.Calls.{call, ended, frame_of, returned, runs_with}

@@ -1,4 +1,4 @@
--- What a call comes to, where it is known what its words are and how its body ended.
+-- What a call does, where it is known what its words are and how its body ended.
 use Rattle.std.proofs.Common.{◌≡◌, ℕ, ◌≤◌, List, [], ◌∷◌, length, drop, Bool, false, Option, Some, None, option_map, refl, ap, arith}
 use Rattle.std.proofs.Math.ListN.{drop_of_length-le}
 use Rattle.acts.specs.Flaw as flaw
@@ -20,7 +20,7 @@ one_given name value None frame = refl
 one_given name value (Some others) frame = refl
 
 module _ (rest : Bool) (f : Formal) (fs : List Formal) (words : List (List ℕ)) (frame : Frame) where
-  -- a formal has what it takes, and the others go on
+  -- a formal takes its value, and the formals after it take theirs
   pub next_given : (value : List ℕ) → taken f words ≡ Some value →
       all_given (values_of rest (f ∷ fs) words) frame
       ≡ all_given (values_of rest fs (behind words)) (put frame f.name (Text value))
@@ -30,14 +30,14 @@ module _ (rest : Bool) (f : Formal) (fs : List Formal) (words : List (List ℕ))
   pub none_given : taken f words ≡ None → all_given (values_of rest (f ∷ fs) words) frame ≡ None
   none_given is = rw is refl
 
--- behind the last formal the words that are left count
+-- after the last formal only the remaining words count
 pub ended_given : (rest : Bool) (fs : List Formal) (i : ℕ) (words : List (List ℕ))
     (frame : Frame) → length fs ≤ i →
     all_given (values_of rest (drop i fs) words) frame ≡ all_given (rest_of rest words) frame
 ended_given rest fs i words frame over =
     ap (λ l. all_given (values_of rest l words) frame) (drop_of_length-le fs {i = i} over)
 
--- words are left that no formal takes
+-- words remain that no formal takes
 pub none_left : (rest : Bool) (words : List (List ℕ)) (frame : Frame) → rest ≡ false →
     1 ≤ length words → all_given (rest_of rest words) frame ≡ None
 none_left rest [] frame is some = absurd (omega arith)

@@ -1,4 +1,4 @@
--- What catch comes to, where it is known what its words are.
+-- What catch does, where it is known what its words are.
 use Rattle.std.proofs.Common.{◌≡◌, ℕ, List, [], ◌∷◌, length, Option, Some, None, Result, Ok, Err, IfOk, refl}
 use Rattle.std.specs.Prelude.{codes, decimal}
 use Rattle.acts.specs.Flaw as flaw
@@ -12,7 +12,7 @@ use Rattle.state.specs.declared.state.State.{State}
 use Rattle.state.specs.Variables.{writes}
 use Rattle.tclparse.specs.Variable.{named}
 
--- what holds of a value holds of another where the one gives the other
+-- where P implies Q, a result whose value has P has a value that has Q
 pub on_ok : {X E : Type 0} (r : Result X E) {P Q : X → Type 0} → ((x : X) → P x → Q x) →
     IfOk r P → IfOk r Q
 on_ok (Ok x) each holds = each x holds
@@ -51,7 +51,7 @@ catch_other levels (a ∷ []) s one two = absurd (one refl)
 catch_other levels (a ∷ b ∷ []) s one two = absurd (two refl)
 catch_other levels (a ∷ b ∷ c ∷ more) s one two = refl
 
--- with another number of words it is over with that error
+-- with another number of words catch is over with this error
 pub catch_other_nests : {A : Type 0} (state : State A) (levels : ℕ) (args : List (List ℕ))
     (s : Status) (r : Result (List ℕ) (Leave A)) → FitsState state s → (length args ≡ 1 → ⊥) →
     (length args ≡ 2 → ⊥) → outcome_of r ≡ Leaves Error (text_of (flaw.WrongArgs (codes "catch"))) →

@@ -1,4 +1,4 @@
--- What the patterns and bodies of switch come to.
+-- What switch does with its patterns and bodies.
 use Rattle.std.proofs.Common.{◌≡◌, ◌∙◌, ◌↔◌, ℕ, zero, suc, ◌-◌, ◌%◌, ◌≤◌, ◌<◌, ◌==◌, List, [], ◌∷◌, length, drop, take, get_or, Bool, true, false, IsTrue, Option, Some, None, refl, sym, ap, arith}
 use Rattle.std.specs.Prelude.{codes, nat_lt, slice_get, if◌then◌else◌}
 use Rattle.std.specs.Str.{bytes_eq}
@@ -48,7 +48,7 @@ module _ (last : List ℕ) where
   odd_left [] is odd = absurd (omega arith)
   odd_left (a ∷ arms) is odd = odd_over (a ∷ arms) (length (a ∷ arms) - 1) last (omega arith) is odd
 
-  -- the last of an even number is, where it is a body that has none to share
+  -- the last of an even number is left over where it is a `-` that has no body to share
   pub even_left : (arms : List (List ℕ)) → Some last ≡ slice_get arms (length arms - 1) →
       (length arms % 2 ≡ 1 → ⊥) → left_over arms ≡ (if is_shared last then Some last else None)
   even_left [] is even = absurd (cc)
@@ -61,7 +61,7 @@ module _ (pattern text : List ℕ) (s : Status) (next : Bool → Course) (mode :
       takes mode pattern text s next ≡ next holds
   exact_takes holds is says = rw is (ap next (sym says))
 
-  -- a glob that is not too long is held against the text
+  -- a glob that is not too long is matched against the text
   pub glob_takes : (p : Reading) (holds : Bool) → mode ≡ Glob → (1000000 < length pattern → ⊥) →
       p ≡ plain pattern → IsTrue holds ↔ Whole p.items text →
       Reaches (takes mode pattern text s next) (next holds)
@@ -83,7 +83,7 @@ module _ (pattern text : List ℕ) (s : Status) (next : Bool → Course) (mode :
   default_takes more named last = rw (named, last) refl
 
 module _ (mode : Mode) (text : List ℕ) (s : Status) (next : Option (List ℕ) → Course) where
-  -- a pattern with its body, and those behind it
+  -- a pattern with its body, and those after it
   pub chosen_next : (arms : List (List ℕ)) (item pattern : List ℕ) → 2 ≤ length arms →
       item ≡ get_or arms 0 item → pattern ≡ item → chosen mode text arms s next
       ≡ tried (is_default pattern (take (length arms - 2) (drop 2 arms))) mode pattern text s
@@ -107,14 +107,14 @@ module _ (mode : Mode) (text : List ℕ) (s : Status) (next : Option (List ℕ) 
       else chosen mode text (take (length (a ∷ b ∷ more) - 2) more) s next))
       (sym bodies)
 
-  -- behind the last pattern none is left
+  -- after the last pattern none is left
   pub chosen_over : (arms : List (List ℕ)) → length arms < 2 →
       chosen mode text arms s next ≡ next None
   chosen_over [] few = refl
   chosen_over (a ∷ []) few = refl
   chosen_over (a ∷ b ∷ more) few = absurd (omega arith)
 
--- the one or the other, where it is known which
+-- the one branch or the other, where it is known which
 pub one_of : (test : Bool) (one other known : Course) → test ≡ true → known ≡ one →
     (if test then one else other) ≡ known
 one_of test one other known is same = rw is (sym same)
@@ -134,7 +134,7 @@ module _ (levels : ℕ) (mode : Mode) (text : List ℕ) (arms : List (List ℕ))
       on_arms levels mode text arms s ≡ chosen mode text arms s (runs_body levels s)
   arms_tried is = rw is refl
 
--- too few words, one list behind the text, or patterns and bodies
+-- too few words, one list after the text, or patterns and bodies
 pub words_few : (levels : ℕ) (mode : Mode) (words : List (List ℕ)) (s : Status) →
     length words < 2 → on_words levels mode words s ≡ wrong_words s
 words_few levels mode [] s few = refl
@@ -168,7 +168,7 @@ words_arms levels mode (a ∷ b ∷ c ∷ more) s item text three is same =
     ap (λ t. on_arms levels mode t (b ∷ c ∷ more) s) (sym (same ∙ is))
     ∙ ap (λ ws. on_arms levels mode text ws s) (sym rest)
 
--- no word behind the flags, or a wrong one
+-- no word after the flags, or a wrong one
 pub behind_none : (levels : ℕ) (mode : Mode) (words : List (List ℕ)) (s : Status) →
     length words ≡ 0 → behind_flag levels mode words s ≡ wrong_words s
 behind_none levels mode [] s none = refl

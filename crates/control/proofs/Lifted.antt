@@ -1,4 +1,4 @@
--- What one command has come to, as one of all commands.
+-- How far one command has come, seen as one of all commands.
 use Rattle.std.proofs.Common.{◌≡◌}
 use Rattle.conditions.proofs.Comings.{comes_lifted, nests_comes}
 use Rattle.conditions.specs.GoesOn.{Comes}

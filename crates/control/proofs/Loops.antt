@@ -1,4 +1,4 @@
--- What holds of foreach, where it holds of all that is put together so.
+-- A property that is closed under the steps of which courses are made holds of foreach.
 use Rattle.std.proofs.Common.{ℕ, List, [], ◌∷◌, ◌++◌, length, Bool, true, false, is_some, refl}
 use Rattle.std.specs.List.{list_all}
 use Rattle.std.specs.Prelude.{codes, if◌then◌else◌}

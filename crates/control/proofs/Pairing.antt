@@ -1,4 +1,4 @@
--- What the words of foreach come to, read from left to right.
+-- What foreach does with its words, read from left to right.
 use Rattle.std.proofs.Common.{◌≡◌, ◌∙◌, ℕ, ◌-◌, ◌≤◌, List, [], ◌∷◌, ◌++◌, length, drop, take, get_or, max, false, refl, sym, ap, arith}
 use Rattle.std.proofs.Math.Seq.{take-length}
 use Rattle.control.specs.Foreach.{Pair, asked, foreach, is_taken, most_asked, with_pair, with_pairs, wrong_words}
@@ -9,13 +9,13 @@ use Rattle.state.specs.Prelude.{Course, Status}
 pub greater : (a b : ℕ) → ord_max nat_cmp a b ≡ max a b
 greater a b = grind arith
 
--- one pair more asks for its turns
+-- how many turns are asked for with one pair more
 pub most_behind : (pairs : List Pair) (p : Pair) →
     most_asked (pairs ++ p ∷ []) ≡ max (most_asked pairs) (asked p)
 most_behind [] p = omega arith
 most_behind (q ∷ pairs) p = omega (arith, most_behind pairs p)
 
--- no word is no body
+-- without a word there is no body
 pub pairs_wrong : (words : List (List ℕ)) (pairs : List Pair) (s : Status)
     (next : List Pair → List ℕ → Course) → length words ≡ 0 →
     with_pairs words pairs s next ≡ wrong_words s
@@ -30,7 +30,7 @@ pairs_body [] pairs s next body text one first same = absurd (omega arith)
 pairs_body (w ∷ []) pairs s next body text one first same = rw (same, first) refl
 pairs_body (w ∷ v ∷ ws) pairs s next body text one first same = absurd (omega arith)
 
--- before it stand two words for each pair
+-- before the body stand two words for each pair
 pub pairs_begin : (words : List (List ℕ)) (pairs : List Pair) (s : Status)
     (next : List Pair → List ℕ → Course) (variables list first second : List ℕ) →
     2 ≤ length words → variables ≡ get_or words 0 variables → list ≡ get_or words 1 list →
@@ -48,7 +48,7 @@ pairs_begin (a ∷ b ∷ ws) pairs s next v l f g two is also same alike =
     (sym (alike ∙ also))
     ∙ ap (λ xs. with_pair f g s (λ pair. with_pairs xs (pairs ++ pair ∷ []) s next)) (sym rest)
 
--- another number of words
+-- foreach is given another number of words than it takes
 pub foreach_other : (levels : ℕ) (words : List (List ℕ)) (s : Status) →
     is_taken (length words) ≡ false → foreach levels words s ≡ wrong_words s
 foreach_other levels words s other = rw other refl

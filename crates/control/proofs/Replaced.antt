@@ -3,7 +3,8 @@ use Rattle.std.proofs.Common.{◌≡◌, ◌∙◌, ℕ, zero, suc, ◌+◌, ◌
 use Rattle.std.proofs.Math.ListN.{set}
 
 module _ {X Y : Type 0} (f : X → Y) (g : Y → Y) where
-  -- where the one at a place has changed as all are to change, those behind it are left to change
+  -- where the element at a place has changed as all are to change, those after it are still to
+  -- change
   pub replaced : (xs : List X) (i : ℕ) (x y : X) → i < length xs → x ≡ get_or xs i x →
       f y ≡ g (f x) →
       map f (take (i + 1) (set xs i y)) ++ map g (map f (drop (i + 1) (set xs i y)))

@@ -1,4 +1,4 @@
--- What holds of switch, where it holds of all that is put together so.
+-- A property that is closed under the steps of which courses are made holds of switch.
 use Rattle.std.proofs.Common.{ℕ, List, [], ◌∷◌, length, Bool, true, false, Option, Some, None, refl}
 use Rattle.std.specs.Prelude.{codes, nat_le, nat_lt, if◌then◌else◌}
 use Rattle.std.specs.Str.{bytes_eq}

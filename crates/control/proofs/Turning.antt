@@ -1,4 +1,4 @@
--- What the turns of a loop come to.
+-- What the turns of a loop do.
 use Rattle.std.proofs.Common.{◌≡◌, ℕ, suc, List, [], map, refl}
 use Rattle.control.specs.Foreach.{Pair, assigns, behind, row, rows, turns}
 use Rattle.state.specs.Turn.{on_turn}
@@ -24,7 +24,7 @@ module _ (levels : ℕ) (body : ScriptTree) (n : ℕ) (pairs : List Pair) (s : S
   pub turns_over : n ≡ 0 → turns levels body (rows n pairs) s ≡ gives [] s
   turns_over is = rw is refl
 
-  -- one turn, and those behind it
+  -- one turn, and those after it
   pub turns_next : (m : ℕ) → n ≡ suc m → turns levels body (rows n pairs) s
       ≡ assigns (row pairs) s (λ t. tick t (λ u.
       inside levels body u (on_turn (turns levels body (rows m (map behind pairs))))))

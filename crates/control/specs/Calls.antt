@@ -18,18 +18,18 @@ abbrev pub taken : Formal → List (List ℕ) → Option (List ℕ)
 taken f [] = f.default
 taken f (w ∷ ws) = Some w
 
--- the words behind the next one
+-- the words after the next one
 abbrev pub behind : List (List ℕ) → List (List ℕ)
 behind [] = []
 behind (w ∷ ws) = ws
 
--- one name more with its value, where all have one
+-- one more name with its value, where the name and all the others have one
 abbrev pub with_value : List ℕ → Option (List ℕ) → Option Values → Option Values
 with_value name None values = None
 with_value name (Some value) None = None
 with_value name (Some value) (Some values) = Some ((name, value) ∷ values)
 
--- a last args takes the words that are left, as a list; without it none may be left (proc(n))
+-- a last args takes the remaining words as a list; without it no word may remain (proc(n))
 abbrev pub rest_of : Bool → List (List ℕ) → Option Values
 rest_of true words = Some ((args, canonical words) ∷ [])
 rest_of false [] = Some []
@@ -41,7 +41,7 @@ abbrev pub values_of : Bool → List Formal → List (List ℕ) → Option Value
 values_of rest [] words = rest_of rest words
 values_of rest (f ∷ fs) words = with_value f.name (taken f words) (values_of rest fs (behind words))
 
--- the names get their values in turn, so that of one name twice the last counts (proc(n))
+-- the names get their values in turn, so that a name that stands twice has its last value (proc(n))
 abbrev pub given : Values → Frame → Frame
 given [] frame = frame
 given (v ∷ vs) frame = given vs (put frame v.0 (Text v.1))
@@ -51,8 +51,8 @@ abbrev pub frame_of : List Formal → List (List ℕ) → Option Frame
 frame_of formals words =
     option_map (λ values. given values []) (values_of (takes_rest formals) (single formals) words)
 
--- how a call ends, by how its body ended: with the body's value or what it returns; where it breaks
--- or continues, no loop is around it (proc(n); return(n), break(n), continue(n))
+-- how a call ends, given how its body ended: with the body's value or what it returns; a break or a
+-- continue is an error, since no loop is around it (proc(n); return(n), break(n), continue(n))
 abbrev pub ended : Outcome → Outcome
 ended (Gives value) = Gives value
 ended (Leaves Error text) = Leaves Error text
@@ -63,17 +63,17 @@ ended (Leaves Again value) = Leaves Again value
 ended (Leaves AgainRunning value) = Leaves AgainRunning value
 ended (Stops stop) = Stops stop
 
--- the variables of the call go, however its body ended (proc(n))
+-- the variables of the call are removed, however its body ended (proc(n))
 abbrev pub returned : Status → Outcome → Course
 returned s o = Ends (record s { scopes = popped s.scopes }, ended o)
 
--- the body runs one level deeper with the variables of the call, where it has them (proc(n))
+-- the body runs one level deeper with the variables of the call, if its words fit (proc(n))
 abbrev pub runs_with : Option Frame → ℕ → List ℕ → List ℕ → Status → Course
 runs_with None levels name body s = raises (flaw.WrongArgs name) s
 runs_with (Some frame) levels name body s =
     within levels body (record s { scopes = entered frame s.scopes }) returned
 
--- a procedure is called by its name, with the words behind it (proc(n))
+-- a procedure is called by its name, with the words after it (proc(n))
 abbrev pub call : ℕ → List ℕ → Procedure → List (List ℕ) → Status → Course
 call levels name procedure words s =
     runs_with (frame_of procedure.formals words) levels name procedure.body s

@@ -14,14 +14,14 @@ number_of Continue = 4
 number_of Again = 5
 number_of AgainRunning = 5
 
--- the value is a code's number, after what came with the code is stored, if there is a variable
--- (catch(n))
+-- the value is a code's number, after the value that came with the code is stored, if there is a
+-- variable (catch(n))
 abbrev pub stores_in : Option (List ℕ) → ℕ → List ℕ → Status → Course
 stores_in None number value s = gives (decimal number) s
 stores_in (Some word) number value s =
     with_name word s (λ name index. writes name index value s (gives (decimal number)))
 
--- all that a script may end with is caught, but a stop (catch(n))
+-- whatever a script may end with is caught, except a stop (catch(n))
 abbrev pub caught : Option (List ℕ) → Status → Outcome → Course
 caught word s (Gives value) = stores_in word 0 value s
 caught word s (Leaves code value) = stores_in word (number_of code) value s

@@ -26,7 +26,7 @@ named name =
     else if bytes_eq name (codes "while") then Some control.While
     else None
 
--- what a command does with the words behind its name, in which so many levels may still stand
+-- what a command does with the words after its name, in which this many levels may still nest
 abbrev pub does : Control → ℕ → List (List ℕ) → Status → Course
 does control.Catch levels args s = catch levels args s
 does control.Eval levels args s = eval levels args s

@@ -1,6 +1,7 @@
 -- The commands that run scripts.
 
--- one for each name (catch(n), eval(n), expr(n), for(n), foreach(n), if(n), switch(n), while(n))
+-- a command for each name (catch(n), eval(n), expr(n), for(n), foreach(n), if(n), switch(n),
+-- while(n))
 pub data Control : Type 0 where
   Catch : Control
   Eval : Control

@@ -25,7 +25,7 @@ abbrev pub dealt : List (List ℕ) → List (List ℕ) → List (List ℕ × Lis
 dealt [] elements = []
 dealt (n ∷ ns) elements = (n, first_of elements) ∷ dealt ns (drop 1 elements)
 
--- a pair behind a turn, in which each of its variables took an element (foreach(n))
+-- a pair after a turn, in which each of its variables took an element (foreach(n))
 abbrev pub behind : Pair → Pair
 behind p = record { names = p.names; elements = drop (length p.names) p.elements }
 
@@ -33,7 +33,7 @@ behind p = record { names = p.names; elements = drop (length p.names) p.elements
 abbrev pub row : List Pair → List (List ℕ × List ℕ)
 row pairs = flat_map (λ p. dealt p.names p.elements) pairs
 
--- the same in so many turns
+-- what the variables of all pairs are set to in each of this many turns
 abbrev pub rows : ℕ → List Pair → List (List (List ℕ × List ℕ))
 rows zero pairs = []
 rows (suc turns) pairs = row pairs ∷ rows turns (map behind pairs)
@@ -42,12 +42,12 @@ rows (suc turns) pairs = row pairs ∷ rows turns (map behind pairs)
 abbrev pub asked : Pair → ℕ
 asked p = div_ceil (length p.elements) (length p.names)
 
--- there are as many turns as the pair asks for that asks for most (foreach(n))
+-- there are as many turns as the pair asks for that asks for the most (foreach(n))
 abbrev pub most_asked : List Pair → ℕ
 most_asked [] = 0
 most_asked (p ∷ pairs) = max (asked p) (most_asked pairs)
 
--- a variable is set, and on where it could be (set(n))
+-- a variable is set, and the script continues where it could be set (set(n))
 abbrev pub assigned : List ℕ → List ℕ → Status → (Status → Course) → Course
 assigned word value s next = with_name word s (λ name index. writes name index value s next)
 
@@ -68,7 +68,7 @@ abbrev pub begins : ℕ → Status → List Pair → List ℕ → Course
 begins levels s pairs body =
     Reads (ScriptText body) (λ tree. turns levels tree (rows (most_asked pairs) pairs) s)
 
--- on with the names, where there are some and each names a variable (foreach(n); set(n))
+-- the names are used where there is at least one and each names a variable (foreach(n); set(n))
 abbrev pub on_names : List ℕ → List (List ℕ) → Status → (List (List ℕ) → Course) → Course
 on_names word [] s next = raises (flaw.BadArgument word (codes "foreach")) s
 on_names word (n ∷ ns) s next =
@@ -79,7 +79,7 @@ on_names word (n ∷ ns) s next =
 abbrev pub with_names : List ℕ → Status → (List (List ℕ) → Course) → Course
 with_names word s next = with_list word s (λ names. on_names word names s next)
 
--- two words are read, as the variables and as the list of their elements (foreach(n))
+-- two words are read: one as the variables, one as the list of their elements (foreach(n))
 abbrev pub with_pair : List ℕ → List ℕ → Status → (Pair → Course) → Course
 with_pair variables list s next = with_names variables s (λ names.
     with_list list s (λ elements. next (record { names = names; elements = elements })))
@@ -88,7 +88,7 @@ with_pair variables list s next = with_names variables s (λ names.
 abbrev pub wrong_words : Status → Course
 wrong_words s = raises (flaw.WrongArgs (codes "foreach")) s
 
--- the words are read from left to right, behind the pairs so far; the last one is the body
+-- the words are read from left to right, after the pairs so far; the last one is the body
 -- (foreach(n))
 abbrev pub with_pairs : List (List ℕ) → List Pair → Status → (List Pair → List ℕ → Course) → Course
 with_pairs [] pairs s next = wrong_words s

@@ -1,4 +1,4 @@
--- How the commands of the code, and what they hold, stand to those of the definition.
+-- How the commands of the code, and what they hold, correspond to those of the definition.
 use Rattle.std.specs.Prelude.{◌≡◌, ℕ, ◌<◌, List, Option, Some, None}
 use Rattle.state.specs.Prelude.{Course, Nests, Outcome, Status, FitsState}
 use Rattle.conditions.specs.Choosing as if_then
@@ -23,7 +23,7 @@ use Rattle.state.specs.declared.state.State.{State}
 use Rattle.tclstate.specs.Pairs.{found}
 use Rattle.tclstate.specs.Procs.{Procedure}
 
--- the command that one of the code's stands for
+-- the command of the definition that a command of the code stands for
 abbrev pub control_of : coded.Control → Control
 control_of control.Catch = meant.Catch
 control_of control.Eval = meant.Eval
@@ -61,7 +61,7 @@ scripts_held (held.Foreach own) = 0
 scripts_held (held.If own) = if_then.scripts_held own
 scripts_held (held.While own) = while_loop.scripts_held own
 
--- what is at hand of one command is the same course as one of all commands
+-- how far one command has come is the same course when it is seen as one of all commands
 abbrev pub IsLifted : {A H : Type 0} → (H → Status → Outcome → Course) → Nesting A H →
     Nesting A (Held A) → Type 0
 IsLifted own nesting lifted = (s : Status) → course_of own nesting s ≡ course_of next_of lifted s

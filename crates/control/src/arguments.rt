@@ -1,4 +1,4 @@
-//! What is asked of the words of a command.
+//! The errors of a command that does not take its words.
 
 ghost use Rattle.std.specs.Prelude.{◌≡◌, IfOk};
 ghost use Rattle.state.specs.Prelude.{text_of, Leaves, Error, outcome_of};
@@ -9,7 +9,7 @@ use state::Outcome;
 use state::outcome::raised;
 use std::alloc::Allocator;
 
-/// A command that was given another number of words than it takes.
+/// The error of a command that was given another number of words than it takes.
 pub(crate) fn wrong_args<A: Allocator + Copy>(
     alloc: A,
     command: &[u8],
@@ -20,7 +20,7 @@ pub(crate) fn wrong_args<A: Allocator + Copy>(
     raised(alloc, &Fault::WrongArgs(Vec::from_slice(alloc, command)?))
 }
 
-/// A word that a command does not take.
+/// The error of a word that a command does not take.
 pub(crate) fn bad_argument<A: Allocator + Copy>(
     alloc: A,
     word: &[u8],

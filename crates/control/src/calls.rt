@@ -16,11 +16,11 @@ use tclparse::Script;
 use tclstate::{Formal, Formals, LocalFrame};
 use tcltext::{Value, join_values};
 
-/// What a call holds while its body runs: nothing, its variables stand in the scopes.
+/// What a call holds while its body runs: nothing, since its variables are in the scopes.
 #[derive(Clone, Copy)]
 pub struct Held;
 
-/// Calls the procedure of a name with the words behind it, or gives `None` where no procedure has
+/// Calls the procedure of a name with the words after it, or gives `None` where no procedure has
 /// the name.
 pub fn begin<A: Allocator + Copy>(
     alloc: A,
@@ -43,7 +43,7 @@ pub fn begin<A: Allocator + Copy>(
     Ok(Some(run(alloc, state, frame, body, levels)?))
 }
 
-/// Ends a call, whose variables go however its body ended.
+/// Ends a call and removes its variables, however its body ended.
 pub fn resumed<A: Allocator + Copy>(
     alloc: A,
     state: &mut State<A>,
@@ -82,7 +82,7 @@ fn run<A: Allocator + Copy>(
     Ok(Nesting::Runs(body, inner, Held))
 }
 
-/// How a call ends, by how its body ended.
+/// How a call ends, given how its body ended.
 fn ended<A: Allocator + Copy>(alloc: A, outcome: Outcome<A>) -> Result<Outcome<A>, NoMemory>
     ensures { IfOk result (λ ended. outcome_of ended ≡ definition.ended (outcome_of outcome)) }
 {
@@ -100,7 +100,7 @@ fn ended<A: Allocator + Copy>(alloc: A, outcome: Outcome<A>) -> Result<Outcome<A
     }
 }
 
-/// The variables of a call: each formal takes the next word, or its default where none is left.
+/// The variables of a call: each formal takes the next word, or its default where no word is left.
 /// `None` where the words are too few or too many.
 fn frame_of<A: Allocator + Copy>(
     alloc: A,
@@ -135,7 +135,7 @@ fn taken<A: Allocator>(formal: &Formal<A>, words: &[Value<A>]) -> Result<Option<
     }
 }
 
-/// The words behind the next one.
+/// The words after the next one.
 fn behind<A: Allocator>(words: &[Value<A>]) -> &[Value<A>]
     ensures { result.now ≡ definition.behind words.now }
 {
@@ -145,8 +145,8 @@ fn behind<A: Allocator>(words: &[Value<A>]) -> &[Value<A>]
     }
 }
 
-/// The variables with a last `args`, which takes the words that are left, as a list; without it
-/// none may be left.
+/// The variables of a call, where a last `args` takes the remaining words as a list; without `args`
+/// no word may remain.
 fn with_rest<A: Allocator + Copy>(
     alloc: A,
     mut frame: LocalFrame<A>,

@@ -15,13 +15,13 @@ use std::alloc::Allocator;
 use tclparse::{Name, variable_name};
 use tcltext::{Value, print_nat};
 
-/// The variable that takes what came of the script, if there is one.
+/// The word of the variable that takes the result of the script, if there is one.
 #[derive(Drop)]
 pub struct Held<A: Allocator> {
     pub word: Option<Value<A>>,
 }
 
-/// Runs the script; a name that is none is found first.
+/// Runs the script; a word that names no variable is refused before that.
 #[tactic(auto, using(crate::proofs::Catching::catch_other_nests))]
 pub fn begin<A: Allocator + Copy>(
     alloc: A,
@@ -104,7 +104,7 @@ fn run<A: Allocator + Copy>(
     Ok(Nesting::Runs(script, inner, held))
 }
 
-/// Gives a code's number, after what came with it is stored.
+/// Gives a code's number, after the value that came with the code is stored.
 fn store_in<A: Allocator + Copy>(
     alloc: A,
     state: &mut State<A>,

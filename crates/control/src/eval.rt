@@ -13,13 +13,13 @@ use state::{Nesting, Outcome, State};
 use std::alloc::Allocator;
 use tcltext::Value;
 
-/// The script runs, and nothing else is held.
+/// What `eval` holds while its script runs: nothing.
 #[derive(Clone, Copy)]
 pub enum Held {
     Script,
 }
 
-/// Runs the script that the words are, joined as `concat` joins them.
+/// Runs the words as a script, joined as `concat` joins them.
 pub fn begin<A: Allocator + Copy>(
     alloc: A,
     state: &mut State<A>,

@@ -20,8 +20,8 @@ use std::alloc::Allocator;
 use tclparse::Script;
 use tcltext::Value;
 
-/// What is left while the body runs: the variables with their elements, how many turns are to
-/// come, the body, and the levels that may still stand around it.
+/// What the loop holds while its body runs: the variables with their remaining elements, how many
+/// turns are to come, the body, and how many levels may still nest in the loop.
 #[derive(Drop)]
 pub struct Held<A: Allocator> {
     pub pairs: Vec<Pair<A>, A>,
@@ -111,7 +111,7 @@ fn read<A: Allocator + Copy>(
     turn(alloc, state, held)
 }
 
-/// The next turn, where there is one: the variables are set, and the body runs behind a tick.
+/// The next turn, where there is one: the variables are set, and the body runs after a tick.
 fn turn<A: Allocator + Copy>(
     alloc: A,
     state: &mut State<A>,
@@ -137,7 +137,7 @@ fn turn<A: Allocator + Copy>(
     run_body(alloc, held)
 }
 
-/// Sets the variables of all pairs; answers the script's error where one can't be set.
+/// Sets the variables of all pairs; gives the script's error where one can't be set.
 fn assign_all<A: Allocator + Copy>(
     alloc: A,
     state: &mut State<A>,

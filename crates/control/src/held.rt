@@ -31,7 +31,7 @@ pub enum Held<A: Allocator> {
     While(turning::Held<A>),
 }
 
-/// How far a call has come, as a command.
+/// How far a call has come, with what it holds as one of `Held`.
 pub(crate) fn from_call<A: Allocator>(nesting: Nesting<A, calls::Held>) -> Nesting<A, Held<A>>
     ensures lifted { IsLifted calling.next_of nesting result }
     ensures advances { (new old most : ℕ) →
@@ -43,7 +43,7 @@ pub(crate) fn from_call<A: Allocator>(nesting: Nesting<A, calls::Held>) -> Nesti
     }
 }
 
-/// How far `catch` has come, as a command.
+/// How far `catch` has come, with what it holds as one of `Held`.
 pub(crate) fn from_catch<A: Allocator>(nesting: Nesting<A, catch::Held<A>>) -> Nesting<A, Held<A>>
     ensures lifted { IsLifted catches.next_of nesting result }
     ensures advances { (new old most : ℕ) →
@@ -55,7 +55,7 @@ pub(crate) fn from_catch<A: Allocator>(nesting: Nesting<A, catch::Held<A>>) -> N
     }
 }
 
-/// How far `eval` has come, as a command.
+/// How far `eval` has come, with what it holds as one of `Held`.
 pub(crate) fn from_eval<A: Allocator>(nesting: Nesting<A, eval::Held>) -> Nesting<A, Held<A>>
     ensures lifted { IsLifted evals.next_of nesting result }
     ensures advances { (new old most : ℕ) →
@@ -67,7 +67,7 @@ pub(crate) fn from_eval<A: Allocator>(nesting: Nesting<A, eval::Held>) -> Nestin
     }
 }
 
-/// How far `expr` has come, as a command.
+/// How far `expr` has come, with what it holds as one of `Held`.
 pub(crate) fn from_expr<A: Allocator>(nesting: Nesting<A, expr::Held<A>>) -> Nesting<A, Held<A>>
     ensures lifted { IsLifted formulas.next_of nesting result }
     ensures advances { (new old most : ℕ) → Advances formulas.scripts_held nesting new old most →
@@ -79,7 +79,7 @@ pub(crate) fn from_expr<A: Allocator>(nesting: Nesting<A, expr::Held<A>>) -> Nes
     }
 }
 
-/// How far `for` has come, as a command.
+/// How far `for` has come, with what it holds as one of `Held`.
 pub(crate) fn from_for<A: Allocator>(nesting: Nesting<A, for_loop::Held<A>>) -> Nesting<A, Held<A>>
     ensures lifted { IsLifted starting.next_of nesting result }
     ensures advances { (new old most : ℕ) → Advances starting.scripts_held nesting new old most →
@@ -91,7 +91,7 @@ pub(crate) fn from_for<A: Allocator>(nesting: Nesting<A, for_loop::Held<A>>) -> 
     }
 }
 
-/// How far `if` has come, as a command.
+/// How far `if` has come, with what it holds as one of `Held`.
 pub(crate) fn from_if<A: Allocator>(
     nesting: Nesting<A, conditional::Held<A>>,
 ) -> Nesting<A, Held<A>>
@@ -105,7 +105,7 @@ pub(crate) fn from_if<A: Allocator>(
     }
 }
 
-/// How far `while` has come, as a command.
+/// How far `while` has come, with what it holds as one of `Held`.
 pub(crate) fn from_while<A: Allocator>(nesting: Nesting<A, turning::Held<A>>) -> Nesting<A, Held<A>>
     ensures lifted { IsLifted turns.next_of nesting result }
     ensures advances { (new old most : ℕ) → Advances turns.scripts_held nesting new old most →
@@ -117,7 +117,7 @@ pub(crate) fn from_while<A: Allocator>(nesting: Nesting<A, turning::Held<A>>) ->
     }
 }
 
-/// How far `foreach` has come, as a command.
+/// How far `foreach` has come, with what it holds as one of `Held`.
 pub(crate) fn from_foreach<A: Allocator>(
     nesting: Nesting<A, foreach::Held<A>>,
 ) -> Nesting<A, Held<A>>

@@ -1,4 +1,4 @@
-//! What a word is as a list.
+//! Words that are read as lists.
 
 ghost use Rattle.std.specs.Prelude.{IfOk};
 ghost use Rattle.control.specs.Looping.{Comes};
@@ -9,7 +9,7 @@ use meanings::elements;
 use std::alloc::Allocator;
 use tcltext::Value;
 
-/// The elements of a list, or the script's error where the text is none.
+/// The elements of a list, or the script's error where the text is not a list.
 pub(crate) fn elements_of<A: Allocator + Copy>(
     alloc: A,
     text: &[u8],

@@ -22,8 +22,8 @@ pub struct Pair<A: Allocator> {
 }
 
 impl<A: Allocator + Copy> Pair<A> {
-    /// Reads the word of the variables and that of their list; answers how many turns they ask for
-    /// too, or the script's error.
+    /// Reads the word of the variables and that of their list; also gives how many turns they ask
+    /// for. The script's error is given where a word is wrong.
     pub(crate) fn read(
         alloc: A,
         variables: &[u8],
@@ -46,7 +46,7 @@ impl<A: Allocator + Copy> Pair<A> {
         Ok(Ok((Pair { names, elements }, turns)))
     }
 
-    /// Sets each variable to its next element; answers the script's error where one can't be set.
+    /// Sets each variable to its next element; gives the script's error where one can't be set.
     pub(crate) fn assign(
         &mut self,
         alloc: A,
@@ -63,7 +63,7 @@ impl<A: Allocator + Copy> Pair<A> {
     }
 }
 
-/// Sets variables to one element each; answers the script's error where one can't be set.
+/// Sets variables to one element each; gives the script's error where one can't be set.
 fn assign_all<A: Allocator + Copy>(
     alloc: A,
     state: &mut State<A>,
@@ -96,7 +96,7 @@ fn take_first<A: Allocator>(elements: &mut VecDeque<Value<A>, A>) -> Value<A>
     }
 }
 
-/// Sets a variable; answers the script's error where that can't be.
+/// Sets a variable; gives the script's error where it can't be set.
 fn set<A: Allocator + Copy>(
     alloc: A,
     state: &mut State<A>,

@@ -17,7 +17,7 @@ use state::{Nesting, State};
 use std::alloc::Allocator;
 use tcltext::{Pattern, PatternError, Value};
 
-/// How a pattern is held against the text.
+/// How a pattern is compared with the text.
 #[derive(Clone, Copy, Debug, PartialEq, Eq)]
 pub enum Mode {
     /// Byte by byte.
@@ -26,7 +26,7 @@ pub enum Mode {
     Glob,
 }
 
-/// Runs the body of the first pattern that takes the text; two words have no flags.
+/// Runs the body of the first pattern that matches the text; two words have no flags.
 pub fn begin<A: Allocator + Copy>(
     alloc: A,
     state: &mut State<A>,
@@ -44,7 +44,7 @@ pub fn begin<A: Allocator + Copy>(
     }
 }
 
-/// Goes on behind the flag that says the mode, if it stands first.
+/// Continues after the flag that says the mode, if there is one.
 fn on_flags<A: Allocator + Copy>(
     alloc: A,
     state: &mut State<A>,
@@ -68,7 +68,7 @@ fn on_flags<A: Allocator + Copy>(
     }
 }
 
-/// Goes on behind `--`, if it stands first; any other word with a dash there is wrong.
+/// Continues after `--`, if it stands first; any other first word with a dash is wrong.
 fn behind_flag<A: Allocator + Copy>(
     alloc: A,
     state: &mut State<A>,
@@ -116,7 +116,7 @@ fn on_words<A: Allocator + Copy>(
     }
 }
 
-/// Tries the patterns, where each has its body.
+/// Tries the patterns, unless one lacks its body.
 fn on_arms<A: Allocator + Copy>(
     alloc: A,
     state: &mut State<A>,
@@ -140,8 +140,8 @@ fn on_arms<A: Allocator + Copy>(
     }
 }
 
-/// The last of the patterns and bodies, where it is a pattern without a body or has no next body to
-/// share.
+/// The last of the patterns and bodies, where it is a pattern without a body, or a `-` without a
+/// next body to share.
 fn left_over<A: Allocator>(arms: &[Value<A>]) -> Option<&Value<A>>
     ensures { option_copied result ≡ definition.left_over arms.now }
 {
@@ -156,14 +156,14 @@ fn left_over<A: Allocator>(arms: &[Value<A>]) -> Option<&Value<A>>
     }
 }
 
-/// Whether a body is that of the next pattern.
+/// Whether a body is `-`: the pattern shares the body of the next one.
 fn is_shared(body: &[u8]) -> bool
     ensures { result ≡ definition.is_shared body.now }
 {
     body == b"-".as_slice()
 }
 
-/// The body of the first pattern that takes the text, if one does; or the script's error.
+/// The body of the first pattern that matches the text, if one does; or the script's error.
 fn chosen<'a, A: Allocator + Copy>(
     alloc: A,
     mode: Mode,
@@ -184,7 +184,7 @@ fn chosen<'a, A: Allocator + Copy>(
     Ok(Ok(None))
 }
 
-/// Whether a pattern takes the text; `default` does with nothing behind it.
+/// Whether a pattern matches the text; a last `default` matches any text.
 fn tried<A: Allocator + Copy>(
     alloc: A,
     mode: Mode,
@@ -201,7 +201,7 @@ fn tried<A: Allocator + Copy>(
     takes(alloc, mode, pattern, text)
 }
 
-/// Whether a pattern takes the text.
+/// Whether a pattern matches the text.
 fn takes<A: Allocator + Copy>(
     alloc: A,
     mode: Mode,
@@ -221,7 +221,7 @@ fn takes<A: Allocator + Copy>(
     }
 }
 
-/// The body of a pattern, from the first body behind it on: the next one that is no `-`.
+/// The body of a pattern: of the bodies from its own on, the first that is not `-`.
 fn body_of<'a, A: Allocator>(bodies: &'a [Value<A>]) -> Option<&'a Value<A>>
     ensures { option_copied result ≡ definition.body_of bodies.now }
 {

@@ -1,4 +1,4 @@
-//! The table of names.
+//! The table of the names of commands that run scripts, and how these begin and continue.
 
 ghost use Rattle.std.specs.Prelude.{◌≡◌, ◌≤◌, IfOk, option_map};
 ghost use Rattle.state.specs.Prelude.{Status, FitsState, outcome_of};
@@ -50,7 +50,7 @@ impl Control {
     }
 }
 
-/// Calls the procedure of a name with the words behind it, in which so many levels may still stand;
+/// Calls the procedure of a name with the words after it, in which this many levels may still nest;
 /// gives `None` where no procedure has the name.
 ///
 /// # Errors
@@ -72,7 +72,7 @@ pub fn call<A: Allocator + Copy>(
     }
 }
 
-/// Begins a command with the words behind its name, in which so many levels may still stand.
+/// Begins a command with the words after its name, in which this many levels may still nest.
 ///
 /// # Errors
 /// `NoMemory` where memory is refused.
@@ -101,7 +101,7 @@ pub fn begin<A: Allocator + Copy>(
     }
 }
 
-/// Goes on with how the script within a command ended.
+/// Continues a command with the outcome of the script within it.
 ///
 /// # Errors
 /// `NoMemory` where memory is refused.

@@ -1,4 +1,4 @@
--- What the calls of the table are to the ids of the definition.
+-- How the calls of the table change the ids of the definition.
 use Rattle.std.proofs.Common.{◌≡◌, ℕ, ◌==◌, ◌&&◌, Bool, true, false, List, [], ◌∷◌, ◌++◌, map, if◌then◌else◌, refl, sym, ap, ◌∙◌}
 use Rattle.std.proofs.lemmas.Bool.{eqb-true}
 use Rattle.acts.specs.declared.id.Id.{Id}
@@ -34,7 +34,7 @@ sizes max p is =
       same = ap (λ (w : List ℕ). line_by p.id p.kind (held w max) p.drops_nulls) fits.bytes;
     }
 
--- an arrival, a size, a setting
+-- ids and lines fit after an arrival, after a new size, and after a new setting of nulls
 pub fits_arrival : (bytes : List ℕ) (i : Id) (ls new : List Line) → new ≡ at_line (reached bytes) i ls
     → (ps : List Peer) → FitsPeers ls ps → FitsPeers new (at_peer (arrived bytes) i ps)
 fits_arrival bytes i ls new is ps fits =
@@ -51,12 +51,12 @@ fits_setting drops i ls new is ps fits =
     rw is (changes (set_nulls drops) (dropping drops) i ps ls
     (λ p at j. record { as_open = refl; journal = j; same = refl }) fits)
 
--- the ids have journals and these lines
+-- the open ids have journals, and these are their lines
 record Left (ps : List Peer) (ls : List Line) : Type 0 where
   journals : HaveJournals (opened ps)
   lines : map line (opened ps) ≡ ls
 
--- an open id closed
+-- an open id is closed
 module _ (i : Id) where
   abbrev Goal : List Peer → Type 0
   Goal ps = HaveJournals (opened ps) → Left (at_peer shut i ps) (without i (map line (opened ps)))
@@ -118,7 +118,7 @@ module _ (i : Id) where
       left.lines ∙ ap (without i) fits.lines ∙ sym is in
       record { journals = left.journals; lines = lines }
 
--- the id that was opened first closed
+-- taking out the line of the id that was opened first leaves the other lines
 out_first : (l : Line) (ls : List Line) → without l.id (l ∷ ls) ≡ ls
 out_first l ls = ap (λ (c : Bool). if c then ls else l ∷ without l.id ls) (same_number l.id.0)
 
@@ -129,7 +129,7 @@ fits_first_out i ls new out =
     (sym (ap (without i) out.split ∙ ap (λ j. without j (out.line ∷ new)) (sym out.same)
     ∙ out_first out.line new))
 
--- an id just opened has a journal, and that line
+-- an id just opened has a journal, and the line of a fresh id
 record IsFresh (i : Id) (kind : Kind) (max : ℕ) (drops : Bool) : Type 0 where
   journal : IsJournal (fresh_journal max)
   same : line (fresh i kind max drops) ≡ fresh_line i kind max drops
@@ -156,7 +156,7 @@ is-fresh i kind max drops = by (max == 2000) refl
           same = ap (λ j. line_by i kind (held (window j) (size_of j)) drops) e;
         }
 
--- an id opened behind all others
+-- an open id put at the end of the ids is the last of the open ones
 opened-more : (p : Peer) (ps : List Peer) → p.is_open ≡ true →
     opened (ps ++ p ∷ []) ≡ opened ps ++ p ∷ []
 opened-more p [] is = opened-first p [] true is

@@ -20,7 +20,7 @@ in_window : (p : Reading) (l : Line) →
 in_window p l (inl at) = inl (record { start = at.0; end = at.1 }, at.2)
 in_window p l (inr none) = inr (λ f. none f.0.start f.0.end f.1.sits)
 
--- it finds something, or it does not
+-- a branch finds something, or it does not
 place_in : (a : Awaited) (o : Option Line) → Decided (Place a o)
 place_in (Sought p) (Some l) = in_window p l (found_or_nowhere p l.held.bytes)
 place_in (Sought p) None = inr (λ f. f.1)
@@ -29,7 +29,7 @@ place_in Eof o = inr (λ f. f.1)
 place_in Timeout o = inr (λ f. f.1)
 place_in Default o = inr (λ f. f.1)
 
--- and at one place alone
+-- a branch finds something at one place alone
 one_find : (a : Awaited) (o : Option Line) (f g : Found) → FindsIn a o f → FindsIn a o g → f ≡ g
 one_find (Sought p) (Some l) f g x y =
     let same = one_place p l.held.bytes f.start f.end g.start g.end x y in
@@ -51,7 +51,7 @@ found_for ls t p = by (looks_at t p) refl (place_in p.branch.awaited (line_of ls
     by false looks d = inr (λ at.
         let never : false ≡ true = sym looks ∙ at.1.looks in absurd (cc))
 
--- what its keyword names has come, or it has not
+-- what the pair's keyword names has come, or it has not
 met : (ls : List Line) (t : Trigger) (p : Pair) → Decided (IsMet ls t p)
 met ls t p = by (is_met ls t p) refl
   where
@@ -70,13 +70,13 @@ module _ (Has : Pair → Type 0) where
   first-next q qs (inr not) (inl first) = inl (first.0, inr (not, first.1), first.2)
   first-next q qs (inr not) (inr none) = inr (not, none)
 
-  -- there is one, or none has it
+  -- there is a first one, or none of the pairs has the property
   first_or_none : ((p : Pair) → Decided (Has p)) → (pairs : List Pair) →
       First pairs ⊎ IsNone Has pairs
   first_or_none each [] = inr tt
   first_or_none each (q ∷ qs) = first-next q qs (each q) (first_or_none each qs)
 
-  -- there are no two
+  -- there are no two first ones
   one_first : (pairs : List Pair) (p q : Pair) → IsFirst Has pairs p → IsFirst Has pairs q → p ≡ q
   one_first [] p q x y = absurd x
   one_first (r ∷ rs) p q (inl x) (inl y) = x.0 ∙ sym y.0
@@ -84,7 +84,7 @@ module _ (Has : Pair → Type 0) where
   one_first (r ∷ rs) p q (inr x) (inl y) = absurd (x.0 y.1)
   one_first (r ∷ rs) p q (inr x) (inr y) = one_first rs p q x.1 y.1
 
-  -- and where none has it, there is not one
+  -- where none of the pairs has the property, there is no first one
   not_both : (pairs : List Pair) (p : Pair) → IsFirst Has pairs p → IsNone Has pairs → ⊥
   not_both [] p x none = x
   not_both (r ∷ rs) p (inl x) none = none.0 x.1

@@ -21,7 +21,7 @@ pub own_fits : (p : Peer) → IsJournal p.journal →
     Fits p.journal (held (window p.journal) (size_of p.journal))
 own_fits p is = record { is_journal = is; bytes = refl; max = refl }
 
--- bytes of the window consumed
+-- the first n bytes of the window are consumed
 consumes : (n : ℕ) (p : Peer) → IsJournal p.journal → n ≤ length (window p.journal) →
     Keeps (consumed n) (shortened n) p
 consumes n p is le =
@@ -34,7 +34,7 @@ consumes n p is le =
           fits.bytes;
     }
 
--- the window has that share
+-- the window is long enough for that share
 abbrev Has : Share → List ℕ → Type 0
 Has Nothing w = ⊤
 Has (Front n) w = n ≤ length w
@@ -96,7 +96,7 @@ makes-by choice t pairs p f old new is inside body taken lines = record {
   fits = λ ps fits. rw lines (fits_after old t p f inside ps fits);
 }
 
--- for a pattern
+-- a choice for a pattern, after a search that left the table as it was
 pub makes_found : {A : Type 0} (choice : Choice A) (t : Trigger) (pairs : List Pair) (p : Pair)
     (f : Found) (old mid new : List Line) → mid ≡ old →
     IsFirst (IsFoundFor old t) pairs p × Finds old t p f → choice.body ≡ p.branch.body →
@@ -107,12 +107,12 @@ makes_found choice t pairs p f old mid new same is body taken lines =
     (taken ∙ ap (λ ls. taken_of ls t (chosen p (Some f))) same)
     (lines ∙ ap (lines_after t (chosen p (Some f))) same)
 
--- what is met is met in a table that is the same
+-- the first pair whose keyword has come is the first in an equal table too
 pub met_at : (mid old : List Line) (t : Trigger) (pairs : List Pair) (p : Pair) → mid ≡ old →
     IsFirst (IsMet mid t) pairs p → IsFirst (IsMet old t) pairs p
 met_at mid old t pairs p same first = rw same at first
 
--- for a keyword
+-- a choice for a keyword, after a search that left the table as it was
 pub makes_met : {A : Type 0} (choice : Choice A) (t : Trigger) (pairs : List Pair) (p : Pair)
     (old mid new : List Line) → mid ≡ old → IsNone (IsFoundFor old t) pairs →
     IsFirst (IsMet mid t) pairs p → choice.body ≡ p.branch.body →

@@ -8,7 +8,7 @@ use Rattle.dialog.specs.Choice.{FindsIn, Finds, IsFoundFor, looks_at}
 use Rattle.dialog.specs.Lines.{Line, line_of}
 use Rattle.dialog.specs.declared.choice.Trigger.{Trigger}
 
--- what a search answers, of what an id's line is
+-- what the answer of a search says, by the line of the id
 abbrev pub Answers : Awaited → Option Line → Option Found → Type 0
 Answers awaited line answer = MatchOption answer
     ((f : Found) → ¬ FindsIn awaited line f) (FindsIn awaited line)
@@ -20,7 +20,7 @@ pub in_line : (p : Reading) (o : Option Line) (l : Line) (r : Option Found) → 
 in_line p o l None is nowhere = rw is (λ f at. nowhere f.start f.end at.sits)
 in_line p o l (Some f) is found = rw is found
 
--- of no line nothing is found
+-- where the id has no line, nothing is found
 pub no_line : (a : Awaited) (o : Option Line) → o ≡ None → (f : Found) → ¬ FindsIn a o f
 no_line a o is f at = by a (rw is at at)
   where
@@ -28,7 +28,7 @@ no_line a o is f at = by a (rw is at at)
     by (Sought p) at = at
     by _ at = at
 
--- for a pair whose pattern is looked for
+-- a search for a pair whose pattern is looked for
 pub for_pair : (ls : List Line) (t : Trigger) (p : Pair) (a : Awaited) (r : Option Found) →
     a ≡ p.branch.awaited → IsTrue (looks_at t p) → Answers a (line_of ls p.id) r →
     MatchOption r (¬ IsFoundFor ls t p) (Finds ls t p)

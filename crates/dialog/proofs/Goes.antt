@@ -20,7 +20,7 @@ later_none : (x : Option ℤ) → later None x ≡ x
 later_none None = refl
 later_none (Some n) = refl
 
--- branches in front of branches in front
+-- to put branches in front twice is to put them in front together
 in_front_twice : (a b : Branches) (o : Outcome) →
     in_front a (in_front b o) ≡ in_front (beside a b) o
 in_front_twice a b (Ok r) =
@@ -30,16 +30,16 @@ in_front_twice a b (Ok r) =
     λ k. Ok (branches (sym n k) (sym p k) (t k))
 in_front_twice a b (Err f) = refl
 
--- none in front
+-- no branches in front leave the outcome as it is
 pub none_in_front : (o : Outcome) → in_front (branches [] [] None) o ≡ o
 none_in_front (Ok r) = ap (λ t. Ok (branches r.named r.pairs t)) (later_none r.timeout)
 none_in_front (Err f) = refl
 
--- it goes on from where it is
+-- reading goes on from where it is, with no part read
 pub goes_here : (at : Place) (d : Draft) (ps : List Part) → GoesOn at d ps d ps
 goes_here at d ps = λ out reads. (out, reads, refl)
 
--- and on from there
+-- reading goes on to a place, and from there to another one
 pub goes_further : (at : Place) (d e f : Draft) (ps qs rs : List Part) → GoesOn at d ps e qs →
     GoesOn at e qs f rs → GoesOn at d ps f rs
 goes_further at d e f ps qs rs first second = λ out reads.
@@ -47,7 +47,7 @@ goes_further at d e f ps qs rs first second = λ out reads.
     let a = first b.0 b.1 in
     (a.0, a.1, a.2 ∙ b.2)
 
--- a list of ids
+-- reading goes on after a list of ids
 pub ids_go : (at : Place) (d : Draft) (list : List ℕ) (ids : List Id) (ps : List Part) →
     HasIds at.lines list ids → GoesOn at d (Ids list ∷ ps) (with_ids ids d) ps
 ids_go at d list ids ps has = λ out reads.
@@ -58,21 +58,21 @@ pub ids_fail : (at : Place) (d : Draft) (list : List ℕ) (ps : List Part) (flaw
     MissesIds at.lines list flaw → Fails at d (Ids list ∷ ps) flaw
 ids_fail at d list ps flaw misses = inr (flaw, misses, refl)
 
--- seconds
+-- reading goes on after seconds
 pub seconds_go : (at : Place) (d : Draft) (text : List ℕ) (n : ℤ) (ps : List Part) →
     IsSeconds text n → GoesOn at d (Seconds text ∷ ps) (with_seconds n d) ps
 seconds_go at d text n ps is = λ out reads.
     let b = branches [] [] (Some n) in
     (in_front b out, inl (n, out, is, reads, refl), in_front_twice d.said b out)
 
--- a flag
+-- reading goes on after a flag
 pub flag_goes : (at : Place) (d : Draft) (m : marks.Mark) (ps : List Part) →
     GoesOn at d (part_of m ∷ ps) (with_flag m d) ps
 flag_goes at d mark.Stays ps = λ out reads. (out, reads, refl)
 flag_goes at d mark.TellsPlaces ps = λ out reads. (out, reads, refl)
 flag_goes at d mark.Folds ps = λ out reads. (out, reads, refl)
 
--- a branch
+-- reading goes on after a branch
 pub branch_goes : (at : Place) (d : Draft) (w : Wanted) (body : List ℕ) (ps : List Part) →
     branch_flaw (ids_for at.current d.ids) w ≡ None →
     GoesOn at d (Awaits w body ∷ ps) (with_branch at.current w body d) ps
@@ -85,7 +85,7 @@ pub branch_fails : (at : Place) (d : Draft) (w : Wanted) (body : List ℕ) (ps :
     Fails at d (Awaits w body ∷ ps) flaw
 branch_fails at d w body ps flaw is = inr (flaw, is, refl)
 
--- words whose parts come to an error come to it
+-- words whose parts give an error give that error
 pub read_fails : (at : Place) (words : List (List ℕ)) (d : Draft) (ps : List Part) (flaw : Flaw) →
     GoesOn at blank (parts at.standing words) d ps → Fails at d ps flaw →
     IsRead at words (Err flaw)
@@ -108,17 +108,17 @@ read_ends at words d out goes is =
       named = sym is ∙ ap (named_at at.current) (sym same);
     }
 
--- branches behind which nothing is said
+-- branches after which nothing is said
 pub nothing_behind : (b : Branches) → in_front b (Ok (branches [] [] None)) ≡ Ok b
 nothing_behind b = λ k. Ok (branches (append-nil b.named k) (append-nil b.pairs k) b.timeout)
 
--- those that name an id
+-- branches that name an id stay as they are, whatever id is in force
 pub named_already : (ids : List Id) (current : Option Id) (b : Branches) → ids ≢ [] →
     named_or ids current b ≡ Ok b
 named_already [] current b some = absurd (some refl)
 named_already (i ∷ is) current b some = refl
 
--- a list of ids and the words behind it
+-- reading a list of ids goes on with the words after it
 pub ids_read : (at : Place) (d new : Draft) (rest : List (List ℕ)) (list text : List ℕ)
     (behind : List (List ℕ)) (ids : List Id) → rest ≡ list ∷ behind → text ≡ list →
     HasIds at.lines text ids → new ≡ with_ids ids d →
@@ -127,7 +127,7 @@ ids_read at d new rest list text behind ids is same has made =
     rw (is, made) (ids_go at d list ids (parts at.standing behind)
     (subst (λ t. HasIds at.lines t ids) same has))
 
--- seconds and the words behind them
+-- reading seconds goes on with the words after them
 pub seconds_read : (at : Place) (d new : Draft) (rest : List (List ℕ)) (number text : List ℕ)
     (behind : List (List ℕ)) (n : ℤ) → rest ≡ number ∷ behind → text ≡ number →
     IsSeconds text n → new ≡ with_seconds n d →
@@ -136,7 +136,7 @@ seconds_read at d new rest number text behind n is same seconds made =
     rw (is, made) (seconds_go at d number n (parts at.standing behind)
     (subst (λ t. IsSeconds t n) same seconds))
 
--- a body and the words behind it
+-- reading a body goes on with the words after it
 pub body_read : (at : Place) (d new : Draft) (w : Wanted) (rest : List (List ℕ)) (body text : List ℕ)
     (behind : List (List ℕ)) → rest ≡ body ∷ behind → text ≡ body →
     branch_flaw (ids_for at.current d.ids) w ≡ None → new ≡ with_branch at.current w text d →
@@ -144,7 +144,7 @@ pub body_read : (at : Place) (d new : Draft) (w : Wanted) (rest : List (List ℕ
 body_read at d new w rest body text behind is same none made =
     rw (is, made, same) (branch_goes at d w body (parts at.standing behind) none)
 
--- one part further
+-- reading goes one part further
 pub part_read : (at : Place) (d e f : Draft) (words rest ws behind : List (List ℕ)) →
     GoesOn at d (parts at.standing words) e (parts at.standing rest) → rest ≡ ws →
     GoesOn at e (parts at.standing ws) f (parts at.standing behind) →
@@ -153,7 +153,7 @@ part_read at d e f words rest ws behind first is second =
     goes_further at d e f (parts at.standing words) (parts at.standing rest)
     (parts at.standing behind) first (rw is second)
 
--- what holds of what is told holds of what follows from it
+-- where a property holds, what follows from it holds too
 pub ok_then : {X E : Type 0} {P Q : X → Type 0} (r : Result X E) → ((x : X) → P x → Q x) →
     IfOk r P → IfOk r Q
 ok_then (Ok x) f holds = f x holds
@@ -176,21 +176,21 @@ passed_on {T} {E} Q r e is holds =
     let q = err_from_is_err_and r is in
     subst (λ r. IfErr r Q) (sym q.1) (subst Q (sym q.2) holds)
 
--- the words in front of the next part
+-- reading goes on with the same words by another name
 pub at_words : (at : Place) (d e : Draft) (words rest ws : List (List ℕ)) →
     GoesOn at d (parts at.standing words) e (parts at.standing rest) → rest ≡ ws →
     GoesOn at d (parts at.standing words) e (parts at.standing ws)
 at_words at d e words rest ws goes is =
     subst (λ vs. GoesOn at d (parts at.standing words) e (parts at.standing vs)) is goes
 
--- no words are left
+-- where no words are left, no parts are left
 pub at_last : (at : Place) (d e : Draft) (words rest : List (List ℕ)) →
     GoesOn at d (parts at.standing words) e (parts at.standing rest) → length rest ≡ 0 →
     GoesOn at d (parts at.standing words) e []
 at_last at d e words [] goes none = goes
 at_last at d e words (w ∷ ws) goes none = absurd (omega arith)
 
--- a last empty body
+-- a branch without a body at the end of the words, which has an empty one
 pub no_body_read : (at : Place) (d new : Draft) (w : Wanted) (rest : List (List ℕ)) →
     length rest ≡ 0 → branch_flaw (ids_for at.current d.ids) w ≡ None →
     new ≡ with_branch at.current w [] d →
@@ -198,7 +198,7 @@ pub no_body_read : (at : Place) (d new : Draft) (w : Wanted) (rest : List (List 
 no_body_read at d new w [] none fine made = rw made (branch_goes at d w [] [] fine)
 no_body_read at d new w (v ∷ vs) none fine made = absurd (omega arith)
 
--- a flag of the next branch
+-- reading a flag of the next branch goes on with the words after it
 pub flag_read : (at : Place) (d new : Draft) (w : List ℕ) (rest : List (List ℕ)) (m : marks.Mark) →
     Alone (part_of m) ≡ sign at.standing w → new ≡ with_flag m d →
     GoesOn at d (parts at.standing (w ∷ rest)) new (parts at.standing rest)

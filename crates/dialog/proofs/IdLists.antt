@@ -72,7 +72,7 @@ spelled_at (i ∷ ids) (u ∷ front) back t small is =
     let tail : texts_of ids ≡ front ++ t ∷ back = cc in
     spelled_at ids front back t small.1 tail
 
--- a word that spells none
+-- where one of the words spells no id, the words spell no ids
 pub not_spelled : {A : Type 0} (words : List (Vec ℕ A)) (i : ℕ) (w : Vec ℕ A) (text : List ℕ)
     (front : List (List ℕ)) → i < length words → w ≡ get_or words i w → text ≡ w.items →
     front ++ texts (drop i words) ≡ texts words →
@@ -93,12 +93,12 @@ small_more : (ids : List Id) (i : Id) → AreSmall ids → i.0 < 2 ^ 64 → AreS
 small_more [] i small lt = (lt, tt)
 small_more (j ∷ ids) i small lt = (small.0, small_more ids i small.1 lt)
 
--- one small id more
+-- ids with small numbers, and one more of them
 pub still_small : (ids new : List Id) (i : Id) → AreSmall ids → new ≡ ids ++ i ∷ [] →
     i.0 < 2 ^ 64 → AreSmall new
 still_small ids new i small is lt = rw is (small_more ids i small lt)
 
--- one word more
+-- one more word is read
 pub word_more : {A : Type 0} (words : List (Vec ℕ A)) (i : ℕ) (w : Vec ℕ A) (text : List ℕ)
     (ids new : List Id) (id : Id) → i < length words → w ≡ get_or words i w → text ≡ w.items →
     texts_of ids ++ texts (drop i words) ≡ texts words → new ≡ ids ++ id ∷ [] →
@@ -111,7 +111,7 @@ word_more words i w text ids new id below at is so_far made spelled =
     ∙ ap (λ t. texts_of ids ++ t ∷ rest) (sym spelled ∙ is)
     ∙ ap (λ ws. texts_of ids ++ texts ws) (sym split) ∙ so_far
 
--- the ids behind the last word are some
+-- where there is at least one word, ids whose texts are all the words are spelled by them
 pub spelled_all : {A : Type 0} (words : List (Vec ℕ A)) (ids : List Id) →
     false ≡ (length words == 0) → texts_of ids ≡ texts words → AreSmall ids →
     AreSpelled ids (texts words)
@@ -126,7 +126,7 @@ spelled_all (w ∷ words) ids some same small = record {
     by [] same = λ e. absurd (cc)
     by (i ∷ is) same = λ e. absurd (cc)
 
--- no word is left
+-- where no word is left, the ids read so far are those of all words
 pub all_spelled : {A : Type 0} (words : List (Vec ℕ A)) (ids : List Id) (i : ℕ) →
     false ≡ (length words == 0) → length words ≤ i →
     texts_of ids ++ texts (drop i words) ≡ texts words → AreSmall ids →
@@ -143,7 +143,7 @@ pub no_list : {A E : Type 0} (text : List ℕ) (o : Option Flaw) (r : Result (Op
 no_list text o (Ok l) none some h = rw none (λ ids is. flaw_no_ids o text h some ids is)
 no_list text o (Err e) none some h = tt
 
--- none of the ids is shut
+-- where `first_shut` finds no id, all ids are open
 all_by : (lines : List Line) (i : Id) (is : List Id) (b : Bool) → is_open_in lines i ≡ b →
     (if b then first_shut lines is else Some i) ≡ None →
     (first_shut lines is ≡ None → list_all (is_open_in lines) is ≡ true) →

@@ -1,4 +1,4 @@
--- A text lists open ids, or it does not, and never others.
+-- A text lists open ids, or it does not, and it never lists two different lists of them.
 use Rattle.std.proofs.Common.{◌≡◌, ◌≢◌, ◌⊎◌, inl, inr, ℕ, ◌<◌, ◌≤◌, ◌^◌, ◌&&◌, Bool, true, false, List, [], ◌∷◌, drop, Option, Some, None, if◌then◌else◌, refl, sym, ap, subst, ◌∙◌, arith}
 use Rattle.std.proofs.lemmas.Fmt.{decimal_is_IsNumeral}
 use Rattle.std.proofs.lemmas.Slice.Eq.{bytes_eq-Decides}
@@ -18,7 +18,7 @@ use Rattle.dialog.specs.Reads.{AreSmall, AreSpelled, IsIds, HasIds, MissesIds, N
 use Rattle.dialog.specs.Standing.{is_open_in}
 use Rattle.dialog.proofs.IdLists.{texts_of, none_shut}
 
--- the number that would be spelled
+-- the number that a text spells, if it spells an id
 abbrev number_in : List ℕ → ℕ
 number_in text = digits_value 10 (drop 3 text)
 
@@ -85,7 +85,7 @@ spells_ids : (words : List (List ℕ)) → Decided ((ids : List Id) × AreIds id
 spells_ids [] = inl ([], record { texts = refl; small = tt })
 spells_ids (w ∷ ws) = spells_more w ws (spells_id w) (spells_ids ws)
 
--- and one at least
+-- ids that spell at least one word are at least one
 some_ids : (w : List ℕ) (ws : List (List ℕ)) (ids : List Id) → texts_of ids ≡ w ∷ ws → ids ≢ []
 some_ids w ws [] same = absurd (cc)
 some_ids w ws (i ∷ ids) same = λ none. absurd (cc)
@@ -132,7 +132,7 @@ list_of_ids : (text : List ℕ) →
 list_of_ids text (inl l) = listed_by text l.0 l.1 (spelled l.0)
 list_of_ids text (inr f) = inr (λ is. no_list_with_flaw text is.1.words f.0 is.1.list f.1)
 
--- it lists open ones, or it misses them
+-- a text lists open ids, or it does not
 abbrev pub Lists : List Line → List ℕ → Type 0
 Lists lines text =
     ((ids : List Id) × HasIds lines text ids) ⊎ ((flaw : Flaw) × MissesIds lines text flaw)
@@ -194,7 +194,7 @@ one_list_of_ids lines text ids js a b = one_ids text ids js a.is_ids b.is_ids
 same_first : (i j : Id) → Some i ≡ Some j → i ≡ j
 same_first i j same = cc
 
--- there are no two flaws
+-- a text that lists no open ids has no two flaws
 pub one_miss : (lines : List Line) (text : List ℕ) (f g : Flaw) → MissesIds lines text f →
     MissesIds lines text g → f ≡ g
 one_miss lines text f g (inl a) (inl b) =
@@ -206,7 +206,7 @@ one_miss lines text f g (inl a) (inr b) = absurd (b.no_ids a.ids a.is_ids)
 one_miss lines text f g (inr a) (inl b) = absurd (a.no_ids b.ids b.is_ids)
 one_miss lines text f g (inr a) (inr b) = a.flaw_is ∙ sym b.flaw_is
 
--- ids that are open are not missed
+-- a text that lists open ids has no flaw
 open_by : (lines : List Line) (i : Id) (is : List Id) (b : Bool) → is_open_in lines i ≡ b →
     (is_open_in lines i && list_all (is_open_in lines) is) ≡ true →
     (list_all (is_open_in lines) is ≡ true → first_shut lines is ≡ None) →

@@ -1,4 +1,4 @@
--- What a change at one place of the table is to the line of an id.
+-- How a change at one place of the table changes the line of an id.
 use Rattle.std.proofs.Common.{◌≡◌, ℕ, zero, suc, ◌+◌, ◌==◌, cond, Bool, true, false, List, [], ◌∷◌, get_or, Option, Some, None, if◌then◌else◌, refl, sym, ap, ◌∙◌, arith, is_some}
 use Rattle.std.proofs.Math.ListN.{set}
 use Rattle.std.specs.List.{position, position_from, remove}
@@ -59,7 +59,7 @@ pub place-position : (i : Id) (ls : List Line) → position (λ l. l.id.0 == i.0
 place-position i ls = position_from-zero (λ l. l.id.0 == i.0) ls ∙ place-from i 0 ls
     ∙ same (place i ls)
 
--- the line at that place is the id's
+-- the line at the place of an id is the id's
 at-by : (i : Id) (l : Line) (ls : List Line) (k : ℕ) (x : Line) (b : Bool) → (l.id.0 == i.0) ≡ b →
     Where b (place i ls) k → x ≡ get_or (l ∷ ls) k x →
     ((m : ℕ) → place i ls ≡ Some m → x ≡ get_or ls m x → line_of ls i ≡ Some x) →
@@ -100,7 +100,7 @@ absent i [] change is = record { no_line = refl; unchanged = refl; all_left = re
 absent i (l ∷ ls) change is = absent-by i l ls change (l.id.0 == i.0) refl is
     (λ none. absent i ls change none)
 
--- another line at that place
+-- another line is put at that place
 put-by : (i : Id) (l : Line) (ls : List Line) (k : ℕ) (x : Line) (change : Line → Line) (b : Bool) →
     (l.id.0 == i.0) ≡ b → Where b (place i ls) k → x ≡ get_or (l ∷ ls) k x →
     ((m : ℕ) → place i ls ≡ Some m → x ≡ get_or ls m x →
@@ -120,7 +120,7 @@ put i (l ∷ ls) k x change is has = put-by i l ls k x change (l.id.0 == i.0) re
     (where_is (l.id.0 == i.0) (place i ls) k is) has
     (λ m found got. put i ls m x change found got)
 
--- the line at that place taken out
+-- the line at that place is taken out
 gone-by : (i : Id) (l : Line) (ls : List Line) (k : ℕ) (b : Bool) → (l.id.0 == i.0) ≡ b →
     Where b (place i ls) k →
     ((m : ℕ) → place i ls ≡ Some m → remove ls m ≡ without i ls) →
@@ -173,7 +173,7 @@ pub gone_in : (i : Id) (ls ms : List Line) (k : ℕ) → ms ≡ ls →
 gone_in i ls ms k same is =
     ap (λ (l : List Line). remove l k) same ∙ gone i ls k (sym (place-position i ls) ∙ sym is)
 
--- an element put where it stands
+-- a line that is put where it stands changes nothing
 pub put_back : (ls : List Line) (k : ℕ) (x y : Line) → x ≡ get_or ls k x → y ≡ x → set ls k y ≡ ls
 put_back ls k x y has new = ap (λ z. set ls k z) new ∙ back ls k x has
   where

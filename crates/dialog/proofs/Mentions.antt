@@ -1,4 +1,4 @@
--- The first mentions of ids, one list behind another.
+-- The first mentions of ids, one list after another.
 use Rattle.std.proofs.Common.{◌≡◌, Bool, true, false, List, [], ◌∷◌, ◌++◌, if◌then◌else◌, refl, sym, ap, ◌∙◌, append_assoc, append-nil}
 use Rattle.acts.specs.declared.id.Id.{Id}
 use Rattle.dialog.specs.Branches.{Pair, Branches}
@@ -44,7 +44,7 @@ both seen (i ∷ a) b = by (is_among seen i) (both seen a b) (both (seen ++ i �
         ∙ ap (λ js. fm (seen ++ i ∷ []) a ++ fm js b)
         (append_assoc seen (i ∷ []) (fm (seen ++ i ∷ []) a)))
 
--- three lists, one behind the other
+-- three lists, one after the other
 pub three : (a b c x y z : List Id) → x ≡ [] ++ first_mentions [] a → y ≡ x ++ first_mentions x b →
     z ≡ y ++ first_mentions y c → z ≡ first_mentions [] (a ++ (b ++ c))
 three a b c x y z is_x is_y is_z =

@@ -45,11 +45,11 @@ module _ (i : Id) where
   opened_after_shut [] = refl
   opened_after_shut (p ∷ ps) = by p ps p.is_open (p.id.0 == i.0) refl refl (opened_after_shut ps)
 
--- a number is itself
+-- a number equals itself
 pub same_number : (n : ℕ) → (n == n) ≡ true
 same_number n = grind (arith, nat_tests)
 
--- where the first open id is closed, the others are left
+-- where the first open id is closed, the others stay open
 pub others_left : (p : Peer) (others ps : List Peer) → opened ps ≡ p ∷ others →
     opened (at_peer shut p.id ps) ≡ others
 others_left p others ps is =

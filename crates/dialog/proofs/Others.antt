@@ -1,10 +1,10 @@
--- The pairs of ids that are not among some, one by one.
+-- The pairs whose ids are not among named ones, one by one.
 use Rattle.std.proofs.Common.{◌≡◌, Bool, true, false, cond, not, List, [], ◌∷◌, ◌++◌, refl, sym, ap, ◌∙◌, append_assoc}
 use Rattle.acts.specs.declared.id.Id.{Id}
 use Rattle.dialog.specs.Branches.{Pair}
 use Rattle.dialog.specs.Standing.{is_among, others}
 
--- a pair of an id among them, and one of another
+-- a pair whose id is named is left out, and a pair of another id is kept
 pub other_none : (named : List Id) (p : Pair) → is_among named p.id ≡ true →
     others named (p ∷ []) ≡ []
 other_none named p is = ap (λ b. cond (not b) (p ∷ []) []) is

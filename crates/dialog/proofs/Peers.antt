@@ -1,4 +1,4 @@
--- What a change of an open id of the definition is to its line.
+-- How a change of an open id of the definition changes its line.
 use Rattle.std.proofs.Common.{◌≡◌, ◌==◌, ◌&&◌, Bool, true, false, List, [], ◌∷◌, map, Option, Some, if◌then◌else◌, refl, sym, ap, ◌∙◌}
 use Rattle.acts.specs.declared.id.Id.{Id}
 use Rattle.matchbuf.specs.Journal.{IsJournal}
@@ -11,11 +11,11 @@ pub record Keeps (g : Peer → Peer) (f : Line → Line) (p : Peer) : Type 0 whe
   pub journal : IsJournal (g p).journal
   pub same : line (g p) ≡ f (line p)
 
--- it does where the id has that line
+-- a change has these properties where the id has that line
 abbrev pub KeepsAt : (Peer → Peer) → (Line → Line) → Option Line → Type 0
 KeepsAt g f o = (p : Peer) → o ≡ Some (line p) → IsJournal p.journal → Keeps g f p
 
--- the ids have journals and these lines
+-- the open ids have journals, and these are their lines
 record Fit (ps : List Peer) (ls : List Line) : Type 0 where
   journals : HaveJournals (opened ps)
   lines : map line (opened ps) ≡ ls

@@ -1,4 +1,4 @@
--- Words come to one outcome: there is always one, and never a second one.
+-- Words have one outcome: there is always one, and never a second one.
 use Rattle.std.proofs.Common.{◌≡◌, inl, inr, ℕ, ℤ, Bool, true, false, List, [], ◌∷◌, Option, Some, None, Err, codes, refl, sym, ap, subst, ◌∙◌}
 use Rattle.acts.specs.declared.id.Id.{Id}
 use Rattle.tcltext.specs.Numbers.{is_number}
@@ -24,7 +24,7 @@ counts text = by (is_number text) refl
         let holds = (number_is_numeral text).1 (n.0, n.1.0, n.1.1) in
         let never : false ≡ true = sym is ∙ holds in absurd (cc))
 
--- what parts come to
+-- parts have an outcome
 abbrev Comes : Place → Option (List Id) → Flags → List Part → Type 0
 Comes at ids flags ps = (out : Outcome) × Reads at ids flags ps out
 
@@ -71,7 +71,7 @@ comes at ids flags (Lacks ∷ ps) = (Err NoPattern, refl)
 comes at ids flags (Regex ∷ ps) = (Err RegexNotHere, refl)
 comes at ids flags (Bad word ∷ ps) = (Err (BadFlag word), refl)
 
--- words come to an outcome
+-- words have an outcome
 pub has_reading : (at : Place) (words : List (List ℕ)) → (out : Outcome) × IsRead at words out
 has_reading at words =
     let all = comes at None no_flags (parts at.standing words) in
@@ -83,7 +83,7 @@ no_flaw o flaw none some = let never : None ≡ Some flaw = sym none ∙ some in
 same_flaw : (f g : Flaw) → Some f ≡ Some g → f ≡ g
 same_flaw f g same = cc
 
--- parts do not come to another outcome
+-- parts have no second outcome
 one_outcome : (at : Place) (ids : Option (List Id)) (flags : Flags) (ps : List Part)
     (a b : Outcome) → Reads at ids flags ps a → Reads at ids flags ps b → a ≡ b
 one_outcome at ids flags [] a b x y = x ∙ sym y
@@ -124,7 +124,7 @@ one_outcome at ids flags (Lacks ∷ ps) a b x y = x ∙ sym y
 one_outcome at ids flags (Regex ∷ ps) a b x y = x ∙ sym y
 one_outcome at ids flags (Bad word ∷ ps) a b x y = x ∙ sym y
 
--- words do not come to another outcome
+-- words have no second outcome
 pub one_reading : (at : Place) (words : List (List ℕ)) (a b : Outcome) → IsRead at words a →
     IsRead at words b → a ≡ b
 one_reading at words a b x y =

@@ -8,7 +8,7 @@ use Rattle.acts.specs.declared.id.Id.{Id}
 use Rattle.dialog.specs.Lines.{Line, Listing, IsFirstOut, AllBeyond, Rise, id_of, next_id, without, numbers, number_after, upcoming}
 use Rattle.dialog.specs.Peers.{Peer, FitsPeers, line, numbers_of, opened}
 
--- another line of the same id in a line's place leaves the numbers
+-- another line of the same id in a line's place leaves the numbers as they are
 pub numbers_set : (ls : List Line) (k : ℕ) (x y : Line) → x ≡ get_or ls k x → y.id ≡ x.id →
     numbers (set ls k y) ≡ numbers ls
 numbers_set [] k x y has same = refl
@@ -66,7 +66,7 @@ sound_without i ls next sound =
     let less = shorter_without i ls in
     (omega (arith, most, less), rise_without i ls (upcoming next) sound.1)
 
--- where the last number goes the others still rise
+-- where numbers at the end are left out, the others still rise
 pub beyond_front : (n : ℕ) (ns more : List ℕ) → AllBeyond n (ns ++ more) → AllBeyond n ns
 beyond_front n [] more beyond = tt
 beyond_front n (m ∷ ms) more beyond = (beyond.0, beyond_front n ms more beyond.1)
@@ -93,7 +93,7 @@ rise_later : (ns : List ℕ) (n m : ℕ) → n < m → Rise (ns ++ n ∷ []) →
 rise_later [] n m less rise = rise
 rise_later (k ∷ ns) n m less rise = (beyond_later k ns n m less rise.0, rise_later ns n m less rise.1)
 
--- the numbers rise up to the one behind the next, used up or given to a line
+-- the numbers rise up to the one after the next, used up or given to a line
 pub rise_skipped : (ns : List ℕ) (next : Option ℕ) → Rise (ns ++ upcoming next) →
     Rise (ns ++ upcoming (number_after next))
 rise_skipped ns None rise = rise
@@ -122,7 +122,7 @@ pub sound_skipped : (ls : List Line) (next after : Option ℕ) → after ≡ num
 sound_skipped ls next after is sound =
     (sound.0, subst (λ o. Rise (numbers ls ++ upcoming o)) (sym is) (rise_skipped (numbers ls) next sound.1))
 
--- a line is put behind the others, which has the next number
+-- a line that has the next number is put after the others
 length_more : (ls : List Line) (l : Line) → length (ls ++ l ∷ []) ≡ length ls + 1
 length_more [] l = refl
 length_more (k ∷ ls) l = let rest = length_more ls l in omega (arith, rest)
@@ -172,7 +172,7 @@ first_out i l old new next split same sound =
       least = beyond_front l.id.0 (numbers new) (upcoming next) rise.0;
     }
 
--- so do those of the ids of the definition that are open
+-- the numbers of the open ids of the definition rise as well
 numbers_fit : (ps : List Peer) → numbers (map line ps) ≡ numbers_of ps
 numbers_fit [] = refl
 numbers_fit (p ∷ ps) = ap (λ ns. p.id.0 ∷ ns) (numbers_fit ps)

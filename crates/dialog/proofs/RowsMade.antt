@@ -41,7 +41,7 @@ rows_further lines old new all i is more so_far =
     ∙ ap (λ rs. old ++ rs) (sym (row_before (line_of lines i) (rows_of lines is)))
     ∙ so_far
 
--- a row written anew: those up to it are anew, those behind it as they were
+-- a row written anew: those up to it are anew, those after it as they were
 anew-suc : (lines : List Line) (old new : List Row) (i : ℕ) (d r x : Row) → i < length new →
     r ≡ get_or new i d → x ≡ row_anew (line_of lines r.id) r →
     take i new ≡ rows_anew lines (take i old) → drop i new ≡ drop i old →

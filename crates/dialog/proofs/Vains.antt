@@ -1,4 +1,4 @@
--- Texts that were sought in vain, while bytes come and go.
+-- Texts that were sought and not found, while bytes come and go.
 use Rattle.std.proofs.Common.{◌≡◌, ℕ, ◌+◌, ◌-◌, ◌≤◌, List, [], ◌∷◌, ◌++◌, length, take, drop, zero, suc, refl, subst, arith}
 use Rattle.std.specs.List.{AllByRecursion}
 use Rattle.dialog.specs.Vain.{ArePassed}
@@ -12,7 +12,7 @@ all_so : {X : Type 0} (P Q : X → Type 0) → ((x : X) → P x → Q x) → (xs
 all_so P Q so [] all = tt
 all_so P Q so (x ∷ xs) (here, all) = (so x here, all_so P Q so xs all)
 
--- the first of those for which something holds
+-- what holds of all elements holds of the first n of them
 pub all_taken : {X : Type 0} (P : X → Type 0) (n : ℕ) (xs : List X) → AllByRecursion P xs →
     AllByRecursion P (take n xs)
 all_taken P zero xs all = tt
@@ -27,7 +27,7 @@ passed_gone gone count bytes text from inside passed =
     subst (Passed (exact text) (drop count bytes)) place
     (Passed-drop (exact text) bytes count (from - gone) refl inside passed)
 
--- bytes are gone at the front
+-- bytes have gone from the front
 pub are_gone : {A : Type 0} (gone count : ℕ) (bytes : List ℕ) (vains : List (Vain A)) →
     count ≤ length bytes → ArePassed gone bytes vains →
     ArePassed (gone + count) (drop count bytes) vains

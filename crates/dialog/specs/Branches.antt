@@ -13,8 +13,8 @@ pub data Awaited : Type 0 where
   Default : Awaited
 
 -- a branch: what it waits for, its flags, and its body. By its flags the bytes that it finds stay
--- in the buffer (-notransfer), their places are told (-indices), and capital letters of the window
--- count as small ones (-nocase) (expect(1), expect)
+-- in the buffer (-notransfer), their places are reported (-indices), and capital letters of the
+-- window count as small ones (-nocase) (expect(1), expect)
 pub record Branch : Type 0 where
   pub awaited : Awaited
   pub flags : Flags
@@ -37,6 +37,6 @@ pub record Branches : Type 0 where
   pub pairs : List Pair
   pub timeout : Option ℤ
 
--- these by their parts
+-- branches by their parts
 abbrev pub branches : List Id → List Pair → Option ℤ → Branches
 branches named pairs timeout = record { named = named; pairs = pairs; timeout = timeout }

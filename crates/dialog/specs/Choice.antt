@@ -91,7 +91,7 @@ abbrev pub chosen : Pair → Option Found → Chosen
 chosen p f = record { pair = p; found = f }
 
 -- the pair is the first whose pattern is found, and it is found there; or no pattern is found, and
--- the pair is the first whose keyword has come (expect(1), expect; that a full buffer comes behind
+-- the pair is the first whose keyword has come (expect(1), expect; that a full buffer comes after
 -- all patterns is this project's own rule)
 abbrev pub IsChosen : List Line → Trigger → List Pair → Pair → Option Found → Type 0
 IsChosen lines t pairs p (Some f) = IsFirst (IsFoundFor lines t) pairs p × Finds lines t p f
@@ -103,7 +103,7 @@ abbrev pub Chooses : List Line → Trigger → List Pair → Option Chosen → T
 Chooses lines t pairs (Some c) = IsChosen lines t pairs c.pair c.found
 Chooses lines t pairs None = IsNone (IsFoundFor lines t) pairs × IsNone (IsMet lines t) pairs
 
--- how much of its window a choice consumes: nothing, so many of its first bytes, all of it
+-- how much of its window a choice consumes: nothing, a number of its first bytes, or all of it
 pub data Share : Type 0 where
   Nothing : Share
   Front : ℕ → Share
@@ -149,7 +149,7 @@ abbrev pub lines_after : Trigger → Chosen → List Line → List Line
 lines_after t c ls = at_line (shortened_to (share_of t c)) c.pair.id ls
 
 -- what a choice has for the variable expect_out: the id, the match and all before it or the whole
--- window, where the pattern was found, whether its places are told (expect(1), expect_out)
+-- window, where the pattern was found, whether its places are reported (expect(1), expect_out)
 pub record Taken : Type 0 where
   pub id : Id
   pub buffer : List ℕ

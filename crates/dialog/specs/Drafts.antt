@@ -17,7 +17,7 @@ pub record Draft : Type 0 where
   pub ids : Option (List Id)
   pub flags : Flags
 
--- these by their parts
+-- a draft by its parts
 abbrev pub draft : Branches → Option (List Id) → Flags → Draft
 draft said ids flags = record { said = said; ids = ids; flags = flags }
 
@@ -26,25 +26,25 @@ abbrev pub listed : {A : Type 0} → Option (Vec Id A) → Option (List Id)
 listed None = None
 listed (Some ids) = Some ids.items
 
--- nothing is said
+-- the draft before any word, where nothing is said
 abbrev pub blank : Draft
 blank = draft (branches [] [] None) None no_flags
 
--- a list of ids was read
+-- the draft after a list of ids was read
 abbrev pub with_ids : List Id → Draft → Draft
 with_ids ids d = draft (beside d.said (branches ids [] None)) (Some ids) d.flags
 
--- seconds were read
+-- the draft after seconds were read
 abbrev pub with_seconds : ℤ → Draft → Draft
 with_seconds n d = draft (beside d.said (branches [] [] (Some n))) d.ids d.flags
 
--- a flag stands before the next branch
+-- the flags, with one more that stands before the next branch
 abbrev pub flagged : marks.Mark → Flags → Flags
 flagged mark.Stays flags = record flags { stays = true }
 flagged mark.TellsPlaces flags = record flags { tells_places = true }
 flagged mark.Folds flags = record flags { folds = true }
 
--- such a flag was read
+-- the draft after a flag of the next branch was read
 abbrev pub with_flag : marks.Mark → Draft → Draft
 with_flag m d = draft d.said d.ids (flagged m d.flags)
 
@@ -53,17 +53,18 @@ abbrev pub wanted_of : coded.Wanted → Wanted
 wanted_of (wanted.Seeks style text) = Seeks (style_of style) text.now
 wanted_of (wanted.Names keyword) = Names (named_by_keyword keyword)
 
--- a branch was read
+-- the draft after a branch was read
 abbrev pub with_branch : Option Id → Wanted → List ℕ → Draft → Draft
 with_branch current wanted body d =
     draft (beside d.said (branch_at current d.ids d.flags wanted body)) d.ids no_flags
 
--- whatever the parts behind come to, with what was said by then it is what the parts from here on
--- come to, with what was said by now
+-- reading goes on from a draft and parts to a later draft and later parts: whatever outcome the
+-- later parts have, with what the later draft says in front it is the outcome of all the parts,
+-- with what the first draft says in front
 abbrev pub GoesOn : Place → Draft → List Part → Draft → List Part → Type 0
 GoesOn at d parts e behind = (out : Outcome) → Reads at e.ids e.flags behind out →
     (o : Outcome) × Reads at d.ids d.flags parts o × (in_front d.said o ≡ in_front e.said out)
 
--- the parts from here on come to that error
+-- the parts from here on give that error
 abbrev pub Fails : Place → Draft → List Part → Flaw → Type 0
 Fails at d parts flaw = Reads at d.ids d.flags parts (Err flaw)

@@ -88,13 +88,13 @@ id_of n = record { 0 = n }
 abbrev pub next_id : Listing → Option Id
 next_id t = if nat_le 64 (length t.lines) then None else option_map id_of t.next
 
--- the number behind one, where 64 bits hold it (this project's own rule)
+-- the number after a number, where 64 bits hold it (this project's own rule)
 abbrev pub number_after : Option ℕ → Option ℕ
 number_after None = None
 number_after (Some n) = if nat_lt (n + 1) (2 ^ 64) then Some (n + 1) else None
 
--- the line of an id that is just opened for that, with an empty buffer of that size, and whether
--- nulls are removed (expect(1), spawn, match_max -d and remove_nulls -d)
+-- the line of an id that is just opened for a process or a connection, with an empty buffer of that
+-- size, and with whether nulls are removed (expect(1), spawn, match_max -d and remove_nulls -d)
 abbrev pub fresh_line : Id → Kind → ℕ → Bool → Line
 fresh_line i kind max drops =
     record { id = i; kind = kind; held = held [] max; drops_nulls = drops }
@@ -103,7 +103,7 @@ fresh_line i kind max drops =
 abbrev pub without_nulls : List ℕ → List ℕ
 without_nulls bytes = filter (λ b. not (b == 0)) bytes
 
--- what reaches the buffer of an arrival (expect(1), remove_nulls)
+-- the bytes of an arrival that reach the buffer (expect(1), remove_nulls)
 abbrev pub reaching : Bool → List ℕ → List ℕ
 reaching drops bytes = if drops then without_nulls bytes else bytes
 
@@ -111,7 +111,7 @@ reaching drops bytes = if drops then without_nulls bytes else bytes
 abbrev pub holding : Held → Line → Line
 holding h l = record l { held = h }
 
--- a line after an arrival: its buffer has the last of all bytes
+-- a line after an arrival: its buffer holds the last bytes, at most as many as its size
 abbrev pub reached : List ℕ → Line → Line
 reached bytes l =
     let max = l.held.max in
@@ -134,7 +134,7 @@ dropping drops l = record l { drops_nulls = drops }
 abbrev pub wanted : ℕ → ℕ → ℕ
 wanted held max = if max - held == 0 then (max + 1) / 2 else max - held
 
--- what a wait tells of a line (this project's own rule)
+-- what a wait reports about a line (this project's own rule)
 abbrev pub row_of_line : Line → Row
 row_of_line l = record {
   id = l.id;
@@ -148,8 +148,8 @@ abbrev pub with_row : Option Line → List Row → List Row
 with_row None rows = rows
 with_row (Some l) rows = row_of_line l ∷ rows
 
--- what a wait tells of ids: one row for each that is open, in their order
--- (this project's own rule)
+-- what a wait reports about ids: one row for each that is open, in their order (this project's own
+-- rule)
 abbrev pub rows_of : List Line → List Id → List Row
 rows_of lines [] = []
 rows_of lines (i ∷ is) = with_row (line_of lines i) (rows_of lines is)
@@ -164,10 +164,10 @@ abbrev pub rows_anew : List Line → List Row → List Row
 rows_anew lines [] = []
 rows_anew lines (r ∷ rs) = row_anew (line_of lines r.id) r ∷ rows_anew lines rs
 
--- how many bytes all buffers hold
+-- how many bytes all buffers hold together
 abbrev pub held_by : List Line → ℕ
 held_by lines = sum_by (λ l. length l.held.bytes) lines
 
--- how many bytes they may hold (expect(1), match_max)
+-- how many bytes all buffers may hold together (expect(1), match_max)
 abbrev pub allowed_to : List Line → ℕ
 allowed_to lines = sum_by (λ l. l.held.max) lines

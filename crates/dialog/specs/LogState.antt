@@ -6,7 +6,7 @@ use Rattle.dialog.specs.declared.log_state.LogState.{LogState}
 abbrev pub goes_out : LogState → Bool
 goes_out s = s.user
 
--- it goes to the log where one is open, and log_user is 1 or the log has all (expect(1),
--- log_file -a; that else the log gets nothing is this project's own rule)
+-- an arrival goes to the log where one is open, and log_user is 1 or the log gets everything
+-- (expect(1), log_file -a; that the log gets nothing otherwise is this project's own rule)
 abbrev pub is_logged : LogState → Bool
 is_logged s = s.logging && (s.user || s.all)

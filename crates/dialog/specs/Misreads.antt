@@ -7,7 +7,7 @@ use Rattle.dialog.specs.Reads.{Flaw}
 use Rattle.dialog.specs.declared.branch_error.BranchError.{BranchError}
 use Rattle.dialog.specs.declared.branch_error.BranchError.TheVariants as error
 
--- the error of a pattern that is not read
+-- the error where a pattern can't be read
 abbrev pub of_pattern : PatternError → BranchError
 of_pattern pattern.TooLong = error.TooLong
 of_pattern (pattern.NoMemory refusal) = error.NoMemory refusal

@@ -27,8 +27,8 @@ pub data Part : Type 0 where
   Regex : Part
   Bad : (word : List ℕ) → Part
 
--- what the words before a word leave it to be: a flag, or what a branch waits for; a list of ids,
--- seconds or a pattern behind its flag; a body (expect(1), expect)
+-- what a word is to be, by the words before it: a flag, or what a branch waits for; a list of ids,
+-- seconds or a pattern after its flag; a body (expect(1), expect)
 pub data Expected : Type 0 where
   AnyWord : Expected
   AList : Expected
@@ -88,13 +88,13 @@ abbrev pub alone_part : Sign → List Part
 alone_part (Alone part) = part ∷ []
 alone_part (Leaves expected) = []
 
--- what it leaves the next word to be
+-- what the next word is to be after a word with that sign
 abbrev pub expected_by : Sign → Expected
 expected_by (Alone part) = AnyWord
 expected_by (Leaves expected) = expected
 
--- the parts of words, of which the first is to be that, where pairs that stand are said or not; a
--- last empty body may be missing (expect(1), expect)
+-- the parts of words, the first of which is to be what is expected; `standing` is whether they are
+-- words of expect_before or expect_after; a last empty body may be missing (expect(1), expect)
 abbrev pub parts_from : Bool → Expected → List (List ℕ) → List Part
 parts_from standing AnyWord [] = []
 parts_from standing AnyWord (w ∷ ws) =

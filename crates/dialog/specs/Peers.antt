@@ -6,8 +6,9 @@ use Rattle.matchbuf.specs.Journal.{Record, Arrived, Consumed, Sized, IsJournal, 
 use Rattle.dialog.specs.Kinds.{Kind}
 use Rattle.dialog.specs.Lines.{Line, reaching}
 
--- a spawn id, open or closed, waited for or not, with whether nulls are removed from what arrives,
--- and all that ever came to it and was consumed (expect(1), spawn, close, wait and remove_nulls)
+-- a spawn id: what it was opened for, whether it is open, whether `wait` has reaped it, whether
+-- nulls are removed from what arrives, and all that ever came to it and was consumed (expect(1),
+-- spawn, close, wait and remove_nulls)
 pub record Peer : Type 0 where
   pub id : Id
   pub kind : Kind
@@ -42,7 +43,7 @@ opened (p ∷ ps) = if p.is_open then p ∷ opened ps else opened ps
 abbrev pub numbers_of : List Peer → List ℕ
 numbers_of ps = map (λ p. p.id.0) ps
 
--- the id is that one, and open
+-- the id has that number, and is open
 abbrev pub is_open_at : Id → Peer → Bool
 is_open_at i p = p.is_open && (p.id.0 == i.0)
 

@@ -13,8 +13,8 @@ use Rattle.dialog.specs.Parts.{Glob, Exact, Wanted, Seeks, Names, Part, Ids, Sec
 use Rattle.dialog.specs.Standing.{is_open_in}
 use Rattle.dialog.specs.declared.branch.Flags.{Flags}
 
--- why words say no branches: a text is no list of ids, or an empty one; an id is not open; none is
--- in force that is open; a flag has no word or no branch behind it; -re; a word that is no flag; a
+-- why words give no branches: a text is no list of ids, or an empty one; an id is not open; none is
+-- in force that is open; a flag has no word or no branch after it; -re; a word that is no flag; a
 -- pattern that is too long (expect(1), expect)
 pub data Flaw : Type 0 where
   NotIds : (text : List ℕ) → Flaw
@@ -25,12 +25,12 @@ pub data Flaw : Type 0 where
   BadFlag : (word : List ℕ) → Flaw
   TooLong : Flaw
 
--- what words come to
+-- the outcome of words: branches, or what is wrong with them
 abbrev pub Outcome : Type 0
 Outcome = Result Branches Flaw
 
--- where words are read: among these open ids, with that one in force, if it is open; for pairs that
--- stand or not
+-- the place where words are read: the lines of the open ids, the id in force, if it is open, and
+-- whether the words are those of expect_before or expect_after, whose pairs stand
 pub record Place : Type 0 where
   pub lines : List Line
   pub current : Option Id
@@ -48,18 +48,18 @@ no_flags = record { stays = false; tells_places = false; folds = false }
 abbrev pub has_flags : Flags → Bool
 has_flags flags = flags.stays || (flags.tells_places || flags.folds)
 
--- each has a number below 2^64
+-- each of the ids has a number below 2^64
 abbrev pub AreSmall : List Id → Type 0
 AreSmall [] = Unit {0}
 AreSmall (i ∷ is) = (i.0 < 2 ^ 64) × AreSmall is
 
--- the words spell these ids, one at least
+-- the words spell these ids, at least one
 pub record AreSpelled (ids : List Id) (words : List (List ℕ)) : Type 0 where
   pub texts : map (λ i. id_text i.0) ids ≡ words
   pub small : AreSmall ids
   pub some : ids ≢ []
 
--- the text is a list of these ids, one at least (expect(1), expect -i)
+-- the text is a list of these ids, at least one (expect(1), expect -i)
 pub record IsIds (ids : List Id) (text : List ℕ) : Type 0 where
   pub words : List (List ℕ)
   pub list : IsList words text
@@ -101,12 +101,12 @@ abbrev pub later : Option ℤ → Option ℤ → Option ℤ
 later first None = first
 later first (Some n) = Some n
 
--- what some words say and what those behind them say
+-- what some words say, together with what the words after them say
 abbrev pub beside : Branches → Branches → Branches
 beside b rest =
     branches (b.named ++ rest.named) (b.pairs ++ rest.pairs) (later b.timeout rest.timeout)
 
--- what words behind come to, with these in front of it
+-- the outcome of later words, with what earlier words say in front of it
 abbrev pub in_front : Branches → Outcome → Outcome
 in_front b (Ok rest) = Ok (beside b rest)
 in_front b (Err flaw) = Err flaw
@@ -147,7 +147,7 @@ abbrev pub ids_for : Option Id → Option (List Id) → Option (List Id)
 ids_for current None = alone current
 ids_for current (Some ids) = Some ids
 
--- the ids that a branch itself names: that in force, where no -i stands before it
+-- the ids that a branch itself names: the one in force, where no -i stands before it
 abbrev pub named_by : Option Id → Option (List Id) → List Id
 named_by None None = []
 named_by (Some i) None = i ∷ []
@@ -169,7 +169,7 @@ abbrev pub branch_at : Option Id → Option (List Id) → Flags → Wanted → L
 branch_at current ids flags wanted body = branches (named_by current ids)
     (pairs_of (ids_for current ids) (branch_by flags wanted body)) None
 
--- what parts come to at a place, with the ids of the last -i and the flags before the next branch
+-- the outcome of parts at a place, with the ids of the last -i and the flags before the next branch
 -- (expect(1), expect)
 abbrev pub Reads : Place → Option (List Id) → Flags → List Part → Outcome → Type 0
 Reads at ids flags [] out = out ≡ at_end flags
@@ -200,17 +200,17 @@ abbrev pub with_current : Option Id → Branches → Outcome
 with_current None b = Err NoneInForce
 with_current (Some i) b = Ok (branches (i ∷ []) b.pairs b.timeout)
 
--- where words name none of these ids, they name the one in force
+-- where words name no ids, they name the one in force
 abbrev pub named_or : List Id → Option Id → Branches → Outcome
 named_or [] current b = with_current current b
 named_or (i ∷ is) current b = Ok b
 
--- the same of what words come to
+-- the same of the outcome of words
 abbrev pub named_at : Option Id → Outcome → Outcome
 named_at current (Ok b) = named_or b.named current b
 named_at current (Err flaw) = Err flaw
 
--- words come to that at a place (expect(1), expect, expect_before and expect_after)
+-- words have that outcome at a place (expect(1), expect, expect_before and expect_after)
 pub record IsRead (at : Place) (words : List (List ℕ)) (out : Outcome) : Type 0 where
   pub said : Outcome
   pub reads : Reads at None no_flags (parts at.standing words) said

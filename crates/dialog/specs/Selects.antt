@@ -29,7 +29,7 @@ pub record Makes {A : Type 0} (choice : Choice A) (t : Trigger) (pairs : List Pa
   pub lines : new ≡ lines_after t selected old
   pub fits : (ps : List Peer) → FitsPeers old ps → FitsPeers new (peers_after t selected ps)
 
--- what a selection came to: a choice, or none, and then nothing is consumed
+-- the result of a selection: a choice, or none, and then nothing is consumed
 abbrev pub Selects : {A : Type 0} → Option (Choice A) → Trigger → List Pair →
     List Line → List Line → Type 0
 Selects None t pairs old new = Chooses old t pairs None × (new ≡ old)

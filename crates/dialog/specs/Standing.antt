@@ -13,7 +13,7 @@ pub record Standing : Type 0 where
   pub before : List Pair
   pub after : List Pair
 
--- these by their parts
+-- the pairs of both sides, by their parts
 abbrev pub standing : List Pair → List Pair → Standing
 standing before after = record { before = before; after = after }
 
@@ -25,12 +25,12 @@ is_among ids i = list_any (λ j. j.0 == i.0) ids
 abbrev pub others : List Id → List Pair → List Pair
 others ids pairs = filter (λ p. not (is_among ids p.id)) pairs
 
--- the pairs of the ids that the branches name go, and theirs come behind (expect(1), expect_before
--- and expect_after)
+-- the pairs of the ids that the branches name are removed, and the pairs of the branches are put at
+-- the end (expect(1), expect_before and expect_after)
 abbrev pub replaced : Branches → List Pair → List Pair
 replaced b pairs = others b.named pairs ++ b.pairs
 
--- that, at one of the sides
+-- the same for the pairs of one of the sides
 abbrev pub put_at : Side → Branches → Standing → Standing
 put_at Before b s = standing (replaced b s.before) s.after
 put_at After b s = standing s.before (replaced b s.after)
@@ -48,7 +48,7 @@ pub record Effective : Type 0 where
   pub pairs : List Pair
   pub ids : List Id
 
--- these by their parts
+-- what an expect chooses among, by its parts
 abbrev pub effective_of : List Pair → List Id → Effective
 effective_of pairs ids = record { pairs = pairs; ids = ids }
 
@@ -77,7 +77,7 @@ all_of s b = effective_of (s.before ++ (b.pairs ++ s.after)) (waited s b)
 abbrev pub is_open_in : List Line → Id → Bool
 is_open_in lines i = is_some (line_of lines i)
 
--- ids that are no longer open go, with their pairs (expect(1), exp_continue and close)
+-- ids that are no longer open are dropped, with their pairs (expect(1), exp_continue and close)
 abbrev pub pruned : List Line → Effective → Effective
 pruned lines e =
     effective_of (filter (λ p. is_open_in lines p.id) e.pairs) (filter (is_open_in lines) e.ids)

@@ -27,21 +27,21 @@ pub enum Awaited<A: Allocator> {
 }
 
 impl<A: Allocator> Awaited<A> {
-    /// Whether it is a full buffer.
+    /// Whether the branch waits for a full buffer.
     pub(crate) fn takes_full(&self) -> bool
         ensures { result ≡ takes_full (awaited_of self.now) }
     {
         matches!(self, Awaited::FullBuffer)
     }
 
-    /// Whether it is an end.
+    /// Whether the branch waits for an end (`eof` or `default`).
     pub(crate) fn takes_end(&self) -> bool
         ensures { result ≡ takes_end (awaited_of self.now) }
     {
         matches!(self, Awaited::Eof | Awaited::Default)
     }
 
-    /// Whether it is a timeout.
+    /// Whether the branch waits for a timeout (`timeout` or `default`).
     pub(crate) fn takes_timeout(&self) -> bool
         ensures { result ≡ takes_timeout (awaited_of self.now) }
     {
@@ -54,7 +54,7 @@ impl<A: Allocator> Awaited<A> {
 pub struct Flags {
     /// The bytes that its pattern finds stay in the buffer (`-notransfer`).
     pub stays: bool,
-    /// The places of a match are told (`-indices`).
+    /// The places of a match are reported (`-indices`).
     pub tells_places: bool,
     /// Capital letters of the window count as small ones (`-nocase`).
     pub folds: bool,
@@ -79,7 +79,7 @@ impl<A: Allocator> Model for Branch<A> {
 }
 
 impl<A: Allocator> Branch<A> {
-    /// A branch that waits for that, with its flags and its body.
+    /// A branch by its parts: what it waits for, its flags and its body.
     pub fn new(awaited: Awaited<A>, flags: Flags, body: Value<A>) -> Branch<A>
         ensures { result ≡ branch_of awaited flags body }
     {
@@ -114,7 +114,8 @@ impl<A: Allocator> Pair<A> {
         Pair { id, branch }
     }
 
-    /// The same pair once more; its branch is not copied. Memory is asked for the count alone.
+    /// The same pair once more; its branch is not copied. Memory is asked for only for the count of
+    /// its holders.
     pub(crate) fn share(&self) -> Result<Pair<A>, NoMemory>
         ensures { IfOk result (λ same. same ≡ self.now) }
     {
@@ -125,7 +126,7 @@ impl<A: Allocator> Pair<A> {
         })
     }
 
-    /// The id.
+    /// The id that the branch is for.
     pub fn id(&self) -> Id
         ensures { result ≡ self.now.id }
     {
@@ -146,7 +147,7 @@ impl<A: Allocator> Pair<A> {
         self.branch.flags.stays
     }
 
-    /// Whether the places of a match are told (`-indices`).
+    /// Whether the places of a match are reported (`-indices`).
     pub(crate) fn tells_places(&self) -> bool
         ensures { result ≡ self.now.branch.flags.tells_places }
     {

@@ -1,19 +1,19 @@
-//! Why words say no branches.
+//! Why the words of an `expect` give no branches.
 use acts::{Id, NoMemory};
 use tcltext::PatternError;
 
-/// Why the words of an `expect` say no branches (expect(1), expect).
+/// Why the words of an `expect` give no branches (expect(1), expect).
 #[derive(Clone, Copy, Debug, PartialEq, Eq)]
 pub enum BranchError<'a> {
-    /// This word behind `-i` is no list of ids, or an empty one.
+    /// This word after `-i` is no list of ids, or an empty one.
     NotIds(&'a [u8]),
-    /// This id behind `-i` is not open.
+    /// This id after `-i` is not open.
     NotOpen(Id),
-    /// No open id is in force.
+    /// No open id is in force where one is needed.
     NoneInForce,
-    /// A flag has no word behind it, or no branch.
+    /// A flag has no word after it, or no branch follows it.
     NoPattern,
-    /// `-re`, which is left out.
+    /// `-re`, which this project leaves out.
     RegexNotHere,
     /// This word is no flag.
     BadFlag(&'a [u8]),

@@ -25,7 +25,7 @@ impl<A: Allocator> Model for Branches<A> {
 }
 
 impl<A: Allocator> Branches<A> {
-    /// These by their parts.
+    /// Branches by their parts.
     pub(crate) fn of(named: Vec<Id, A>, pairs: Vec<Pair<A>, A>, timeout: Option<i64>) -> Branches<A>
         ensures { result ≡ branches named.items pairs.items timeout }
     {

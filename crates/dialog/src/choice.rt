@@ -12,7 +12,7 @@ use acts::{Id, NoMemory};
 use std::alloc::Allocator;
 use tcltext::{Found, Pattern, Value};
 
-/// After what a pair is looked for (expect(1), expect).
+/// The event after which a pair is looked for (expect(1), expect).
 #[derive(Clone, Copy, Debug, PartialEq, Eq)]
 pub enum Trigger {
     /// The `expect` begins, or goes on by `exp_continue`.
@@ -30,7 +30,8 @@ pub enum Trigger {
 pub struct Choice<A: Allocator> {
     /// The script of the branch.
     pub body: Value<A>,
-    /// What it is for the variable `expect_out`; none after a timeout.
+    /// What the choice has for the variable `expect_out`; none after a timeout, and none where the
+    /// id is not open.
     pub taken: Option<Taken<A>>,
 }
 
@@ -43,12 +44,12 @@ pub struct Taken<A: Allocator> {
     pub buffer: Vec<u8, A>,
     /// Where in the window the pattern was found; none where a keyword was chosen.
     pub found: Option<Found>,
-    /// Whether the places of the match are told (`-indices`).
+    /// Whether the places of the match are reported (`-indices`).
     pub tells_places: bool,
 }
 
 impl Trigger {
-    /// Whether the pattern of a pair is looked for.
+    /// Whether the pattern of a pair is looked for after this trigger.
     fn looks_at<A: Allocator>(self, pair: &Pair<A>) -> bool
         ensures { result ≡ looks_at self pair.now }
     {
@@ -59,7 +60,7 @@ impl Trigger {
         }
     }
 
-    /// Whether a choice takes something of a window.
+    /// Whether a choice after this trigger takes something of a window.
     fn takes(self) -> bool
         ensures { result ≡ takes self }
     {
@@ -78,7 +79,7 @@ impl<A: Allocator> Table<A> {
         }
     }
 
-    /// Whether a pair waits for a full buffer, and that of its id is full.
+    /// Whether a pair waits for a full buffer, and the buffer of its id is full.
     fn is_filled(&self, pair: &Pair<A>) -> bool
         ensures { result ≡ is_filled self.now.lines pair.now }
     {
@@ -197,7 +198,7 @@ impl<A: Allocator + Copy> Table<A> {
         self.entries[place].search(alloc, pattern)
     }
 
-    /// What a chosen pair comes to. On `Err` the table is unchanged.
+    /// The choice of a pair: its body, and what it takes. On `Err` the table is unchanged.
     fn choose(
         &mut self,
         alloc: A,

@@ -17,7 +17,7 @@ use std::marker::Model;
 use std::rc::Rc;
 use tcltext::{Pattern, PatternError, Value};
 
-/// No flag stands before the next branch.
+/// The flags of a branch before which no flag stands.
 const NO_FLAGS: Flags = Flags {
     stays: false,
     tells_places: false,
@@ -54,7 +54,7 @@ impl<A: Allocator> Model for Draft<A> {
 }
 
 impl<A: Allocator + Copy> Draft<A> {
-    /// Nothing is said.
+    /// The draft before any word, where nothing is said.
     pub(crate) fn new(alloc: A) -> Draft<A>
         ensures { result ≡ blank }
     {
@@ -67,7 +67,7 @@ impl<A: Allocator + Copy> Draft<A> {
         }
     }
 
-    /// A list of ids was read.
+    /// Adds a list of ids that was read after `-i`; the branches after it are for these ids.
     pub(crate) fn add_ids(&mut self, ids: Vec<Id, A>) -> Result<(), NoMemory>
         ensures { OnOk result (self.new ≡ with_ids ids.items self.old) }
     {
@@ -76,14 +76,14 @@ impl<A: Allocator + Copy> Draft<A> {
         Ok(())
     }
 
-    /// Seconds were read.
+    /// Sets the seconds that were read after `-timeout`.
     pub(crate) fn set_timeout(&mut self, seconds: i64)
         ensures { self.new ≡ with_seconds seconds self.old }
     {
         self.timeout = Some(seconds);
     }
 
-    /// A flag of the next branch was read.
+    /// Sets a flag of the next branch that was read.
     pub(crate) fn mark(&mut self, mark: Mark)
         ensures { self.new ≡ with_flag mark self.old }
     {
@@ -94,7 +94,8 @@ impl<A: Allocator + Copy> Draft<A> {
         }
     }
 
-    /// A branch was read.
+    /// Adds a branch that was read, for the ids of the last `-i`, or else for the id in force,
+    /// `current`.
     pub(crate) fn add_branch<'a>(
         &mut self,
         alloc: A,
@@ -118,7 +119,7 @@ impl<A: Allocator + Copy> Draft<A> {
         Ok(())
     }
 
-    /// A branch of the id in force was read.
+    /// Adds a branch that was read for the id in force, where no `-i` was read.
     fn add_current<'a>(
         &mut self,
         alloc: A,
@@ -143,8 +144,8 @@ impl<A: Allocator + Copy> Draft<A> {
         Ok(())
     }
 
-    /// The branches that the words say, where they end here. Where they name no id, that in force
-    /// is named.
+    /// The branches that the words say, once all words are read. Where they name no id, the id in
+    /// force is named.
     pub(crate) fn finish<'a>(mut self, current: Option<Id>) -> Result<Branches<A>, BranchError<'a>>
         ensures branches { IfOk result (λ b.
             named_at current (in_front self.said (at_end self.flags)) ≡ Ok b) }
@@ -188,7 +189,8 @@ fn shared<A: Allocator>(alloc: A, branch: Branch<A>) -> Result<Rc<Branch<A>, A>,
     Ok(Rc::new(alloc, branch)?)
 }
 
-/// What a branch waits for; where it seeks a text, the letters of the window are folded or not.
+/// What a branch waits for; `folds` is whether the letters of the window are folded where it seeks
+/// a text.
 fn awaited_by<A: Allocator + Copy>(
     alloc: A,
     folds: bool,
@@ -220,7 +222,7 @@ fn sought_by<A: Allocator>(folds: bool, pattern: Pattern<A>) -> Awaited<A>
     }
 }
 
-/// Puts a pair of a branch behind others for each of some ids.
+/// Appends a pair with the branch for each of the ids.
 fn push_for_each<A: Allocator>(
     pairs: &mut Vec<Pair<A>, A>,
     ids: &[Id],
@@ -235,7 +237,7 @@ fn push_for_each<A: Allocator>(
     Ok(())
 }
 
-/// Puts ids behind others.
+/// Appends more ids.
 fn push_ids<A: Allocator>(ids: &mut Vec<Id, A>, more: &[Id]) -> Result<(), NoMemory>
     ensures { OnOk result (ids.new.items ≡ ids.old.items ++ more.now) }
 {

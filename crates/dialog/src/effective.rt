@@ -29,6 +29,9 @@ impl<A: Allocator> Model for Effective<A> {
 impl<A: Allocator + Copy> Effective<A> {
     /// The pairs that stand before, those of the branches, and those that stand after, with the ids
     /// that are waited for.
+    ///
+    /// # Errors
+    /// `NoMemory`.
     pub fn new(
         alloc: A,
         standing: &Standing<A>,
@@ -84,7 +87,7 @@ fn waited<A: Allocator>(
     Ok(ids)
 }
 
-/// Puts the ids of pairs behind others, each that is new where it is mentioned first.
+/// Appends the ids of pairs that are not there yet, each where it is mentioned first.
 fn mention_all<A: Allocator>(ids: &mut Vec<Id, A>, pairs: &[Pair<A>]) -> Result<(), NoMemory>
     ensures { OnOk result (ids.new.items
         ≡ ids.old.items ++ first_mentions ids.old.items (ids_of pairs.now)) }
@@ -95,7 +98,7 @@ fn mention_all<A: Allocator>(ids: &mut Vec<Id, A>, pairs: &[Pair<A>]) -> Result<
     Ok(())
 }
 
-/// Puts ids behind others, each that is new where it is mentioned first.
+/// Appends those of more ids that are not there yet, each where it is mentioned first.
 fn mention_ids<A: Allocator>(ids: &mut Vec<Id, A>, more: &[Id]) -> Result<(), NoMemory>
     ensures { OnOk result (ids.new.items
         ≡ ids.old.items ++ first_mentions ids.old.items more.now) }
@@ -106,7 +109,7 @@ fn mention_ids<A: Allocator>(ids: &mut Vec<Id, A>, more: &[Id]) -> Result<(), No
     Ok(())
 }
 
-/// Puts an id behind others, where it is new.
+/// Appends an id, where it is not there yet.
 fn mention<A: Allocator>(ids: &mut Vec<Id, A>, id: Id) -> Result<(), NoMemory>
     ensures { OnOk result (ids.new.items
         ≡ ids.old.items ++ first_mentions ids.old.items (id ∷ [])) }

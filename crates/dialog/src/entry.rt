@@ -37,7 +37,7 @@ impl<A: Allocator> Model for Entry<A> {
 }
 
 impl<A: Allocator> Entry<A> {
-    /// An id that is just opened for that.
+    /// An id that is just opened for a process or a connection.
     ///
     /// # Errors
     /// `NoMemory`.
@@ -66,7 +66,7 @@ impl<A: Allocator> Entry<A> {
         self.id
     }
 
-    /// What it was opened for.
+    /// What the id was opened for.
     pub(crate) fn kind(&self) -> Kind
         ensures { kind_of result ≡ self.now.kind }
     {
@@ -97,14 +97,14 @@ impl<A: Allocator> Entry<A> {
         self.buffer.max()
     }
 
-    /// Whether nulls are removed.
+    /// Whether nulls are removed from what arrives.
     pub(crate) fn drops_nulls(&self) -> bool
         ensures { result ≡ self.now.drops_nulls }
     {
         self.drops_nulls
     }
 
-    /// Sets whether nulls are removed.
+    /// Sets whether nulls are removed from what arrives.
     pub(crate) fn set_nulls(&mut self, drops: bool)
         ensures { self.new ≡ dropping drops self.old }
     {
@@ -123,7 +123,7 @@ impl<A: Allocator> Entry<A> {
         }
     }
 
-    /// What a wait tells of the id.
+    /// What a wait reports about the id.
     pub(crate) fn row(&self) -> Row
         ensures { result ≡ row_of_line self.now }
     {
@@ -151,8 +151,8 @@ impl<A: Allocator + Copy> Entry<A> {
         self.buffer.search(alloc, pattern)
     }
 
-    /// Hands out the match and all before it, or the whole window where there is no match. They are
-    /// consumed, but for a match that stays. On `Err` nothing is consumed.
+    /// Hands out the match and all before it, or the whole window where there is no match. What is
+    /// handed out is consumed, unless there is a match and it stays. On `Err` nothing is consumed.
     pub(crate) fn hand_out(
         &mut self,
         alloc: A,

@@ -1,4 +1,4 @@
-//! Lists of ids, as they stand behind `-i`.
+//! Lists of ids, as they stand after `-i`.
 ghost use Rattle.std.specs.Prelude.{◌≡◌, ◌<◌, ◌^◌, ◌++◌, ◌∷◌, List, [], true, None, is_some, IfOk, OnOk, IfErr, IfSome, MatchOption};
 ghost use Rattle.acts.specs.declared.id.Id.{Id as Plain};
 ghost use Rattle.tcltext.specs.Seen.{texts};
@@ -12,7 +12,7 @@ use acts::{Id, NoMemory};
 use std::alloc::Allocator;
 use tcltext::{ListFault, split_list};
 
-/// The open ids that a text lists, one at least (expect(1), expect -i).
+/// The open ids that a text lists, at least one (expect(1), expect -i).
 pub(crate) fn open_ids<'a, A: Allocator + Copy>(
     alloc: A,
     table: &Table<A>,
@@ -41,7 +41,7 @@ fn listed_ids<A: Allocator + Copy>(alloc: A, text: &[u8]) -> Result<Option<Vec<I
     }
 }
 
-/// No ids, but where memory was refused.
+/// No ids for a text that is no list; an error where memory was refused.
 fn no_ids<A: Allocator>(_alloc: A, fault: ListFault) -> Result<Option<Vec<Id, A>>, NoMemory>
     ensures none { IfOk result (λ listed. listed ≡ None) }
     ensures flaw { OnOk result (is_some (list_flaw_of fault) ≡ true) }
@@ -56,7 +56,7 @@ fn no_ids<A: Allocator>(_alloc: A, fault: ListFault) -> Result<Option<Vec<Id, A>
     }
 }
 
-/// The ids that words spell, if there is one and each spells one.
+/// The ids that words spell, if there is at least one word and each word spells an id.
 fn spelled_ids<A: Allocator>(alloc: A, words: &[Vec<u8, A>]) -> Result<Option<Vec<Id, A>>, NoMemory>
     ensures { IfOk result (λ spelled. MatchOption spelled
         ((ids : List Plain) → ¬ AreSpelled ids (texts words.now))
@@ -75,7 +75,7 @@ fn spelled_ids<A: Allocator>(alloc: A, words: &[Vec<u8, A>]) -> Result<Option<Ve
     Ok(Some(ids))
 }
 
-/// Puts an id behind others.
+/// Appends an id.
 fn push_id<A: Allocator>(ids: &mut Vec<Id, A>, id: Id) -> Result<(), NoMemory>
     ensures items { OnOk result (ids.new.items ≡ ids.old.items ++ id ∷ []) }
     ensures small { id.0 < 2 ^ 64 }

@@ -1,4 +1,4 @@
-//! Laws of the definitions: after a trigger there is exactly one choice among pairs, words come to
+//! Laws of the definitions: after a trigger there is exactly one choice among pairs, words have
 //! exactly one outcome, and open ids stand in rising order.
 ghost use Rattle.std.specs.Prelude.{◌≡◌, ℕ, List, Option};
 ghost use Rattle.dialog.specs.Branches.{Pair};
@@ -11,7 +11,7 @@ ghost use Rattle.dialog.specs.declared.choice.Trigger.{Trigger};
 use crate::table::Table;
 use std::alloc::Allocator;
 
-/// Among pairs there is a choice after a trigger, which may be none, and there is no second one.
+/// After a trigger there is exactly one choice among pairs, which may be to choose none.
 pub fn one_choice()
     ensures some { (lines : List Line) (t : Trigger) (pairs : List Pair) →
         (o : Option Chosen) × Chooses lines t pairs o }
@@ -19,7 +19,7 @@ pub fn one_choice()
         Chooses lines t pairs a → Chooses lines t pairs b → a ≡ b }
 {}
 
-/// At a place words come to branches or to an error, and to nothing else.
+/// At a place words have exactly one outcome: branches or an error.
 pub fn one_reading()
     ensures some { (at : Place) (words : List (List ℕ)) →
         (out : Outcome) × IsRead at words out }
@@ -31,6 +31,6 @@ pub fn one_reading()
 pub fn open_ids_rise<A: Allocator>(table: &Table<A>)
     ensures { (ps : List Peer) → FitsPeers table.now.lines ps → Rise (numbers_of (opened ps)) }
 {
-    // What holds of every table is known once it is looked at.
+    // What holds of every table is known once one of its fields is borrowed.
     let _entries = &table.entries;
 }

@@ -24,7 +24,7 @@ impl<A: Allocator> Table<A> {
     }
 }
 
-/// The first of the ids that a text spells.
+/// The first of the open ids that the text spells, if there is one.
 fn first_named<A: Allocator>(entries: &[Entry<A>], text: &[u8]) -> Option<Id>
     ensures { result ≡ named entries.now text.now }
 {
@@ -36,7 +36,7 @@ fn first_named<A: Allocator>(entries: &[Entry<A>], text: &[u8]) -> Option<Id>
     None
 }
 
-/// The first of the connections whose channel a text spells.
+/// The first of the open connections whose channel the text spells, if there is one.
 fn first_connection<A: Allocator>(entries: &[Entry<A>], text: &[u8]) -> Option<Id>
     ensures { result ≡ connection entries.now text.now }
 {

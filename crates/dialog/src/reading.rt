@@ -16,8 +16,8 @@ use acts::Id;
 use std::alloc::Allocator;
 use tcltext::{Value, read_int};
 
-/// Where words are read: among the open ids, with the one in force, if it is open; for pairs that
-/// stand or not.
+/// The place where words are read: the open ids, the id in force, if it is open, and whether the
+/// words are those of `expect_before` or `expect_after`, whose pairs stand.
 #[derive(Drop)]
 pub(crate) struct Place<'t, A: Allocator> {
     table: &'t Table<A>,
@@ -26,9 +26,8 @@ pub(crate) struct Place<'t, A: Allocator> {
 }
 
 impl<A: Allocator + Copy> Branches<A> {
-    /// The branches that the words of `expect` say; where pairs that stand are said, those of
-    /// `expect_before` or `expect_after` (expect(1), expect). `current` is the id in force, where
-    /// it is open.
+    /// The branches that the words of `expect` say, or with `standing` those of `expect_before` or
+    /// `expect_after` (expect(1), expect). `current` is the id in force, where it is open.
     ///
     /// # Errors
     /// The error that comes first in the words, or `NoMemory`.
@@ -58,7 +57,7 @@ impl<A: Allocator + Copy> Branches<A> {
     }
 }
 
-/// Reads one part of the words, and gives the words behind it.
+/// Reads one part of the words, and gives the words after it.
 fn read_part<'a, A: Allocator + Copy>(
     alloc: A,
     at: &Place<'_, A>,
@@ -89,7 +88,7 @@ fn read_part<'a, A: Allocator + Copy>(
     }
 }
 
-/// Reads a list of ids, and gives the words behind it.
+/// Reads a list of ids, and gives the words after it.
 fn read_ids<'a, A: Allocator + Copy>(
     alloc: A,
     at: &Place<'_, A>,
@@ -113,7 +112,7 @@ fn read_ids<'a, A: Allocator + Copy>(
     Ok(behind)
 }
 
-/// Reads seconds behind `-timeout`, and gives the words behind them.
+/// Reads seconds after `-timeout`, and gives the words after them.
 fn read_seconds<'a, A: Allocator + Copy>(
     at: &Place<'_, A>,
     draft: &mut Draft<A>,
@@ -138,7 +137,7 @@ fn read_seconds<'a, A: Allocator + Copy>(
     Ok(behind)
 }
 
-/// Reads a branch whose pattern stands behind its flag, and gives the words behind it.
+/// Reads a branch whose pattern stands after its flag, and gives the words after it.
 fn read_pattern<'a, A: Allocator + Copy>(
     alloc: A,
     at: &Place<'_, A>,
@@ -168,7 +167,7 @@ fn read_pattern<'a, A: Allocator + Copy>(
     )
 }
 
-/// Reads the body of a branch, and gives the words behind it.
+/// Reads the body of a branch, and gives the words after it.
 fn read_branch<'a, A: Allocator + Copy>(
     alloc: A,
     at: &Place<'_, A>,

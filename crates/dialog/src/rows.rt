@@ -1,4 +1,4 @@
-//! What a wait tells of the ids that it waits for.
+//! What a wait reports about the ids that it waits for.
 ghost use Rattle.std.specs.Prelude.{◌≡◌, ◌+◌, ◌<◌, ◌≤◌, ◌++◌, ◌∷◌, [], List, length, IfOk, OnOk, OnErr, vec_capacity};
 ghost use Rattle.std.specs.Option.{option_map};
 ghost use Rattle.acts.specs.declared.row.Row.{Row};
@@ -9,7 +9,10 @@ use acts::{Id, NoMemory, Row};
 use std::alloc::Allocator;
 
 impl<A: Allocator> Table<A> {
-    /// What a wait tells of ids: a row for each that is open, in their order.
+    /// What a wait reports about ids: a row for each one that is open, in the order of `ids`.
+    ///
+    /// # Errors
+    /// `NoMemory`.
     pub fn rows(&self, alloc: A, ids: &[Id]) -> Result<Vec<Row, A>, NoMemory>
         ensures { IfOk result (λ rows. rows.items ≡ rows_of self.now.lines ids.now) }
     {
@@ -18,12 +21,12 @@ impl<A: Allocator> Table<A> {
         Ok(rows)
     }
 
-    /// Puts what a wait tells of ids into a vector in place of what it holds, whose room is used
-    /// again.
+    /// Replaces what a vector holds by what a wait reports about ids: a row for each one that is
+    /// open. The room of the vector is used again.
     ///
     /// # Errors
-    /// `NoMemory`, only where the room was smaller than there are ids. The vector then has the
-    /// first rows, as far as they were written.
+    /// `NoMemory`, only where the vector had room for fewer rows than there are ids. It then has
+    /// the first rows, as far as they were written.
     pub fn fill(&self, rows: &mut Vec<Row, A>, ids: &[Id]) -> Result<(), NoMemory>
         ensures rows { OnOk result (rows.new.items ≡ rows_of self.now.lines ids.now) }
         ensures refused { OnErr result (vec_capacity rows.old < length ids.now) }
@@ -37,7 +40,7 @@ impl<A: Allocator> Table<A> {
         Ok(())
     }
 
-    /// Writes rows anew, as the buffers are now; that of an id which is not open stays. No memory
+    /// Writes rows anew, as the buffers are now; the row of an id that is not open stays. No memory
     /// is asked for.
     pub fn refresh(&self, rows: &mut [Row])
         ensures { rows.new ≡ rows_anew self.now.lines rows.old }
@@ -47,7 +50,7 @@ impl<A: Allocator> Table<A> {
         }
     }
 
-    /// Puts the row of an id behind others, where it is open.
+    /// Appends the row of an id, where the id is open.
     fn push_row(&self, rows: &mut Vec<Row, A>, id: Id) -> Result<(), NoMemory>
         ensures rows { OnOk result (rows.new.items
             ≡ rows.old.items ++ rows_of self.now.lines (id ∷ [])) }
@@ -63,7 +66,7 @@ impl<A: Allocator> Table<A> {
         Ok(())
     }
 
-    /// What a wait tells of an id, where it is open.
+    /// What a wait reports about an id, where the id is open.
     fn row(&self, id: Id) -> Option<Row>
         ensures { result ≡ option_map row_of_line (line_of self.now.lines id) }
     {
@@ -73,7 +76,7 @@ impl<A: Allocator> Table<A> {
         }
     }
 
-    /// A row as its buffer is now, where its id is open.
+    /// A row written anew as the buffer is now; the same row where its id is not open.
     fn row_anew(&self, row: Row) -> Row
         ensures { result ≡ row_anew (line_of self.now.lines row.id) row }
     {

@@ -13,13 +13,13 @@ use std::alloc::Allocator;
 use std::marker::Model;
 use tcltext::{Found, Pattern, Scratch, find_text};
 
-/// A match buffer, and what was sought in it in vain: a search for such a text goes on where the
-/// last one ended.
+/// A match buffer, and the texts that were sought in it and not found: a search for such a text
+/// continues where the last one ended.
 #[derive(Drop)]
 pub(crate) struct Searched<A: Allocator> {
     buffer: MatchBuf<A>,
     vains: Vec<Vain<A>, A>,
-    /// How many bytes are gone at the front since there was no search in mind.
+    /// How many bytes are gone from the front since no search was remembered.
     gone: usize,
 }
 
@@ -131,7 +131,7 @@ impl<A: Allocator + Copy> Searched<A> {
     /// Sets how many bytes it may hold.
     ///
     /// # Errors
-    /// `Size` where `max` is no size of a buffer, and `NoMemory`. It is then as it was.
+    /// `Size` where `max` is no size of a buffer, and `NoMemory`. The buffer is then as it was.
     pub(crate) fn set_max(&mut self, max: u32) -> Result<(), MatchBufError>
         ensures value { OnOk result (self.new ≡ held (keep_last max self.old.bytes) max) }
         ensures unchanged { OnErr result (self.new ≡ self.old) }

@@ -34,7 +34,7 @@ pub(crate) enum Keyword {
 pub(crate) enum Sign {
     /// A flag of the next branch.
     Mark(Mark),
-    /// `-re`, which is left out.
+    /// `-re`, which this project leaves out.
     Regex,
     /// A word that is no flag.
     Bad,
@@ -51,7 +51,7 @@ pub(crate) enum Sign {
 }
 
 impl Sign {
-    /// What a word says, where pairs that stand are said or not.
+    /// What a word says; `standing` is whether it is a word of `expect_before` or `expect_after`.
     pub(crate) fn of(standing: bool, word: &[u8]) -> Sign
         ensures { sign_by word.now result ≡ sign standing word.now }
     {
@@ -80,7 +80,7 @@ fn flag_sign(standing: bool, word: &[u8]) -> Sign
     }
 }
 
-/// What a word says that begins with a dash and behind which no word is its own.
+/// What a word says that begins with a dash and takes no word after it.
 fn alone_sign(word: &[u8]) -> Sign
     ensures { sign_by word.now result ≡ alone_sign word.now }
 {
@@ -97,7 +97,7 @@ fn alone_sign(word: &[u8]) -> Sign
     }
 }
 
-/// What a word says that begins otherwise.
+/// What a word says that does not begin with a dash.
 fn plain_sign(word: &[u8]) -> Sign
     ensures { sign_by word.now result ≡ plain_sign word.now }
 {

@@ -34,21 +34,21 @@ impl<A: Allocator> Model for Standing<A> {
 }
 
 impl<A: Allocator> Standing<A> {
-    /// The pairs before.
+    /// The pairs that stand before those of each `expect`.
     pub fn pairs_before(&self) -> &[Pair<A>]
         ensures { result.now ≡ self.now.before }
     {
         &self.before
     }
 
-    /// The pairs after.
+    /// The pairs that stand after those of each `expect`.
     pub fn pairs_after(&self) -> &[Pair<A>]
         ensures { result.now ≡ self.now.after }
     {
         &self.after
     }
 
-    /// Takes the pairs of an id away. No memory is asked for.
+    /// Removes the pairs of an id from both sides. No memory is asked for.
     pub fn close(&mut self, id: Id)
         ensures { self.new ≡ unpaired id self.old }
     {
@@ -58,7 +58,7 @@ impl<A: Allocator> Standing<A> {
 }
 
 impl<A: Allocator + Copy> Standing<A> {
-    /// No pairs stand.
+    /// Both sides without pairs.
     pub fn new(alloc: A) -> Standing<A>
         ensures { result ≡ standing [] [] }
     {
@@ -68,8 +68,8 @@ impl<A: Allocator + Copy> Standing<A> {
         }
     }
 
-    /// Takes the pairs of the ids that branches name away from a side, and puts theirs behind those
-    /// that are left. On `Err` nothing changes.
+    /// Removes from a side the pairs of the ids that branches name, and appends the pairs of the
+    /// branches. On `Err` nothing changes.
     pub fn put(&mut self, alloc: A, side: Side, branches: &Branches<A>) -> Result<(), NoMemory>
         ensures put { OnOk result (self.new ≡ put_at side branches.now self.old) }
         ensures unchanged { OnErr result (self.new ≡ self.old) }
@@ -82,7 +82,7 @@ impl<A: Allocator + Copy> Standing<A> {
     }
 }
 
-/// Pairs without those of the ids that branches name, and theirs behind them.
+/// Pairs without those of the ids that branches name, followed by the pairs of the branches.
 fn replaced<A: Allocator>(
     alloc: A,
     standing: &[Pair<A>],
@@ -96,7 +96,7 @@ fn replaced<A: Allocator>(
     Ok(pairs)
 }
 
-/// Puts the pairs of ids that are not among some behind others.
+/// Appends the pairs whose ids are not among those named.
 fn push_others<A: Allocator>(
     pairs: &mut Vec<Pair<A>, A>,
     named: &[Id],
@@ -111,7 +111,7 @@ fn push_others<A: Allocator>(
     Ok(())
 }
 
-/// Puts a pair behind others, where its id is not among some.
+/// Appends a pair, where its id is not among those named.
 fn push_other<A: Allocator>(
     pairs: &mut Vec<Pair<A>, A>,
     named: &[Id],
@@ -128,7 +128,7 @@ fn push_other<A: Allocator>(
     Ok(())
 }
 
-/// Puts pairs behind others.
+/// Appends more pairs.
 pub(crate) fn push_pairs<A: Allocator>(
     pairs: &mut Vec<Pair<A>, A>,
     more: &[Pair<A>],
@@ -142,7 +142,7 @@ pub(crate) fn push_pairs<A: Allocator>(
     Ok(())
 }
 
-/// Whether an id is one of these.
+/// Whether an id is one of `ids`.
 pub(crate) fn is_among(ids: &[Id], id: Id) -> bool
     ensures { result ≡ is_among ids.now id }
 {

@@ -18,8 +18,7 @@ use std::marker::Model;
 /// How many ids may be open at a time.
 pub const MOST_OPEN: usize = 64;
 
-/// The number of the first id, as the first three are those of the program's own files
-/// (expect(1), spawn).
+/// The number of the first id: lower ones are left to the program's own files (expect(1), spawn).
 const FIRST_NUMBER: u64 = 4;
 
 /// The size of a new match buffer where no other is set as the default, in bytes (expect(1),
@@ -47,7 +46,7 @@ impl<A: Allocator> Model for Table<A> {
 }
 
 impl<A: Allocator> Table<A> {
-    /// No id is open, and the first number is the next one.
+    /// A table without open ids, whose next number is the first one.
     pub fn new(alloc: A) -> Table<A>
         ensures { result ≡ listing [] (Some 4) }
     {
@@ -57,7 +56,7 @@ impl<A: Allocator> Table<A> {
         }
     }
 
-    /// Where an open id stands.
+    /// The place of an open id in the table.
     pub(crate) fn place(&self, id: Id) -> Option<usize>
         ensures { result ≡ position (λ l. l.id.0 == id.0) self.now.lines }
     {
@@ -125,7 +124,7 @@ impl<A: Allocator> Table<A> {
         }
     }
 
-    /// Closes the id that was opened first, if one is open.
+    /// Closes the id that was opened first, if one is open, and gives it.
     pub fn close_oldest(&mut self) -> Option<Id>
         ensures closes { MatchOption result ((self.old.lines ≡ []) × (self.new ≡ self.old))
             (λ id. IsFirstOut id self.old.lines self.new.lines) }
@@ -179,7 +178,7 @@ impl<A: Allocator> Table<A> {
         }
     }
 
-    /// How many bytes all buffers hold.
+    /// How many bytes all buffers hold together.
     pub fn held(&self) -> u64
         ensures held { result ≡ held_by self.now.lines }
         ensures within { result ≤ allowed_to self.now.lines }
@@ -187,7 +186,7 @@ impl<A: Allocator> Table<A> {
         sum_held(&self.entries)
     }
 
-    /// How many bytes they may hold (expect(1), match_max).
+    /// How many bytes all buffers may hold together (expect(1), match_max).
     pub fn allowed(&self) -> u64
         ensures { result ≡ allowed_to self.now.lines }
     {
@@ -204,9 +203,9 @@ impl<A: Allocator> Table<A> {
 }
 
 impl<A: Allocator + Copy> Table<A> {
-    /// Opens the id of the next number for that, with an empty buffer of the default size, and with
-    /// the default of whether nulls are removed (expect(1), spawn, match_max -d and remove_nulls
-    /// -d).
+    /// Opens the id of the next number for a process or a connection, with an empty buffer of the
+    /// default size `max`, and with the default of whether nulls are removed (expect(1), spawn,
+    /// match_max -d and remove_nulls -d).
     ///
     /// # Errors
     /// `TooMany` exactly where [`MOST_OPEN`] ids are open or no number is left, and `NoMemory`. The
@@ -258,7 +257,7 @@ impl<A: Allocator + Copy> Table<A> {
     }
 }
 
-/// Puts an entry behind all others. On `Err` they are unchanged.
+/// Appends an entry. On `Err` the entries are unchanged.
 fn push_entry<A: Allocator>(entries: &mut Vec<Entry<A>, A>, entry: Entry<A>) -> Result<(), NoMemory>
     ensures items { OnOk result (entries.new.items ≡ entries.old.items ++ entry ∷ []) }
     ensures unchanged { OnErr result (entries.new.items ≡ entries.old.items) }
@@ -267,7 +266,7 @@ fn push_entry<A: Allocator>(entries: &mut Vec<Entry<A>, A>, entry: Entry<A>) -> 
     Ok(())
 }
 
-/// The number behind one, where one is left.
+/// The number after the next one, where there is one.
 fn number_after(next: Option<u64>) -> Option<u64>
     ensures { result ≡ number_after next }
 {
@@ -277,7 +276,7 @@ fn number_after(next: Option<u64>) -> Option<u64>
     }
 }
 
-/// The least of an id and those of entries.
+/// The least of an id and the ids of entries.
 fn least<A: Allocator>(first: Id, entries: &[Entry<A>]) -> Id
     ensures { result ≡ least_of first entries.now }
 {

@@ -1,4 +1,4 @@
-//! Texts that were sought in a buffer in vain.
+//! Texts that were sought in a buffer and not found.
 
 ghost use Rattle.std.specs.Prelude.{◌≡◌, ◌-◌, ◌≤◌, [], ℕ, List, IfOk, drop, length};
 ghost use Rattle.dialog.specs.Vain.{ArePassed};
@@ -9,26 +9,27 @@ use acts::NoMemory;
 use std::alloc::Allocator;
 use tcltext::Value;
 
-/// How many of the last searches are kept in mind.
+/// How many of the last searches that found nothing are remembered.
 const MOST: usize = 8;
 
-/// A text that was sought in vain.
+/// A text that was sought and not found.
 #[derive(Drop)]
 pub(crate) struct Vain<A: Allocator> {
     text: Value<A>,
-    /// Before this place it begins nowhere, whatever follows. Places are counted from the first
-    /// byte that was there when the list was empty.
+    /// Before this place the text begins nowhere, whatever follows. Places are counted from the
+    /// first byte that the buffer held when the list was empty.
     from: usize,
 }
 
-/// Room for the last searches.
+/// An empty list with room for the last searches.
 pub(crate) fn room<A: Allocator>(alloc: A) -> Result<Vec<Vain<A>, A>, NoMemory>
     ensures { IfOk result (λ vains. vains.items ≡ []) }
 {
     Ok(Vec::with_capacity(alloc, MOST)?)
 }
 
-/// The place before which a text begins nowhere, whatever follows, as far as it is known.
+/// The place before which a text is known to begin nowhere, whatever follows; 0 where nothing is
+/// known.
 pub(crate) fn place_of<A: Allocator>(vains: &[Vain<A>], text: &[u8], gone: usize) -> usize
     ensures { (bytes : List ℕ) → ArePassed gone bytes vains.now →
         Passed (exact text.now) bytes result }
@@ -43,8 +44,8 @@ pub(crate) fn place_of<A: Allocator>(vains: &[Vain<A>], text: &[u8], gone: usize
     0
 }
 
-/// Keeps in mind that a text begins nowhere before this place of the bytes, instead of the oldest
-/// search where there are many. Takes no memory.
+/// Records that a text begins nowhere before the place `next` of the bytes; where the list is full,
+/// the oldest search is dropped for it. Takes no memory.
 pub(crate) fn note<A: Allocator>(
     vains: &mut Vec<Vain<A>, A>,
     text: &Value<A>,
@@ -58,14 +59,15 @@ pub(crate) fn note<A: Allocator>(
         return;
     };
     vains.truncate(MOST - 1);
-    // Where the text has as many holders as can be counted, the next search begins anew.
+    // Where the text already has as many holders as can be counted, nothing is recorded, and the
+    // next search begins anew.
     if let Ok(text) = text.share() {
         let _ = vains.insert(0, Vain { text, from });
     }
 }
 
-/// Counts bytes that are gone at the front. Where they are too many to be counted, nothing is kept
-/// in mind.
+/// Counts bytes that are gone from the front of the buffer. Where they are too many to be counted,
+/// all searches are forgotten.
 pub(crate) fn forget<A: Allocator>(vains: &mut Vec<Vain<A>, A>, gone: &mut usize, count: usize)
     ensures { (bytes : List ℕ) → count ≤ length bytes → ArePassed gone.old bytes vains.old.items →
         ArePassed gone.new (drop count bytes) vains.new.items }

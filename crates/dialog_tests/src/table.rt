@@ -1,4 +1,4 @@
-//! What a table tells of its ids, with memory at hand.
+//! What a table reports about its ids, where memory is not refused.
 
 use acts::{Id, Row};
 use dialog::{Kind, Table};
@@ -26,8 +26,8 @@ pub fn row(id: u64, held: u32, max: u32, want: u32) -> Row {
     }
 }
 
-/// What `three_ids` tells of `exp5` and `exp4`, in this order. A full buffer wants half of its
-/// size.
+/// What the table of `three_ids` reports about `exp5` and `exp4`, in this order. A full buffer
+/// wants half of its size.
 pub const TOLD: [(u64, u32, u32, u32); 2] = [(5, 10, 10, 5), (4, 3, 2_000, 1_997)];
 
 #[test]

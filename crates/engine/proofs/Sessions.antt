@@ -36,7 +36,7 @@ use Rattle.runs.proofs.Finite.{finite}
 use Rattle.state.specs.Rows.{HoldTogether, Holds, RowsHold}
 use Rattle.state.specs.declared.state.State.{State}
 
--- rows that hold at most their sizes hold together at most the sum of these
+-- rows that each hold at most their size together hold at most the sum of the sizes
 rows_together : (rows : List Row) → RowsHold rows →
     sum_by (λ r. r.held) rows ≤ sum_by (λ r. r.max) rows
 rows_together [] hold = omega arith
@@ -61,7 +61,7 @@ hold_together (said.Sleep seconds) hold = tt
 hold_together said.CloseLog hold = tt
 hold_together (said.Reap id) hold = tt
 
--- the runs that are left of a script's are those of a plan
+-- the remaining runs of a script are those of a plan
 abbrev pub IsLeft : Dialogue Over → List ℕ → List (List ℕ) → ℕ → History → Type 0
 IsLeft plan text args limit past =
     Same (Runs plan_of IsTree plan) (Rests Over plan_of IsTree (whole text args limit) past)
@@ -91,12 +91,12 @@ module _ (text : List ℕ) (args : List (List ℕ)) (limit : ℕ) (past : Histor
       let sum = length-append past goes.rest in
       omega (arith, bound, sum)
 
-  -- no act and no answer more
+  -- nothing changes with no further act and answer
   none_more : (plan : Dialogue Over) → IsLeft plan text args limit past →
       IsLeft plan text args limit (past ++ [])
   none_more plan left = subst (λ h. IsLeft plan text args limit h) (sym (append-nil past)) left
 
-  -- an act and its answer more
+  -- one more act and its answer
   one_more : (plan : Dialogue Over) (deed : Deed) (next : Reply → Dialogue Over) (reply : Reply) →
       plan ≡ Asks deed next → IsLeft plan text args limit past →
       IsLeft (after_acts plan ((deed, reply) ∷ [])) text args limit (past ++ (deed, reply) ∷ [])
@@ -108,7 +108,7 @@ module _ (text : List ℕ) (args : List (List ℕ)) (limit : ℕ) (past : Histor
       (exact.answered plan_of IsTree (whole text args limit) past deed next reply on)
 
   module _ {A : Type 0} where
-    -- what is left behind the act that waits, where it is answered
+    -- the remaining runs after the act that waits, where it is answered
     pub left_behind : (at : Phase A) (answer : Option (Answer A)) (frames : List (Frame A))
         (s : Status) (answers : ℕ) (plan : Dialogue Over) → IsPlan at frames s answers plan →
         IsLeft plan text args limit past →
@@ -124,7 +124,7 @@ module _ (text : List ℕ) (args : List (List ℕ)) (limit : ℕ) (past : Histor
     left_behind (phase.Over end) answer frames s answers plan is left = none_more plan left
     left_behind (phase.Refused refusal) answer frames s answers plan is left = absurd is
 
-  -- each run that is left begins with the act at hand
+  -- each remaining run begins with the act at hand
   act_is_first : (plan : Dialogue Over) (deed : Deed) (next : Reply → Dialogue Over) →
       plan ≡ Asks deed next → IsLeft plan text args limit past →
       (h : History) (e : Ending) → Run text args limit (past ++ h) e →
@@ -156,7 +156,7 @@ module _ (text : List ℕ) (args : List (List ℕ)) (limit : ℕ) (past : Histor
         together = hold_together deed holds;
       }
 
-  -- the run that is left is over
+  -- a plan that is over leaves one run, which has no act more
   ends_so : (plan : Dialogue Over) (over : Over) (ending : Ending) (answers : ℕ) →
       plan ≡ Ends over → ending ≡ numbered answers over → answers ≡ length past →
       IsLeft plan text args limit past → EndsSo ending text args limit past
@@ -185,7 +185,7 @@ module _ (text : List ℕ) (args : List (List ℕ)) (limit : ℕ) (past : Histor
             },
       )
 
-  -- what a phase tells of the runs that are left
+  -- what a phase says of the remaining runs
   pub tells : {A : Type 0} (at : Phase A) (frames : List (Frame A)) (s : Status) (answers : ℕ)
       (plan : Dialogue Over) → IsTold at → IsPlan at frames s answers plan →
       answers ≡ length past → IsLeft plan text args limit past → Tells at text args limit past
@@ -208,7 +208,7 @@ module _ {A : Type 0} (session : Session A) (text : List ℕ) (args : List (List
       let count = at.answers in
       omega (arith, bound, most, count)
 
--- where a session stands tells of the runs that are left
+-- what the place of a session says of the remaining runs
 pub session_tells : {A : Type 0} (session : Session A) (text : List ℕ) (args : List (List ℕ))
     (limit : ℕ) (past : History) → IsTold session.phase →
     IsAt session text args limit past → Tells session.phase text args limit past
@@ -216,7 +216,7 @@ session_tells session text args limit past told at =
     tells text args limit past session.phase (stack session.frames) at.status session.answers
     at.plan told at.is_plan at.answers at.exact
 
--- an act is asked by a command, or to close the run
+-- the act that is asked is one of a command, or one that closes the run
 pub either_asks : {A : Type 0} (at : Phase A) (act : Act A) (text : List ℕ)
     (args : List (List ℕ)) (limit : ℕ) (past : History) →
     ((waits : Waits A) × (at ≡ phase.Asks act waits))
@@ -233,7 +233,7 @@ pub either_given : {A : Type 0} (at : Phase A) (act : Act A) →
 either_given at act (inl is) = subst (λ p. AsksFor p act) (sym is.1) refl
 either_given at act (inr is) = subst (λ p. AsksFor p act) (sym is.1) refl
 
--- a session that went on is at its next place
+-- a session that continued is at its next place
 pub went_on : {A : Type 0} (old new : Session A) (text : List ℕ) (args : List (List ℕ)) (limit : ℕ)
     (past : History) (answer : Option (Answer A)) → (at : IsAt old text args limit past) →
     Stands new.phase (stack new.frames) new.state new.answers

@@ -26,7 +26,7 @@ pub past_join : {W : Type 0} (Step : W → Deed → Reply → W → Type 0) (a b
 past_join Step a b c [] k p q = subst (λ w. Past Step w c k) (sym p) q
 past_join Step a b c (pair ∷ h) k p q = (p.0, p.1, past_join Step p.0 b c h k p.2 q)
 
--- where a run goes on, it has begun
+-- a history after which some run continues is a beginning of a run in the world
 pub began : {W : Type 0} (Step : W → Deed → Reply → W → Type 0) (first now : W) (text : List ℕ)
     (args : List (List ℕ)) (limit : ℕ) (h : History) → Past Step first now h →
     BeginsRun text args limit h → Began Step first now text args limit
@@ -40,7 +40,7 @@ began Step first now text args limit h past goes = record {
       (waits_hold text args limit (h ++ goes.rest) goes.ending goes.run);
 }
 
--- some acts and answers led the world from first to now, and the session is behind them
+-- some acts and answers led the world from first to now, and the session is after them
 pub record Going {A W : Type 0} (Step : W → Deed → Reply → W → Type 0) (first now : W)
     (text : List ℕ) (args : List (List ℕ)) (limit : ℕ) (session : Session A) : Type 0 where
   pub history : History
@@ -69,7 +69,7 @@ module _ {A : Type 0} where
   asked (phase.Over end) act answer is = absurd is
   asked (phase.Refused refusal) act answer is = absurd is
 
-  -- each run that is left begins with it
+  -- each remaining run begins with the act that is asked
   asks : (p : Phase A) (act : Act A) (text : List ℕ) (args : List (List ℕ)) (limit : ℕ)
       (past : History) → AsksFor p act → Tells p text args limit past →
       AsksFirst (deed_of act) text args limit past
@@ -94,7 +94,7 @@ module _ {A : Type 0} where
 
 module _ {A W : Type 0} {Step : W → Deed → Reply → W → Type 0} {a b : W} {text : List ℕ}
     {args : List (List ℕ)} {limit : ℕ} where
-  -- what the session tells of the runs that are left
+  -- what the session says of the remaining runs
   telling : (session : Session A) → IsTold session.phase →
       (g : Going Step a b text args limit session) →
       Tells session.phase text args limit g.history

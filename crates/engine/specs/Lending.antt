@@ -13,8 +13,8 @@ use Rattle.engine.specs.declared.session.Session.{Session}
 use Rattle.engine.specs.declared.session.Step.{Step}
 use Rattle.memory.specs.declared.NoMemory.{NoMemory}
 
--- what a call with this answer did: the session is at its next place of the runs, behind the act
--- that was asked and this answer to it; and what is given tells what comes next
+-- what a call with this answer did: the session is at its next place in the runs, after the act
+-- that was asked and this answer to it; and what is given says what comes next
 pub record Went {A : Type 0} (old : Session A) (answer : Option (Answer A))
     (r : Result (Step A) NoMemory) (new : Session A) : Type 0 where
   pub at : (text : List ℕ) (args : List (List ℕ)) (limit : ℕ) (past : History) →
@@ -28,7 +28,7 @@ pub record Went {A : Type 0} (old : Session A) (answer : Option (Answer A))
   pub again : GivesAgain StepIs old.phase r
 
 module _ (A : RattleType) (g : Ghosts A.Denot) (session : MutBor (Session A.Denot)) where
-  -- the same, once what was lent is given back
+  -- the same, once the step that was lent is given back
   abbrev pub GoesOn : Option (Answer A.Denot) → Result (Step A.Denot) NoMemory → Fml
   GoesOn answer r =
       follows_so (the_row A g) (the_row A g) session.ghost_name none (λ _ _. ⊤)

@@ -21,9 +21,9 @@ use Rattle.runs.specs.Run.{Run, whole}
 use Rattle.runs.specs.Scripts.{plan_of}
 use Rattle.state.specs.Rows.{HoldTogether, Holds}
 
--- the session is at this place of the runs of a script with these arguments and so many ticks: it
--- made these acts, which were answered so, and what it is still to do has exactly the rests of
--- those runs that begin with them
+-- the session is at this place of the runs of a script with these arguments and this many ticks: it
+-- made these acts and got these answers, and what it is still to do has exactly the rests of those
+-- runs that begin with them
 pub record IsAt {A : Type 0} (session : Session A) (text : List ℕ) (args : List (List ℕ))
     (limit : ℕ) (past : History) : Type 0 where
   pub allowed : IsLimit limit
@@ -39,8 +39,8 @@ pub record IsAt {A : Type 0} (session : Session A) (text : List ℕ) (args : Lis
 abbrev pub answered_so : {A : Type 0} → Session A → Option (Answer A) → History
 answered_so session answer = paired (deed_in session.phase) answer
 
--- each run that is left begins with this act, and there is one; at a wait each buffer holds at most
--- its size, and all together at most the sum of their sizes
+-- each remaining run begins with this act, and there is at least one; at a wait each buffer holds
+-- at most its size, and all buffers together hold at most the sum of their sizes
 pub record AsksFirst (deed : Deed) (text : List ℕ) (args : List (List ℕ)) (limit : ℕ)
     (past : History) : Type 0 where
   pub goes : BeginsRun text args limit past
@@ -49,7 +49,7 @@ pub record AsksFirst (deed : Deed) (text : List ℕ) (args : List (List ℕ)) (l
   pub holds : Holds deed
   pub together : HoldTogether deed
 
--- the run that is left has no act, and this end
+-- the one remaining run has no act more, and this end
 abbrev pub EndsSo : Ending → List ℕ → List (List ℕ) → ℕ → History → Type 0
 EndsSo ending text args limit past =
     (h : History) (e : Ending) →
@@ -62,7 +62,7 @@ Tells (phase.Closes act c) text args limit past = AsksFirst (deed_of act) text a
 Tells (phase.Over end) text args limit past = EndsSo (ending_of end) text args limit past
 Tells _ text args limit past = ⊥
 
--- the session met this refusal of memory
+-- memory was refused to the session, with this refusal
 abbrev pub IsRefused : {A : Type 0} → NoMemory → Session A → Type 0
 IsRefused refusal session = session.phase ≡ phase.Refused refusal
 

@@ -21,8 +21,8 @@ abbrev pub StepIs : {A : Type 0} → Step A → Phase A → Type 0
 StepIs (step.Act act) p = AsksFor p act.now
 StepIs (step.End end) p = p ≡ phase.Over end.now
 
--- what is given tells what comes next: each run that is left begins with the act, and there is one;
--- or the run is over, with this end
+-- what is given says what comes next: either each remaining run begins with the act, and there is
+-- at least one; or the run is over, with this end
 abbrev pub TellsNext : {A : Type 0} →
     Step A → List ℕ → List (List ℕ) → ℕ → History → Type 0
 TellsNext (step.Act act) text args limit past = AsksFirst (deed_of act.now) text args limit past

@@ -9,8 +9,8 @@ use acts::{Limits, NoMemory, World};
 use machine::End;
 use std::alloc::Allocator;
 
-/// Runs a script with its arguments, of which the first is `argv0`, in a world, for so many ticks
-/// at most. Only want of memory stops a run without an end; what was done by then stays done.
+/// Runs a script in a world, for a limited number of ticks; the first of its arguments is `argv0`.
+/// Only a lack of memory stops a run without an end; what was done by then stays done.
 pub fn run<A: Allocator + Copy, W: World<A>>(
     alloc: A,
     script: &[u8],
@@ -24,7 +24,7 @@ pub fn run<A: Allocator + Copy, W: World<A>>(
         Ran W.step world.old world.new script.now (words_of args.now) limits.ticks
         (ending_of end)) }
 
-    // Where memory was refused, the acts are a beginning of those of the definition.
+    // Where memory was refused, the acts so far are a beginning of those of the definition.
     ensures began { IfErr result (λ _.
         Began W.step world.old world.new script.now (words_of args.now) limits.ticks) }
 {

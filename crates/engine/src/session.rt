@@ -1,4 +1,4 @@
-//! A run that stops at each act and goes on with its answer.
+//! A run that stops at each act and continues with its answer.
 
 ghost use Rattle.std.specs.Prelude.{◌≡◌, ℕ, List, [], ◌++◌, IfOk, IfErr};
 ghost use Rattle.std.specs.Borrow.{sem};
@@ -17,16 +17,16 @@ use std::alloc::Allocator;
 use std::mem;
 use tcltext::Value;
 
-/// The levels of evaluation below a script (interp(n), recursionlimit).
+/// How many levels of evaluation may nest in a script (interp(n), recursionlimit).
 const MOST_LEVELS: u8 = 100;
 
-/// A run of a script that stops at each act. It is started, and then asked for the next act again
-/// and again with the answer to the last one, until it gives the end.
+/// A run of a script that stops at each act. It is started, and then asked for its next step again
+/// and again, with the answer to the last act, until it gives the end.
 #[derive(Drop)]
 pub struct Session<A: Allocator> {
     frames: Vec<Frame<A>, A>,
     state: State<A>,
-    /// How many answers there were.
+    /// How many answers it has got.
     answers: u64,
     phase: Phase<A>,
 }
@@ -67,17 +67,17 @@ impl<A: Allocator + Copy> Session<A> {
         })
     }
 
-    /// Goes on to the next act or to the end, and lends it. The first call is without an answer
+    /// Continues to the next act or to the end, and lends it. The first call is without an answer
     /// (one that is given is dropped), each later one has the answer to the last act. After an end
     /// each call gives the same end.
     ///
-    /// What is left of the runs of the script is exactly what begins with the acts so far and their
-    /// answers: each such run goes on with the act that is given, and there is one; or it is over,
-    /// with the end that is given.
+    /// The remaining runs of the script are exactly those that begin with the acts so far and their
+    /// answers: either each of them continues with the act that is given, and there is at least
+    /// one; or the run is over, with the end that is given.
     ///
     /// # Errors
-    /// `NoMemory` where memory is refused, which is not while the run is closed or once it is over.
-    /// Each later call answers it again.
+    /// `NoMemory` where memory is refused, which never happens while the run is closed or once it
+    /// is over. Each later call gives the same refusal again.
     pub fn next(&mut self, answer: Option<Answer<A>>) -> Result<Step<'_, A>, NoMemory>
         ensures* goes_on { sem 𝓛 (GoesOn A.row A.Allocator self.entry answer result) }
     {
@@ -85,7 +85,7 @@ impl<A: Allocator + Copy> Session<A> {
         Ok(self.step())
     }
 
-    /// Goes on to the next act or to the end.
+    /// Continues to the next act or to the end.
     pub(crate) fn go_on(&mut self, answer: Option<Answer<A>>) -> Result<(), NoMemory>
         ensures at { (text : List ℕ) (args : List (List ℕ)) (limit : ℕ) (past : History) →
             IsAt self.old text args limit past →
@@ -97,7 +97,7 @@ impl<A: Allocator + Copy> Session<A> {
         ensures again { GivesAgain (λ _ end. self.new.phase ≡ end) self.old.phase result }
     {
         let alloc = *self.frames.allocator();
-        // What stands there while the session goes on; nothing sees it.
+        // A placeholder while the session goes on; nothing sees it.
         let phase = mem::replace(&mut self.phase, Phase::Over(End::NoMore));
         let answers = &mut self.answers;
         match forward(
@@ -119,7 +119,7 @@ impl<A: Allocator + Copy> Session<A> {
         }
     }
 
-    /// The act that is asked, or the end.
+    /// The act that waits for its answer, or the end.
     pub(crate) fn step(&self) -> Step<'_, A>
         requires { IsTold self.now.phase }
         ensures given { StepIs result self.now.phase }
@@ -133,7 +133,7 @@ impl<A: Allocator + Copy> Session<A> {
         }
     }
 
-    /// The end that was given, if any.
+    /// The end of the run, if it is over.
     pub fn into_end(self) -> Option<End<A>>
         ensures { result ≡ has_end self }
     {

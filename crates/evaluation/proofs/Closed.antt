@@ -39,7 +39,7 @@ module _ (P : Status → Course → Type 0) (closed : Closed P) where
   either_closed true s p q one other = one
   either_closed false s p q one other = other
 
-  -- an operator, where its right operand is so
+  -- an operator, where P holds of its right operand
   joined_closed : (operator : Infix) (left : List ℕ) (s : Status) (right : Next → Course)
       (next : Next) →
       ((on : Next) → ((u : Status) (v : List ℕ) → P u (on u v)) → P s (right on)) →

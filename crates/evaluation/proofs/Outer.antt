@@ -19,14 +19,14 @@ use Rattle.evaluation.specs.View.{after, behind, course_of}
 abbrev pub Next : Type 0
 Next = Status → List ℕ → Course
 
--- what is further out follows
+-- what is further out follows after what is further in
 pub after_more : {A : Type 0} (levels : ℕ) (outer more : List (Around A)) (k : Next) →
     after levels (outer ++ more) k ≡ after levels outer (after levels more k)
 after_more levels [] more k = refl
 after_more levels (a ∷ outer) more k =
     let on : Next → Next = λ next. behind levels a next in ap on (after_more levels outer more k)
 
--- a script goes on with more around it as without, and then with it
+-- with more around it a script goes on as without that, and then in what is more
 pub script_around : {A : Type 0} (levels : ℕ) (met : Evaluated A)
     (commands : Rc (Vec (Command A) A) A) (place : OpenFormula A) (more all : List (Around A))
     (s : Status) (k : Next) → met ≡ it.Script commands place →
@@ -47,7 +47,7 @@ pub around_more : {A : Type 0} (outer more all : List (Around A)) → all ≡ ou
 around_more outer more all is =
     ap scripts_around is ∙ sum_by-append scripts_in_around outer more
 
--- what was met within these things leaves fewer than so many scripts, all in all
+-- what was met within outer leaves fewer than n scripts, those in outer included
 pub record Remains {A : Type 0} (met : Evaluated A) (outer : List (Around A)) (n : ℕ) : Type 0 where
   pub most : ℕ
   pub fewer : MeetsFewer met most

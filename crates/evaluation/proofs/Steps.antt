@@ -20,7 +20,7 @@ use Rattle.evaluation.specs.Scripts.{MeetsFewer}
 use Rattle.evaluation.specs.View.{IsDirect, IsStopped, chosen, course_of, course_of_link, links_from}
 use Rattle.evaluation.proofs.Outer.{Next}
 
--- what is no value
+-- a result that is no value is a script or an error
 pub is_stopped : {A : Type 0} (met : Evaluated A) →
     ((value : Operand A) → met ≡ it.Value value → ⊥) → IsStopped met
 is_stopped (it.Value value) none = none value refl
@@ -54,7 +54,7 @@ meets_more (it.Value value) m n fewer le = tt
 meets_more (it.Script commands place) m n fewer le = omega arith
 meets_more (it.Fault fault) m n fewer le = tt
 
--- what an operand came to, and then what was made of it
+-- what an operand gave, and then what was made of that
 pub and_reaches : {A E : Type 0} (r : Result (Evaluated A) E) (levels : ℕ) (p q : Course) (k : Next)
     (s : Status) → Reaches p q → IfOk r (λ met. Reaches q (course_of levels met k s)) →
     IfOk r (λ met. Reaches p (course_of levels met k s))
@@ -77,7 +77,7 @@ pub and_direct : {A E : Type 0} (r : Result (Evaluated A) E) (n : ℕ) → IfOk 
 and_direct (Ok met) n direct = direct_fewer met n direct
 and_direct (Err e) n direct = direct
 
--- the same of an operator in a row, behind which others follow
+-- the same for an operator in a row, after which others follow
 pub and_linked : {A E : Type 0} (r : Result (Evaluated A) E) (levels : ℕ) (p q : Course)
     (rest : tree.Links) (k : Next) (s : Status) → Reaches p q → IfOk r IsDirect →
     IfOk r (λ met. Reaches q (course_of levels met (λ t v. linked levels rest v t k) s)) →
@@ -95,7 +95,7 @@ and_stopped (Ok met) levels p q rest k s first stopped same =
     then_reaches first (same_reaches (same ∙ sym (no_value levels met rest k s stopped)))
 and_stopped (Err e) levels p q rest k s first stopped same = same
 
--- a formula that is the other goes on as that
+-- equal formulas go on in the same way
 pub same_formula : (levels : ℕ) (f g : tree.Formula) (s : Status) (k : Next) (q : Course) →
     f ≡ g → Reaches (evaluated levels g s k) q → Reaches (evaluated levels f s k) q
 same_formula levels f g s k q is more =
@@ -129,7 +129,7 @@ no_choice {A} levels c test fault value s next is truth =
     if holds then evaluated levels (formula_of (the_choice.out-Choice A c).yes) s next
     else evaluated levels (formula_of (the_choice.out-Choice A c).no) s next)) failed)
 
--- the operators from a place on are the one there and those behind it
+-- the operators from a place on are the one there and those after it
 abbrev pub left : {A : Type 0} → List (Link A) → ℕ → tree.Links
 left ls i = links_then (drop i ls) tree.no_links
 
@@ -140,7 +140,7 @@ next_link ls i l lt is =
     ∙ ap (λ m. link_view m (left ls (suc i))) (sym is)
     ∙ ap (λ j. link_view l (left ls j)) (sym (add-one i))
 
--- and so are the arguments of a call
+-- the arguments of a call from a place on are the one there and those after it
 abbrev pub more : {A : Type 0} → List (Formula A) → ℕ → tree.Formulas
 more fs i = formulas_then (drop i fs) tree.no_formulas
 
@@ -152,7 +152,7 @@ next_argument fs i f lt is =
     ∙ ap (λ g. tree.formula (formula_of g) (more fs (suc i))) (sym is)
     ∙ ap (λ j. tree.formula (formula_of f) (more fs j)) (sym (add-one i))
 
--- an operator with its right operand, before those behind it
+-- an operator with its right operand, before those after it
 pub link_joined : {A : Type 0} (levels : ℕ) (l : Link A) (rest : tree.Links) (left : List ℕ)
     (s : Status) (k : Next) →
     linked levels (link_view l rest) left s k

@@ -1,4 +1,4 @@
--- What is done with an operator behind its left operand.
+-- What is done with an operator after its left operand.
 use Rattle.std.specs.Prelude.{◌≡◌, ℕ, List, Bool, Result, Ok, Err}
 use Rattle.state.specs.Prelude.{flaw_of, Fault, Course, raises, Status}
 use Rattle.meanings.specs.Meaning.{Meaning}
@@ -16,13 +16,13 @@ abbrev pub TruthIs : {A : Type 0} → Result Bool (Fault A) → List ℕ → Typ
 TruthIs (Ok holds) text = truth_of text ≡ Ok holds
 TruthIs (Err fault) text = truth_of text ≡ Err (flaw_of fault)
 
--- what an operator comes to whose right operand has this value (expr(n), operators)
+-- the meaning of an operator whose right operand has this value (expr(n), operators)
 abbrev pub settled : {A : Type 0} → Pending A → List ℕ → Meaning
 settled (pending.Both operator left) value = binary operator left value
 settled pending.Truth value = told (truth_of value)
 
--- what an operator comes to behind its left operand: it is pending while the right one is
--- evaluated, or it has its value without that one, or the left one is no truth value
+-- the course of an operator after its left operand: it is pending while the right one is evaluated,
+-- or it has its value without that one, or the left one is no truth value
 abbrev pub course_of_opened : {A : Type 0} →
     Opened A → Status → ((Status → List ℕ → Course) → Course) →
     (Status → List ℕ → Course) → Course

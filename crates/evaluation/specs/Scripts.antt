@@ -22,12 +22,12 @@ abbrev mutual
   scripts_in (row f ls) = scripts_in f + scripts_in_links ls
   scripts_in (choice test one other) = scripts_in test + (scripts_in one + scripts_in other)
 
-  -- the same, of the right operands in a row
+  -- the scripts that stand in the right operands of a row
   pub scripts_in_links : Links → ℕ
   scripts_in_links no_links = 0
   scripts_in_links (link operator f ls) = scripts_in f + scripts_in_links ls
 
-  -- the same, of a call's arguments
+  -- the scripts that stand in a call's arguments
   pub scripts_in_all : Formulas → ℕ
   scripts_in_all no_formulas = 0
   scripts_in_all (formula f fs) = scripts_in f + scripts_in_all fs
@@ -45,16 +45,16 @@ scripts_in_around (around.First r) = scripts_in_links (links_from r 0)
 scripts_in_around (around.Link place) = scripts_in_links (links_from place.row place.next)
 scripts_in_around (around.Call place) = scripts_in_all (formulas_from place.arguments place.next)
 
--- the same, of all that is around it
+-- the scripts that are left in all that is around an operand
 abbrev pub scripts_around : {A : Type 0} → List (Around A) → ℕ
 scripts_around outer = sum_by scripts_in_around outer
 
--- the scripts that are left of a formula behind the one that was met (expr(n), operands)
+-- the scripts that are left of a formula after the one that was met (expr(n), operands)
 abbrev pub scripts_behind : {A : Type 0} → OpenFormula A → ℕ
 scripts_behind place = words.scripts_behind place.text + scripts_around place.outer.items
 
--- where a script is met in a formula, fewer than so many are left behind it (this project's own
--- rule)
+-- where a script is met in a formula, fewer than n scripts are left after it
+-- (this project's own rule)
 abbrev pub MeetsFewer : {A : Type 0} → Evaluated A → ℕ → Type 0
 MeetsFewer (it.Value value) n = Unit {0}
 MeetsFewer (it.Script commands place) n = scripts_behind place < n

@@ -38,7 +38,7 @@ chosen {A} levels c value s next =
     if holds then evaluated levels (formula_of (out-Choice A c).yes) s next
     else evaluated levels (formula_of (out-Choice A c).no) s next)
 
--- on with the value of an operand, in what is left around it (expr(n), operators)
+-- what follows the value of an operand, in what is left around it (expr(n), operators)
 abbrev pub behind : {A : Type 0} →
     ℕ → Around A → (Status → List ℕ → Course) → Status → List ℕ → Course
 behind levels (around.Prefix operator) next s value =
@@ -53,18 +53,18 @@ behind levels (around.Call place) next s value =
     (place.values.items ++ value ∷ []) s
     (λ t values. on_meaning (function.call place.function values) t (λ v. next t v))
 
--- the same, of all that is left around it, the innermost first
+-- what follows the value of an operand, in all that is left around it, the innermost first
 abbrev pub after : {A : Type 0} →
     ℕ → List (Around A) → (Status → List ℕ → Course) → Status → List ℕ → Course
 after levels [] next = next
 after levels (a ∷ more) next = behind levels a (after levels more next)
 
--- on with the value of the script that was met in a formula
+-- what follows the value of the script that was met in a formula
 abbrev pub resumed : {A : Type 0} →
     ℕ → OpenFormula A → (Status → List ℕ → Course) → Status → List ℕ → Course
 resumed levels place next = words.resumed levels place.text (after levels place.outer.items next)
 
--- what a formula comes to: its value, a script in it, or the script's error
+-- the course of what a formula gave: its value, a script in it, or the script's error
 abbrev pub course_of : {A : Type 0} →
     ℕ → Evaluated A → (Status → List ℕ → Course) → Status → Course
 course_of levels (it.Value value) next s = next s value
@@ -72,19 +72,21 @@ course_of levels (it.Script commands place) next s =
     nested levels (commands_of commands) s (resumed levels place next)
 course_of levels (it.Fault fault) next s = raises (flaw_of fault) s
 
--- no script is met in it
+-- no script is met in the formula
 abbrev pub IsDirect : {A : Type 0} → Evaluated A → Type 0
 IsDirect (it.Value value) = Unit {0}
 IsDirect (it.Script commands place) = ⊥
 IsDirect (it.Fault fault) = Unit {0}
 
--- it is no value: what is left around it is still to be done, or is left out
+-- the formula gave no value: after a script, what is left around the operand is still to be done;
+-- after an error it is left out
 abbrev pub IsStopped : {A : Type 0} → Evaluated A → Type 0
 IsStopped (it.Value value) = ⊥
 IsStopped (it.Script commands place) = Unit {0}
 IsStopped (it.Fault fault) = Unit {0}
 
--- what an operator with its right operand comes to: the operators behind it follow, or this is met
+-- the course of what an operator with its right operand gave: after a value the operators after it
+-- follow, else the script or the error that was met
 abbrev pub course_of_link : {A : Type 0} →
     ℕ → Evaluated A → tree.Links → (Status → List ℕ → Course) → Status → Course
 course_of_link levels (it.Value value) rest next s = linked levels rest value s next

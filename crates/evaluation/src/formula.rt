@@ -21,8 +21,8 @@ use tclparse::Function;
 use tclstate::Scopes;
 use words::word;
 
-/// Evaluates a formula up to a script in it. A formula without a script asks for no memory but for
-/// what its texts and its calls' arguments ask for, and for texts that its values are.
+/// Evaluates a formula up to a script in it. A formula without a script asks for memory only for
+/// its texts, for its calls' arguments, and for values that are texts.
 ///
 /// # Errors
 /// `NoMemory` where memory is refused.
@@ -76,7 +76,7 @@ pub fn choose<A: Allocator + Copy>(
     }
 }
 
-/// Evaluates the first operand of a row, and those behind it.
+/// Evaluates the first operand of a row, and those after it.
 #[cycle(evaluate)]
 fn begin_row<A: Allocator + Copy>(
     row: &Rc<Row<A>, A>,
@@ -94,7 +94,7 @@ fn begin_row<A: Allocator + Copy>(
     }
 }
 
-/// Evaluates the right operands of a row from an operator on, behind the value on the left.
+/// Evaluates the right operands of a row from an operator on, after the value on the left.
 #[cycle(evaluate)]
 pub fn row_on<A: Allocator + Copy>(
     row: &Rc<Row<A>, A>,
@@ -120,8 +120,9 @@ pub fn row_on<A: Allocator + Copy>(
     Ok(Evaluated::Value(left))
 }
 
-/// Evaluates the right operand of an operator in a row, where it is needed. A value stands for the
-/// row up to there; the operators from the next one on follow.
+/// Evaluates the right operand of an operator in a row, where it is needed. A value that is
+/// answered is that of the row up to this operand; the operators from `next` on are still to
+/// follow.
 #[cycle(evaluate)]
 fn join<A: Allocator + Copy>(
     link: &Link<A>,

@@ -21,8 +21,8 @@ use std::rc::Rc;
 use tclparse::{Command, Function, Unary};
 use words::word::{Met, OpenWord};
 
-/// A row whose right operand is being evaluated: the operator before it, and the place of those
-/// that follow.
+/// A row whose right operand is being evaluated: the operator before that operand, and the position
+/// of the operators after it.
 #[derive(Drop)]
 pub struct OpenRow<A: Allocator> {
     pub row: Rc<Row<A>, A>,
@@ -30,8 +30,8 @@ pub struct OpenRow<A: Allocator> {
     pub pending: Pending<A>,
 }
 
-/// A call of which an argument is being evaluated: the values of those before it, and the place of
-/// those that follow.
+/// A call of which an argument is being evaluated: the values of the arguments before it, and the
+/// position of those after it.
 #[derive(Drop)]
 pub struct OpenCall<A: Allocator> {
     pub function: Function,
@@ -40,7 +40,7 @@ pub struct OpenCall<A: Allocator> {
     pub values: Vec<Operand<A>, A>,
 }
 
-/// What is left around an operand that is being evaluated.
+/// What is still to be done around an operand that is being evaluated.
 #[derive(Drop)]
 pub enum Around<A: Allocator> {
     /// An operator before it.
@@ -63,18 +63,18 @@ pub struct OpenFormula<A: Allocator> {
     pub outer: VecDeque<Around<A>, A>,
 }
 
-/// What the evaluation of a formula comes to.
+/// What the evaluation of a formula gives.
 #[derive(Drop)]
 pub enum Evaluated<A: Allocator> {
     /// The formula's value.
     Value(Operand<A>),
-    /// A script, whose value goes into the formula.
+    /// A script that must run first, and whose value goes into the formula.
     Script(Rc<Vec<Command<A>, A>, A>, OpenFormula<A>),
-    /// The script's error.
+    /// The error that the formula raises.
     Fault(Fault<A>),
 }
 
-/// What an operator or a function of values comes to, as what the formula comes to.
+/// The result of an operator or a function of values, as the result of the formula.
 pub fn answered<A: Allocator>(
     answer: Result<Operand<A>, Raise<A>>,
 ) -> Result<Evaluated<A>, NoMemory>
@@ -90,7 +90,7 @@ pub fn answered<A: Allocator>(
     }
 }
 
-/// What an operator before an operand comes to (expr(n), operators).
+/// The result of an operator before an operand (expr(n), operators).
 pub fn prefixed<A: Allocator + Copy>(
     alloc: A,
     operator: Unary,
@@ -104,7 +104,7 @@ pub fn prefixed<A: Allocator + Copy>(
     answered(unary(alloc, operator, &operand))
 }
 
-/// What a text comes to, as what the formula comes to.
+/// The result of a text, as the result of the formula.
 pub fn of_text<A: Allocator + Copy>(alloc: A, met: Met<A>) -> Evaluated<A>
     ensures goes_on { (levels : ℕ) (s : Status) (next : Status → List ℕ → Course) →
         course_of_met levels met next s ≡ course_of levels result next s }
@@ -120,7 +120,8 @@ pub fn of_text<A: Allocator + Copy>(alloc: A, met: Met<A>) -> Evaluated<A>
     }
 }
 
-/// What was met in an operand in place of its value, with what is left around the operand.
+/// The script or the error that was met in an operand in place of its value, with what is left
+/// around the operand.
 pub fn enclosed<A: Allocator + Copy>(
     stopped: Evaluated<A>,
     around: Around<A>,
@@ -139,7 +140,8 @@ pub fn enclosed<A: Allocator + Copy>(
     Ok(Evaluated::Script(commands, open))
 }
 
-/// The same, with several things around the operand, the innermost first.
+/// The script or the error that was met in an operand in place of its value, with several things
+/// left around the operand, the innermost first.
 pub fn enclosed_by_all<A: Allocator + Copy>(
     stopped: Evaluated<A>,
     mut outer: VecDeque<Around<A>, A>,

@@ -1,4 +1,4 @@
-//! Operators between two operands: `&&` and `||` look at the left one before the right one is
+//! Operators between two operands: `&&` and `||` examine the left one before the right one is
 //! evaluated (expr(n), operators).
 
 ghost use Rattle.std.specs.Prelude.{◌≡◌, ℕ, List, IfOk};
@@ -18,16 +18,16 @@ use tclparse::{Binary, Infix};
 /// An operator whose right operand is being evaluated.
 #[derive(Drop)]
 pub enum Pending<A: Allocator> {
-    /// One that wants both values, with the left one.
+    /// An operator that needs both values, with the left one.
     Both(Binary, Operand<A>),
-    /// `&&` behind a true operand, `||` behind a false one: the right operand's truth value.
+    /// `&&` after a true operand, `||` after a false one: the right operand's truth value.
     Truth,
 }
 
-/// What an operator comes to behind its left operand.
+/// What an operator does once its left operand is evaluated.
 #[derive(Drop)]
 pub enum Opened<A: Allocator> {
-    /// It wants its right operand.
+    /// The operator needs its right operand.
     Needs(Pending<A>),
     /// The left operand of `&&` is false, or that of `||` is true: the value.
     Has(Operand<A>),
@@ -49,7 +49,7 @@ pub fn tested<A: Allocator + Copy>(
     }
 }
 
-/// Looks at the left operand, where the operator does so before the right one is evaluated.
+/// Examines the left operand, where the operator does so before the right one is evaluated.
 pub fn joined<A: Allocator + Copy>(
     alloc: A,
     operator: Infix,
@@ -91,7 +91,7 @@ fn settled<A: Allocator + Copy>(
     }
 }
 
-/// What an operator comes to whose right operand has this value.
+/// The result of an operator whose right operand has this value.
 pub fn settle<A: Allocator + Copy>(
     alloc: A,
     pending: Pending<A>,

@@ -1,4 +1,4 @@
-//! A formula goes on behind a script in it (expr(n)).
+//! Continues a formula after a script in it (expr(n)).
 
 ghost use Rattle.std.specs.Prelude.{◌≡◌, ℕ, List, IfOk};
 ghost use Rattle.state.specs.Prelude.{Course, Reaches, Status};
@@ -17,7 +17,7 @@ use std::alloc::Allocator;
 use tclstate::Scopes;
 use tcltext::Value;
 
-/// Goes on with the value of an operand, in what is left around it.
+/// Continues with the value of an operand, in what is left around it.
 fn leave<A: Allocator + Copy>(
     around: Around<A>,
     value: Operand<A>,
@@ -47,7 +47,7 @@ fn leave<A: Allocator + Copy>(
     }
 }
 
-/// Goes on with the value of a right operand in a row.
+/// Continues a row with the value of a right operand in it.
 fn leave_link<A: Allocator + Copy>(
     place: OpenRow<A>,
     value: Operand<A>,
@@ -67,7 +67,7 @@ fn leave_link<A: Allocator + Copy>(
 }
 
 impl<A: Allocator + Copy> OpenFormula<A> {
-    /// Goes on with the value of the script that was met, up to the next one.
+    /// Continues with the value of the script that was met, up to the next script.
     ///
     /// # Errors
     /// `NoMemory` where memory is refused.

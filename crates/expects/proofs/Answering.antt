@@ -1,4 +1,4 @@
--- What the parts of a turn come to, where it is known what was found.
+-- The courses of the parts of a turn, where it is known what was found.
 use Rattle.std.proofs.Common.{◌≡◌, ◌∙◌, ℕ, ◌==◌, suc, Bool, true, false, List, [], ◌∷◌, length, option_map, Option, Some, None, Result, Err, ℤ, IfSome, refl, sym, ap, subst, arith}
 use Rattle.std.proofs.lemmas.Bool.Decides.{nat_tests}
 use Rattle.acts.specs.Deed as said
@@ -37,7 +37,7 @@ use Rattle.expects.specs.Turn.{again, arrives, begins_again, behind, comes, cons
 use Rattle.expects.specs.View.{Selected, notes, settles}
 use Rattle.expects.specs.Words.{Form, stands}
 
--- a body that runs, or that no level is left for
+-- a body that runs, or for which no level is left
 module _ {A : Type 0} (script : coded.Script A) (turn : TurnTree) (levels : ℕ) (text : List ℕ)
     (s : Status)
     (is : IsScript (commands_of script.commands) (option_map fault_of script.fault) text) where
@@ -116,7 +116,7 @@ module _ {A : Type 0} (choice : Option (Choice A)) (turn : TurnTree) (levels : �
       then_reaches (selects_reaches turn levels choice after.TimedOut state s (gives []) made)
       (same_reaches (settles_is turn levels choice (consumed_by after.TimedOut made.selected s)))
 
--- a turn that goes on, or is over with no id left
+-- a turn that goes on, or is over where none of its ids is open any more
 module _ (clock : Option Timer) (turn : TurnTree) (levels : ℕ) (s : Status) where
   begins_over : (is : List Id) (left : Effective) → (length is == 0) ≡ true →
       begins_again is left clock turn levels s

@@ -1,4 +1,5 @@
--- What holds of each expect where it holds of each turn, and of all that is put together so.
+-- A property that holds of each turn, and is closed under how courses are put together, holds of
+-- each expect.
 use Rattle.std.proofs.Common.{ℕ, Bool, true, false, List, [], ◌∷◌, Option, Some, None, Ok, Err, if◌then◌else◌}
 use Rattle.dialog.specs.Branches.{Branches}
 use Rattle.dialog.specs.Reads.{Outcome as Said}

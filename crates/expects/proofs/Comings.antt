@@ -1,4 +1,4 @@
--- What is at hand of a turn or a command, where it is known how it came about.
+-- That the course of a turn or a command has come to the result at hand, step by step.
 use Rattle.std.proofs.Common.{◌≡◌, ◌∙◌, ℕ, List, Result, Ok, Err, IfOk, refl, sym, ap}
 use Rattle.state.specs.Prelude.{NoMemory, Ends, Course, Outcome, Leaves, Error, TurnTree, Reaches, Status, FitsState, outcome_of}
 use Rattle.plan.specs.Plan.{goes}
@@ -11,7 +11,7 @@ use Rattle.expects.specs.View.{Comes, course_of_talk, course_of_turned}
 use Rattle.expects.specs.declared.turn.Talk.TheVariants as talk
 use Rattle.expects.specs.declared.turn.Turned.{Turned}
 
--- what holds of a value holds of another where the one gives the other
+-- where a property of a value holds, what follows from it holds too
 pub on_ok : {X E : Type 0} (r : Result X E) {P Q : X → Type 0} → ((x : X) → P x → Q x) →
     IfOk r P → IfOk r Q
 on_ok (Ok x) each holds = each x holds
@@ -26,7 +26,7 @@ pub begins_as : (a b : TurnTree) (l m : ℕ) (s : Status) → a ≡ b → l ≡ 
 begins_as a b l m s is same = rw (is, same) refl
 
 module _ {A X : Type 0} (course_of : X → Status → Course) (state : State A) where
-  -- it is at hand in a state that fits
+  -- the result is at hand in a state that fits
   pub comes_as : (x : X) (s : Status) (course : Course) → FitsState state s →
       course ≡ course_of x s → Comes course_of x state course
   comes_as x s course fits is = record {
@@ -44,7 +44,7 @@ module _ {A X : Type 0} (course_of : X → Status → Course) (state : State A) 
     reaches = first;
   }
 
-  -- of a course that comes to another one
+  -- the same of a course that leads to another one
   pub comes_after : (x : X) (c d : Course) → Reaches c d → Comes course_of x state d →
       Comes course_of x state c
   comes_after x c d first comes = record {
@@ -58,7 +58,7 @@ module _ {A X : Type 0} (course_of : X → Status → Course) (state : State A) 
   after_ok (Ok x) c d first comes = comes_after x c d first comes
   after_ok (Err refusal) c d first comes = tt
 
-  -- of an equal course
+  -- the same of an equal course
   pub comes_from : (x : X) (c d : Course) → c ≡ d → Comes course_of x state d →
       Comes course_of x state c
   comes_from x c d is comes = comes_after x c d (same_reaches is) comes
@@ -67,7 +67,7 @@ module _ {A X : Type 0} (course_of : X → Status → Course) (state : State A) 
       IfOk r (λ x. Comes course_of x state d) → IfOk r (λ x. Comes course_of x state c)
   from_ok r c d is comes = after_ok r c d (same_reaches is) comes
 
--- what a turn came to is what the answer came to
+-- the result of a turn is what follows the answer
 pub talk_comes : {A : Type 0} (state : State A) (turned : Turned A) (course : Course) →
     Comes course_of_turned turned state course →
     Comes course_of_talk (talk.Turned turned) state course
@@ -77,7 +77,7 @@ talk_comes state turned course comes = record {
   reaches = comes.reaches;
 }
 
--- it is over with that outcome
+-- the command is over with that outcome
 pub over_is : {A : Type 0} (r : Result (List ℕ) (Leave A)) (o : Outcome) (s : Status)
     (course : Course) → outcome_of r ≡ o → course ≡ (let end : Course = Ends (s, o) in end) →
     course ≡ (let end : Course = Ends (s, outcome_of r) in end)

@@ -1,4 +1,4 @@
--- What a turn of expect keeps to.
+-- The bounds that a turn of expect keeps to.
 use Rattle.std.proofs.Common.{◌≡◌, ℕ, zero, suc, ◌+◌, ◌*◌, ◌-◌, ◌<◌, ◌≤◌, ◌==◌, Bool, true, false, List, [], ◌∷◌, map, Option, Some, None, Result, Ok, Err, if◌then◌else◌, refl, arith}
 use Rattle.acts.specs.declared.act.Timer.{Timer}
 use Rattle.state.specs.Prelude.{Id, Deed, Reply, Flaw, Peer, Ends, worth, Course, ask, gives, inside, within, Outcome, Gives, Leaves, Stops, Error, Return, Break, Continue, Again, AgainRunning, ScriptTree, TurnTree, Status, lines, shut, Scopes}
@@ -29,7 +29,7 @@ use Rattle.expects.specs.Report.{Written, on_written, reported}
 use Rattle.kinds.specs.Kinds.{on_ok}
 use Rattle.expects.specs.Turn.{again, arrives, begins_again, begun_by, behind, comes, consumed, consumed_by, does, ends, leaving, renewed, settled, selects, taken_by, timed, times_out, turns, waited, waits, waits_by}
 
--- the rows of a wait hold
+-- rows that hold at most their size, with that of one more id in front
 row_holds : (ps : List Peer) (i : Id) (rows : List Row) → RowsHold rows →
     RowsHold (with_row (line_of (map line ps) i) rows)
 row_holds [] i rows hold = hold
@@ -64,7 +64,7 @@ left_kept : (t : Trigger) (c : Option Chosen) (s : Status) → (consumed_by t c 
 left_kept t None s = refl
 left_kept t (Some c) s = refl
 
--- a piece in the place of this one
+-- another piece runs in the place of this one
 goes_proceed : (most had : ℕ) (piece : Piece) (s : Status) → budget piece s < most →
     worth s ≤ had → Proceeds most had (goes piece s)
 goes_proceed most had piece s below paid = (
@@ -168,7 +168,7 @@ module _ (turn : TurnTree) (levels : ℕ) where
   settled_proceeds most had taken s otherwise (Some c) below paid else_one =
       does_proceeds most had taken c.pair.branch.body s below paid
 
-  -- a choice, where nothing is chosen the rest proceeds
+  -- a choice proceeds where what follows when nothing is chosen proceeds
   selects_proceed : (most had : ℕ) (t : Trigger) (s : Status) (otherwise : Status → Course) →
       2 * s.left < most → worth s ≤ had → Proceeds most had (otherwise s) →
       Proceeds most had (selects t turn levels s otherwise)
@@ -268,7 +268,8 @@ clock_proceeds : (s : Status) (r : Result Timer Flaw) (next : Timer → Course) 
 clock_proceeds s (Ok clock) next each = each clock
 clock_proceeds s (Err flaw) next each = (omega arith, omega arith)
 
--- a turn leaves no more than it had, pays for its acts, and its waits hold
+-- a turn leaves no more ticks than it had, pays for its acts, and reports in its waits only buffers
+-- that hold at most their size
 pub turns_proceed : (turn : TurnTree) (levels : ℕ) (s : Status) →
     Proceeds (2 * s.left + 1) (worth s) (turns turn levels s)
 turns_proceed turn levels s =

@@ -9,12 +9,12 @@ use Rattle.state.specs.declared.outcome.Leave.{Leave}
 
 module _ (taken : Option Taken) (s : Status) (next : Status → Course) (old new : Scopes)
     (same : s.scopes ≡ old) where
-  -- all is set
+  -- all elements are set
   pub reports_go : reported taken old ≡ (new, None) →
       reports taken s next ≡ next (record s { scopes = new })
   reports_go is = ap (λ (w : Written). on_written w s next) (ap (reported taken) same ∙ is)
 
-  -- some of it is not
+  -- one of the elements can't be set
   pub reports_stop : (flaw : Flaw) → reported taken old ≡ (new, Some flaw) →
       reports taken s next ≡ raises flaw (record s { scopes = new })
   reports_stop flaw is =

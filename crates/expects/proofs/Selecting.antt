@@ -1,4 +1,4 @@
--- What a choice of the code comes to.
+-- What follows a choice of the code.
 use Rattle.std.proofs.Common.{◌≡◌, ◌∙◌, ℕ, List, [], Option, Some, None, IfSome, refl, sym, ap}
 use Rattle.state.specs.Prelude.{Id, Course, gives, TurnTree, Reaches, Status, lines, FitsState}
 use Rattle.dialog.proofs.Choices.{one_choice}
@@ -51,7 +51,7 @@ module _ {A : Type 0} (turn : TurnTree) (levels : ℕ) where
       (same_reaches (settled_is choice made.selected (taken_by t made.selected s)
       (consumed_by t made.selected s) otherwise made.same))
 
--- a choice leaves what may be waited for
+-- after a choice `wait` may reap the same ids as before
 stays : (share : Share) → StaysReapable (consumed_to share)
 stays Nothing = record { is_reaped = λ p. refl; id = λ p. refl; kind = λ p. refl }
 stays (Front n) = record { is_reaped = λ p. refl; id = λ p. refl; kind = λ p. refl }
@@ -86,7 +86,7 @@ selected_by (Some choice) t pairs state table s fits made next =
           (stays (share_of t c)) (made.fits s.ids.peers fits.ids.peers) next);
     }
 
--- bytes arrive
+-- after an arrival `wait` may reap the same ids as before
 stays_arrived : (bytes : List ℕ) → StaysReapable (arrived bytes)
 stays_arrived bytes = record { is_reaped = λ p. refl; id = λ p. refl; kind = λ p. refl }
 
@@ -100,13 +100,13 @@ arrival_fits bytes i state table s fits peers next =
     ids_fit state s fits _ _
     (peers_fit state.ids s.ids fits.ids table (arrived bytes) i (stays_arrived bytes) peers next)
 
--- a choice of the table is one of the definition
+-- where the table makes a choice, the definition has one
 pub makes_one : {A : Type 0} (o : Option (Choice A)) (t : Trigger) (pairs : List Pair)
     (old new : List Line) → Selects o t pairs old new → IfSome o (λ made. HasChoice old t pairs)
 makes_one None t pairs old new made = tt
 makes_one (Some choice) t pairs old new made = (made.selected, made.chooses)
 
--- there is none beside no choice
+-- where the definition chooses nothing, there is no choice
 pub no_other : (ls : List Line) (t : Trigger) (pairs : List Pair) → Chooses ls t pairs None →
     HasChoice ls t pairs → ⊥
 no_other ls t pairs none some =

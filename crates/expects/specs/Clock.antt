@@ -12,7 +12,8 @@ later (timer.Start seconds) = timer.Running
 later timer.Running = timer.Running
 later timer.Endless = timer.Endless
 
--- the timer of so many seconds; fewer than none are no timer (expect(1), timeout)
+-- the timer of a number of seconds; a negative number means that there is no timer (expect(1),
+-- timeout)
 abbrev pub timer_of : ℤ → Timer
 timer_of (pos seconds) = timer.Start seconds
 timer_of (negsuc n) = timer.Endless

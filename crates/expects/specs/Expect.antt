@@ -32,7 +32,7 @@ id_named s = consulted s.scopes (codes "spawn_id")
 abbrev pub place_in : Form → Status → Place
 place_in form s = place (lines s) (open_by (id_named s) s) (stands form)
 
--- why words say no branches, as the script's error (expect(1), expect)
+-- the script's error where words give no branches (expect(1), expect)
 abbrev pub told : misread.Flaw → Status → flaw.Flaw
 told (misread.NotIds text) s = flaw.NotOpen (Some text)
 told (misread.NotOpen id) s = flaw.NotOpen (Some (id_text id.0))
@@ -60,7 +60,8 @@ abbrev pub on_branches : Form → Branches → ℕ → Status → Course
 on_branches Waits b levels s = goes (Turn (first_turn b s) levels) s
 on_branches (Stands side) b levels s = gives [] (put side b s)
 
--- what words come to: branches, or the error that comes first in them (expect(1), expect)
+-- what follows the outcome of words: branches, or the error that comes first in them (expect(1),
+-- expect)
 abbrev pub on_read : Form → ℕ → Status → Outcome → Course
 on_read form levels s (Ok b) = on_branches form b levels s
 on_read form levels s (Err why) = raises (told why s) s

@@ -1,4 +1,4 @@
--- What parts of the code's turn come to.
+-- How results of parts of the code's turn stand to the definition.
 use Rattle.std.specs.Prelude.{◌≡◌, Option, Some, None, Result, Ok, Err}
 use Rattle.state.specs.Prelude.{flaw_of, Raises, Raise, Status, Scopes}
 use Rattle.acts.specs.declared.raise.Raise.TheVariants as raise
@@ -17,12 +17,12 @@ taken_of t = record {
   tells_places = t.tells_places;
 }
 
--- the writes stopped at this error, but where memory was refused
+-- the writes stopped at this error, unless memory was refused
 abbrev pub Stops : {A : Type 0} → Written → Raise A → Scopes → Type 0
 Stops meant (raise.Fault why) new = meant ≡ (new, Some (flaw_of why))
 Stops meant (raise.NoMemory refusal) new = Unit {0}
 
--- the variables are those that the writes leave, with the same error, but where memory was refused
+-- the variables are those that the writes leave, with the same error, unless memory was refused
 abbrev pub Writes : {A T : Type 0} → Written → Result T (Raise A) → Scopes → Type 0
 Writes meant (Ok done) new = meant ≡ (new, None)
 Writes meant (Err why) new = Stops meant why new

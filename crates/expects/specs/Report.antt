@@ -1,4 +1,4 @@
--- What a choice sets (expect(1), expect_out).
+-- The variables that a choice sets (expect(1), expect_out).
 use Rattle.std.specs.Prelude.{ℕ, pos, Bool, true, false, List, codes, decimal, Option, Some, None, Result, Ok, Err, ◌-ℤ◌, drop}
 use Rattle.state.specs.Prelude.{Id, Flaw, Course, raises, Status, Scopes}
 use Rattle.std.specs.Fmt.{signed_decimal}
@@ -12,7 +12,7 @@ use Rattle.tcltext.specs.declared.pattern.search.Found.{Found}
 abbrev pub Written : Type 0
 Written = Scopes × Option Flaw
 
--- on with the next write, where there was no error
+-- the next write follows, where there was no error
 abbrev pub and_then : Written → (Scopes → Written) → Written
 and_then (v, None) next = next v
 and_then (v, Some flaw) next = (v, Some flaw)
@@ -32,7 +32,7 @@ sets index value v =
 abbrev pub tells_start : Found → Scopes → Written
 tells_start f v = sets (codes "0,start") (decimal f.start) v
 
--- the place of its last byte; an empty match ends before it begins (expect(1), -indices)
+-- the place of the last byte of a match; an empty match ends before it begins (expect(1), -indices)
 abbrev pub tells_end : Found → Scopes → Written
 tells_end f v = sets (codes "0,end") (signed_decimal (pos f.end -ℤ pos 1)) v
 
@@ -40,12 +40,12 @@ tells_end f v = sets (codes "0,end") (signed_decimal (pos f.end -ℤ pos 1)) v
 abbrev pub tells_both_places : Found → Scopes → Written
 tells_both_places f v = and_then (tells_start f v) (tells_end f)
 
--- the places, where the branch tells them (expect(1), -indices)
+-- the places, where the branch reports them (expect(1), -indices)
 abbrev pub tells_places : Bool → Found → Scopes → Written
 tells_places false f v = (v, None)
 tells_places true f v = tells_both_places f v
 
--- what tells a match: its places, and its bytes, which end the buffer; a keyword has none
+-- the elements of a match: its places, and its bytes, which end the buffer; a keyword has none
 -- (expect(1), expect_out(0,string))
 abbrev pub tells_match : Bool → Option Found → List ℕ → Scopes → Written
 tells_match tells None buffer v = (v, None)
@@ -68,11 +68,11 @@ abbrev pub reported : Option Taken → Scopes → Written
 reported None v = (v, None)
 reported (Some t) v = tells t v
 
--- on once variables are written, or with the error
+-- what follows once variables are written, or the error where one was not
 abbrev pub on_written : Written → Status → (Status → Course) → Course
 on_written (v, None) s next = next (record s { scopes = v })
 on_written (v, Some flaw) s next = raises flaw (record s { scopes = v })
 
--- what a choice has for expect_out is set, and on (expect(1), expect_out)
+-- what a choice has for expect_out is set, and then the next course follows (expect(1), expect_out)
 abbrev pub reports : Option Taken → Status → (Status → Course) → Course
 reports taken s next = on_written (reported taken s.scopes) s next

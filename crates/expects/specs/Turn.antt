@@ -1,4 +1,4 @@
--- The turn of expect: a test, the wait behind it, what an answer leads to, and the body of what is
+-- The turn of expect: a test, the wait after it, what an answer leads to, and the body of what is
 -- chosen (expect(1), expect).
 use Rattle.std.specs.Prelude.{ℕ, List, [], ◌∷◌, Option, Some, None}
 use Rattle.state.specs.Prelude.{Id, Reply, Reads, Course, gives, leaves, raises, stops, ask, within, Outcome, Gives, Leaves, Stops, Again, AgainRunning, TurnTree, Status, lines, shut}
@@ -47,7 +47,7 @@ timed clock turn = record turn { clock = Some clock }
 abbrev pub renewed : Option Timer → TurnTree → TurnTree
 renewed clock turn = record turn { trigger = after.Entry; clock = clock }
 
--- a turn with what is left of its pairs and ids
+-- a turn with only those of its pairs and ids that are left
 abbrev pub leaving : Effective → TurnTree → TurnTree
 leaving left turn = record turn { effective = left }
 
@@ -61,16 +61,17 @@ abbrev pub named_by : Option Id → Option (List ℕ)
 named_by None = None
 named_by (Some i) = Some (id_text i.0)
 
--- a turn begins again with what is left of it; with no id left it is over with the error that the
--- first of its ids is not open (expect(1), exp_continue)
+-- a turn begins again with those of its pairs and ids that are left; where none of its ids is open
+-- any more, the expect is over with the error that the first of them is not open (expect(1),
+-- exp_continue)
 abbrev pub begins_again : List Id → Effective → Option Timer → TurnTree → ℕ → Status → Course
 begins_again [] left clock turn levels s =
     raises (flaw.NotOpen (named_by (first_of turn.effective.ids))) s
 begins_again (i ∷ is) left clock turn levels s =
     goes (Turn (renewed clock (leaving left turn)) levels) s
 
--- it goes on with the ids that are still open and their pairs, and with this timer, if there is one
--- (expect(1), exp_continue)
+-- a turn goes on with the ids that are still open and their pairs, and with this timer, if there is
+-- one (expect(1), exp_continue)
 abbrev pub again : Option Timer → TurnTree → ℕ → Status → Course
 again clock turn levels s =
     let left = pruned (lines s) turn.effective in
@@ -90,14 +91,14 @@ abbrev pub does : TurnTree → ℕ → Option Taken → List ℕ → Status → 
 does turn levels taken body s =
     reports taken s (λ t. within levels body t (behind turn levels))
 
--- the body of what is chosen runs, or else what follows where nothing is (expect(1), expect)
+-- the body of what is chosen runs, or else what follows where nothing is chosen (expect(1), expect)
 abbrev pub settled : TurnTree → ℕ → Option Taken → Status → (Status → Course) → Option Chosen →
     Course
 settled turn levels taken s otherwise None = otherwise s
 settled turn levels taken s otherwise (Some c) =
     does turn levels taken c.pair.branch.body s
 
--- on with what is chosen after a trigger, if anything is (expect(1), expect)
+-- what follows from what is chosen after a trigger, if anything is (expect(1), expect)
 abbrev pub chooses : Trigger → TurnTree → Status → (Option Chosen → Course) → Course
 chooses t turn s next = Reads (ChoiceText (lines s) t turn.effective.pairs) next
 
@@ -114,12 +115,14 @@ closes i turn levels s c =
     ask (said.Close i) (consumed_by (after.End i) c s) (λ t reply.
     settled turn levels (taken_by (after.End i) c s) (shut i t) (gives []) c)
 
--- bytes are put into the buffer of their id, and its window is looked at (expect(1), expect)
+-- bytes are put into the buffer of their id, and a turn begins that looks for a pair after that
+-- (expect(1), expect)
 abbrev pub arrives : Id → List ℕ → TurnTree → ℕ → Status → Course
 arrives i bytes turn levels s =
     goes (Turn (begun_by (after.Arrival i) turn) levels) (at_id (arrived bytes) i s)
 
--- what came is written before that (expect(1), expect, log_user and log_file)
+-- bytes that came are written, and put into their buffer after that (expect(1), expect, log_user
+-- and log_file)
 abbrev pub comes : Id → List ℕ → TurnTree → ℕ → Status → Course
 comes i bytes turn levels s = placed bytes s (arrives i bytes turn levels)
 
@@ -137,8 +140,8 @@ waited turn levels s (said.Arrive i bytes) = comes i bytes turn levels s
 waited turn levels s (said.Ended i) = ends i turn levels s
 waited turn levels s _ = times_out turn levels s
 
--- a wait with that timer takes a tick, and tells of each id that is waited for (expect(1), expect;
--- ticks are this project's own rule)
+-- a wait with that timer takes a tick, and reports each open id that is waited for (expect(1),
+-- expect; ticks are this project's own rule)
 abbrev pub waits_by : Timer → TurnTree → ℕ → Status → Course
 waits_by clock turn levels s =
     tick s (λ t. ask (said.Wait (rows_of (lines t) turn.effective.ids) clock) t

@@ -42,7 +42,7 @@ abbrev pub form_of : coded.Form → Form
 form_of form.Waits = Waits
 form_of (form.Stands side) = Stands side
 
--- the turn that one of the code's stands for; its vector of rows says nothing
+-- the turn that one of the code's stands for; its vector of rows has no part in that
 abbrev pub turn_of : {A : Type 0} → turning.Turn A → TurnTree
 turn_of t = record {
   effective = t.effective;
@@ -62,8 +62,8 @@ abbrev pub rows_waited : Deed → List Row
 rows_waited (said.Wait rows timer) = rows
 rows_waited _ = []
 
--- once they are written to standard output they are written to the log, if they are, and arrive
--- (expect(1), log_user and log_file)
+-- once bytes are written to standard output, they are written to the log, if the settings say so,
+-- and then arrive (expect(1), log_user and log_file)
 abbrev pub notes : Id → List ℕ → TurnTree → ℕ → Status → Course
 notes i bytes turn levels s = noted (is_logged s.log) bytes s (arrives i bytes turn levels)
 
@@ -95,14 +95,14 @@ abbrev pub Brings : Reply → Type 0
 Brings (said.Arrive id bytes) = Unit {0}
 Brings _ = ⊥
 
--- the answer brings bytes, or comes to a write of them
+-- the answer brings bytes, or is that to a write of bytes
 abbrev pub IsOnTheWay : {A : Type 0} → waiting.Waits A → Reply → Type 0
 IsOnTheWay (waits.Awaited turn) reply = Brings reply
 IsOnTheWay (waits.Shown id turn) reply = Unit {0}
 IsOnTheWay (waits.Noted id turn) reply = Unit {0}
 IsOnTheWay (waits.Closed id turn choice) reply = ⊥
 
--- what a turn came to: it has ended, a body runs whose outcome goes to the turn, or an act waits
+-- the result of a turn: it has ended, a body runs whose outcome goes to the turn, or an act waits
 -- for its answer
 abbrev pub course_of_turned : {A : Type 0} → Turned A → Status → Course
 course_of_turned (came.Has outcome) s = Ends (s, outcome_of outcome)
@@ -127,7 +127,8 @@ course_of_begun levels (begun.Opens opening) s = course_of_opening opening s
 course_of_begun levels (begun.Gathers ws form) s =
     words levels (words_of ws) [] s (by_words (form_of form) levels)
 
--- for some state that the code's fits, the course comes to what is at hand, once its texts are read
+-- there is a state of the definition that the code's state fits and in which the course leads to
+-- the result at hand, once its texts are read
 pub record Comes {A X : Type 0} (course_of : X → Status → Course) (x : X) (state : State A)
     (course : Course) : Type 0 where
   pub status : Status
@@ -144,17 +145,17 @@ abbrev pub IsPlainOpening : {A : Type 0} → Opening A → Type 0
 IsPlainOpening (opens.Has outcome) = again_of (outcome_of outcome) ≡ 0
 IsPlainOpening (opens.Turns turn) = Unit {0}
 
--- the same of what its words came to (expect(1), exp_continue)
+-- the same of what follows its words (expect(1), exp_continue)
 abbrev pub IsPlainBegun : {A : Type 0} → Begun A → Type 0
 IsPlainBegun (begun.Opens opening) = IsPlainOpening opening
 IsPlainBegun (begun.Gathers ws form) = Unit {0}
 
--- a turn begins only behind exp_continue (expect(1), exp_continue)
+-- a turn begins only after exp_continue (expect(1), exp_continue)
 abbrev pub TurnsBehind : {A : Type 0} → Opening A → Outcome → Type 0
 TurnsBehind (opens.Has outcome) o = Unit {0}
 TurnsBehind (opens.Turns turn) o = again_of o ≡ 1
 
--- what the code chose is what is chosen, with what it has for expect_out
+-- what the code chose is what the definition chooses, with what it has for expect_out
 abbrev pub IsSame : {A : Type 0} → Option (Choice A) → Option Chosen → Option Taken → Type 0
 IsSame None None taken = Unit {0}
 IsSame (Some choice) (Some c) taken =

@@ -36,7 +36,8 @@ pub(crate) fn clock_of<A: Allocator + Copy>(
     }
 }
 
-/// A timer that is started: that of `-timeout`, else that of the variable.
+/// A timer that is started: that of `-timeout`, else that of the variable `timeout`, else one of
+/// `SECONDS` seconds.
 fn started<A: Allocator + Copy>(
     alloc: A,
     state: &State<A>,
@@ -54,7 +55,7 @@ fn started<A: Allocator + Copy>(
     }
 }
 
-/// The timer of so many seconds; fewer than none are no timer.
+/// The timer of a number of seconds; a negative number means that there is no timer.
 fn timer_of(seconds: i64) -> Timer
     ensures { result ≡ definition.timer_of seconds }
 {

@@ -24,7 +24,11 @@ use std::alloc::Allocator;
 use tclparse::Words;
 use tcltext::Value;
 
-/// Begins one of the commands with its words, in which so many levels may still stand.
+/// Begins one of the three commands with its words; `levels` is how many levels may still be nested
+/// in it.
+///
+/// # Errors
+/// `NoMemory`.
 pub fn begin<A: Allocator + Copy>(
     alloc: A,
     state: &mut State<A>,
@@ -71,8 +75,11 @@ fn by_argument<A: Allocator + Copy>(alloc: A, form: Form, text: &[u8]) -> Result
     }
 }
 
-/// Goes on with the words of a command that are all there: the branches that they say stand, or are
-/// those of the first turn.
+/// Continues a command once all its words are there: the branches that they say stand from now on,
+/// or are those of the first turn.
+///
+/// # Errors
+/// `NoMemory`.
 pub fn by_words<A: Allocator + Copy>(
     alloc: A,
     state: &mut State<A>,
@@ -104,7 +111,7 @@ fn id_in_force<A: Allocator + Copy>(state: &State<A>) -> Option<Id>
     }
 }
 
-/// `expect` begins its first turn, for the others the branches stand.
+/// Begins the first turn of `expect`; the branches of the other two commands stand from now on.
 fn on_branches<A: Allocator + Copy>(
     alloc: A,
     state: &mut State<A>,
@@ -138,7 +145,7 @@ fn on_branches<A: Allocator + Copy>(
     }
 }
 
-/// Why words say no branches, as the script's error.
+/// The script's error where words give no branches.
 fn told<A: Allocator + Copy>(alloc: A, state: &State<A>, error: BranchError<'_>) -> Raise<A>
     ensures { (s : Status) → FitsState state.now s →
         Tells (misread.flaw_of error.entry) result s }

@@ -1,4 +1,4 @@
-//! The three commands that say branches (expect(1), expect, expect_before and expect_after).
+//! The three commands that take branches (expect(1), expect, expect_before and expect_after).
 
 ghost use Rattle.std.specs.Prelude.{◌≡◌, option_map};
 ghost use Rattle.expects.specs.View.{form_of};
@@ -6,7 +6,8 @@ ghost use Rattle.expects.specs.Words as definition;
 
 use dialog::Side;
 
-/// `expect`, which chooses among its branches, or a command that lets them stand on a side.
+/// `expect`, which chooses among its branches, or a command whose branches stand on a side, before
+/// or after those of each `expect`.
 #[derive(Clone, Copy, Debug, PartialEq, Eq)]
 pub enum Form {
     /// `expect`.
@@ -16,7 +17,7 @@ pub enum Form {
 }
 
 impl Form {
-    /// The command of a name.
+    /// The command of this name, if it is one of the three.
     pub fn read(name: &[u8]) -> Option<Form>
         ensures { option_map form_of result ≡ definition.named name.now }
     {
@@ -31,7 +32,7 @@ impl Form {
         }
     }
 
-    /// Whether its branches stand.
+    /// Whether the branches of the command stand.
     pub(crate) fn stands(self) -> bool
         ensures { result ≡ definition.stands (form_of self) }
     {

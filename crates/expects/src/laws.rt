@@ -5,9 +5,9 @@ ghost use Rattle.state.specs.Prelude.{worth, TurnTree, Status};
 ghost use Rattle.expects.specs.Turn as definition;
 ghost use Rattle.state.specs.Proceeds.{Proceeds};
 
-/// A turn leaves no more ticks than there were and comes to less with each script and turn behind
-/// it, pays for its acts by its ticks, and each of its waits tells of buffers that hold at most
-/// their size.
+/// A turn leaves no more ticks than there were, each script and turn after it has a smaller budget
+/// than the turn itself, the acts of the turn are paid for by its ticks, and each of its waits
+/// reports buffers that hold at most their size.
 #[tactic(auto, using(crate::proofs::Proceeding::turns_proceed))]
 pub fn turns_proceed()
     ensures { (turn : TurnTree) (levels : ℕ) (s : Status) →

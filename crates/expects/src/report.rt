@@ -1,4 +1,4 @@
-//! What a choice sets (expect(1), expect_out).
+//! The variables that a choice sets (expect(1), expect_out).
 
 ghost use Rattle.std.specs.Prelude.{◌≡◌, ◌-ℤ◌, drop, pos, IfOk};
 ghost use Rattle.std.specs.Fmt.{signed_decimal};
@@ -19,7 +19,7 @@ const EXPECT_OUT: &[u8] = b"expect_out";
 /// Sets what a choice has for `expect_out`, if it has something.
 ///
 /// # Errors
-/// An element can't be set; those before it are. Or memory is refused.
+/// An element can't be set; those before it are set. Or memory is refused.
 pub(crate) fn report<A: Allocator + Copy>(
     alloc: A,
     scopes: &mut Scopes<A>,
@@ -61,7 +61,8 @@ fn tell_id<A: Allocator + Copy>(alloc: A, scopes: &mut Scopes<A>, id: Id) -> Res
     Ok(set(alloc, scopes, b"spawn_id", name)?)
 }
 
-/// Sets what tells a match, if there is one: its places, where the branch says so, and its bytes.
+/// Sets the elements of a match, if there is one: its places, where the branch says so, and its
+/// bytes.
 fn tell_match<A: Allocator + Copy>(
     alloc: A,
     scopes: &mut Scopes<A>,
@@ -132,7 +133,7 @@ fn tell_end<A: Allocator + Copy>(
     Ok(set(alloc, scopes, b"0,end", end)?)
 }
 
-/// Sets an element.
+/// Sets an element of `expect_out`.
 fn set<A: Allocator + Copy>(
     alloc: A,
     scopes: &mut Scopes<A>,
@@ -144,7 +145,7 @@ fn set<A: Allocator + Copy>(
     put(alloc, scopes, EXPECT_OUT, Some(index), value)
 }
 
-/// The place before an end, in digits: an empty match at the beginning ends before it.
+/// The place of the last byte before an end, in digits; -1 for an empty match at the beginning.
 fn last_place<A: Allocator>(alloc: A, end: usize) -> Result<Vec<u8, A>, NoMemory>
     ensures { IfOk result (λ text. text.items ≡ signed_decimal (pos end -ℤ pos 1)) }
 {

@@ -1,4 +1,4 @@
-//! What follows the body of what was chosen (expect(1), expect and exp_continue).
+//! What follows the body of the branch that was chosen (expect(1), expect and exp_continue).
 
 ghost use Rattle.std.specs.Prelude.{◌≡◌, ◌≤◌, IfOk};
 ghost use Rattle.state.specs.Prelude.{Raises, Leaves, Status, FitsState, outcome_of};
@@ -15,8 +15,11 @@ use state::{Code, Leave, Outcome, State};
 use std::alloc::Allocator;
 use tcltext::Value;
 
-/// Hands the outcome of a body to its turn: by `exp_continue` the turn goes on, else that is how
-/// the `expect` ends.
+/// Hands the outcome of a body to its turn: by `exp_continue` the turn goes on, else the outcome is
+/// that of the `expect`.
+///
+/// # Errors
+/// `NoMemory`.
 pub fn resumed<A: Allocator + Copy>(
     alloc: A,
     state: &mut State<A>,
@@ -37,7 +40,7 @@ pub fn resumed<A: Allocator + Copy>(
     }
 }
 
-/// The same of a code other than ok.
+/// The same for an outcome with a code other than ok.
 fn behind_code<A: Allocator + Copy>(
     alloc: A,
     state: &State<A>,
@@ -66,7 +69,8 @@ fn behind_code<A: Allocator + Copy>(
 }
 
 /// A turn goes on with the ids that are still open and their pairs, and with this timer, if there
-/// is one; with no id left it is over with the error that the first of its ids is not open.
+/// is one; where none of its ids is open any more, the `expect` is over with the error that the
+/// first of them is not open.
 fn again<A: Allocator + Copy>(
     alloc: A,
     state: &State<A>,

@@ -20,41 +20,42 @@ pub struct Turn<A: Allocator> {
     pub effective: Effective<A>,
     /// A vector for the rows of the next wait, whose room is used again.
     pub rows: Vec<Row, A>,
-    /// The seconds of `-timeout`.
+    /// The seconds of `-timeout`, if it is given.
     pub seconds: Option<i64>,
-    /// After what it looks for a pair.
+    /// The event after which it looks for a pair.
     pub trigger: Trigger,
     /// The timer of the next wait, where one was started.
     pub clock: Option<Timer>,
-    /// The levels that may still stand in it.
+    /// How many levels may still be nested in it.
     pub levels: u8,
 }
 
 /// What waits for the answer to an act.
 #[derive(Drop)]
 pub enum Waits<A: Allocator> {
-    /// A turn, for what comes.
+    /// A turn that waits for what comes.
     Awaited(Box<Turn<A>, A>),
-    /// A turn, for bytes of this id to be written to standard output.
+    /// A turn that waits for bytes of this id to be written to standard output.
     Shown(Id, Box<Turn<A>, A>),
-    /// A turn, for bytes of this id to be written to the log.
+    /// A turn that waits for bytes of this id to be written to the log.
     Noted(Id, Box<Turn<A>, A>),
-    /// A turn, for this id, which ended, to be closed; and what was chosen, if anything was.
+    /// A turn that waits for this id, which ended, to be closed; and what was chosen, if anything
+    /// was.
     Closed(Id, Box<Turn<A>, A>, Option<Choice<A>>),
 }
 
-/// What a turn came to.
+/// The result of a turn.
 #[derive(Drop)]
 pub enum Turned<A: Allocator> {
     /// The `expect` is over.
     Has(Outcome<A>),
-    /// A body runs, in which so many levels may still stand; its outcome goes to the turn.
+    /// A body runs, with how many levels may still be nested in it; its outcome goes to the turn.
     Runs(Script<A>, u8, Box<Turn<A>, A>),
     /// An act waits for its answer.
     Asks(Act<A>, Waits<A>),
 }
 
-/// What words that are all there, or the outcome of a body, came to.
+/// What follows the words of a command, once all are there, or the outcome of a body.
 #[derive(Drop)]
 pub enum Opening<A: Allocator> {
     /// The command is over.
@@ -63,7 +64,7 @@ pub enum Opening<A: Allocator> {
     Turns(Box<Turn<A>, A>),
 }
 
-/// What the words of one of the commands came to.
+/// What follows the words of one of the three commands.
 #[derive(Drop)]
 pub enum Begun<A: Allocator> {
     /// A turn begins, or the command is over.
@@ -72,17 +73,17 @@ pub enum Begun<A: Allocator> {
     Gathers(Rc<Vec<Word<A>, A>, A>, Form),
 }
 
-/// What an answer came to.
+/// What follows the answer to an act.
 #[derive(Drop)]
 pub enum Talk<A: Allocator> {
-    /// The turn came to this.
+    /// The turn has this result.
     Turned(Turned<A>),
     /// Another turn begins.
     Turns(Box<Turn<A>, A>),
 }
 
 impl<A: Allocator> Turn<A> {
-    /// It looks for a pair after that.
+    /// Makes the turn look for a pair after this trigger.
     pub(crate) fn look_after(&mut self, trigger: Trigger)
         ensures turn { turn_of self.new ≡ begun_by trigger (turn_of self.old) }
         ensures levels { self.new.levels ≡ self.old.levels }
@@ -99,7 +100,7 @@ impl<A: Allocator> Turn<A> {
         mem::replace(&mut self.rows, Vec::new(alloc))
     }
 
-    /// Puts the vector of rows of an act back.
+    /// Puts back the vector of rows that an act had.
     pub(crate) fn put_rows(&mut self, rows: Vec<Row, A>)
         ensures turn { turn_of self.new ≡ turn_of self.old }
         ensures levels { self.new.levels ≡ self.old.levels }
@@ -107,7 +108,7 @@ impl<A: Allocator> Turn<A> {
         self.rows = rows;
     }
 
-    /// It begins again, and its next wait has this timer, if there is one.
+    /// Begins the turn again; its next wait has this timer, if there is one.
     pub(crate) fn begin_again(&mut self, clock: Option<Timer>)
         ensures turn { turn_of self.new ≡ renewed clock (turn_of self.old) }
         ensures levels { self.new.levels ≡ self.old.levels }
@@ -116,7 +117,7 @@ impl<A: Allocator> Turn<A> {
         self.clock = clock;
     }
 
-    /// Its next wait has this timer.
+    /// Gives the next wait of the turn this timer.
     pub(crate) fn set_clock(&mut self, clock: Timer)
         ensures turn { turn_of self.new ≡ timed clock (turn_of self.old) }
         ensures levels { self.new.levels ≡ self.old.levels }

@@ -1,4 +1,4 @@
-//! A turn: the choice, the wait where nothing is chosen, and the body of what is (expect(1),
+//! A turn: the choice, the wait where nothing is chosen, and the body of what is chosen (expect(1),
 //! expect).
 
 ghost use Rattle.std.specs.Prelude.{
@@ -74,7 +74,7 @@ pub(crate) fn select<A: Allocator + Copy>(
     state.ids.table.select(alloc, effective.pairs(), trigger)
 }
 
-/// Does what was chosen; with nothing chosen the value is empty.
+/// Does what was chosen; with nothing chosen the value of the `expect` is empty.
 pub(crate) fn settle<A: Allocator + Copy>(
     alloc: A,
     state: &mut State<A>,
@@ -153,7 +153,7 @@ fn wait<A: Allocator + Copy>(
     }
 }
 
-/// Waits with a timer, which takes a tick.
+/// Waits with a timer. The wait takes a tick; with no tick left the run stops.
 fn wait_by<A: Allocator>(
     alloc: A,
     state: &mut State<A>,

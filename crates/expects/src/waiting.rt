@@ -13,10 +13,10 @@ use dialog::{Choice, Trigger};
 use state::{Leave, State, Stop};
 use std::alloc::Allocator;
 
-/// Goes on with the answer to an act: to a wait, to a write of what came, or to a close.
+/// Continues a turn with the answer to an act: to a wait, to a write of what came, or to a close.
 ///
 /// # Errors
-/// `NoMemory`, but not on the way of bytes that came into their buffer.
+/// `NoMemory`, but never while bytes that came are on their way into their buffer.
 pub fn answered<A: Allocator + Copy>(
     alloc: A,
     state: &mut State<A>,
@@ -41,7 +41,8 @@ pub fn answered<A: Allocator + Copy>(
     }
 }
 
-/// After a wait: what came is written and looked at, a choice is made after an end or a timeout.
+/// Continues after a wait: bytes that came are written and then put into their buffer; after an end
+/// or a timeout a choice is made.
 fn awaited<A: Allocator + Copy>(
     alloc: A,
     state: &mut State<A>,
@@ -61,7 +62,8 @@ fn awaited<A: Allocator + Copy>(
     }
 }
 
-/// Writes what came to standard output and to the log, as the settings say, and looks at it then.
+/// Writes an arrival to standard output and to the log, as the settings say, and puts it into its
+/// buffer after that.
 fn place<A: Allocator>(
     state: &mut State<A>,
     id: Id,
@@ -82,7 +84,7 @@ fn place<A: Allocator>(
     note(state, id, bytes, turn)
 }
 
-/// After a write to standard output.
+/// Continues after a write to standard output; where it failed, the run stops.
 fn shown<A: Allocator>(
     state: &mut State<A>,
     id: Id,
@@ -101,7 +103,7 @@ fn shown<A: Allocator>(
     }
 }
 
-/// Writes what came to the log, if the settings say so, and looks at it then.
+/// Writes an arrival to the log, if the settings say so, and puts it into its buffer after that.
 fn note<A: Allocator>(
     state: &mut State<A>,
     id: Id,
@@ -119,7 +121,7 @@ fn note<A: Allocator>(
     arrive(state, id, &bytes, turn)
 }
 
-/// After a write to the log.
+/// Continues after a write to the log; where it failed, the run stops.
 fn noted<A: Allocator>(
     state: &mut State<A>,
     id: Id,
@@ -220,7 +222,7 @@ fn out_bytes<A: Allocator>(alloc: A, act: Act<A>) -> Vec<u8, A>
     }
 }
 
-/// The vector of the rows of a wait, for its room.
+/// The vector of the rows of a wait, whose room is used again.
 fn waited_rows<A: Allocator>(alloc: A, act: Act<A>) -> Vec<Row, A>
     ensures { result.items ≡ rows_waited (deed_of act) }
 {

@@ -28,7 +28,7 @@ use Rattle.tclparse.proofs.Joined.{paired_joins, parts_leave, commands_leave}
 use Rattle.tclparse.proofs.Spelled.{part_behind}
 use Rattle.formulas.proofs.Shorter.{LeafLess, OpeningLess, FollowingLess, opening_less, following_less}
 
--- an outcome leaves fewer bytes than that
+-- an outcome leaves fewer than n bytes
 abbrev Shrinks : FormulaOutcome → ℕ → Type 0
 Shrinks (Ok z) n = length z < n
 Shrinks (Err e) n = Unit {0}
@@ -47,7 +47,7 @@ closed_shrinks b (Ok []) n h = tt
 closed_shrinks b (Ok (c ∷ z)) n h = closed_if (c == b) z syntax n (omega (arith, h))
 closed_shrinks b (Err e) n h = tt
 
--- what words leave, and what is behind what ends them
+-- what words leave is shorter, and so is what stands after the byte that ends them
 words_shrink : (o : Outcome) (x : List ℕ) (n : ℕ) → length x < n → Leaves x o →
     Shrinks (from_words o) n
 words_shrink (Ok z) x n h k = omega (arith, h, joins_length x z k)
@@ -71,7 +71,7 @@ bracket_shrinks (Ok []) x n h k = tt
 bracket_shrinks (Ok (c ∷ z)) x n h k = omega (arith, h, joins_length x (c ∷ z) k)
 bracket_shrinks (Err f) x n h k = tt
 
--- a substitution, behind whose first byte x stands
+-- a substitution, of which m is the next piece, is read and leaves fewer than n bytes
 abbrev SubstitutionRead : ℕ → words.Next → ℕ → Type 0
 SubstitutionRead d m n = (ps : Parts) × (o : FormulaOutcome) × IsSubstitution d ps m o × Shrinks o n
 
@@ -156,7 +156,7 @@ abbrev ArgumentsRead : ℕ → Function → List ℕ → Type 0
 ArgumentsRead d g x = (args : Arguments) × (o : FormulaOutcome) × IsArguments d g args x o
     × Shrinks o (length x)
 
--- everything where d more may be open
+-- every operand and every whole formula is read, where d more may be open
 abbrev AllRead : ℕ → Type 0
 AllRead d = ((x : List ℕ) → OperandRead d x) × ((x : List ℕ) → WholeRead d x)
     × ((g : Function) (x : List ℕ) → ArgumentsRead d g x)
@@ -274,7 +274,7 @@ wholes_read : (d : ℕ) → ((y : List ℕ) → OperandRead d y) → ((y : List 
     (x : List ℕ) → WholeRead d x
 wholes_read d operands rests x = let k = operands x in whole_reads k.1 d x k.0 k.2 k.3 rests
 
--- what is behind a comma, if anything
+-- the text after a comma, if there is one, has fewer than n bytes
 abbrev CommaLess : Option (List ℕ) → ℕ → Type 0
 CommaLess None n = Unit {0}
 CommaLess (Some z) n = length z < n

@@ -1,5 +1,5 @@
 -- Each formula that can be spelled has a text: blanks stand between its tokens, and parentheses
--- where the levels want them.
+-- where the levels require them.
 use Rattle.std.proofs.Common.{◌≡◌, ℕ, suc, ◌+◌, ◌-◌, ◌<◌, ◌≤◌, List, [], ◌∷◌, ◌++◌, true, Some, Ok, inl, inr, refl, sym, ap, subst, ◌∙◌, arith}
 use Rattle.tcltext.specs.Numeral.{IsUnsigned}
 use Rattle.tclparse.specs.declared.operator.Unary.{Unary}
@@ -132,14 +132,15 @@ blank_whole : (w : Whole) (d : ℕ) (x : List ℕ) (o : FormulaOutcome) → IsWh
     IsWhole d w (32 ∷ x) o
 blank_whole (whole a r) d x o h = (h.0, blank_operand a d x h.0 h.1, h.2)
 
--- Texts are functions of what stands behind the blank at their end. An operand:
+-- Here a text is a function of what stands after the blank at its end. The text of an operand:
 abbrev OperandText : ℕ → Formula → Type 0
 OperandText d f =
     (a : Operand) × (t : List ℕ → List ℕ) × (operand_tree a ≡ f)
     × ((y : List ℕ) → IsOperand d a (t y) (Ok (32 ∷ y)))
 
--- An operand, and operators behind it up to level k + 1, before whatever may stand behind those:
--- what is written before that, the operators, the text; the formula is the part that they make.
+-- The text of an operand with operators after it up to level k + 1, which make the part f. Here a
+-- is the operand, b puts what is written after it before any rest, ls puts the operators before
+-- others, and t puts the text before what follows.
 abbrev ChainText : ℕ → ℕ → Formula → Type 0
 ChainText k d f =
     (a : Operand) × (b : Rest → Rest) × (ls : Links → Links) × (t : List ℕ → List ℕ)
@@ -149,7 +150,7 @@ ChainText k d f =
     × ((r : Rest) (y : List ℕ) (o : FormulaOutcome) → IsRest d r (32 ∷ y) o
     → IsWhole d (whole a (b r)) (t y) o)
 
--- operators of level k + 2 with their operands
+-- the same for operators of level k + 2 with their operands
 abbrev LinksText : ℕ → ℕ → Links → Type 0
 LinksText k d ms =
     (b : Rest → Rest) × (ls : Links → Links) × (t : List ℕ → List ℕ)
@@ -165,7 +166,7 @@ WholeText d f =
     (w : Whole) × (t : List ℕ → List ℕ) × (whole_tree w ≡ f)
     × ((z : List ℕ) → IsEnd z → IsWhole d w (t z) (Ok z))
 
--- arguments, with the parenthesis behind them
+-- arguments, with the parenthesis after them
 abbrev ArgumentsText : ℕ → Function → Formulas → Type 0
 ArgumentsText d g fs =
     (args : Arguments) × (t : List ℕ → List ℕ) × (argument_trees args ≡ fs)
@@ -397,7 +398,7 @@ max_takes : (f : Formula) (fs : Formulas) → takes Max (formula f fs) ≡ true
 max_takes f no_formulas = refl
 max_takes f (formula g fs) = refl
 
--- the row of an operand and operators, of which there is one
+-- the row of an operand and operators, of which there is at least one
 row_formula : (n d m e : ℕ) (i : Infix) (f g : Formula) (ls : Links) → Stands n m d e →
     level i ≡ m → AreLinksSpellable m e (link i g ls) → FormulaText (m - 1) e f →
     LinksText (m - 2) e (link i g ls) → FormulaText n d (row f (link i g ls))

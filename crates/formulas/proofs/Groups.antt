@@ -33,8 +33,8 @@ pub none_joined : (n : ℕ) (f : tree.Formula) (ls : Links) → has_level n ls �
     ≡ joined_at n (f, ls)
 none_joined n f ls h = sym (joined_none n f ls h)
 
--- A level is half joined: the operators ls are still to come, and behind them stood S, whose front
--- is in the run and whose others are in the rest, both backwards.
+-- A level is half joined: the operators ls are still to be taken. Those at the front of the
+-- operators S after them are in run and the others of S in rest, both lists in reverse.
 abbrev pub IsHalfJoined : {A : Type 0} → ℕ → Links → List (Link A) → List (Link A) → List (Link A) →
     Type 0
 IsHalfJoined n whole ls run rest =
@@ -49,7 +49,7 @@ link_last {A} i f g ls t e =
     links_push ls (roll-Link A (record { operator = i; operand = f })) t
     ∙ ap (links_then ls) (view_of_link i f t ∙ ap (λ h. link i h t) e)
 
--- one more, backwards
+-- one more operator, at the end of a list that is in reverse
 link_first : {A : Type 0} (i : Infix) (f : Formula A) (g : tree.Formula) (run more : List (Link A))
     (t : Links)
     → formula_of f ≡ g → more ≡ run ++ roll-Link A (record { operator = i; operand = f }) ∷ [] →

@@ -32,7 +32,7 @@ other_mark : (mark base c : ℕ) (x : List ℕ) → (c == mark) ≡ false →
 other_mark mark base c [] h = refl
 other_mark mark base c (a ∷ x) h = rw h refl
 
--- the bytes behind a 0 begin with none of the marks
+-- the bytes after a 0 begin with none of the marks
 abbrev IsUnmarked : List ℕ → Type 0
 IsUnmarked x =
     (begins_marked 120 16 (48 ∷ x) ≡ false) × (begins_marked 111 8 (48 ∷ x) ≡ false)

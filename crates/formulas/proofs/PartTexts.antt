@@ -1,5 +1,5 @@
 -- Parts, words and commands that can be spelled have a text: every word in quotes, in which each
--- byte with a meaning of its own stands behind a backslash, and every command before a semicolon.
+-- byte with a meaning of its own stands after a backslash, and every command before a semicolon.
 use Rattle.std.proofs.Common.{◌≡◌, ℕ, ◌-◌, ◌<◌, ◌==◌, ◌||◌, List, [], ◌∷◌, ◌++◌, Bool, true, false, Option, Some, None, Ok, if◌then◌else◌, inl, inr, refl, sym, ap, subst, arith}
 use Rattle.std.proofs.lemmas.Bool.Decides.{eqb_tells}
 use Rattle.tclparse.specs.Tree.{Parts, no_parts, byte, variable, element, script, Words, no_words, word, Commands, no_commands, command}
@@ -158,8 +158,8 @@ bracket_next : (q : Bool) (d : ℕ) (z : List ℕ) → 0 < d → next (inside q)
 bracket_next true d z some = rw (not_zero d some) refl
 bracket_next false d z some = rw (not_zero d some) refl
 
--- Texts are functions of what stands behind them. Behind parts stands what closes their place,
--- behind words a semicolon, behind commands a bracket.
+-- Texts are functions of what stands after them. After parts stands what closes their place,
+-- after words a semicolon, after commands a bracket.
 abbrev pub PartsText : ℕ → Parts → Type 0
 PartsText d ps =
     (t : List ℕ → List ℕ)
@@ -241,7 +241,7 @@ no_star [] = refl
 no_star (b ∷ []) = refl
 no_star (b ∷ c ∷ x) = refl
 
--- a word in quotes, with the words behind it
+-- a word in quotes, with the words after it
 abbrev quoted_text : (List ℕ → List ℕ) → (List ℕ → List ℕ) → List ℕ → List ℕ
 quoted_text t u z = 34 ∷ t (34 ∷ 32 ∷ u z)
 

@@ -48,7 +48,7 @@ other_level m n h = elim (eqb_tells m n) [
   | inr p ↦ p.0
 ]
 
--- operators behind others
+-- the first operators, put before the others
 abbrev pub links_before : Links → Links → Links
 links_before no_links n = n
 links_before (link i f ls) n = link i f (links_before ls n)
@@ -66,7 +66,7 @@ pub starts_less : (k : ℕ) (ls : Links) → Starts (suc k) ls → Starts k ls
 starts_less k no_links h = tt
 starts_less k (link i f ls) h = omega (arith, h)
 
--- such operators once the k levels are joined
+-- what such operators are once the k levels are joined
 abbrev pub after : ℕ → Links → Links
 after k no_links = no_links
 after k (link i f ls) = link i (joined_to k f ls).0 (joined_to k f ls).1
@@ -134,7 +134,7 @@ link_joined k i f g ls t u is part more ms s =
       ap (λ p. link i p.0 p.1) (part (u ms) behind.0) ∙ ap (link i g) behind.1,
     )
 
--- all are of level n
+-- all operators are of level n
 abbrev pub AreOfLevel : ℕ → Links → Type 0
 AreOfLevel n no_links = Unit {0}
 AreOfLevel n (link i f ls) = (level i ≡ n) × AreOfLevel n ls
@@ -170,7 +170,7 @@ row_joined k f g ls t u some levels part more ms s =
     ∙ ap (λ m. (row_of g m, others (k + 2) (links_before ls (after k ms)))) first
     ∙ ap (λ m. (row_of g ls, m)) rest ∙ ap (λ r. (r, after (suc k) ms)) (row_made g ls some)
 
--- with nothing behind it, a part in which all levels are joined is the whole
+-- with nothing after it, a part in which all levels are joined is the whole
 pub all_grouped : (f g : Formula) (t : Links → Links) → IsJoined 12 f t g →
     grouped f (t no_links) ≡ g
 all_grouped f g t h = ap (λ p. row_of p.0 p.1) (h no_links tt)

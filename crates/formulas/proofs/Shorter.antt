@@ -1,4 +1,4 @@
--- What begins an operand, and what stands behind one, takes something of the text, and opens no
+-- What begins an operand, and what stands after one, takes something of the text, and opens no
 -- more than may be open.
 use Rattle.std.proofs.Common.{◌≡◌, ℕ, zero, suc, ◌+◌, ◌<◌, ◌≤◌, ◌==◌, ◌||◌, List, [], ◌∷◌, length, drop, Bool, true, false, Option, Some, None, if◌then◌else◌, refl, arith}
 use Rattle.std.proofs.lemmas.List.{length-drop}
@@ -57,7 +57,7 @@ pub white_length : (x : List ℕ) → length (skip_white x) ≤ length x
 white_length [] = omega arith
 white_length (c ∷ x) = white_if (is_white c) c x (skip_white x) (white_length x)
 
--- so much is left behind a leaf, or less
+-- the text after a leaf has fewer than n bytes, that of a substitution at most n
 abbrev pub LeafLess : Leaf → ℕ → Type 0
 LeafLess (no_leaf e) n = Unit {0}
 LeafLess (a_numeral s z) n = length z < n

@@ -111,7 +111,7 @@ no_more (Ok []) = refl
 no_more (Ok (c ∷ z)) = if_known (λ v. v ≡ None) (c == 44) None None (λ _. refl) (λ _. refl)
 no_more (Err f) = refl
 
--- a function that goes on behind an argument takes those that follow
+-- a function after whose argument another is read takes that argument and those after it
 takes_further : (g : Function) (f : Formula) (args : Arguments) (r : FormulaOutcome) (z : List ℕ) →
     behind_comma g r ≡ Some z → takes g (formula f (argument_trees args)) ≡ true
 takes_further Abs f args r z h = let no = no_more r in absurd (cc (no, h))

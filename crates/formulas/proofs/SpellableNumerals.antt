@@ -9,7 +9,7 @@ use Rattle.tclparse.specs.Variable.{name_at, after_name}
 use Rattle.tclparse.specs.FormulaPiece.{no_leaf, a_numeral, a_word, in_quotes, in_braces, a_substitution, Opening, a_leaf, a_prefix, a_parenthesis, a_call, is_numeric, digit_count, begins_marked, numeral_length, numeral_leaf, unary, is_truth_word, function, opens, call_opening, name_opening, word_opening, prefix_opening, opening_at, opening}
 use Rattle.tclparse.proofs.Spelling.{if_known, equal_if, both}
 
--- digits that are counted are digits
+-- the first n bytes, which were counted as digits, are digits
 abbrev TakesDigits : ℕ → List ℕ → ℕ → Type 0
 TakesDigits base x n = AreDigits base (take n x)
 
@@ -53,7 +53,7 @@ octal_number c x zero_is =
     subst (λ b. IsNumber (b ∷ x) (digit_count 8 (b ∷ x))) is
     (subst (IsNumber (48 ∷ x)) (sym count) (number_of 8 (take n x), octal (take n x) (digits_taken 8 x)))
 
--- behind a mark there is a digit, and a mark has a 0 before it
+-- after a mark there is a digit, and a mark has a 0 before it
 abbrev IsMarkedAt : ℕ → ℕ → List ℕ → Type 0
 IsMarkedAt mark base x =
     (c : ℕ) × (y : List ℕ) × (x ≡ 48 ∷ mark ∷ c ∷ y) × (is_digit base c ≡ true)
@@ -73,7 +73,7 @@ marked_at mark base (z ∷ m ∷ c ∷ y) h =
       l.1,
     )
 
--- the digits behind a mark, of which there is one
+-- the digits after a mark, of which there is at least one
 abbrev SomeDigits : ℕ → ℕ → List ℕ → Type 0
 SomeDigits base c y =
     (n : ℕ) × (2 + digit_count base (c ∷ y) ≡ suc (suc (suc n))) × AreDigits base (c ∷ take n y)
@@ -124,7 +124,7 @@ numeral_is_number (c ∷ x) h =
     (λ _. if_known (IsNumber y) (c == 48) (digit_count 8 y) (digit_count 10 y)
     (octal_number c x) (λ n. decimal_number c x n h))))
 
--- an operand that begins as a numeral is one
+-- where an operand begins with a numeral, that is a number without a sign
 abbrev pub OpensNumber : Opening → Type 0
 OpensNumber (a_leaf (no_leaf e)) = Unit {0}
 OpensNumber (a_leaf (a_numeral s z)) = (m : ℕ) × IsUnsigned m s

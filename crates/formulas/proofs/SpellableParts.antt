@@ -178,7 +178,7 @@ bracket_piece place zero x z h =
     absurd (cc (no, at))
 bracket_piece place (suc d) x z h = omega arith
 
--- what each piece says, wherever it stands
+-- what each piece says of what can be spelled, at whatever place it stands
 abbrev pub PartSpells : ℕ → Next → Type 0
 PartSpells d end = Unit {0}
 PartSpells d (fault f) = Unit {0}
@@ -206,7 +206,7 @@ part_spells d (c ∷ x) = elim (eqb_tells c 34) [
       piece_spells within_quotes d (c ∷ x) (next_part d (c ∷ x)) is
 ]
 
--- behind a gap no separator stands
+-- after a gap no separator stands
 abbrev NoSeparator : List ℕ → Type 0
 NoSeparator [] = Unit {0}
 NoSeparator (c ∷ x) = is_separator bracketed c ≡ false

@@ -9,7 +9,8 @@ use Rattle.formulas.specs.Spellable.{Stands, IsSpellable, AreLinksSpellable, Are
 use Rattle.formulas.proofs.RowTexts.{level_range}
 use Rattle.formulas.proofs.SpellableParts.{parts_more}
 
--- More may stand and be open there; or more may be open there, so that parentheses may.
+-- Levels up to m instead of n may stand, and e instead of d more may be open, and neither is less;
+-- or more may be open, which leaves room for parentheses.
 abbrev pub IsWider : ℕ → ℕ → ℕ → ℕ → Type 0
 IsWider n m d e = ((n ≤ m) × (d ≤ e)) ⊎ (d < e)
 

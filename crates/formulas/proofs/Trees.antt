@@ -101,7 +101,7 @@ pub row_made : {A : Type 0} → (r : Rc (the_row.Row A) A) (f : Formula A) (ls :
 row_made r f ls is some = view_Row r ∙ ap row_view is ∙ row_of_fields f ls
     ∙ sym (some_links (formula_of f) ls.items some)
 
--- and a choice
+-- a choice that is made of its fields
 pub choice_made : {A : Type 0} → (c : Rc (the_choice.Choice A) A) (t y n : Formula A)
     → c.value ≡ roll-Choice A (record { test = t; yes = y; no = n })
     → formula_of (Choice c) ≡ tree.choice (formula_of t) (formula_of y) (formula_of n)

@@ -101,7 +101,7 @@ operand_tag_is (prefixed u a) d x o h = ap opening_tag h.1
 operand_tag_is (enclosed w) d x o h = ap opening_tag h.1
 operand_tag_is (called g args) d x o h = ap opening_tag h.1
 
--- and which one what stands behind it has
+-- the bytes after an operand say which constructor stands for what follows it
 abbrev following_tag : Following → ℕ
 following_tag (end z) = 0
 following_tag (fault e) = 0

@@ -11,7 +11,7 @@ abbrev pub IsMemory : ReadError → Type 0
 IsMemory (Memory refusal) = Unit {0}
 IsMemory (Fault fault) = ⊥
 
--- the error of words, in a formula
+-- the error of reading words, as the error of reading a formula
 abbrev pub IsSame : of_words.ReadError → ReadError → Type 0
 IsSame (words.Memory refusal) error = IsMemory error
 IsSame (words.Fault fault) error = error ≡ Fault (Words fault)

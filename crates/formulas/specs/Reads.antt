@@ -14,16 +14,17 @@ use Rattle.formulas.specs.declared.tree.Formula.{Formula}
 use Rattle.formulas.specs.declared.error.ReadError.{ReadError}
 use Rattle.formulas.specs.declared.error.ReadError.TheVariants as error
 
--- a formula, and the text that is left
+-- a formula that was read, and the unread text after it
 abbrev pub Read : Type 0 → Type 0
 Read A = Result (Formula A × Bor (List ℕ)) ReadError
 
--- a shared list, and the text that is left
+-- a shared list of formulas that were read, and the unread text after them
 abbrev pub ReadList : Type 0 → Type 0
 ReadList A = Result (Rc (Vec (Formula A) A) A × Bor (List ℕ)) ReadError
 
--- Each says: what is answered is so written in the text, and the text that is left is that of the
--- grammar, or something is so written up to the fault. Want of memory says nothing.
+-- Each says: the text spells what is answered, and the unread text after it is the one that the
+-- grammar leaves; or, where there is a fault, the text spells something up to that fault. Want of
+-- memory says nothing.
 abbrev pub ReadsLeaf : {A : Type 0} → ℕ → piece.Leaf → Read A → Type 0
 ReadsLeaf d l (Ok r) = IsLeaf d (formula_of r.0) l (Ok r.1.now)
 ReadsLeaf d l (Err (error.Memory refusal)) = Unit {0}

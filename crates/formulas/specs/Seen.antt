@@ -14,7 +14,7 @@ use Rattle.formulas.specs.declared.piece.Opening.TheVariants as opens
 use Rattle.formulas.specs.declared.piece.Following as the_following
 use Rattle.formulas.specs.declared.piece.Following.TheVariants as follows
 
--- a fault
+-- the fault that one of the code stands for
 abbrev pub fault_of : the_fault.Fault → FormulaFault
 fault_of (Words f) = of_words (words.fault_of f)
 fault_of Syntax = syntax
@@ -28,14 +28,14 @@ leaf_of (leaf.Quotes z) = piece.in_quotes z.now
 leaf_of (leaf.Braces z) = piece.in_braces z.now
 leaf_of (leaf.Substitution z) = piece.a_substitution z.now
 
--- how an operand begins
+-- how an operand begins, with the texts that the slices hold
 abbrev pub opening_of : the_opening.Opening → piece.Opening
 opening_of (opens.Leaf l) = piece.a_leaf (leaf_of l)
 opening_of (opens.Prefix u z) = piece.a_prefix u z.now
 opening_of (opens.Parenthesis z) = piece.a_parenthesis z.now
 opening_of (opens.Call g z) = piece.a_call g z.now
 
--- what stands behind an operand
+-- what stands after an operand, with the texts that the slices hold
 abbrev pub following_of : the_following.Following → piece.Following
 following_of (follows.End z) = piece.end z.now
 following_of (follows.Fault f) = piece.fault (fault_of f)
@@ -47,7 +47,8 @@ abbrev pub outcome : Result (Bor (List ℕ)) the_fault.Fault → FormulaOutcome
 outcome (Ok z) = Ok z.now
 outcome (Err f) = Err (fault_of f)
 
--- what is behind a leaf has fewer bytes than that
+-- the text after a leaf has fewer than n bytes; that of a substitution, which begins at its first
+-- byte, has at most n
 abbrev pub LeavesLess : the_leaf.Leaf → ℕ → Type 0
 LeavesLess (leaf.Fault f) n = Unit {0}
 LeavesLess (leaf.Numeral s z) n = length z.now < n
@@ -56,22 +57,23 @@ LeavesLess (leaf.Quotes z) n = length z.now < n
 LeavesLess (leaf.Braces z) n = length z.now < n
 LeavesLess (leaf.Substitution z) n = length z.now ≤ n
 
--- what is behind it has fewer bytes than that, and it opens only where one more may, of d
+-- the text after how an operand begins has fewer than n bytes, and a prefix, a parenthesis or a
+-- call opens only where d, how many more may be open, is not 0
 abbrev pub OpensWithin : the_opening.Opening → ℕ → ℕ → Type 0
 OpensWithin (opens.Leaf l) d n = LeavesLess l n
 OpensWithin (opens.Prefix u z) d n = (0 < d) × (length z.now < n)
 OpensWithin (opens.Parenthesis z) d n = (0 < d) × (length z.now < n)
 OpensWithin (opens.Call g z) d n = (0 < d) × (length z.now < n)
 
--- what is behind it has fewer bytes than that, and it opens only where one more may, of d; at the
--- end no more
+-- the text after what follows an operand has fewer than n bytes, at the formula's end at most n; a
+-- choice opens only where d, how many more may be open, is not 0
 abbrev pub GoesWithin : the_following.Following → ℕ → ℕ → Type 0
 GoesWithin (follows.End z) d n = length z.now ≤ n
 GoesWithin (follows.Fault f) d n = Unit {0}
 GoesWithin (follows.Infix i z) d n = length z.now < n
 GoesWithin (follows.Choice z) d n = (0 < d) × (length z.now < n)
 
--- a text, if there is one
+-- the text after a comma, if there is one
 abbrev pub comma_seen : Option (Bor (List ℕ)) → Option (List ℕ)
 comma_seen None = None
 comma_seen (Some z) = Some z.now

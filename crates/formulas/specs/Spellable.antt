@@ -1,5 +1,5 @@
 -- Which formulas can be spelled: what operands can be, which parentheses the levels of operators
--- want, and how much may be open (expr(n)).
+-- require, and how much may be open (expr(n)).
 use Rattle.std.specs.Prelude.{◌≡◌, ℕ, ◌+◌, ◌-◌, ◌<◌, ◌≤◌, ◌⊎◌, List, [], ◌∷◌, ◌++◌, Bool, true, false, Some, None}
 use Rattle.tcltext.specs.Numeral.{IsUnsigned}
 use Rattle.tclparse.specs.declared.operator.Function.{Function}
@@ -24,7 +24,7 @@ IsWholeElement n is =
 
 -- Each says: where d more may be open, this can be spelled (Tcl(n), rules 1 to 10). Any byte can.
 abbrev mutual
-  -- the index of $n(..), and a script in brackets, are one more that is open
+  -- the index of $n(..), and a script in brackets, each count as one more that is open
   pub ArePartsSpellable : ℕ → Parts → Type 0
   ArePartsSpellable d no_parts = Unit {0}
   ArePartsSpellable d (byte b ps) = ArePartsSpellable d ps

@@ -11,7 +11,7 @@ use Rattle.formulas.specs.declared.tree.Choice.{Choice}
 use Rattle.formulas.specs.declared.tree.Link.{Link}
 use Rattle.formulas.specs.declared.tree.Row.{Row}
 
--- operators with their operands, before what follows
+-- operators with their operands, put before what follows them
 abbrev pub join_links : List (Links → Links) → Links → Links
 join_links [] t = t
 join_links (f ∷ fs) t = f (join_links fs t)
@@ -20,8 +20,8 @@ abbrev pub join_formulas : List tree.Formula → Formulas → Formulas
 join_formulas [] t = t
 join_formulas (f ∷ fs) t = formula f (join_formulas fs t)
 
--- one level, with each value inside already seen; an operator is seen as what it puts before those
--- behind it
+-- one layer of a formula's tree, with what is inside it already seen; an operator with its operand
+-- is seen as the function that puts them before the operators after them
 abbrev pub formula_step : {A : Type 0}
     → Formula-F A tree.Formula tree.Formula (Links → Links) tree.Formula → tree.Formula
 formula_step (Formula-F.Numeral v) = tree.numeral v
@@ -43,7 +43,8 @@ abbrev pub row_step : {A : Type 0}
     → Row-F A tree.Formula tree.Formula (Links → Links) tree.Formula → tree.Formula
 row_step r = tree.row r.first (join_links r.links.items no_links)
 
--- the formula; an operator with its operand, before those behind it
+-- the formula that a value stands for; below, an operator with its operand, put before those after
+-- it
 abbrev pub formula_of : {A : Type 0} → Formula A → tree.Formula
 formula_of {A} =
     fold-Formula A tree.Formula tree.Formula (Links → Links) tree.Formula
@@ -54,7 +55,7 @@ link_view {A} =
     fold-Link A tree.Formula tree.Formula (Links → Links) tree.Formula
     formula_step choice_step link_step row_step
 
--- the formula that a row, and a choice, is
+-- the formula that a row is; below, the one that a choice is
 abbrev pub row_view : {A : Type 0} → Row A → tree.Formula
 row_view {A} =
     fold-Row A tree.Formula tree.Formula (Links → Links) tree.Formula
@@ -65,7 +66,7 @@ choice_view {A} =
     fold-Choice A tree.Formula tree.Formula (Links → Links) tree.Formula
     formula_step choice_step link_step row_step
 
--- several of them, before what follows
+-- several operators with their operands, and below several formulas, before what follows
 abbrev pub links_then : {A : Type 0} → List (Link A) → Links → Links
 links_then [] t = t
 links_then (l ∷ ls) t = link_view l (links_then ls t)

@@ -10,7 +10,7 @@ pub enum Fault {
     /// [`MAX_OPEN`](tclparse::MAX_OPEN).
     #[error("{0}")]
     Words(tclparse::Fault),
-    /// The text can't go on so.
+    /// What stands next, or the end of the text, does not fit the grammar.
     #[error("syntax error in expression")]
     Syntax,
 }

@@ -1,4 +1,4 @@
-//! What stands behind an operand.
+//! What stands after an operand.
 
 ghost use Rattle.std.specs.Prelude.{◌≡◌, ◌<◌, length, Ok, IfOk, IfSome};
 ghost use Rattle.tclparse.specs.FormulaPiece.{is_letter, begins_letter, pair, word_pair, single, long, short, choice_following, following};
@@ -10,7 +10,7 @@ use crate::piece::Following;
 use crate::white::skip_white;
 use tclparse::{Binary, Function, Infix};
 
-// The operator of these two bytes that are no letters.
+// The operator, if any, that these two bytes spell, where the first is no letter.
 fn pair(first: u8, second: u8) -> Option<Infix>
     ensures { result ≡ pair first second }
 {
@@ -27,7 +27,7 @@ fn pair(first: u8, second: u8) -> Option<Infix>
     }
 }
 
-// The operator that is a word of these two bytes.
+// The operator, if any, that these two bytes spell as a word.
 fn word_pair(first: u8, second: u8) -> Option<Infix>
     ensures { result ≡ word_pair first second }
 {
@@ -40,7 +40,7 @@ fn word_pair(first: u8, second: u8) -> Option<Infix>
     }
 }
 
-// The operator of this byte alone.
+// The operator, if any, that this byte alone spells.
 fn single(byte: u8) -> Option<Infix>
     ensures { result ≡ single byte }
 {
@@ -74,7 +74,8 @@ fn begins_letter(text: &[u8]) -> bool
     }
 }
 
-// The operator of two bytes at the front; one that is a word ends where no letter follows.
+// The operator of two bytes at the text's front; one that is a word counts only where no letter
+// follows it.
 fn long(text: &[u8]) -> Option<Infix>
     ensures operator { result ≡ long text.now }
     ensures within { IfSome result (λ _. 1 < length text.now) }
@@ -121,8 +122,8 @@ fn choice(depth: u32, text: &[u8]) -> Following<'_>
     }
 }
 
-/// What stands behind an operand, behind white, where so many brackets, indexes, parentheses,
-/// calls, prefixes and choices more may be open.
+/// What stands after an operand, white skipped. `depth` is how many more brackets, indexes,
+/// parentheses, calls, prefixes and choices may be open.
 pub(crate) fn following(depth: u32, text: &[u8]) -> Following<'_>
     ensures following { following_of result ≡ following depth text.now }
     ensures within { GoesWithin result depth (length text.now) }
@@ -137,7 +138,7 @@ pub(crate) fn following(depth: u32, text: &[u8]) -> Following<'_>
     }
 }
 
-/// Where a formula is read up to this byte: the text behind it.
+/// The text after `byte`, which must stand at the front and end what was read before.
 ///
 /// # Errors
 /// `Syntax` where another byte or none stands there.
@@ -157,8 +158,8 @@ pub(crate) fn close(byte: u8, text: &[u8]) -> Result<&[u8], Fault>
     }
 }
 
-/// Behind an argument of this function: the text behind a comma, where the function takes another
-/// argument.
+/// The text after the comma at the front, where one stands there and the function takes another
+/// argument; else `None`.
 pub(crate) fn behind_comma(function: Function, text: &[u8]) -> Option<&[u8]>
     ensures comma { comma_seen result ≡ behind_comma function (Ok text.now) }
     ensures shorter { IfSome result (λ z. length z.now < length text.now) }

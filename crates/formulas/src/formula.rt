@@ -12,10 +12,10 @@ use tclparse::MAX_OPEN;
 impl<A: Allocator + Copy> Formula<A> {
     /// Reads a whole text (expr(n)). Each text is one formula or has one fault (`laws`).
     ///
-    /// Takes time in the length of the text, and stack in what is open at one place.
+    /// The time grows with the length of the text, the stack with how much is open at one place.
     ///
     /// # Errors
-    /// The text's first fault from the left; want of memory. Nothing is left.
+    /// The text's first fault from the left, or want of memory; nothing that was built is kept.
     pub fn read(alloc: A, text: &[u8]) -> Result<Formula<A>, ReadError>
         ensures { ReadsFormula text.now result }
     {

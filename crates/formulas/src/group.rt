@@ -35,7 +35,7 @@ fn binary_level(operator: Binary) -> u8
     }
 }
 
-// How tightly an operator binds: the less, the tighter (expr(n), operators).
+// The level of an operator: the lower it is, the tighter the operator binds (expr(n), operators).
 fn level_of(operator: Infix) -> u8
     ensures { result ≡ binds.level operator }
 {
@@ -46,7 +46,7 @@ fn level_of(operator: Infix) -> u8
     }
 }
 
-// The operand with what is joined to it.
+// The row of an operand and the operators after it; where there are none, the operand itself.
 fn row<A: Allocator + Copy>(
     alloc: A,
     first: Formula<A>,
@@ -63,7 +63,7 @@ fn row<A: Allocator + Copy>(
     }
 }
 
-// Whether an operator has that level.
+// Whether one of these operators has that level.
 fn has_level<A: Allocator>(level: u8, links: &[Link<A>]) -> bool
     ensures { result ≡ has_level level (links_then links.now no_links) }
 {
@@ -75,7 +75,8 @@ fn has_level<A: Allocator>(level: u8, links: &[Link<A>]) -> bool
     false
 }
 
-// Joins a level that may be there: the operand and the operators that are left.
+// Joins the operators of a level that may be absent: gives the joined first operand, and the
+// operators that remain.
 #[tactic(auto, using(crate::proofs::Groups::none_joined))]
 fn join_level<A: Allocator + Copy>(
     alloc: A,
@@ -93,7 +94,7 @@ fn join_level<A: Allocator + Copy>(
     }
 }
 
-// Joins one level: the operand and the operators that are left.
+// Joins the operators of one level: gives the joined first operand, and the operators that remain.
 fn join<A: Allocator + Copy>(
     alloc: A,
     level: u8,

@@ -21,10 +21,10 @@ pub fn no_text_has_two_formulas()
 
 /// Each formula that can be spelled is the formula of a text: that whose tokens have blanks between
 /// them, whose texts stand in quotes, and whose parentheses are those that the levels of operators
-/// want. No other formula is that of a text. Numerals without a sign can be spelled, parts that can
-/// stand in quotes, calls of as many arguments as the function takes, and rows of operators of one
-/// level, with at most 100 brackets, indexes, parentheses, calls, prefixes and choices open at one
-/// place.
+/// require. No other formula is that of a text. Numerals without a sign can be spelled, parts that
+/// can stand in quotes, calls of as many arguments as the function takes, and rows of operators of
+/// one level, with at most 100 brackets, indexes, parentheses, calls, prefixes and choices open at
+/// one place.
 #[tactic(auto, using(crate::proofs::FormulaTexts::each_text))]
 pub fn each_formula_has_a_text()
     ensures texts { (formula : Formula) → IsSpellable 14 100 formula

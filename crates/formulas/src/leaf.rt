@@ -12,7 +12,8 @@ use std::alloc::Allocator;
 use tclparse::operand;
 use tcltext::Value;
 
-/// The leaf that begins so, and the text behind it. So many brackets and indexes more may be open.
+/// The formula of the leaf that begins so, and the text after it. `depth` is how many more brackets
+/// and indexes may be open.
 pub(crate) fn read_leaf<'a, A: Allocator + Copy>(
     alloc: A,
     depth: u32,

@@ -127,7 +127,7 @@ fn function(word: &[u8]) -> Option<Function>
     }
 }
 
-// What opens where so many more may be open.
+// This opening, or the fault `TooDeep` where no more may be open.
 fn opens(depth: u32, opening: Opening<'_>) -> Opening<'_>
     ensures opening { opening_of result ≡ opens depth (opening_of opening.entry) }
     ensures within { (n : ℕ) → (0 < depth → OpensWithin opening.entry depth n)
@@ -140,7 +140,7 @@ fn opens(depth: u32, opening: Opening<'_>) -> Opening<'_>
     }
 }
 
-// The call of a function behind whose name this text stands.
+// How the call of this function begins; the text is the one after the function's name.
 fn call(depth: u32, function: Function, text: &[u8]) -> Opening<'_>
     ensures opening { opening_of result ≡ call_opening depth function (skip_white text.now) }
     ensures within { OpensWithin result depth (length text.now) }
@@ -167,7 +167,7 @@ fn word(depth: u32, text: &[u8]) -> Opening<'_>
     }
 }
 
-// How the operand begins that has no white before it.
+// How the operand at the front begins, before which no white stands.
 fn opening_at(depth: u32, text: &[u8]) -> Opening<'_>
     ensures opening { opening_of result ≡ opening_at depth text.now }
     ensures within { OpensWithin result depth (length text.now) }
@@ -192,8 +192,8 @@ fn opening_at(depth: u32, text: &[u8]) -> Opening<'_>
     }
 }
 
-/// How the next operand begins, behind white, where so many brackets, indexes, parentheses, calls,
-/// prefixes and choices more may be open.
+/// How the next operand begins, white skipped. `depth` is how many more brackets, indexes,
+/// parentheses, calls, prefixes and choices may be open.
 pub(crate) fn opening(depth: u32, text: &[u8]) -> Opening<'_>
     ensures opening { opening_of result ≡ opening depth text.now }
     ensures within { OpensWithin result depth (length text.now) }

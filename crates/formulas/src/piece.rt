@@ -3,7 +3,8 @@
 use crate::fault::Fault;
 use tclparse::{Function, Infix, Unary};
 
-/// A leaf of a formula, each with the text behind what is named.
+/// How a leaf of a formula begins. The last text in a variant is the text after what the variant
+/// names, but that of `Substitution` begins at its first byte.
 #[derive(Clone, Copy)]
 pub(crate) enum Leaf<'a> {
     /// No operand stands here.
@@ -20,17 +21,17 @@ pub(crate) enum Leaf<'a> {
     Substitution(&'a [u8]),
 }
 
-/// How an operand begins, each with the text behind that.
+/// How an operand begins; the text in a variant is the one after that beginning.
 #[derive(Clone, Copy)]
 pub(crate) enum Opening<'a> {
     Leaf(Leaf<'a>),
     Prefix(Unary, &'a [u8]),
     Parenthesis(&'a [u8]),
-    /// A function's name and its parenthesis.
+    /// A function's name and its opening parenthesis.
     Call(Function, &'a [u8]),
 }
 
-/// What stands behind an operand, each with the text behind that.
+/// What stands after an operand; the text in a variant is the one after what the variant names.
 #[derive(Clone, Copy)]
 pub(crate) enum Following<'a> {
     /// The formula is over: no operator stands here.

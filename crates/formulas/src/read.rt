@@ -15,7 +15,7 @@ use std::alloc::Allocator;
 use std::rc::Rc;
 use tclparse::Function;
 
-// An operand: what stands between operators.
+// Reads an operand, that is, what stands between operators, and gives the text after it.
 #[cycle(read)]
 fn read_operand<A: Allocator + Copy>(
     alloc: A,
@@ -44,8 +44,8 @@ fn read_operand<A: Allocator + Copy>(
     }
 }
 
-/// A formula up to where no operator follows, and the text from there on. So many brackets,
-/// indexes, parentheses, calls, prefixes and choices more may be open.
+/// Reads a formula up to where no operator follows, and gives the text from there on. `depth` is
+/// how many more brackets, indexes, parentheses, calls, prefixes and choices may be open.
 #[cycle(read)]
 pub(crate) fn read_whole<A: Allocator + Copy>(
     alloc: A,
@@ -78,7 +78,7 @@ pub(crate) fn read_whole<A: Allocator + Copy>(
     }
 }
 
-// Behind a question mark, the two formulas of which the test chooses.
+// Reads, after a question mark, the two formulas between which the test chooses.
 #[cycle(read)]
 fn read_choice<A: Allocator + Copy>(
     alloc: A,
@@ -96,7 +96,7 @@ fn read_choice<A: Allocator + Copy>(
     Ok((Formula::Choice(choice), rest))
 }
 
-// Behind a function's parenthesis, its arguments up to the closing one.
+// Reads, after a function's opening parenthesis, its arguments up to the closing one.
 #[cycle(read)]
 fn read_arguments<A: Allocator + Copy>(
     alloc: A,

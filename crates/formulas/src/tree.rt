@@ -5,8 +5,8 @@ use std::rc::Rc;
 use tclparse::{Function, Infix, Part, Unary};
 use tcltext::Value;
 
-/// A formula, or an operand of one. A frame can keep each list and each formula in it alive by a
-/// clone of the pointer.
+/// A formula, or an operand of one. A frame of an evaluation can keep each list and each formula in
+/// it alive by cloning the pointer.
 #[cycle(tree)]
 #[derive(Drop)]
 pub enum Formula<A: Allocator> {

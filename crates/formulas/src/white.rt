@@ -3,8 +3,8 @@
 ghost use Rattle.std.specs.Prelude.{◌≡◌, ◌≤◌, length};
 ghost use Rattle.tcltext.specs.White.{skip_white};
 
-/// The text behind its first blanks, tabs, newlines, vertical tabs, form feeds and carriage
-/// returns.
+/// The text after the blanks, tabs, newlines, vertical tabs, form feeds and carriage returns at its
+/// front.
 pub(crate) fn skip_white(text: &[u8]) -> &[u8]
     ensures rest { result.now ≡ skip_white text.now }
     ensures shorter { length result.now ≤ length text.now }

@@ -31,7 +31,7 @@ of_z_small : (a : ℤ) → FitsSigned w64 a → of_z w64 a < 2 ^ 64
 of_z_small (pos n) fits = let small = fits.sfits in omega arith
 of_z_small (negsuc n) fits = omega arith
 
--- what a bit counts
+-- the worth of bit k: 2^k where it is set
 counts : (v k : ℕ) → v < 2 → cond (v == 1) (2 ^ k) 0 ≡ v * 2 ^ k
 counts zero k small = omega arith
 counts (suc zero) k small = omega arith
@@ -114,7 +114,7 @@ one_alone (suc zero) (suc (suc v)) small other = absurd (omega arith)
 one_alone (suc (suc u)) v small other = absurd (omega arith)
 
 module _ (a b : ℤ) (left : FitsSigned w64 a) (right : FitsSigned w64 b) where
-  -- a test of two bits is one of the bits of the patterns
+  -- an operation on bits of the numbers is that on the bits of their patterns
   tests : (op : Bool → Bool → Bool) (i : ℕ) → i < 64 →
       op (bit a i) (bit b i) ≡ op (is_set (of_z w64 a) i) (is_set (of_z w64 b) i)
   tests op i below =
@@ -147,7 +147,7 @@ module _ (a b : ℤ) (left : FitsSigned w64 a) (right : FitsSigned w64 b) where
       (bit_at-lt (of_z w64 b) i)
       ∙ ap (λ v. v == 1) (sym (bit_at_and (of_z w64 a) (of_z w64 b) i))
 
-  -- what the code's operation gives, that 64 bits hold it, and its bits
+  -- the result of the code's `&`, that 64 bits hold it, and its bits
   pub and_is : to_z w64 (bit_and (of_z w64 a) (of_z w64 b)) ≡ bits_and a b
   and_is = joined (λ (x y : Bool). x && y) (bit_and (of_z w64 a) (of_z w64 b)) and_small and_each
 
@@ -172,7 +172,7 @@ module _ (a b : ℤ) (left : FitsSigned w64 a) (right : FitsSigned w64 b) where
       (bit_at-lt (of_z w64 b) i)
       ∙ ap (λ v. v == 1) (sym (bit_at_or (of_z w64 a) (of_z w64 b) i))
 
-  -- the same of one or both
+  -- the same for `|`
   pub or_is : to_z w64 (bit_or (of_z w64 a) (of_z w64 b)) ≡ bits_or a b
   or_is = joined (λ (x y : Bool). x || y) (bit_or (of_z w64 a) (of_z w64 b)) or_small or_each
 
@@ -197,7 +197,7 @@ module _ (a b : ℤ) (left : FitsSigned w64 a) (right : FitsSigned w64 b) where
       (bit_at-lt (of_z w64 b) i)
       ∙ ap (λ v. v == 1) (sym (bit_at_xor (of_z w64 a) (of_z w64 b) i))
 
-  -- the same of one alone
+  -- the same for `^`
   pub xor_is : to_z w64 (bit_xor (of_z w64 a) (of_z w64 b)) ≡ bits_xor a b
   xor_is = joined differ (bit_xor (of_z w64 a) (of_z w64 b)) xor_small xor_each
 
@@ -222,7 +222,7 @@ odd zero small = refl
 odd (suc zero) small = refl
 odd (suc (suc v)) small = absurd (omega arith)
 
--- each bit is turned
+-- the complement inverts each bit
 pub complement_bit : (a : ℤ) (i : ℕ) → bit (complement a) i ≡ not (bit a i)
 complement_bit (pos n) i =
     let is : complement (pos n) ≡ negsuc n = omega (arith, ints) in

@@ -12,7 +12,7 @@ some_size (pos zero) never = absurd (never refl)
 some_size (pos (suc n)) never = omega arith
 some_size (negsuc n) never = omega arith
 
--- a number that is not 0 times so large a power of two
+-- 64 bits do not hold a number that is not 0 times a power of two above 2^63
 pub power_too_large : (a : ℤ) (n : ℕ) → (of_z w64 a ≡ 0 → ⊥) → 63 < n →
     FitsSigned w64 (a *ℤ pos (2 ^ n)) → ⊥
 power_too_large a n never large fits =
@@ -23,7 +23,7 @@ power_too_large a n never large fits =
     let product = mul-le 1 (2 ^ n) (unsigned_abs a) (2 ^ n) some (omega arith) in
     omega (arith, pow_below 63 n large)
 
--- a quotient by so large a power of two is 0
+-- a quotient by a power of two above 2^63 is 0
 gone : (m n : ℕ) → m < 2 ^ 63 → 63 < n → m / 2 ^ n ≡ 0
 gone m n small large =
     omega (arith, div_below m (2 ^ n) 1 (pow_pos n) (omega (arith, pow_below 63 n large)))

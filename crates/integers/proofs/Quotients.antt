@@ -1,11 +1,11 @@
--- Quotients that are rounded down, and what they leave.
+-- Quotients that are rounded down, and the remainders that they leave.
 use Rattle.std.proofs.Common.{◌≡◌, ◌≢◌, ℕ, zero, suc, ◌+◌, ◌*◌, ◌/◌, ◌%◌, ◌<◌, ℤ, pos, negsuc, neg_ℤ, ◌+ℤ◌, ◌*ℤ◌, ◌≤ℤ◌, ◌<ℤ◌, refl, ap, ◌∙◌, arith}
 use Rattle.std.proofs.lemmas.Int.{ints}
 use Rattle.std.proofs.lemmas.Nat.{le-div, div_below}
 use native.Mathlib.Nat.{mul-suc, suc-mul, mul_comm}
 use Rattle.integers.specs.Division.{rounded_down, quotient, remainder}
 
--- what is left of n behind the quotient
+-- what is left of n after the quotient
 splits : (n b : ℕ) → 0 < b → (b * (n / b) + n % b ≡ n) × (n % b < b)
 splits n b some = (omega arith, omega arith)
 
@@ -22,7 +22,7 @@ below (negsuc n) b some =
     let m = one_more b (n / b) in
     omega (arith, ints)
 
--- no number above the quotient is so
+-- a number that, times the divisor, is not above the dividend is not above the quotient
 pub greatest : (a q : ℤ) (b : ℕ) → 0 < b → (q *ℤ pos b) ≤ℤ a → q ≤ℤ quotient a (pos b)
 greatest (pos n) (pos m) b some le =
     let most = le-div m n b some (omega (arith, ints)) in omega (arith, ints)
@@ -36,7 +36,7 @@ neg_twice (pos zero) = refl
 neg_twice (pos (suc n)) = refl
 neg_twice (negsuc n) = refl
 
--- both signs may be turned
+-- the quotient stays the same when both signs are changed
 pub turned : (a b : ℤ) → b ≢ pos 0 → quotient (neg_ℤ a) (neg_ℤ b) ≡ quotient a b
 turned a (pos zero) some = absurd (some refl)
 turned a (pos (suc b)) some = ap (λ c. rounded_down c (suc b)) (neg_twice a)
@@ -46,7 +46,7 @@ turned a (negsuc b) some = refl
 pub whole : (a b : ℤ) → b *ℤ quotient a b +ℤ remainder a b ≡ a
 whole a b = omega (arith, ints)
 
--- what a divisor above 0 leaves
+-- the bounds of the remainder by a divisor above 0
 pub above : (a : ℤ) (b : ℕ) → 0 < b →
     (pos 0 ≤ℤ remainder a (pos b)) × (remainder a (pos b) <ℤ pos b)
 above (pos n) b some =
@@ -56,7 +56,7 @@ above (negsuc n) b some =
     let m = one_more b (n / b) in
     (omega (arith, ints), omega (arith, ints))
 
--- what a divisor below 0 leaves
+-- the bounds of the remainder by a divisor below 0
 pub below_zero : (a : ℤ) (b : ℕ) →
     (remainder a (negsuc b) ≤ℤ pos 0) × (negsuc b <ℤ remainder a (negsuc b))
 below_zero (pos zero) b =

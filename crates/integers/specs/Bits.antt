@@ -2,7 +2,7 @@
 use Rattle.std.specs.Prelude.{ℕ, zero, suc, ◌+◌, ◌%◌, ◌^◌, ◌==◌, ◌&&◌, ◌||◌, Bool, not, ℤ, pos, negsuc, neg_ℤ, ◌-ℤ◌, if◌then◌else◌}
 use Rattle.integers.specs.Division.{rounded_down}
 
--- a number is odd; -(n + 1) is where n is not (expr(n), operators)
+-- a number is odd; -(n + 1) is odd where n is even (expr(n), operators)
 abbrev pub is_odd : ℤ → Bool
 is_odd (pos n) = n % 2 == 1
 is_odd (negsuc n) = n % 2 == 0
@@ -11,17 +11,17 @@ is_odd (negsuc n) = n % 2 == 0
 abbrev pub bit : ℤ → ℕ → Bool
 bit a i = is_odd (rounded_down a (2 ^ i))
 
--- what bit i counts, where it is set (expr(n), operators)
+-- the worth of bit i: 2^i where it is set, else 0 (expr(n), operators)
 abbrev pub worth : (ℕ → Bool) → ℕ → ℕ
 worth bits i = if bits i then 2 ^ i else 0
 
--- what the bits below bit k count (expr(n), operators)
+-- the sum of the worths of the bits below bit k (expr(n), operators)
 unfoldable pub lowest : ℕ → (ℕ → Bool) → ℕ
 lowest zero bits = 0
 lowest (suc k) bits = lowest k bits + worth bits k
 
--- the number of 64 bits, of which the highest counts -2^63. The others count less than 2^63, so 64
--- bits hold each such number (expr(n), operators).
+-- the number that 64 bits stand for, of which the highest counts -2^63. The others together count
+-- less than 2^63, so 64 bits hold each such number (expr(n), operators).
 abbrev pub of_bits : (ℕ → Bool) → ℤ
 of_bits bits = pos (lowest 63 bits) -ℤ pos (worth bits 63)
 
@@ -37,10 +37,10 @@ bits_and a b = of_bits (λ i. bit a i && bit b i)
 abbrev pub bits_or : ℤ → ℤ → ℤ
 bits_or a b = of_bits (λ i. bit a i || bit b i)
 
--- a ^ b: the bits that are set in one alone (expr(n), operators)
+-- a ^ b: the bits that are set in exactly one (expr(n), operators)
 abbrev pub bits_xor : ℤ → ℤ → ℤ
 bits_xor a b = of_bits (λ i. differ (bit a i) (bit b i))
 
--- the number whose bits are the other ones, which is -n - 1 (expr(n), operators)
+-- the number with each bit inverted, which is -n - 1 (expr(n), operators)
 abbrev pub complement : ℤ → ℤ
 complement n = neg_ℤ n -ℤ pos 1

@@ -7,8 +7,8 @@ ghost use Rattle.integers.specs.Division as meant;
 use crate::signs::signed;
 
 /// The quotient by a divisor that is not 0, rounded down (expr(n), operators); none where 64 bits
-/// do not hold it. Below 0 one more than the size is divided, since the quotient's size is rounded
-/// up there.
+/// do not hold it. Below 0 one less than the size is divided, and 1 is added to the quotient's
+/// size, since that size is rounded up there.
 pub fn quotient(a: i64, b: i64) -> Option<i64>
     requires { 0 < unsigned_abs b }
     ensures { SomeIff result (FitsSigned w64 (meant.quotient a b)) (meant.quotient a b) }
@@ -21,7 +21,7 @@ pub fn quotient(a: i64, b: i64) -> Option<i64>
     }
 }
 
-/// What the quotient by a divisor that is not 0 leaves, with the divisor's sign (expr(n),
+/// The remainder of the division by a divisor that is not 0, with the divisor's sign (expr(n),
 /// operators); none where 64 bits do not hold it.
 pub fn remainder(a: i64, b: i64) -> Option<i64>
     requires { 0 < unsigned_abs b }

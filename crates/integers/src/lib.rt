@@ -1,5 +1,5 @@
-//! Whole numbers of 64 bits, by what they are among the whole numbers without limit (expr(n),
-//! operators).
+//! Operations on whole numbers of 64 bits, defined by those on whole numbers without limit
+//! (expr(n), operators).
 #![tactic(auto)]
 
 pub mod division;

@@ -1,4 +1,4 @@
--- What the entries of a map are to the texts that contracts see.
+-- How the entries of a map relate to the texts that contracts see.
 use Rattle.std.proofs.Common.{◌≡◌, ℕ, ◌+◌, ◌<◌, ◌≤◌, ◌==◌, ◌⊎◌, ◌||◌, Bool, true, false, List, [], ◌∷◌, ◌++◌, length, drop, remove, Some, Result, Ok, Err, OnOk, OnErr, IfOk, refl, sym, ap, ◌∙◌, subst, inl, inr, nat_eq, if◌then◌else◌, is_some, arith}
 use Rattle.std.proofs.lemmas.Bool.{eq-eqb, ne_eqb}
 use Rattle.std.proofs.lemmas.List.{length-map, length-append, length-drop, map-append}
@@ -29,7 +29,7 @@ module _ {A : Type 0} where
   abbrev is_entry : Vec ℕ A × Script A → Type 0
   is_entry e = IsTree e.1 e.0.items
 
-  -- a tree that is shared is the same
+  -- a shared tree is the tree of the same text
   pub same_tree : (s t : Script A) (text : List ℕ) → t.commands.value ≡ s.commands.value →
       t.fault ≡ s.fault → IsTree s text → IsTree t text
   same_tree s t text value fault h =
@@ -143,7 +143,7 @@ module _ {A : Type 0} (es new : Entries A) (k : Vec ℕ A) (s : Script A) (text 
       let behind = map-append (λ e. e.0.items) es ((k, s) ∷ []) in
       rw is_few (ap texts_of last ∙ behind ∙ (λ i. put.view i ++ put.items i ∷ []))
 
-  -- the texts where the oldest goes out for it
+  -- the texts where the oldest goes out for the new one
   pub texts_left : length es ≤ 256 → 256 < length new →
       texts_of (drop 1 new) ≡ with_newest text texts
   texts_left most full =

@@ -13,7 +13,7 @@ use Rattle.tclparse.specs.declared.script.Script.{Script}
 abbrev pub is_among : List ℕ → List (List ℕ) → Bool
 is_among text texts = list_any (bytes_eq text) texts
 
--- The texts with a new one behind them: where there are 256, the oldest goes out first (this
+-- The texts with a new one after them: where there are 256, the oldest goes out first (this
 -- project's own rule).
 abbrev pub with_newest : List ℕ → List (List ℕ) → List (List ℕ)
 with_newest text texts = (if length texts == 256 then drop 1 texts else texts) ++ text ∷ []

@@ -16,11 +16,11 @@ use tclparse::Script;
 /// The most texts that are kept.
 pub const MOST_KEPT: usize = 256;
 
-/// The trees of the texts that came last, at most [`MOST_KEPT`]. Contracts see the texts, each
-/// once, the oldest first.
+/// The syntax trees of the texts that were last put here, at most [`MOST_KEPT`]. Contracts see the
+/// texts, each once, the oldest first.
 ///
-/// A look-up takes one hash. A tree lives as long as a frame holds it, whether it is still kept or
-/// not.
+/// A look-up computes one hash. A tree lives as long as a frame holds it, whether it is still kept
+/// or not.
 #[derive(Drop)]
 pub struct Kept<A: Allocator> {
     scripts: IndexMap<Vec<u8, A>, Script<A>, BuildHasherDefault<FoldHasher>, A>,
@@ -50,7 +50,7 @@ impl<A: Allocator> Kept<A> {
 }
 
 impl<A: Allocator + Copy> Kept<A> {
-    /// No text yet, which takes no memory.
+    /// Keeps no text yet. Takes no memory.
     pub fn new(alloc: A) -> Kept<A>
         ensures { result ≡ [] }
     {
@@ -60,9 +60,9 @@ impl<A: Allocator + Copy> Kept<A> {
     }
 
     /// The tree of a text: the kept one, else one that is read and then kept. A new text goes last,
-    /// and where [`MOST_KEPT`] are kept the oldest goes out first.
+    /// and where [`MOST_KEPT`] are kept already, the oldest is dropped for it.
     ///
-    /// Where memory is refused for keeping it alone, the tree is answered all the same and the
+    /// Where memory is refused only for keeping the tree, the tree is returned all the same and the
     /// texts are as they were.
     ///
     /// # Errors

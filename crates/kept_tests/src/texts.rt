@@ -1,4 +1,4 @@
-//! That texts are kept, and that a refusal leaves them as they were.
+//! Tests that texts are kept, and that a refusal of memory leaves them as they were.
 
 use kept::Kept;
 use refusal::Refusing;
@@ -20,7 +20,7 @@ fn keeps_the_last_256_texts(rt: HostRuntime) -> Result<(), Fail> {
         assert_eq!(rt; kept.len(), (n + 1).min(256));
         first.push(script)?;
     }
-    // From the newest on, so that no text that is still kept goes out.
+    // From the newest text to the oldest, so that no kept text goes out before it is asked for.
     for (n, script) in first.iter().enumerate().rev() {
         let text = format!(in rt.alloc(); "set x {n}")?;
         let again = kept.get(text.as_bytes())?;

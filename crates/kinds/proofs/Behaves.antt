@@ -52,21 +52,21 @@ exchange_behaves (Performs deed holds next) t had s le paid =
     ask_behaves t had deed s (λ u reply. course (next u reply) u) holds le (omega (arith, paid))
     (λ reply. exchange_behaves (next s reply) t (had - 1) s le (omega (arith, paid)))
 
--- commands that act
+-- commands that act behave
 pub talks_behave : (r : Result (Exchange 4) Flaw) (s : Status) →
     Behaves s.left (worth s + 4) (talks r s)
 talks_behave (Ok exchange) s =
     exchange_behaves exchange s.left (worth s + 4) s (omega arith) (omega arith)
 talks_behave (Err flaw) s = (omega arith, omega arith)
 
--- settings
+-- commands that read or set a setting behave
 pub sets_behave : (r : Result (Exchange 0) Flaw) (s : Status) →
     Behaves s.left (worth s + 4) (talks r s)
 sets_behave (Ok exchange) s =
     exchange_behaves exchange s.left (worth s + 4) s (omega arith) (omega arith)
 sets_behave (Err flaw) s = (omega arith, omega arith)
 
--- exits
+-- exits behave
 pub exits_behave : (r : Result Outcome Flaw) (s : Status) →
     Behaves s.left (worth s + 4) (exits r s)
 exits_behave (Ok outcome) s = (omega arith, omega arith)

@@ -1,4 +1,4 @@
--- What a command of a kind answers is as far as its course.
+-- A command of a kind has come as far in the code as its course.
 use Rattle.std.proofs.Common.{◌≡◌, ℕ, List, Result, Ok, Err, IfOk, IsOkAnd, refl, sym, ap, ◌∙◌}
 use Rattle.state.specs.Prelude.{Deed, Reply, deed_of, Flaw, flaw_of, text_of, Fails, Raises, Raise, NoMemory, Ends, Asks, Course, raises, Shows, Outcome, Status, FitsState, outcome_of}
 use Rattle.acts.specs.declared.raise.Raise.TheVariants as raise
@@ -21,7 +21,7 @@ use Rattle.state.specs.Dialogue.{replied}
 use Rattle.state.specs.Leaf.{Maps, course_of}
 use Rattle.state.specs.Meant.{meant}
 
--- what waits is told otherwise, and goes on as before
+-- what waits for the answer is converted, and continues as before
 module _ {A W V : Type 0} (own : W → Deed → Status → Reply → Course)
     (next : V → Deed → Status → Reply → Course) (P : W → V → Type 0)
     (same : (w : W) (v : V) → P w v → own w ≡ next v) where

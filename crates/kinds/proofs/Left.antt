@@ -42,7 +42,7 @@ module _ {A V : Type 0} (r : Result (List ℕ) (Raise A)) where
 -- a part is read first
 module _ {A X Y V : Type 0} (seen : Y → X) (v : V) (part : Reading (Result X Flaw))
     (next : X → Reading (Done V)) where
-  -- it has a value, and what follows that is the answer
+  -- the part has a value, and what follows that is the answer
   pub once_leaves : (new : V) (y : Y) (r : Result (List ℕ) (Raise A)) →
       ComesTo part (Ok (seen y)) → Leaves (next (seen y)) r new → Leaves (once part v next) r new
   once_leaves new y (Ok value) first second =
@@ -51,7 +51,7 @@ module _ {A X Y V : Type 0} (seen : Y → X) (v : V) (part : Reading (Result X F
       then_comes part (λ x. after x v next) (Ok (seen y)) (new, Err (flaw_of why)) first second
   once_leaves new y (Err (raise.NoMemory refusal)) first second = tt
 
-  -- its error is the answer
+  -- the error of the part is the answer
   pub once_fails : (why : Raise A) → Finds {Y = Y} seen part (Err why) →
       Leaves (once part v next) (Err why) v
   once_fails (raise.Fault why) fails =

@@ -13,7 +13,7 @@ use Rattle.state.specs.declared.state.State.{State}
 use Rattle.tclstate.specs.Procs.{Procs}
 
 module _ {V : Type 0} (back : V → Status → Status) where
-  -- once its texts are read, it is over with its answer
+  -- once the texts of its reading are read, a command is over with the answer of the reading
   reaches_done : (r : Reading (Done V)) (done : Done V) (s : Status) → ComesTo r done →
       Reaches (leaves back r s) (reports done.1 (back done.0 s))
   reaches_done (Found other) done s is =
@@ -21,7 +21,7 @@ module _ {V : Type 0} (back : V → Status → Status) where
   reaches_done (Reads text next) done s comes =
       reads {text = text} comes.0 comes.1 (reaches_done (next comes.0) done s comes.2)
 
-  -- the state has what it left
+  -- the code's state has the part that the command left
   module _ {A W : Type 0} (next : W → Deed → Status → Reply → Course) (state : State A)
       (s : Status) (new : V) (fits : FitsState state (back new s)) where
     pub left_shows : (r : Reading (Done V)) (value : List ℕ) → ComesTo r (new, Ok value) →
@@ -41,7 +41,7 @@ module _ {V : Type 0} (back : V → Status → Status) where
     }
     left_fails r (raise.NoMemory refusal) comes = tt
 
-  -- it takes no tick and opens nothing
+  -- putting the part back takes no tick and opens nothing
   module _ (ticks : (v : V) (s : Status) → (back v s).left ≡ s.left)
       (acts : (v : V) (s : Status) → worth (back v s) ≡ worth s) where
     done_behaves : (v : V) (r : Result (List ℕ) Flaw) (s : Status) (had : ℕ) → worth s ≤ had →
@@ -51,19 +51,19 @@ module _ {V : Type 0} (back : V → Status → Status) where
     done_behaves v (Err flaw) s had paid =
         (omega (arith, ticks v s), omega (arith, acts v s, paid))
 
-    -- it runs no script, takes no tick and makes no act
+    -- the command runs no script, takes no tick and makes no act
     pub leaves_behave : (r : Reading (Done V)) (s : Status) (had : ℕ) → worth s ≤ had →
         Behaves s.left had (leaves back r s)
     leaves_behave (Found done) s had paid = done_behaves done.0 done.1 s had paid
     leaves_behave (Reads text next) s had paid = λ tree is. leaves_behave (next tree) s had paid
 
--- local commands
+-- local commands behave
 pub locals_behave : (r : Reading (Done Scopes)) (s : Status) (had : ℕ) → worth s ≤ had →
     Behaves s.left had (locals r s)
 locals_behave r s had paid =
     leaves_behave with_scopes (λ v t. refl) (λ v t. refl) r s had paid
 
--- commands that define
+-- commands that define behave
 pub definings_behave : (r : Reading (Done Procs)) (s : Status) (had : ℕ) → worth s ≤ had →
     Behaves s.left had (definings r s)
 definings_behave r s had paid =

@@ -1,4 +1,4 @@
--- What readings come to, where it is known what their parts come to.
+-- The answers of readings, where those of their parts are known.
 use Rattle.std.proofs.Common.{◌≡◌, ℕ, List, [], Result, Ok, Err, MatchResult, refl, sym, ap, subst}
 use Rattle.acts.specs.Flaw as acts
 use Rattle.state.specs.Prelude.{flaw_of, Answers, Raises, Fault, Raise}
@@ -70,7 +70,7 @@ module _ (text : List ℕ) where
   unsplit flaw (Err why) is same =
       let told : flaw ≡ flaw_of_list why = cc in (Err why, is, ap Err (sym told))
 
-  -- a text that is none, for a reason that is told
+  -- a text that is no list, for a reason that is reported
   pub no_list_comes : {A : Type 0} (why : Fault A) → IsNoList text (raise.Fault why) →
       ComesTo (elements text) (Err (flaw_of why))
   no_list_comes why is =

@@ -22,7 +22,7 @@ module _ (i : Id) where
   opened_same [] = refl
   opened_same (p ∷ ps) = by_open p ps p.is_open (opened_same ps)
 
-  -- with the same lines and journals, and as many
+  -- the open ids have the same lines and journals, and are as many
   lines_same : (ps : List Peer) → map line (map (reaped i) ps) ≡ map line ps
   lines_same [] = refl
   lines_same (p ∷ ps) = ap (λ ls. line p ∷ ls) (lines_same ps)
@@ -72,7 +72,7 @@ module _ (i : Id) where
   filtered p ps true = refl
   filtered p ps false = refl
 
-  -- it goes from those that may be waited for
+  -- the id goes from those that may be waited for
   pub unreaped_gone : (ps : List Peer) →
       unreaped (map (reaped i) ps) ≡ filter is_other (unreaped ps)
   unreaped_gone [] = refl
@@ -91,7 +91,7 @@ module _ (i : Id) where
   by_kept u us true rest = ap (λ vs. unreaped_of u ∷ vs) rest
   by_kept u us false rest = rest
 
-  -- in the code as in the definition
+  -- the id is removed in the code as in the definition
   pub map_filtered : (us : List reapable.Unreaped) →
       map unreaped_of (filter is_other_in us) ≡ filter is_other (map unreaped_of us)
   map_filtered [] = refl

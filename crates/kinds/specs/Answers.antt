@@ -14,9 +14,9 @@ use Rattle.state.specs.Leaf.{HasOutcome}
 use Rattle.state.specs.Stores.{IsTold}
 use Rattle.tclstate.specs.declared.error.ScopeError.{ScopeError}
 
--- the exchange has come as far as the code, from this state on: both are over, or the same act
--- waits for its answer in both, and each answer leads on alike; the state is the one that the
--- changes up to there leave
+-- the exchange, from this state on, has come as far as the code: both are over, or the same act
+-- waits for its answer in both, and the same course follows each answer; the code's state fits the
+-- one that the changes up to there leave
 abbrev pub Goes : {A W : Type 0} {n : ℕ} → (W → Deed → Status → Reply → Course) → Exchange n →
     Status → Leaf A W → State A → Type 0
 Goes next (Over outcome) s (leaf.Has o) state = (outcome_of o ≡ outcome) × FitsState state s
@@ -57,7 +57,8 @@ abbrev pub Sets : {A : Type 0} → Result (Exchange 0) Flaw → Status →
 Sets meant s (Ok value) state = IsOkAnd meant (λ exchange. EndsWith exchange s value state)
 Sets meant s (Err why) state = Fails meant why × FitsState state s
 
--- a command that sees V alone: its value, and what it leaves; nothing has changed with an error
+-- a command that sees V alone: its value, and the V that it leaves; with an error nothing has
+-- changed
 abbrev pub Stores : {A V : Type 0} → Result (V × List ℕ) Flaw → V → Result (List ℕ) (Raise A) → V →
     Type 0
 Stores meant old (Ok value) new = meant ≡ Ok (new, value)
@@ -76,12 +77,13 @@ abbrev pub Puts : {A : Type 0} {T : Type 0} → Result Scopes Flaw → Scopes �
 Puts meant old (Ok done) new = meant ≡ Ok new
 Puts meant old (Err why) new = Fails meant why × (new ≡ old)
 
--- the script's error of a variable's trouble, but where memory was refused
+-- the script's error for the trouble of a variable, except where memory was refused
 abbrev pub IsTroubled : {A : Type 0} → Raise A → ScopeError → List ℕ → Option (List ℕ) → Type 0
 IsTroubled (raise.Fault why) error name index = IsTold why error name index
 IsTroubled (raise.NoMemory refusal) error name index = Unit {0}
 
--- for some state that the code's fits, the course ends with this error, once its texts are read
+-- for some state of the definition that the code's state fits, the course ends with this error,
+-- once the texts that it reads are read
 pub record Raised {A : Type 0} (why : Fault A) (state : State A) (c : Course) : Type 0 where
   pub status : Status
   pub fits : FitsState state status
@@ -94,7 +96,7 @@ Comes next c (Ok l) state = Shows next l state c
 Comes next c (Err (raise.Fault why)) state = Raised why state c
 Comes next c (Err (raise.NoMemory refusal)) state = Unit {0}
 
--- the error that a command answers is how it ends
+-- a command that answers an error ends with it
 abbrev pub Settles : {A W : Type 0} → Result (Leaf A W) (Raise A) → Leaf A W → Type 0
 Settles (Ok l) settled = settled ≡ l
 Settles (Err (raise.Fault why)) settled = HasOutcome settled (raised why)

@@ -6,7 +6,7 @@ use Rattle.dialog.specs.Peers.{set_nulls, sized}
 use Rattle.state.specs.Ids.{Ids, skipped, with_fresh}
 use Rattle.state.specs.Status.{at_id}
 
--- an id, open or closed, was waited for, where it is that one (expect(1), wait)
+-- an id, open or closed, was waited for, where it is the given one (expect(1), wait)
 abbrev pub reaped : Id → Peer → Peer
 reaped i p = record p { is_reaped = p.is_reaped || (p.id.0 == i.0) }
 

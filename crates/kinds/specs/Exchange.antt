@@ -1,4 +1,4 @@
--- What a command does that runs no script: its acts, the changes that it makes, and how it ends.
+-- What a command that runs no script does: its acts, the changes that it makes, and how it ends.
 use Rattle.std.specs.Prelude.{ℕ, suc, List, Result, Ok, Err}
 use Rattle.state.specs.Prelude.{Deed, Reply, Flaw, text_of, Ends, Course, ask, raises, Outcome, Gives, Leaves, Stops, Error, Status}
 use Rattle.acts.specs.Deed as said
@@ -6,8 +6,9 @@ use Rattle.kinds.specs.Edits.{Edit, Opening, edited, opened_by}
 use Rattle.state.specs.Outcome as stop
 use Rattle.state.specs.Rows.{Holds}
 
--- so many acts and openings at most: it is over; a change is made, and on; something is opened, and
--- on; an act is asked, and on with its answer from the state at that time
+-- an exchange of at most the given number of acts and openings: it is over; or a change is made,
+-- something is opened, or an act is asked, and the exchange continues, after an act with its answer
+-- from the state at that time
 pub data Exchange : ℕ → Type 0 where
   Over : {n : ℕ} → (outcome : Outcome) → Exchange n
   Edits : {n : ℕ} → (edit : Edit) → Exchange n → Exchange n
@@ -15,25 +16,26 @@ pub data Exchange : ℕ → Type 0 where
   Performs : {n : ℕ} → (deed : Deed) → (holds : Holds deed) → (Status → Reply → Exchange n) →
       Exchange (suc n)
 
--- it is over with a value
+-- the exchange that is over with a value
 abbrev pub gives : {n : ℕ} → List ℕ → Exchange n
 gives value = Over (Gives value)
 
--- it is over with an error
+-- the exchange that is over with an error
 abbrev pub fails : {n : ℕ} → Flaw → Exchange n
 fails flaw = Over (Leaves Error (text_of flaw))
 
--- on as an answer says; an error is how the command ends (Tcl(n), return codes)
+-- continues with the exchange that there is; an error is how the command ends (Tcl(n), return
+-- codes)
 abbrev pub settled : {n : ℕ} → Result (Exchange n) Flaw → Exchange n
 settled (Ok exchange) = exchange
 settled (Err flaw) = fails flaw
 
--- on after a write; one that failed stops the run (this project's own rule)
+-- continues after a write; a write that failed stops the run (this project's own rule)
 abbrev pub written : {n : ℕ} → Exchange n → Reply → Exchange n
 written next (said.Failed sent) = Over (Stops stop.WriterFailed)
 written next _ = next
 
--- it as a part of a run; it takes no tick
+-- an exchange as a part of a run; it takes no tick
 abbrev pub course : {n : ℕ} → Exchange n → Status → Course
 course (Over outcome) s = Ends (s, outcome)
 course (Edits edit rest) s = course rest (edited edit s)

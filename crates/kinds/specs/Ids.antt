@@ -10,7 +10,8 @@ abbrev pub spelled : Option Id → List ℕ → Result Id Flaw
 spelled (Some id) text = Ok id
 spelled None text = Err (flaw.NotOpen (Some text))
 
--- the open id that a text spells; one that is not open is named as it stands (expect(1), spawn)
+-- the open id that a text spells; a text that spells none is named in the error as it stands
+-- (expect(1), spawn)
 abbrev pub named_id : List ℕ → Status → Result Id Flaw
 named_id text s = spelled (named (lines s) text) text
 
@@ -33,7 +34,7 @@ abbrev pub joined : Option Id → List ℕ → Result Id Flaw
 joined (Some id) text = Ok id
 joined None text = Err (flaw.NoChannel text)
 
--- the open connection whose channel a text spells; a channel that is not open is named as it stands
--- (close(n); expect(1), spawn)
+-- the open connection whose channel a text spells; a text that spells none is named in the error as
+-- it stands (close(n); expect(1), spawn)
 abbrev pub connection_id : List ℕ → Status → Result Id Flaw
 connection_id text s = joined (connection (lines s) text) text

@@ -10,12 +10,12 @@ abbrev pub exits : Result Outcome Flaw → Status → Course
 exits (Ok outcome) s = Ends (s, outcome)
 exits (Err flaw) s = raises flaw s
 
--- on with a value; an error ends the command (Tcl(n), return codes)
+-- continues with a value; an error ends the command (Tcl(n), return codes)
 abbrev pub on_ok : {X : Type 0} → Result X Flaw → Status → (X → Course) → Course
 on_ok (Ok x) s next = next x
 on_ok (Err flaw) s next = raises flaw s
 
--- it is over with a value or an error (Tcl(n), return codes)
+-- the command is over with a value or an error (Tcl(n), return codes)
 abbrev pub reports : Result (List ℕ) Flaw → Status → Course
 reports (Ok value) s = gives value s
 reports (Err flaw) s = raises flaw s
@@ -26,11 +26,11 @@ abbrev pub leaves : {V : Type 0} → (V → Status → Status) → Reading (Done
 leaves back (Found done) s = reports done.1 (back done.0 s)
 leaves back (Reads text next) s = plan.Reads text (λ tree. leaves back (next tree) s)
 
--- the variables are these (set(n))
+-- the state with these variables (set(n))
 abbrev pub with_scopes : Scopes → Status → Status
 with_scopes scopes s = record s { scopes = scopes }
 
--- the procedures are these (proc(n))
+-- the state with these procedures (proc(n))
 abbrev pub with_procedures : Procs → Status → Status
 with_procedures procs s = record s { procedures = procs }
 

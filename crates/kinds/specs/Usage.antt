@@ -22,8 +22,8 @@ abbrev pub is_among : List (List ℕ) → List ℕ → Bool
 is_among [] w = false
 is_among (f ∷ fs) w = bytes_eq w f || is_among fs w
 
--- the error of a word for which a command has no room: where it would be a flag and is none of the
--- command's, it is told for itself, else there are too many words (this project's own rule)
+-- the error of a word for which a command has no room: it names the word where that would be a flag
+-- and is none of the command's, else there are too many words (this project's own rule)
 abbrev pub misplaced : List (List ℕ) → List ℕ → List ℕ → Flaw
 misplaced flags command w =
     if not (is_among flags w) && is_flag w then flaw.BadArgument w command
@@ -40,12 +40,12 @@ at_most_one flags command [] = Ok None
 at_most_one flags command (w ∷ ws) =
     if not (length ws == 0) || is_flag w then Err (misplaced flags command w) else Ok (Some w)
 
--- the word after which no flag stands (expect(1), send)
+-- the word --, after which no flag stands (expect(1), send)
 abbrev pub is_dashes : List ℕ → Bool
 is_dashes w = bytes_eq w (codes "--")
 
--- the error of a word where a text is due: where it begins as flags do and is none of the
--- command's, it is told for itself, else there are too few words or too many (expect(1), send)
+-- the error of a word where a text is due: it names the word where that begins as flags do and is
+-- none of the command's, else there are too few words or too many (expect(1), send)
 abbrev pub no_text : List (List ℕ) → List ℕ → List ℕ → Flaw
 no_text flags command w =
     if not (is_among flags w) && begins_with_dash w then flaw.BadFlag w

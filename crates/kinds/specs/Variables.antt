@@ -15,7 +15,7 @@ name_said None = Err flaw.BadVariable
 abbrev pub name_in : List ℕ → Result (List ℕ × Option (List ℕ)) Flaw
 name_in word = name_said (named word)
 
--- what a variable is asked for, or the error of its trouble (set(n))
+-- the result of what a variable is asked for, or the error of its trouble (set(n))
 abbrev pub untroubled : {X : Type 0} → Result X Trouble → List ℕ → Result X Flaw
 untroubled (Ok x) name = Ok x
 untroubled (Err trouble) name = Err (flaw_of_trouble trouble name)

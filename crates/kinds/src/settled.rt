@@ -1,4 +1,4 @@
-//! How a command ends that answers an error.
+//! How a command that answers an error ends.
 
 ghost use Rattle.std.specs.Prelude.{IfOk};
 ghost use Rattle.kinds.specs.Answers.{IsFailure, Settles};
@@ -8,7 +8,7 @@ use state::outcome::raised;
 use state::{Leaf, Outcome};
 use std::alloc::Allocator;
 
-/// How far a command has come: its error, where it answers one, is how it ends.
+/// How far a command has come; one that answers an error ends with that error.
 ///
 /// # Errors
 /// `NoMemory` where the command was refused memory, or the text of its error is.

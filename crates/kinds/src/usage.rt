@@ -10,7 +10,7 @@ use state::arguments::{begins_with_dash, is_flag};
 use std::alloc::Allocator;
 use tcltext::Value;
 
-/// A command and the flags that it takes, by which it refuses a word.
+/// The name of a command and the flags that it takes, for the error of a word that it refuses.
 #[derive(Clone, Copy, Debug)]
 pub struct Usage<'a> {
     pub command: &'a [u8],
@@ -42,8 +42,8 @@ pub fn after_pair<'a, A: Allocator>(
 }
 
 impl Usage<'_> {
-    /// Refuses a word for which the command has no room: where it would be a flag and is none of
-    /// the command's, it is told for itself.
+    /// Refuses a word for which the command has no room: the error names the word where it would be
+    /// a flag and is none of the command's, and is else that of the number of words.
     pub fn misplaced<A: Allocator + Copy>(&self, alloc: A, word: &[u8]) -> Raise<A>
         ensures { Raises (definition.misplaced (map (λ f. f.now) self.now.flags.now)
             self.now.command.now word.now) result }
@@ -55,10 +55,10 @@ impl Usage<'_> {
         }
     }
 
-    /// No word stands after the flags.
+    /// Checks that no word stands after the flags.
     ///
     /// # Errors
-    /// One does; or memory is refused for the error.
+    /// A word stands there; or memory is refused for the error.
     pub fn no_more<A: Allocator + Copy>(&self, alloc: A, words: &[Value<A>]) -> Result<(), Raise<A>>
         ensures { Answers (λ done. done) (definition.no_more (map (λ f. f.now) self.now.flags.now)
             self.now.command.now words.now) result }
@@ -72,7 +72,7 @@ impl Usage<'_> {
     /// The one word that may stand after the flags.
     ///
     /// # Errors
-    /// There are more, or it would be a flag; or memory is refused for the error.
+    /// There are more words, or the word would be a flag; or memory is refused for the error.
     pub fn at_most_one<'w, A: Allocator + Copy>(
         &self,
         alloc: A,
@@ -111,8 +111,8 @@ impl Usage<'_> {
         }
     }
 
-    /// Refuses a word where a text is due: where it begins as flags do and is none of the
-    /// command's, it is told for itself.
+    /// Refuses a word where a text is due: the error names the word where it begins as flags do and
+    /// is none of the command's, and is else that of the number of words.
     fn no_text<A: Allocator + Copy>(&self, alloc: A, word: &[u8]) -> Raise<A>
         ensures { Raises (definition.no_text (map (λ f. f.now) self.now.flags.now)
             self.now.command.now word.now) result }
@@ -125,7 +125,7 @@ impl Usage<'_> {
     }
 }
 
-/// Whether a word is the one after which no flag stands.
+/// Whether a word is `--`, after which no flag stands.
 fn is_dashes(word: &[u8]) -> bool
     ensures { result ≡ definition.is_dashes word.now }
 {

@@ -16,7 +16,7 @@ use tcltext::Value;
 /// The variable or the element that a word names (set(n)).
 ///
 /// # Errors
-/// The word is no name of this profile.
+/// The word is no variable name in this profile of Tcl.
 pub fn name_in<A: Allocator>(word: &[u8]) -> Result<Name<'_>, Raise<A>>
     ensures { Answers name_seen (definition.name_in word.now) result }
 {
@@ -29,7 +29,8 @@ pub fn name_in<A: Allocator>(word: &[u8]) -> Result<Name<'_>, Raise<A>>
 /// The value of a variable (set(n)).
 ///
 /// # Errors
-/// There is no such variable, or it is of the other sort; or memory is refused for the error.
+/// There is no such variable, or it is an array where a text is asked for, or the reverse; or
+/// memory is refused for the error.
 pub fn value_of<'a, A: Allocator + Copy>(
     alloc: A,
     scopes: &'a Scopes<A>,
@@ -48,7 +49,7 @@ pub fn value_of<'a, A: Allocator + Copy>(
 /// Writes a variable (set(n)). On `Err` nothing changes.
 ///
 /// # Errors
-/// The variable is of the other sort; or memory is refused.
+/// The variable is an array where a text is to be written, or the reverse; or memory is refused.
 pub fn put<A: Allocator + Copy>(
     alloc: A,
     scopes: &mut Scopes<A>,
@@ -65,7 +66,7 @@ pub fn put<A: Allocator + Copy>(
     }
 }
 
-/// The script's error where a variable is not read, written or removed.
+/// The script's error where a variable could not be read, written or removed.
 pub fn troubled<A: Allocator>(
     alloc: A,
     error: ScopeError,

@@ -1,4 +1,4 @@
-//! What is asked of the words of a command.
+//! What commands ask about their words: which number a word is.
 
 ghost use Rattle.acts.specs.Raise.{Answers};
 ghost use Rattle.kinds.specs.Words as definition;
@@ -12,7 +12,7 @@ use tcltext::Value;
 /// The whole number within 64 bits that a word is (expr(n), operands).
 ///
 /// # Errors
-/// The word is none; or memory is refused for the error.
+/// The word is no such number; or memory is refused for the error.
 pub fn number_of<A: Allocator + Copy>(alloc: A, word: &[u8]) -> Result<i64, Raise<A>>
     ensures { Answers (λ n. n) (definition.number word.now) result }
 {
@@ -22,11 +22,11 @@ pub fn number_of<A: Allocator + Copy>(alloc: A, word: &[u8]) -> Result<i64, Rais
     }
 }
 
-/// The whole number within 64 bits that a value is, which most values that are one keep (expr(n),
-/// operands).
+/// The whole number within 64 bits that a value is; most values that are numbers keep theirs
+/// (expr(n), operands).
 ///
 /// # Errors
-/// The value is none; or memory is refused for the error.
+/// The value is no such number; or memory is refused for the error.
 pub fn number_in<A: Allocator + Copy>(alloc: A, value: &Value<A>) -> Result<i64, Raise<A>>
     ensures { Answers (λ n. n) (definition.number value.now) result }
 {

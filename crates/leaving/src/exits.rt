@@ -17,7 +17,7 @@ use tcltext::Value;
 pub enum Exit {
     /// `break` ends the loop around it (break(n)).
     Break,
-    /// `continue` goes on with the next turn of the loop around it (continue(n)).
+    /// `continue` begins the next turn of the loop around it (continue(n)).
     Continue,
     /// `return` leaves the procedure or the script around it (return(n)).
     Return,
@@ -25,14 +25,14 @@ pub enum Exit {
     Error,
     /// `exit` ends the whole run (exit(n)).
     Exit,
-    /// `exp_continue` goes on with the `expect` around it (expect(1), exp_continue).
+    /// `exp_continue` continues the `expect` around it (expect(1), exp_continue).
     ExpContinue,
 }
 
-/// Does a command by the words after its name.
+/// Performs a command with the words after its name.
 ///
 /// # Errors
-/// The words are others than it takes; or memory is refused.
+/// The command does not take these words; or memory is refused.
 #[inline(always)]
 pub fn leave<A: Allocator + Copy>(
     alloc: A,
@@ -51,7 +51,7 @@ pub fn leave<A: Allocator + Copy>(
     }
 }
 
-/// Leaves by a code alone.
+/// Leaves with a code and no value, by a command without words.
 fn plain<A: Allocator + Copy>(
     alloc: A,
     code: Code,

@@ -16,10 +16,11 @@ const USAGE: Usage<'static> = Usage {
     flags: &[b"-continue_timer"],
 };
 
-/// Goes on with the `expect` around it, whose timer starts anew unless the flag keeps it running.
+/// Continues the `expect` around the command, whose timer starts anew unless the flag keeps it
+/// running.
 ///
 /// # Errors
-/// Another word stands there; or memory is refused for the error.
+/// There is a word other than the flag; or memory is refused for the error.
 pub(crate) fn exp_continue<A: Allocator + Copy>(
     alloc: A,
     args: &[Value<A>],
@@ -36,7 +37,8 @@ pub(crate) fn exp_continue<A: Allocator + Copy>(
     }
 }
 
-/// Refuses a word: one that stands alone is told for itself, whatever it is.
+/// The error of a word that is not allowed: one that stands alone is reported as a bad argument,
+/// whatever it is.
 fn refuse<A: Allocator + Copy>(alloc: A, alone: bool, word: &[u8]) -> Raise<A>
     ensures { Raises (definition.refused alone word.now) result }
 {
@@ -47,7 +49,7 @@ fn refuse<A: Allocator + Copy>(alloc: A, alone: bool, word: &[u8]) -> Raise<A>
     }
 }
 
-/// The `expect` goes on, and its timer keeps running or starts anew.
+/// The outcome by which the `expect` continues, and its timer keeps running or starts anew.
 fn again<A: Allocator>(running: bool) -> Outcome<A>
     ensures { outcome_of result ≡ definition.again running }
 {

@@ -10,12 +10,12 @@ use Rattle.acts.specs.Deed as said
 use Rattle.acts.specs.Fits.{fits_wait, has_row}
 use Rattle.live.specs.Arriving.{comes}
 
--- no row passes a test that nothing passes
+-- no row passes a test that is always false
 no_row : (rows : List Row) → list_any {X = Row} (λ row. false) rows ≡ true → ⊥
 no_row [] found = false≢true found
 no_row (row ∷ rows) found = no_row rows found
 
--- a test of less
+-- a weaker test is true as well
 less : (a b c d : Bool) → ((a && b) || c) ≡ true → (c ≡ true → d ≡ true) → (a || d) ≡ true
 less true b c d found others = refl
 less false b c d found others = others found

@@ -1,4 +1,4 @@
--- What is kept of what comes while something is sent.
+-- What is kept of the bytes that come while something is sent.
 use Rattle.std.specs.Prelude.{◌≡◌, ◌+◌, ◌*◌, ◌++◌, ℕ, List, [], ◌∷◌, take}
 use Rattle.live.specs.declared.link.Look.{Look}
 use Rattle.live.specs.declared.link.Look.TheVariants.{Bytes, Silence, End}
@@ -8,8 +8,8 @@ use Rattle.live.specs.declared.link.Look.TheVariants.{Bytes, Silence, End}
 abbrev pub most_early : ℕ → ℕ
 most_early size = 1000000 + 2 * size
 
--- what was kept comes first, and what did not come now is kept on: while anything is kept, nothing
--- else comes (this project's own)
+-- bytes that were kept come first, and those of them that do not come now stay kept: while any are
+-- kept, no others come (this project's own)
 abbrev pub HandsOn : (kept rest : List ℕ) → Look → List ℕ → Type 0
 HandsOn [] rest found room = rest ≡ []
 HandsOn (byte ∷ kept) rest (Bytes count) room = byte ∷ kept ≡ take count room ++ rest

@@ -5,7 +5,7 @@ use Rattle.acts.specs.Deed as said
 use Rattle.acts.specs.Fits.{fits}
 use Rattle.live.specs.Arriving.{is_wanted}
 
--- no more bytes come than are wanted
+-- a wait gives no more bytes than are wanted
 abbrev pub IsWanted : Deed → Reply → Type 0
 IsWanted (said.Wait rows timer) reply = is_wanted rows reply ≡ true
 IsWanted _ reply = ⊤

@@ -3,25 +3,24 @@ use Rattle.std.specs.Prelude.{ℕ, List, [], Option, Some, None, take}
 use Rattle.acts.specs.Deed.{Deed, Reply}
 use Rattle.acts.specs.Deed as said
 
--- the bytes that a write took from the front of a text, none where it took no number of them
--- (write(2))
+-- the bytes that a write took from the front of a text, none where it gave no count (write(2))
 abbrev pub taken : List ℕ → Option ℕ → List ℕ
 taken text (Some count) = take count text
 taken text None = []
 
--- what has gone out of a text by the answer: all of it where that is done, and the first so many
--- bytes where it failed after them (write(2))
+-- what has gone out of a text by the answer: all of it where the answer is that it is done, and the
+-- first bytes, as many as the answer says, where it failed after them (write(2))
 abbrev pub went_out : List ℕ → Reply → List ℕ
 went_out text said.Done = text
 went_out text (said.Failed sent) = take sent text
 went_out text _ = []
 
--- what goes to standard output by an act that is answered so (this project's own)
+-- what goes to standard output by an act with this answer (this project's own)
 abbrev pub out_text : Deed → Reply → List ℕ
 out_text (said.Out text) reply = went_out text reply
 out_text _ reply = []
 
--- what goes to standard error by an act that is answered so (this project's own)
+-- what goes to standard error by an act with this answer (this project's own)
 abbrev pub err_text : Deed → Reply → List ℕ
 err_text (said.Err text) reply = went_out text reply
 err_text _ reply = []

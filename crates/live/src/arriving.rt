@@ -15,8 +15,9 @@ use std::io;
 use std::rt::Clock;
 
 impl Peers {
-    /// Waits for bytes or an end under one of the ids of the rows, or for the timer. There are no
-    /// more answers where memory or the system refuses, and where nothing could ever come.
+    /// Waits for bytes or an end under one of the ids of the rows, or for the timer. The answer is
+    /// that there are no more answers where memory or the system refuses, or nothing could ever
+    /// come.
     pub fn wait(&mut self, clock: &impl Clock, rows: &[Row], timer: Timer) -> Answer<Global>
         ensures fits { table.fits_wait rows.now timer (reply_of result) ≡ true }
         ensures wanted { is_wanted rows.now (reply_of result) ≡ true }
@@ -27,8 +28,8 @@ impl Peers {
         }
     }
 
-    /// What comes next. A wait looks before it gives up, but one that goes on after its time does
-    /// not: a program that never stops cannot hold it.
+    /// What comes next. A wait reads before it gives up, but one that continues a timer that has
+    /// run out does not: a program that never stops writing cannot hold it.
     #[tactic(auto, using(crate::proofs::Arrivals::comes_fits))]
     fn next(&mut self, clock: &impl Clock, rows: &[Row], timer: Timer) -> io::Result<Answer<Global>>
         ensures fits { IfOk result (λ answer.
@@ -59,7 +60,8 @@ impl Peers {
             .any(|row| self.list.iter().any(|peer| peer.id == row.id))
     }
 
-    /// Looks at each row once, without waiting. The id that was answered for last comes last.
+    /// Reads for each row once, without waiting. The id that was answered for last has its turn
+    /// last.
     fn look(&mut self, rows: &[Row]) -> io::Result<Option<Answer<Global>>>
         ensures { IfOk result (λ found. IfSome found (λ answer.
             comes rows.now (reply_of answer) ≡ true)) }
@@ -71,7 +73,7 @@ impl Peers {
         }
     }
 
-    /// Looks at each row once, from the first on.
+    /// Reads for each row once, from the first row on.
     fn look_through(&mut self, rows: &[Row]) -> io::Result<Option<Answer<Global>>>
         ensures { IfOk result (λ found. IfSome found (λ answer.
             comes rows.now (reply_of answer) ≡ true)) }
@@ -84,7 +86,7 @@ impl Peers {
         Ok(None)
     }
 
-    /// Looks at one row. An id that is not open says nothing.
+    /// Reads for one row once. An id that is not open gives nothing.
     fn look_at(&mut self, row: Row) -> io::Result<Option<Answer<Global>>>
         ensures { IfOk result (λ found. IfSome found (λ answer.
             is_of row (reply_of answer) ≡ true)) }
@@ -106,7 +108,7 @@ impl Peers {
     }
 }
 
-/// The place of the row that is looked at first: the one behind that of the last id.
+/// The place of the row that is read first: the row after that of the last id.
 fn turn_of(rows: &[Row], last: Option<Id>) -> usize
     ensures { result ≤ length rows.now }
 {

@@ -9,7 +9,7 @@ use std::io::{self, ErrorKind, PipeReader, PipeWriter, Read, Write};
 use std::net::TcpStream;
 use std::os::fd::{AsRawFd, OwnedFd, RawFd};
 
-/// What is written to and read from under an id.
+/// The open ends that an id is written to and read from.
 #[derive(Drop)]
 pub enum Link {
     /// The two pipes of a program.
@@ -24,7 +24,7 @@ pub enum Link {
 /// What one read finds.
 #[derive(Clone, Copy, Debug, PartialEq, Eq)]
 pub enum Look {
-    /// So many bytes, at the start of the room.
+    /// This many bytes, at the start of the room.
     Bytes(usize),
     /// Nothing yet.
     Silence,
@@ -107,9 +107,9 @@ impl Link {
     }
 }
 
-/// Has the calls on an end of a pipe not wait. The mode belongs to what is open, so that a second
-/// descriptor of it, which is closed here, sets it for the first; and the call for sockets sets it
-/// for a pipe as well.
+/// Makes calls on an end of a pipe not wait. The mode belongs to the open file, so that a second
+/// descriptor of it, which is closed here, sets the mode for the first; and the call that sets it
+/// for sockets does so for a pipe as well.
 fn end_waits(second: OwnedFd) -> io::Result<()> {
     TcpStream::from(second).set_nonblocking(true)
 }

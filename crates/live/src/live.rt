@@ -18,8 +18,8 @@ use std::rt::{Clock, Files};
 use std::thread;
 use std::time::Duration;
 
-/// The live world: it starts programs over pipes, connects to servers over TCP, and writes to two
-/// writers what goes out.
+/// The live world: it starts programs over pipes, connects to servers over TCP, and writes what
+/// goes out to two writers.
 #[derive(Drop)]
 pub struct Live<'a, R, O, E> {
     rt: &'a R,
@@ -27,7 +27,7 @@ pub struct Live<'a, R, O, E> {
     err: E,
     log: Option<File>,
     peers: Peers,
-    /// Those that were not waited for yet.
+    /// The programs that were not waited for yet.
     programs: Vec<Program>,
 }
 
@@ -39,7 +39,7 @@ where
         + Clock
         + AllocGlobal,
 {
-    /// A world in which nothing is open. Errors: memory, or the system gives no poll.
+    /// A world in which nothing is open. Errors: memory is refused, or the system gives no poll.
     pub fn new(rt: &'a R, out: O, err: E) -> io::Result<Live<'a, R, O, E>> {
         Ok(Live {
             rt,

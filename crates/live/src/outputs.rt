@@ -14,8 +14,8 @@ use std::fs::{File, OpenOptions};
 use std::io::{self, ErrorKind, Write};
 use std::rt::Files;
 
-/// Writes a text, and says how many bytes went out where it fails. A write that was interrupted is
-/// tried again.
+/// Writes a text, and where this fails says how many bytes went out. A write that was interrupted
+/// is tried again.
 pub fn write_text<W: Write>(writer: &mut W, text: &[u8]) -> Answer<Global>
     ensures fits { table.fits_write text.now (reply_of result) ≡ true }
     ensures gets { Appends (W.contents writer.old) (W.contents writer.new)
@@ -34,8 +34,8 @@ pub fn write_text<W: Write>(writer: &mut W, text: &[u8]) -> Answer<Global>
     failed(text, rest)
 }
 
-/// Writes some bytes from the front of a text, and says how many: none where the write was
-/// interrupted, and nothing where no more will go out.
+/// Writes some bytes from the front of a text, and says how many: `Some(0)` where the write was
+/// interrupted, and `None` where no more will go out.
 #[tactic(auto, using(crate::proofs::Texts::kept_grows))]
 fn write_some<W: Write>(writer: &mut W, text: &[u8]) -> Option<usize>
     ensures within { IfSome result (λ count. count ≤ length text.now) }
@@ -50,7 +50,7 @@ fn write_some<W: Write>(writer: &mut W, text: &[u8]) -> Option<usize>
     }
 }
 
-/// That a text failed of which this is left.
+/// The answer that the write of a text failed, when this rest of it was not written.
 fn failed(text: &[u8], rest: &[u8]) -> Answer<Global>
     ensures { reply_of result ≡ said.Failed (length text.now - length rest.now) }
 {
@@ -67,7 +67,7 @@ pub fn write_log(log: &mut Option<File>, text: &[u8]) -> Answer<Global>
     }
 }
 
-/// Opens a log file in place of the one that is open. Where that is refused, the one that is open
+/// Opens a log file in place of the one that is open. Where the new one is refused, the open one
 /// stays.
 pub fn open_log<R: Files<File = File>>(
     rt: &R,
@@ -86,7 +86,7 @@ pub fn open_log<R: Files<File = File>>(
     }
 }
 
-/// The file of a log, which is made where there is none.
+/// The file of a log, which is created where it does not exist.
 fn log_file<R: Files<File = File>>(rt: &R, name: &[u8], mode: LogMode) -> io::Result<File> {
     let mut how = OpenOptions::new();
     how.create(true);

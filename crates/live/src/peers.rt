@@ -13,10 +13,10 @@ use std::collections::VecDeque;
 use std::io::{self, Read, Write};
 use std::net::Net;
 
-/// The most bytes that are kept of what comes from an id while it is sent a text without bytes.
+/// The most bytes that are kept of what comes from an id while it is sent an empty text.
 const LEAST_EARLY: usize = 1_000_000;
 
-/// How many more are kept for each byte of the text.
+/// How many more bytes are kept for each byte of the text that is sent.
 const EARLY_FOR_EACH: usize = 2;
 
 /// The most bytes that one read takes: as many as a pipe holds.
@@ -27,12 +27,13 @@ const MOST_READ: usize = 65_536;
 pub struct Peer {
     pub id: Id,
     pub link: Link,
-    /// What came while something was sent and was not handed on yet.
+    /// Bytes that came while something was sent and were not handed on yet.
     early: VecDeque<u8>,
 }
 
 impl Peer {
-    /// Looks once for bytes, and puts them at the start of the room: what was kept comes first.
+    /// Looks once for bytes, and puts them at the start of the room: bytes that were kept come
+    /// first.
     pub fn look(&mut self, room: &mut [u8]) -> Look
         ensures within { IsWithin result (length room.new) }
         ensures early { HandsOn self.old.early.items self.new.early.items result room.new }
@@ -46,9 +47,9 @@ impl Peer {
         }
     }
 
-    /// Keeps what has come already while a text of this size is sent, up to a bound, and says
-    /// what it found: silence, too, where there is no room for more. The room is made before
-    /// anything is read, so that nothing is lost where memory is refused.
+    /// Keeps bytes that have already come while a text of this size is sent, up to a bound, and
+    /// says what it found; it finds silence, too, where there is no room for more bytes. The room
+    /// is made before anything is read, so that no bytes are lost where memory is refused.
     pub fn keep(&mut self, room: &mut [u8], size: usize) -> io::Result<Look>
         ensures bound { length self.new.early.items
             ≤ max (length self.old.early.items) (most_early size) }
@@ -64,7 +65,7 @@ impl Peer {
         Ok(found)
     }
 
-    /// Whether no more is kept while a text of this size is sent.
+    /// Whether no more bytes are kept while a text of this size is sent.
     pub fn is_full(&self, size: usize) -> bool {
         self.room_left(size) == 0
     }
@@ -79,7 +80,7 @@ impl Peer {
     }
 }
 
-/// All that is open, and what waits for it need.
+/// All that is open, and what waiting for it needs.
 #[derive(Drop)]
 pub struct Peers {
     pub alloc: Global,
@@ -87,12 +88,12 @@ pub struct Peers {
     /// The id that a wait was answered for last.
     pub last: Option<Id>,
     pub waiting: Waiting,
-    /// Where reads go.
+    /// Where reads put their bytes.
     pub room: Vec<u8>,
 }
 
 impl Peers {
-    /// Nothing is open. Errors: memory, or the system gives no poll.
+    /// A list in which nothing is open. Errors: memory is refused, or the system gives no poll.
     pub fn new<R: Net + AllocGlobal>(rt: &R) -> io::Result<Peers> {
         let alloc = rt.alloc();
         Ok(Peers {
@@ -104,7 +105,7 @@ impl Peers {
         })
     }
 
-    /// Makes room for one more.
+    /// Makes room for one more peer.
     pub fn reserve(&mut self) -> Result<(), AllocError> {
         self.list.reserve(1)
     }

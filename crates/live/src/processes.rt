@@ -58,7 +58,7 @@ pub fn spawn<R: Processes<Started = SystemProcess> + Files + AllocGlobal>(
 }
 
 /// Starts a program under an id, and gives the number of its process. Its link and the room for it
-/// are made before, so that no program is left running that nobody waits for.
+/// are made first, so that no program is left running for which nobody waits.
 fn started<R: Processes<Started = SystemProcess> + Files + AllocGlobal>(
     rt: &R,
     peers: &mut Peers,
@@ -78,8 +78,9 @@ fn started<R: Processes<Started = SystemProcess> + Files + AllocGlobal>(
     Ok(number)
 }
 
-/// Waits for the program of an id to end, and takes it out of those that were started. There are no
-/// more answers where no program was started under the id, or it was waited for already.
+/// Waits for the program of an id to end, and takes it out of those that were started. The answer
+/// is that there are no more answers where no program was started under the id, or where it was
+/// waited for already.
 pub fn reap(programs: &mut Vec<Program>, id: Id) -> Answer<Global>
     ensures { table.fits_reap (reply_of result) ≡ true }
 {

@@ -14,8 +14,8 @@ use std::alloc::Global;
 use std::io::{self, ErrorKind};
 
 impl Peers {
-    /// Sends a text to an id, and says how many bytes went out where it has gone or is not open.
-    /// There are no more answers where memory was refused.
+    /// Sends a text to an id, and says how many bytes went out where the peer has gone or is not
+    /// open. The answer is that there are no more answers where memory was refused.
     pub fn send(&mut self, id: Id, text: &[u8]) -> Answer<Global>
         ensures { table.fits_write text.now (reply_of result) ≡ true }
     {
@@ -26,8 +26,8 @@ impl Peers {
     }
 }
 
-/// Sends a text. While that cannot go on, what comes from the same id is kept, so that a program
-/// that waits for its reader goes on as well.
+/// Sends a text. While the peer takes nothing, what comes from it is kept, so that a program that
+/// waits for its output to be read goes on as well.
 fn send_to(peer: &mut Peer, waiting: &mut Waiting, room: &mut [u8], text: &[u8]) -> Answer<Global>
     ensures { table.fits_write text.now (reply_of result) ≡ true }
 {
@@ -45,8 +45,8 @@ fn send_to(peer: &mut Peer, waiting: &mut Waiting, room: &mut [u8], text: &[u8])
     Answer::Failed(text.len().saturating_sub(rest.len()) as u64)
 }
 
-/// Sends some bytes from the front of what is left of a text of this size, and says how many;
-/// none where it could not go on, and what came was kept, or the system's wait ended.
+/// Sends some bytes from the front of the rest of a text of this size, and says how many; none
+/// where the peer took none and what came from it was kept, or where the system's wait ended.
 fn send_some(
     peer: &mut Peer,
     waiting: &mut Waiting,
@@ -70,10 +70,10 @@ fn send_some(
     }
 }
 
-/// Hears a program or a server that takes nothing now: keeps what has come from it, and where
-/// nothing has, waits until something does or something is taken. It fails where more has come than
-/// is kept and nothing is taken within a second: what is not read holds the other side, which may
-/// take nothing ever.
+/// Listens to a program or a server that takes nothing now: keeps what has come from it, and where
+/// nothing has, waits until something comes or something is taken. It fails where more has come
+/// than is kept and nothing is taken within a second: the other side is held by its output that is
+/// not read, and may never take anything.
 fn hear(peer: &mut Peer, waiting: &mut Waiting, room: &mut [u8], size: usize) -> io::Result<()> {
     let found = match peer.keep(room, size)? {
         Look::Bytes(_) => return Ok(()),

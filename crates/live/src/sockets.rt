@@ -28,7 +28,7 @@ pub fn connect<R: Net<Stream = TcpStream>>(
     }
 }
 
-/// Connects to a port of a host under an id. Room for it is made before.
+/// Connects to a port of a host under an id. Room for the link is made first.
 fn connected<R: Net<Stream = TcpStream>>(
     rt: &R,
     peers: &mut Peers,

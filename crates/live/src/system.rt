@@ -1,4 +1,5 @@
-//! What the system's errors and texts are to a run, and how often its calls are tried.
+//! The answers that the system's errors are to a run, names as the system takes them, and how often
+//! its calls are tried.
 
 ghost use Rattle.std.specs.Prelude.{◌≡◌, true};
 ghost use Rattle.acts.specs.Deed.{reply_of};
@@ -9,11 +10,11 @@ use std::alloc::Global;
 use std::io::{self, ErrorKind};
 use std::str;
 
-/// How often a loop tries its calls at most, since it has to be seen to end. No run comes near it.
+/// How often a loop tries its calls at most, so that it is proved to end. No run comes near it.
 pub const MOST_TRIES: u64 = u64::MAX;
 
-/// The answer to an act that the system refused: no more answers where memory was refused, and else
-/// that it is refused.
+/// The answer to an act that the system refused: that there are no more answers where memory was
+/// refused, and else that the act is refused.
 pub fn refused(error: &io::Error) -> Answer<Global>
     ensures spawn { table.fits_spawn (reply_of result) ≡ true }
     ensures open { table.fits_open (reply_of result) ≡ true }
@@ -25,7 +26,7 @@ pub fn refused(error: &io::Error) -> Answer<Global>
     }
 }
 
-/// The text of a name: the system takes names that are UTF-8 alone.
+/// The text of a name. The system takes only names that are UTF-8; any other is an `Err`.
 pub fn text_of(bytes: &[u8]) -> io::Result<&str> {
     str::from_utf8(bytes).map_err(|_| io::Error::from(ErrorKind::InvalidInput))
 }

@@ -19,7 +19,7 @@ use std::time::{Duration, Instant};
 /// How many events one call takes from the system at most.
 const MOST_EVENTS: usize = 64;
 
-/// All links have one token, since a wait looks at its links itself.
+/// The token of all links: they share one, since a wait examines its links itself.
 const ANY: Token = Token(0);
 
 /// How long a wait may go on.
@@ -27,9 +27,9 @@ const ANY: Token = Token(0);
 pub enum Left {
     /// As long as it takes.
     Endless,
-    /// So long.
+    /// For this long.
     For(Duration),
-    /// No longer.
+    /// The time is up.
     Nothing,
 }
 
@@ -37,15 +37,15 @@ pub enum Left {
 #[derive(Drop)]
 pub struct Waiting {
     poll: Poll,
-    /// It is asked about one end at a time, so that `poll` still tells what is new.
+    /// This one is asked about one end at a time, so that `poll` still reports what is new.
     single: Poll,
     events: Events<Global>,
-    /// None where that time lies beyond what the clock can tell, or no timer was started.
+    /// `None` where that time lies beyond what the clock can represent, or no timer was started.
     deadline: Option<Instant>,
 }
 
 impl Waiting {
-    /// No link, and no timer. Errors: memory, or the system gives no poll.
+    /// Watches no link, and has no timer. Errors: memory is refused, or the system gives no poll.
     pub fn new<R: Net + AllocGlobal>(rt: &R) -> io::Result<Waiting> {
         Ok(Waiting {
             poll: Poll::new(rt)?,
@@ -55,7 +55,8 @@ impl Waiting {
         })
     }
 
-    /// Has pauses end when something new can be read. A link that is dropped is watched no more.
+    /// Makes pauses end when something new can be read from this link. A link that is dropped is no
+    /// longer watched.
     pub fn watch(&self, link: &Link) -> io::Result<()> {
         let mut source = SourceFd(&link.read_end());
         self.poll
@@ -63,7 +64,7 @@ impl Waiting {
             .register(&mut source, ANY, Interest::READABLE)
     }
 
-    /// Starts the timer where a wait starts it. An `Err` of the clock leaves the earlier one.
+    /// Starts the timer where a wait does so. An `Err` of the clock leaves the earlier timer.
     pub fn start(&mut self, clock: &impl Clock, timer: Timer) -> io::Result<()> {
         if let Timer::Start(seconds) = timer {
             let now = Instant::now(clock)?;
@@ -94,8 +95,8 @@ impl Waiting {
         self.poll.poll(&mut self.events, time)
     }
 
-    /// Waits until the link can be written, or something new can be read from any. One that was
-    /// found at its end is not waited for to be read, since that would never be new.
+    /// Waits until the link can be written to, or something new can be read from any link. A link
+    /// that was found at its end is not waited for to be read, since its end would never be new.
     pub fn pause_to_write(&mut self, link: &Link, found: Look) -> io::Result<()> {
         match link {
             Link::Program { input, .. } => {
@@ -123,7 +124,7 @@ impl Waiting {
         }
     }
 
-    /// What a read of one byte would find now.
+    /// What a read of one byte from the link would find now.
     pub fn peek(&mut self, link: &Link) -> io::Result<Look> {
         match link {
             Link::Program { output, .. } => self.peek_pipe(output.as_raw_fd()),
@@ -131,19 +132,19 @@ impl Waiting {
         }
     }
 
-    /// The same of an end of a pipe.
+    /// What a read of one byte from an end of a pipe would find now.
     fn peek_pipe(&mut self, end: RawFd) -> io::Result<Look> {
         let event = self.ask(end, Interest::READABLE, Duration::ZERO)?;
         Ok(event.map_or(Look::Silence, told))
     }
 
-    /// Whether a link that takes nothing now does so within a second, or has gone.
+    /// Whether a link that takes nothing now takes something within a second, or has gone by then.
     pub fn takes_soon(&mut self, link: &Link) -> io::Result<bool> {
         let event = self.ask(link.write_end(), Interest::WRITABLE, Duration::from_secs(1))?;
         Ok(event.is_some())
     }
 
-    /// Asks about one end alone, and gives what is told of it within a time, if anything is.
+    /// Asks about one end alone, and gives the event that is reported of it within a time, if any.
     fn ask(&mut self, end: RawFd, kind: Interest, time: Duration) -> io::Result<Option<Event>> {
         let mut source = SourceFd(&end);
         self.single.registry().register(&mut source, ANY, kind)?;
@@ -154,7 +155,7 @@ impl Waiting {
     }
 }
 
-/// What an event tells of an end of a pipe: the end only behind all bytes.
+/// What an event says of an end of a pipe: its end is reported only after all bytes.
 fn told(event: Event) -> Look {
     if event.is_readable() {
         Look::Bytes(1)

@@ -38,8 +38,8 @@ where
     Ok(())
 }
 
-/// Runs the dialogue of a folder, and then again under the record that it left, and compares what
-/// came with what has to come.
+/// Runs the dialogue of a folder, and then again under the record that it left, and compares the
+/// results with the expected ones.
 fn run_dialogue<R>(rt: &R, report: &mut Report, folder: &str) -> Result<()>
 where
     R: Net<Stream = TcpStream>
@@ -61,7 +61,7 @@ where
     Ok(())
 }
 
-/// What comes of a script in the live world, of which a record is made.
+/// The result of a script in the live world, of which a record is made.
 fn run_live<R>(rt: &R, script: &[u8], limits: Limits, record: &mut Vec<u8>) -> Prints
 where
     R: Net<Stream = TcpStream>
@@ -84,7 +84,7 @@ where
     Prints { out, err, status }
 }
 
-/// What comes of a script under the entries of a record.
+/// The result of a script under the entries of a record.
 fn run_again(
     alloc: Global,
     script: &[u8],
@@ -106,8 +106,8 @@ fn run_again(
     Prints { out, err, status }
 }
 
-/// What has to come of a dialogue. Its status is the first line of a file, below which stands what
-/// is told on standard error.
+/// The expected result of a dialogue. Its status is the first line of a file, below which stands
+/// what is written to standard error.
 fn wanted<R: Files + AllocGlobal>(rt: &R, folder: &str) -> Result<Prints> {
     let out = read_part(rt, folder, "stdout")?;
     let end = read_part(rt, folder, "status")?;

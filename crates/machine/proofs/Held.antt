@@ -30,7 +30,7 @@ use Rattle.tclstate.specs.Pairs.{found}
 use Rattle.tclstate.specs.Procs.{Procedure}
 
 module _ {A : Type 0} (fs : List (Frame A)) where
-  -- a command that is over goes on under the frames
+  -- a command that is over continues under the frames
   pub over_held : (r : Result (List ℕ) (Leave A)) (state : State A) (course : Course) →
       Comes (control.next_of {A = A}) (nesting.Has r) state course →
       Leads (at_hand.Has r) fs state (left_of course fs)
@@ -109,7 +109,7 @@ pub first_word : (words : List (List ℕ)) (first : List ℕ) → 1 ≤ length w
 first_word [] first some is = absurd (omega arith)
 first_word (x ∷ xs) first some is = ap (λ (w : List ℕ). w ∷ xs) (sym is)
 
--- those behind the first, as they are cut out
+-- the words after the first, as the code cuts them out
 pub rest_words : (words : List (List ℕ)) → drop 1 words ≡ take (length words - 1) (drop 1 words)
 rest_words words =
     let len : length (drop 1 words) ≡ length words - 1 = length-drop 1 words in

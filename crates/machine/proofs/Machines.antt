@@ -1,4 +1,4 @@
--- What the parts of the machine come to.
+-- What the parts of the machine do.
 use Rattle.std.proofs.Common.{◌≡◌, ◌∙◌, ℕ, zero, suc, ◌+◌, ◌<◌, ◌≤◌, List, [], ◌∷◌, length, drop, Box, Option, None, option_map, Result, Ok, Err, IfOk, refl, sym, ap, subst, arith}
 use Rattle.std.specs.declared.rc.Rc.{Rc}
 use Rattle.std.specs.declared.vec.Vec.{Vec}
@@ -37,13 +37,14 @@ use Rattle.words.specs.Words.{nested}
 use Rattle.words.specs.declared.gathering.Gathered.{Gathered}
 use Rattle.words.specs.declared.gathering.Gathering.{Gathering}
 
--- what holds of a value holds of another where the one gives the other
+-- where P implies Q, a result whose value has P has a value that has Q
 pub on_ok : {X E : Type 0} (r : Result X E) {P Q : X → Type 0} → ((x : X) → P x → Q x) →
     IfOk r P → IfOk r Q
 on_ok (Ok x) each holds = each x holds
 on_ok (Err e) each holds = holds
 
--- for some state that the code's fits, the dialogue goes on as the frames say with this outcome
+-- for some state of the definition that the code's state fits, the dialogue continues as the frames
+-- say with this outcome
 pub record Comes {A : Type 0} (fs : List (Frame A)) (state : State A) (o : Outcome)
     (p : Dialogue Over) : Type 0 where
   pub status : Status
@@ -78,7 +79,7 @@ module _ {A : Type 0} (fs : List (Frame A)) (state : State A) {p q : Dialogue Ov
   }
 
 module _ {A : Type 0} (fs : List (Frame A)) where
-  -- a command at hand goes on under the frames
+  -- a command at hand continues under the frames
   pub shown_leads : {l : Leaf A (Waits A)} {state : State A} {course : Course} →
       Shows waiting.next_of l state course → Leads l fs state (left_of course fs)
   shown_leads shown = record {
@@ -87,7 +88,7 @@ module _ {A : Type 0} (fs : List (Frame A)) where
     goes = reaches_goes fs shown.reaches;
   }
 
-  -- a command that is over does
+  -- a command that is over continues under the frames with its outcome
   pub over_goes : (l : Leaf A (Waits A)) (o : Outcome) (s : Status) → HasOutcome l o →
       Goes (left_of (Ends (s, o)) fs) (left_of (course_of waiting.next_of l s) fs)
   over_goes (leaf.Has outcome) o s is =
@@ -99,7 +100,7 @@ module _ {A : Type 0} (fs : List (Frame A)) where
   over_leads l o s state fits is =
       record { status = s; fits = fits; goes = over_goes l o s is }
 
-  -- what words came to, where it is known what that is
+  -- what gathering words leads to, where its result is known
   pub gathered_goes : (levels : ℕ) (call : Status → List (List ℕ) → Course) (s : Status)
       {found known : Gathered A} {p : Course} →
       Reaches p (course_of_gathered levels found call s) → found ≡ known →
@@ -108,7 +109,7 @@ module _ {A : Type 0} (fs : List (Frame A)) where
       then_goes (reaches_goes fs first)
       (same_left fs (ap (λ found. course_of_gathered levels found call s) is))
 
-  -- a script in a word is put on the stack above the words behind it
+  -- a script in a word is put on the stack above the words after it
   pub nest_goes : (levels inner : ℕ) (cs : Rc (Vec (Command A) A) A) (box : Box (Gathering A) A)
       (whose : WordsOf) (s : Status) → levels ≡ suc inner →
       Goes
@@ -119,7 +120,7 @@ module _ {A : Type 0} (fs : List (Frame A)) where
       ∷ frame.Words box levels whose ∷ fs))
   nest_goes levels inner cs box whose s is = rw is (calls here)
 
--- a stack goes on by its top
+-- a stack continues by its top frame
 pub top_goes : {A : Type 0} (fs rest : List (Frame A)) (f : Frame A) (s : Status) (o : Outcome) →
     fs ≡ f ∷ rest → Goes (onward_of fs s o) (left_of (next_of f s o) rest)
 top_goes fs rest f s o is = same_goes (ap (λ l. onward_of l s o) is)
@@ -145,13 +146,13 @@ module _ {A : Type 0} {fs : List (Frame A)} {state : State A} {p q : Dialogue Ov
     goes = then_goes goes leads.goes;
   }
 
--- where no level is left, that is the script's error
+-- where no level is left, a nested script is the script's error
 pub nested_over : (levels : ℕ) (cs : Commands) (s : Status)
     (next : Status → List ℕ → Course) → levels ≡ 0 →
     nested levels cs s next ≡ raises flaw.TooManyNested s
 nested_over levels cs s next is = rw is refl
 
--- an outcome that is no value passes through a script, and through words
+-- an outcome other than a value passes through a script, and through words
 pub script_passes : {A : Type 0} (own : Script A) (s : Status) (l : Leave A) →
     next_of (frame.Script own) s (outcome_of (Err l)) ≡ Ends (s, outcome_of (Err l))
 script_passes own s (leave.Coded code value) = refl
@@ -163,7 +164,7 @@ pub words_passes : {A : Type 0} (box : Box (Gathering A) A) (levels : ℕ) (whos
 words_passes box levels whose s (leave.Coded code value) = refl
 words_passes box levels whose s (leave.Stopped stop) = refl
 
--- and so through every frame but that of a command or of a turn
+-- an outcome other than a value passes through every frame but that of a command or of a turn
 pub passed_on : {A : Type 0} (f : Frame A) (s : Status) (l : Leave A) →
     ((held : Held A) → f ≡ frame.Held held → ⊥) →
     ((turn : Box (Turn A) A) → f ≡ frame.Turn turn → ⊥) →
@@ -173,7 +174,7 @@ passed_on (frame.Words box levels whose) s l not none = words_passes box levels 
 passed_on (frame.Held held) s l not none = absurd (not held refl)
 passed_on (frame.Turn turn) s l not none = absurd (none turn refl)
 
--- a frame that goes lightens the others
+-- taking a frame off leaves less weight
 pub lighter_without : {A : Type 0} (f : Frame A) (fs : List (Frame A)) →
     weight fs < weight_of f + weight fs
 lighter_without (frame.Script own) fs = omega arith

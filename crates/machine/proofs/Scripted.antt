@@ -28,7 +28,7 @@ module _ {A : Type 0} where
   abbrev pub commands_from : List (Command A) → ℕ → Commands
   commands_from cs i = commands_then (drop i cs) no_commands
 
-  -- they are the one there and those behind it
+  -- the commands from a place on are the one there and those after it
   pub commands_at : (cs : List (Command A)) (i : ℕ) (c : Command A) → i < length cs →
       c ≡ get_or cs i c →
       commands_from cs i
@@ -39,13 +39,13 @@ module _ {A : Type 0} where
       ∙ ap (λ j. tree.command (command_view c) (commands_from cs j)) (sym (add-one i))
       ∙ ap (λ ws. tree.command ws (commands_from cs (i + 1))) (view_Command c)
 
-  -- behind the last one there is none
+  -- after the last one there is none
   pub commands_over : (cs : List (Command A)) (i : ℕ) → length cs ≤ i →
       commands_from cs i ≡ no_commands
   commands_over cs i le = ap (λ l. commands_then l no_commands) (drop_all i cs le)
 
 module _ {A : Type 0} (frames : List (Frame A)) where
-  -- what is left of a script begins with the next command, and the rest is put on the stack
+  -- a script continues with its next command, and the rest of it is put on the stack
   pub script_goes : (own rest : Script A) (ws : Words) (s : Status) (value : List ℕ) →
       commands_from own.commands.value.items own.next
       ≡ tree.command ws (commands_from rest.commands.value.items rest.next) →

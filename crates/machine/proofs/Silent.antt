@@ -1,4 +1,4 @@
--- Silent steps: one after the other, under frames, and what they do to the runs that are left.
+-- Silent steps: one after the other, under frames, and what they do to the remaining runs.
 use Rattle.std.proofs.Common.{◌≡◌, List, ap, subst}
 use Rattle.conditions.specs.GoesOn as loops_go
 use Rattle.conditions.specs.GoesOn.{GoesOn}
@@ -22,20 +22,20 @@ then_goes here more = more
 then_goes (calls a) more = calls (then_goes a more)
 then_goes (reads tree is a) more = reads tree is (then_goes a more)
 
--- a course that goes on by reading texts does so under frames too
+-- a course that continues as another by reading texts does so under frames too
 pub reaches_goes : {A : Type 0} (frames : List (Frame A)) {p q : Course} → Reaches p q →
     Goes (left_of p frames) (left_of q frames)
 reaches_goes frames words_reach.here = here
 reaches_goes frames (words_reach.reads tree is a) = reads tree is (reaches_goes frames a)
 
--- so does one that begins turns of loops too
+-- so does a course that begins turns of loops as well
 pub comes_goes : {A : Type 0} (frames : List (Frame A)) {p q : Course} → GoesOn p q →
     Goes (left_of p frames) (left_of q frames)
 comes_goes frames loops_go.here = here
 comes_goes frames (loops_go.reads tree is a) = reads tree is (comes_goes frames a)
 comes_goes frames (loops_go.turning a) = calls (comes_goes frames a)
 
--- equal courses go on alike
+-- equal courses continue alike
 pub same_left : {A : Type 0} (frames : List (Frame A)) {p q : Course} → p ≡ q →
     Goes (left_of p frames) (left_of q frames)
 same_left frames is = same_goes (ap (λ c. left_of c frames) is)

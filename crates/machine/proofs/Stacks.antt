@@ -22,7 +22,7 @@ module _ {X : Type 0} where
       absurd (cc))
   popped (Some x) old new n same items some = ap reverse items ∙ reverse-append new (x ∷ [])
 
-  -- a list that is not empty ends
+  -- a list that is not empty has a last element, after a front
   ended : (x : X) (xs : List X) →
       (front : List X) × (last : X) × (x ∷ xs ≡ front ++ last ∷ [])
   ended x [] = ([], x, refl)
@@ -45,7 +45,7 @@ module _ {X : Type 0} where
             ∙ reverse-append front (y ∷ []),
       )
 
-  -- the last one is on top, and what is put in its place leaves the others
+  -- the last one is on top, and putting another in its place leaves the others
   pub on_top : (xs : List X) (n : ℕ) (x : X) → n ≡ length xs → 0 < n →
       x ≡ slice_index_or xs (n - 1) x →
       (rest : List X) × (reverse xs ≡ x ∷ rest)

@@ -1,4 +1,4 @@
--- What the frame on top comes to where a value stands before it.
+-- What is taken from the top frame when the part within it has ended with a value.
 use Rattle.std.proofs.Common.{◌≡◌, ◌∙◌, ℕ, suc, ◌+◌, ◌<◌, ◌≤◌, ◌⊎◌, inl, inr, List, [], ◌∷◌, length, Box, MatchOption, Option, Some, None, option_map, refl, sym, ap, subst, arith}
 use Rattle.std.specs.declared.rc.Rc.{Rc}
 use Rattle.std.specs.declared.vec.Vec.{Vec}
@@ -64,7 +64,7 @@ module _ {A : Type 0} where
         let same = ap words_in moves.stood ∙ sym (ap words_in moves.stands) in omega (arith, same);
   }
 
-  -- a frame that is taken off, which takes no tick
+  -- a frame that is taken off takes no tick
   off : (f : Frame A) (taken : Taken A) (frames : List (Frame A)) (ticks : ℕ) →
       tick_of taken ≡ 0 → weight_taken taken ≡ weight_of f →
       words_taken taken ≡ words_of_frame f →
@@ -103,7 +103,7 @@ module _ {A : Type 0} where
       (ap (λ cs. script own.levels cs (option_map fault_of own.fault) s value)
       (commands_over own.commands.value.items own.next le)))
 
-  -- words that wait, and a command behind its script
+  -- words that wait, and a command after its script
   pub waiting_taken : (gathering : Box (Gathering A) A) (levels : ℕ) (whose : WordsOf)
       (frames : List (Frame A)) (ticks : ℕ) →
       IsTaken (it.Words gathering levels whose) (frame.Words gathering levels whose ∷ frames) frames

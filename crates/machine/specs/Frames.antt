@@ -35,14 +35,14 @@ stack frames = reverse frames.items
 abbrev pub commands_left : {A : Type 0} → Script A → Commands
 commands_left s = commands_then (drop s.next s.commands.value.items) no_commands
 
--- what is done with words that are all there: they begin a command, or say branches
+-- what is done with words that are all substituted: they begin a command, or give branches
 abbrev pub call_of : WordsOf → ℕ → Status → List (List ℕ) → Course
 call_of whose.Command levels = command levels
 call_of (whose.Argument form) levels = by_words (form_of form) levels
 
--- a frame is what is done next with how the part within it ended: the commands of a script that are
--- left, the words of a command or of an argument in braces behind a script in one of them, a
--- command behind a script that it ran, or a turn of expect behind the body of what it chose
+-- a frame is what is done next with the outcome of the part within it: the remaining commands of a
+-- script, the words of a command or of an argument in braces after a script in one of them, a
+-- command after a script that it ran, or a turn of expect after the body of what it chose
 abbrev pub next_of : {A : Type 0} → Frame A → Status → Outcome → Course
 next_of (frame.Script s) =
     on_value (script s.levels (commands_left s) (option_map fault_of s.fault))
@@ -51,12 +51,12 @@ next_of (frame.Words gathering levels whose) =
 next_of (frame.Held held) = control.next_of held
 next_of (frame.Turn turn) = behind (turn_of turn.value) turn.value.levels
 
--- a script of which nothing is done yet, in which so many levels may stand
+-- a script of which nothing is done yet, in which this many levels may nest
 abbrev pub begun : {A : Type 0} → read.Script A → ℕ → Script A
 begun script levels =
     record { commands = script.commands; next = 0; levels = levels; fault = script.fault }
 
--- a frame is a whole text, of which nothing is done yet
+-- a frame is the script of a whole text, of which nothing is done yet
 pub record IsWhole {A : Type 0} (f : Frame A) (text : List ℕ) : Type 0 where
   pub commands : Commands
   pub fault : Option Fault
@@ -78,29 +78,30 @@ weight_of (frame.Words gathering levels whose) = 3 + 2 * scripts_left gathering.
 weight_of (frame.Held held) = 1 + 2 * control.scripts_held held
 weight_of (frame.Turn turn) = 1
 
--- how much all frames may
+-- how much all frames together may still put on the stack between two ticks
 abbrev pub weight : {A : Type 0} → List (Frame A) → ℕ
 weight [] = 0
 weight (f ∷ fs) = weight_of f + weight fs
 
--- what may come of words before the next tick: those of a command may begin it, and it may end by
--- exp_continue; those of an argument in braces may begin a turn
+-- how much may begin from words before the next tick: those of a command may begin it, and it may
+-- end by exp_continue; those of an argument in braces may begin a turn
 abbrev pub words_load : WordsOf → ℕ
 words_load whose.Command = 2
 words_load (whose.Argument form) = 1
 
--- what may come of a frame before the next tick: what a command holds may end by exp_continue
+-- how much may begin from a frame before the next tick: what a command holds may end by
+-- exp_continue
 abbrev pub words_of_frame : {A : Type 0} → Frame A → ℕ
 words_of_frame (frame.Script s) = 0
 words_of_frame (frame.Words gathering levels whose) = words_load whose
 words_of_frame (frame.Held held) = 1
 words_of_frame (frame.Turn turn) = 0
 
--- what may come of all frames
+-- how much may begin from all frames before the next tick
 abbrev pub words_in : {A : Type 0} → List (Frame A) → ℕ
 words_in [] = 0
 words_in (f ∷ fs) = words_of_frame f + words_in fs
 
--- how much more may begin: a tick begins a command by its tree, of which words may wait
+-- how much more may begin: a tick begins a command by its tree, and the words of this may wait
 abbrev pub load : {A : Type 0} → List (Frame A) → State A → ℕ
 load frames state = 3 * state.left + words_in frames

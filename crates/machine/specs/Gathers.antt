@@ -1,4 +1,4 @@
--- What words come to that begin to be substituted.
+-- What beginning to substitute words leads to.
 use Rattle.std.specs.Prelude.{◌≡◌, ℕ, List, Result, Ok, Err, Vec}
 use Rattle.state.specs.Prelude.{Course, Dialogue, Status, outcome_of}
 use Rattle.machine.specs.Frames.{left_of, onward_of}
@@ -8,7 +8,8 @@ use Rattle.runs.specs.Ending.{Over}
 use Rattle.state.specs.Budget.{again_of}
 use Rattle.state.specs.declared.outcome.Leave.{Leave}
 
--- the dialogue goes on as what is done with their values, or as the frames say with an outcome
+-- with the values of the words the dialogue continues as what is done with them, and with an
+-- outcome as the frames say
 abbrev pub Gathers : {A : Type 0} → Result (Vec (List ℕ) A) (Result (List ℕ) (Leave A)) →
     List (Frame A) → Status → Dialogue Over → (Status → List (List ℕ) → Course) → Type 0
 Gathers (Ok values) frames s p call = Goes p (left_of (call s values.items) frames)

@@ -5,8 +5,8 @@ use Rattle.runs.specs.Ending.{Over}
 use Rattle.runs.specs.Scripts.{plan_of}
 use Rattle.state.specs.Piece.{Piece, Text, Tree}
 
--- the one goes on as the other, once some pieces have begun and some texts are read (this project's
--- own rule)
+-- the first dialogue continues as the second, once some pieces have begun and some texts are read
+-- (this project's own rule)
 pub data Goes : Dialogue Over → Dialogue Over → Type 0 where
   here : {p : Dialogue Over} → Goes p p
   calls : {piece : Piece} {s : Status} {next : Status → Outcome → Dialogue Over}

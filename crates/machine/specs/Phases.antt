@@ -35,15 +35,16 @@ use Rattle.state.specs.declared.state.State.{State}
 use Rattle.tclparse.specs.View.{words_of}
 use Rattle.words.specs.Words.{words}
 
--- for some state that the code's fits, the dialogue goes on as the course that is at hand, and then
--- as the frames say
+-- for some state of the definition that the code's state fits, the dialogue continues as the course
+-- at hand, and then as the frames say
 pub record Leads {A : Type 0} (l : Leaf A (Waits A)) (frames : List (Frame A)) (state : State A)
     (p : Dialogue Over) : Type 0 where
   pub status : Status
   pub fits : FitsState state status
   pub goes : Goes p (left_of (course_of next_of l status) frames)
 
--- for some state that the code's fits, it goes on as the words of a command
+-- for some state of the definition that the code's state fits, the dialogue continues as the course
+-- of what begins, and then as the frames say
 pub record Begins {A : Type 0} (course : Status → Course) (frames : List (Frame A))
     (state : State A) (p : Dialogue Over) : Type 0 where
   pub status : Status
@@ -57,24 +58,25 @@ course_of_next (next.Call values levels whose) s = call_of whose levels s values
 course_of_next (next.Turn turn) s = turns (turn_of turn.value) turn.value.levels s
 course_of_next next.Again s = gives [] s
 
--- what a frame came to
+-- what a frame did with an outcome: it gave another one, or something begins
 abbrev pub Unwinds : {A : Type 0} → Unwound A → List (Frame A) → State A → Dialogue Over → Type 0
 Unwinds (unwound.Has outcome) frames state p = Leads (leaf.Has outcome) frames state p
 Unwinds (unwound.Begins next) frames state p = Begins (course_of_next next) frames state p
 
--- what may come of words that are all there: a command may end by exp_continue
+-- how much may begin from words that are all substituted: a command may end by exp_continue
 abbrev pub call_load : WordsOf → ℕ
 call_load whose.Command = 1
 call_load (whose.Argument form) = 0
 
--- what may come of what begins: the words of a command that begins by its tree may wait in a frame
+-- how much more may begin from what begins: the words of a command that begins by its tree may wait
+-- in a frame
 abbrev pub more_of : {A : Type 0} → Next A → ℕ
 more_of (next.Command ws levels) = 2
 more_of (next.Call values levels whose) = call_load whose
 more_of (next.Turn turn) = 0
 more_of next.Again = 0
 
--- it lightens the frames, or what begins leaves less that may begin
+-- an outcome leaves lighter frames, and where something begins, less is left that may begin
 abbrev pub Lightens : {A : Type 0} → Unwound A → List (Frame A) → State A → ℕ → ℕ → ℕ → Type 0
 Lightens (unwound.Has outcome) frames state most waiting left =
     (weight frames < most) × (again_of (outcome_of outcome) + words_in frames ≤ waiting)
@@ -92,7 +94,7 @@ abbrev pub closing_on : {A : Type 0} → Closing A → Status → Reply → Dial
 closing_on (closing.Report text) s reply = ends_with (reported text.items reply) s
 closing_on (closing.Close end) s reply = ends_with (ending_of end) s
 
--- what a session is still to do, from this state of the definition on; after so many answers
+-- what a session is still to do from this state of the definition on, after this many answers
 abbrev pub IsPlan : {A : Type 0} → Phase A → List (Frame A) → Status → ℕ → Dialogue Over → Type 0
 IsPlan (phase.Has outcome) frames s answers p = p ≡ onward_of frames s (outcome_of outcome)
 IsPlan (phase.Asks act waits) frames s answers p =
@@ -102,7 +104,8 @@ IsPlan (phase.Over end) frames s answers p =
     (over : Over) × (p ≡ Ends over) × (ending_of end ≡ numbered answers over)
 IsPlan (phase.Refused refusal) frames s answers p = ⊥
 
--- for some state that the code's fits, the dialogue goes on as what the session is still to do
+-- for some state of the definition that the code's state fits, the dialogue continues as what the
+-- session is still to do
 pub record Stands {A : Type 0} (at : Phase A) (frames : List (Frame A)) (state : State A)
     (answers : ℕ) (p : Dialogue Over) : Type 0 where
   pub status : Status
@@ -150,7 +153,7 @@ MayFail (phase.Closes act c) answer = ⊥
 MayFail (phase.Over end) answer = ⊥
 MayFail (phase.Refused refusal) answer = Unit {0}
 
--- an end is given again, and a refusal stays; IsEnd says of what is given that it is that end
+-- an end is given again, and a refusal stays; `IsEnd` says whether what is given is that end
 abbrev pub GivesAgain : {A X : Type 0} →
     (X → Phase A → Type 0) → Phase A → Result X NoMemory → Type 0
 GivesAgain IsEnd (phase.Over end) r = IsOkAnd r (λ x. IsEnd x (phase.Over end))

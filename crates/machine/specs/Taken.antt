@@ -1,4 +1,4 @@
--- What the frame on top comes to where a value stands before it.
+-- What is taken from the top frame when the part within it has ended with a value.
 use Rattle.std.specs.Prelude.{◌≡◌, ℕ, ◌+◌, ◌*◌, List, [], ◌∷◌, Option, option_map, ◌⊎◌}
 use Rattle.state.specs.Prelude.{Course, stops, Gives, Status}
 use Rattle.std.specs.declared.rc.Rc.{Rc}
@@ -54,7 +54,7 @@ pub record MovesOn {A : Type 0} (ws : Rc (Vec (Word A) A) A) (levels : ℕ)
 abbrev pub HasNoCommand : {A : Type 0} → List (Frame A) → ℕ → Type 0
 HasNoCommand frames ticks = (ticks ≡ 0) ⊎ HasNone frames
 
--- then all stays
+-- where no command can be handed out, nothing changes
 abbrev pub CannotMove : {A : Type 0} → List (Frame A) → List (Frame A) → ℕ → ℕ → Type 0
 CannotMove old new ticks left = HasNoCommand old ticks × (new ≡ old) × (left ≡ ticks)
 
@@ -62,9 +62,9 @@ CannotMove old new ticks left = HasNoCommand old ticks × (new ≡ old) × (left
 abbrev pub IsOver : {A : Type 0} → List (Frame A) → List (Frame A) → ℕ → ℕ → Type 0
 IsOver old new ticks left = (old ≡ []) × (new ≡ []) × (left ≡ ticks)
 
--- what it comes to, as a course: a command that has taken its tick, the run's limit, what stands
--- behind a script's commands, words with one more value, a command behind its script, a turn of
--- expect behind a body
+-- what was taken, as a course: a command that has taken its tick, the run's limit, what stands
+-- after a script's commands, words with one more value, a command after its script, a turn of
+-- expect after a body
 abbrev pub course_of_taken : {A : Type 0} → Taken A → Status → List ℕ → Course
 course_of_taken (it.Command ws levels) s value = words levels (words_of ws) [] s (command levels)
 course_of_taken it.Limit s value = stops stop.Limit s
@@ -75,7 +75,7 @@ course_of_taken (it.Held held) s value = control.next_of held s (Gives value)
 course_of_taken (it.Turn turn) s value =
     behind_body (turn_of turn.value) turn.value.levels s (Gives value)
 
--- how much it may still put on the stack between two ticks
+-- how much what was taken may still put on the stack between two ticks
 abbrev pub weight_taken : {A : Type 0} → Taken A → ℕ
 weight_taken (it.Command ws levels) = 0
 weight_taken it.Limit = 1
@@ -84,7 +84,7 @@ weight_taken (it.Words gathering levels whose) = 3 + 2 * scripts_left gathering.
 weight_taken (it.Held held) = 1 + 2 * control.scripts_held held
 weight_taken (it.Turn turn) = 1
 
--- what may come of it before the next tick
+-- how much may still begin from what was taken before the next tick
 abbrev pub words_taken : {A : Type 0} → Taken A → ℕ
 words_taken (it.Command ws levels) = 0
 words_taken it.Limit = 0
@@ -93,7 +93,7 @@ words_taken (it.Words gathering levels whose) = words_load whose
 words_taken (it.Held held) = 1
 words_taken (it.Turn turn) = 0
 
--- the tick that a command has taken
+-- the ticks that were taken with it: one by a command, and else none
 abbrev pub tick_of : {A : Type 0} → Taken A → ℕ
 tick_of (it.Command ws levels) = 1
 tick_of it.Limit = 0
@@ -102,7 +102,7 @@ tick_of (it.Words gathering levels whose) = 0
 tick_of (it.Held held) = 0
 tick_of (it.Turn turn) = 0
 
--- behind a value the frames go on as what was taken, and then as those that are left
+-- after a value the dialogue continues as what was taken, and then as the remaining frames say
 pub record IsTaken {A : Type 0} (taken : Taken A) (old new : List (Frame A))
     (ticks left : ℕ) : Type 0 where
   pub goes : (s : Status) (value : List ℕ) → s.left ≡ ticks →

@@ -1,4 +1,4 @@
--- How the ends and the arguments of the code stand to those of the definition.
+-- How the ends and the arguments of the code correspond to those of the definition.
 use Rattle.std.specs.Prelude.{ℕ, List, map}
 use Rattle.std.specs.declared.vec.Vec.{Vec}
 use Rattle.machine.specs.declared.end.End.{End}

@@ -14,7 +14,7 @@ use acts::NoMemory;
 use state::{Leaf, Outcome, State};
 use std::alloc::Allocator;
 
-/// Silent steps up to the next act or the end, from how a part ended.
+/// Takes silent steps from the outcome of a part up to the next act or the end of the run.
 pub fn advance<A: Allocator + Copy>(
     alloc: A,
     frames: &mut Vec<Frame<A>, A>,

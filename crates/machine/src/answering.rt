@@ -1,4 +1,4 @@
-//! Answers to a session's acts: what each leads on to.
+//! Answers to a session's acts: what each leads to.
 
 ghost use Rattle.std.specs.Prelude.{◌≡◌, ◌<◌, ◌+◌, length, IfOk, IfErr, ◌^◌};
 ghost use Rattle.state.specs.Prelude.{deed_of, reply_of, Dialogue, Status, FitsState};
@@ -18,7 +18,7 @@ use acts::{Act, Answer, NoMemory, fits};
 use state::{Leaf, Leave, State, Stop};
 use std::alloc::Allocator;
 
-/// From where a session stands, with the answer to its act, to the next act or the end.
+/// Takes a session from where it stands, with the answer to its act, to the next act or the end.
 pub fn forward<A: Allocator + Copy>(
     alloc: A,
     frames: &mut Vec<Frame<A>, A>,
@@ -58,7 +58,7 @@ pub fn forward<A: Allocator + Copy>(
     }
 }
 
-/// Goes on with the answer to the act of a command, up to the next act or the end. Without an
+/// Continues with the answer to the act of a command, up to the next act or the end. Without an
 /// answer, or with one that does not fit, the whole run stops.
 fn answered<A: Allocator + Copy>(
     alloc: A,
@@ -88,7 +88,7 @@ fn answered<A: Allocator + Copy>(
     advance(alloc, frames, state, answers, Err(Leave::Stopped(stop)))
 }
 
-/// Goes on with an answer that fits, up to how what waits for it ends, or to the next act.
+/// Continues with an answer that fits, until what waits for it ends or asks its next act.
 fn go_on<A: Allocator + Copy>(
     alloc: A,
     frames: &mut Vec<Frame<A>, A>,

@@ -24,11 +24,12 @@ use std::alloc::Allocator;
 pub enum Closing<A: Allocator> {
     /// The text of an uncaught error is written; what is open is closed next.
     Report(Vec<u8, A>),
-    /// An id or the log is closed; what else is open is closed next, and the run ends so.
+    /// An id or the log is closed; what else is open is closed next, and the run ends with this
+    /// end.
     Close(End<A>),
 }
 
-/// Begins to close a run whose script ended so, after so many answers.
+/// Begins to close a run whose script ended with this outcome, after this many answers.
 pub fn close_run<A: Allocator + Copy>(
     alloc: A,
     state: &mut State<A>,
@@ -47,7 +48,7 @@ pub fn close_run<A: Allocator + Copy>(
     }
 }
 
-/// Begins to close a run whose script ended with a code.
+/// Begins to close a run whose script ended with this code.
 fn leave_run<A: Allocator + Copy>(
     alloc: A,
     state: &mut State<A>,
@@ -81,7 +82,7 @@ fn report<A: Allocator + Copy>(alloc: A, text: Vec<u8, A>) -> Result<Phase<A>, N
     Ok(Phase::Closes(Act::Err(line), Closing::Report(text)))
 }
 
-/// Begins to close a run that a stop ended, after so many answers.
+/// Begins to close a run that this stop ended, after this many answers.
 fn stop_run<A: Allocator + Copy>(state: &mut State<A>, answers: u64, stop: Stop) -> Phase<A>
     ensures stands { (frames : List (Frame A)) (s : Status) → FitsState state.old s →
         Stands result frames state.new answers
@@ -97,7 +98,7 @@ fn stop_run<A: Allocator + Copy>(state: &mut State<A>, answers: u64, stop: Stop)
     }
 }
 
-/// Closes the next open id, or the log where none is left; with nothing open the run is over.
+/// Closes the next open id, or the log where no id is open; with nothing open the run is over.
 fn close_next<A: Allocator + Copy>(state: &mut State<A>, end: End<A>) -> Phase<A>
     ensures stands { (frames : List (Frame A)) (s : Status) (answers : ℕ) → FitsState state.old s →
         Stands result frames state.new answers (ends_with (ending_of end) s) }
@@ -109,7 +110,7 @@ fn close_next<A: Allocator + Copy>(state: &mut State<A>, end: End<A>) -> Phase<A
     }
 }
 
-/// Closes the log, where one is open; no id is.
+/// Closes the log if it is open, and else the run is over; no id is open here.
 fn close_log<A: Allocator>(state: &mut State<A>, end: End<A>) -> Phase<A>
     ensures stands { (frames : List (Frame A)) (s : Status) (answers : ℕ) → FitsState state.old s →
         opened s.ids.peers ≡ [] →
@@ -123,7 +124,7 @@ fn close_log<A: Allocator>(state: &mut State<A>, end: End<A>) -> Phase<A>
     Phase::Closes(Act::CloseLog, Closing::Close(end))
 }
 
-/// Goes on with the answer to an act that closes a run, which is the last of so many answers.
+/// Takes the answer to an act that closes a run; it is the `answers`-th answer of the run.
 pub fn closed<A: Allocator + Copy>(
     state: &mut State<A>,
     answers: u64,
@@ -152,7 +153,7 @@ pub fn is_no_more<A: Allocator>(answer: &Answer<A>) -> bool
     matches!(answer, Answer::NoMore)
 }
 
-/// The end of a run whose closing act was answered so.
+/// The end of a run whose closing act got this answer.
 fn next_end<A: Allocator>(closing: Closing<A>, answer: Answer<A>) -> End<A>
     ensures { (s : Status) →
         closing_on closing s (reply_of answer) ≡ ends_with (ending_of result) s }

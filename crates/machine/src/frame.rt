@@ -1,4 +1,4 @@
-//! The frames of a session: what is done next with how the part within them ends.
+//! The frames of a session: each says what is done next with the outcome of the part within it.
 
 ghost use Rattle.std.specs.Prelude.{◌≡◌, [], ◌∷◌, IfOk, OnOk, MatchOption};
 ghost use Rattle.machine.specs.Frames.{commands_left, stack};
@@ -19,37 +19,38 @@ use words::Gathering;
 pub struct Script<A: Allocator> {
     pub commands: Rc<Vec<Command<A>, A>, A>,
     pub next: usize,
-    /// The levels that may still stand in it.
+    /// How many levels may still nest in it.
     pub levels: u8,
-    /// The fault behind the commands.
+    /// The fault after the commands.
     pub fault: Option<Fault>,
 }
 
-/// Whose words are substituted.
+/// What the words that are being substituted belong to.
 #[derive(Clone, Copy, Debug, PartialEq, Eq)]
 pub enum WordsOf {
-    /// Those of a command, which they begin.
+    /// A command, which begins once they are substituted.
     Command,
-    /// Those of an argument in braces, which say branches for this command.
+    /// An argument in braces, which gives the branches of a command of this form.
     Argument(Form),
 }
 
-/// What is done next with how the part within it ends.
+/// What is done next with the outcome of the part within the frame.
 #[derive(Drop)]
 pub enum Frame<A: Allocator> {
-    /// The commands of a script that are left.
+    /// A script, whose remaining commands come next.
     Script(Script<A>),
-    /// Words behind a script in one of them, the levels that may still stand in their command, and
-    /// whose words they are.
+    /// Words that wait for a script in one of them, how many levels may still nest in their
+    /// command, and what the words belong to.
     Words(Box<Gathering<A>, A>, u8, WordsOf),
-    /// A command behind a script that it ran.
+    /// A command that waits for a script that it runs.
     Held(Held<A>),
-    /// A turn of `expect` behind the body of what it chose.
+    /// A turn of `expect` that waits for the body that it chose.
     Turn(Box<Turn<A>, A>),
 }
 
 impl<A: Allocator> Script<A> {
-    /// Hands out the words of the next command, and moves on in place; `None` where none is left.
+    /// Hands out the words of the next command, and moves past it in place; `None` where no command
+    /// is left.
     pub fn next_command(&mut self) -> Result<Option<Rc<Vec<Word<A>, A>, A>>, NoMemory>
         ensures { IfOk result (λ found. MatchOption found
             ((commands_left self.old ≡ no_commands) × (self.new ≡ self.old))
@@ -65,7 +66,7 @@ impl<A: Allocator> Script<A> {
 }
 
 impl<A: Allocator> Frame<A> {
-    /// Puts a frame on top.
+    /// Puts this frame on top of the others.
     pub fn push(self, frames: &mut Vec<Frame<A>, A>) -> Result<(), NoMemory>
         ensures { OnOk result (stack frames.new ≡ self ∷ stack frames.old) }
     {
@@ -73,7 +74,7 @@ impl<A: Allocator> Frame<A> {
         Ok(())
     }
 
-    /// Takes the frame on top.
+    /// Takes the top frame off; `None` where there is no frame.
     pub fn pop(frames: &mut Vec<Frame<A>, A>) -> Option<Frame<A>>
         ensures { MatchOption result ((stack frames.old ≡ []) × (stack frames.new ≡ []))
             (λ frame. stack frames.old ≡ frame ∷ stack frames.new) }
@@ -81,8 +82,9 @@ impl<A: Allocator> Frame<A> {
         frames.pop()
     }
 
-    /// Hands out the words of the next command of the script on top, which moves on in place, and
-    /// the levels that may still stand in it; `None` where no script with a command left is there.
+    /// Hands out the words of the next command of the script on top, which moves past it in place,
+    /// and how many levels may still nest in it; `None` unless the top frame is a script with a
+    /// command left.
     pub fn next_command(
         frames: &mut Vec<Frame<A>, A>,
     ) -> Result<Option<(Rc<Vec<Word<A>, A>, A>, u8)>, NoMemory>

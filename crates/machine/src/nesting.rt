@@ -22,8 +22,8 @@ use tclparse::{Command, Word};
 use tcltext::Value;
 use words::{Gathered, Gathering};
 
-/// The values of words, or how they end up to where one of them is there: by a script in a word,
-/// which is put on the stack, or by an error.
+/// The values of words once all are substituted; or else `Err` with an outcome: a script in one of
+/// the words was put on the stack, or the words ended by an error.
 pub(crate) fn gather<A: Allocator + Copy>(
     alloc: A,
     frames: &mut Vec<Frame<A>, A>,
@@ -51,7 +51,7 @@ pub(crate) fn gather<A: Allocator + Copy>(
     }
 }
 
-/// Begins a script in a word, one level deeper; the words go on behind it.
+/// Begins a script in a word, one level deeper; the words continue after it.
 pub(crate) fn nest<A: Allocator + Copy>(
     alloc: A,
     frames: &mut Vec<Frame<A>, A>,

@@ -10,7 +10,7 @@ use std::alloc::Allocator;
 /// Where a session stands.
 #[derive(Drop)]
 pub enum Phase<A: Allocator> {
-    /// A part has ended so, and the frame on top takes it.
+    /// A part has ended with this outcome, which the top frame takes.
     Has(Outcome<A>),
     /// A command's act waits for its answer.
     Asks(Act<A>, Waits<A>),

@@ -1,4 +1,5 @@
-//! What begins above the frames: a command, what its words say, a turn of `expect`.
+//! What begins on top of the frames: a command, by its tree or by its substituted words, or a turn
+//! of `expect`.
 
 ghost use Rattle.std.specs.Prelude.{◌+◌, ◌≤◌, [], IfOk};
 ghost use Rattle.state.specs.Prelude.{Status, FitsState};
@@ -32,10 +33,10 @@ use tcltext::Value;
 /// What begins once frames are taken off.
 #[derive(Drop)]
 pub enum Next<A: Allocator> {
-    /// A command by its tree, which has taken its tick, and the levels that may still stand in it.
+    /// A command as its tree, which has taken its tick, and how many levels may still nest in it.
     Command(Rc<Vec<Word<A>, A>, A>, u8),
-    /// What words begin that are all there, the levels that may still stand in it, and whose words
-    /// they are.
+    /// What words begin once all of them are substituted, how many levels may still nest in it, and
+    /// what the words belong to.
     Call(Vec<Value<A>, A>, u8, WordsOf),
     /// A turn of `expect`.
     Turn(Box<Turn<A>, A>),
@@ -64,7 +65,7 @@ pub(crate) fn start<A: Allocator + Copy>(
     }
 }
 
-/// Goes on with words that are all there: they begin a command, or say branches.
+/// Continues with words that are all substituted: they begin a command, or give its branches.
 fn go_on<A: Allocator + Copy>(
     alloc: A,
     frames: &mut Vec<Frame<A>, A>,
@@ -135,7 +136,7 @@ fn call<A: Allocator + Copy>(
     }
 }
 
-/// Begins a command that says branches, or one that runs no script.
+/// Begins a command that takes branches, or one that runs no script.
 fn call_other<A: Allocator + Copy>(
     alloc: A,
     frames: &mut Vec<Frame<A>, A>,

@@ -1,4 +1,4 @@
-//! What the frame on top comes to where a value stands before it.
+//! What is taken from the top frame when the part within it has ended with a value.
 
 ghost use Rattle.std.specs.Prelude.{ℕ, List, ◌∷◌, IfOk, MatchOption};
 ghost use Rattle.machine.specs.Frames.{stack};
@@ -15,26 +15,26 @@ use std::rc::Rc;
 use tclparse::{Fault, Word};
 use words::Gathering;
 
-/// What the frame on top comes to where a value stands before it.
+/// What is taken from the top frame when the part within it has ended with a value.
 #[derive(Drop)]
 pub enum Taken<A: Allocator> {
-    /// A command of a script, which has taken its tick, and the levels that may still stand in it;
-    /// the script has moved on in place.
+    /// A command of a script, which has taken its tick, and how many levels may still nest in it;
+    /// the script has moved past it in place.
     Command(Rc<Vec<Word<A>, A>, A>, u8),
     /// A command of a script for which no tick is left.
     Limit,
-    /// What stands behind the commands of a script.
+    /// A script without a command left, with the fault after its commands, if there is one.
     Behind(Option<Fault>),
-    /// Words behind a script in one of them, the levels that may still stand in their command, and
-    /// whose words they are.
+    /// Words after a script in one of them, how many levels may still nest in their command, and
+    /// what the words belong to.
     Words(Box<Gathering<A>, A>, u8, WordsOf),
-    /// A command behind a script that it ran.
+    /// A command after a script that it ran.
     Held(Held<A>),
-    /// A turn of `expect` behind the body of what it chose.
+    /// A turn of `expect` after the body of what it chose.
     Turn(Box<Turn<A>, A>),
 }
 
-/// Looks at the frame on top: a script that has a command and a tick left moves on in place; every
+/// Examines the top frame: a script that has a command and a tick left moves on in place; every
 /// other frame is taken off. `None` where there is no frame.
 ///
 /// # Errors
@@ -56,7 +56,7 @@ pub fn take_top<A: Allocator>(
     }
 }
 
-/// The next command of the script on top, which takes its tick, and the levels that may still stand
+/// The next command of the script on top, which takes its tick, and how many levels may still nest
 /// in it; the script moves on in place. `None` where there is no such command, or no tick for it.
 fn next_command<A: Allocator>(
     frames: &mut Vec<Frame<A>, A>,
@@ -77,7 +77,7 @@ fn next_command<A: Allocator>(
     Ok(Some(next))
 }
 
-/// A frame that is taken off: no tick is left, or no command.
+/// What a frame gives when it is taken off: it has no command left, or there is no tick for one.
 fn taken_off<A: Allocator>(frame: Frame<A>) -> Taken<A>
     ensures { (frames : List (frames_are.Frame A)) (ticks : ℕ) →
         HasNoCommand (frame ∷ frames) ticks →

@@ -50,7 +50,7 @@ pub fn wait<A: Allocator + Copy>(
     }
 }
 
-/// Goes on with words that say branches, all of which are there.
+/// Continues with words that give branches, all of which are substituted.
 pub fn say<A: Allocator + Copy>(
     alloc: A,
     frames: &mut Vec<Frame<A>, A>,
@@ -69,7 +69,7 @@ pub fn say<A: Allocator + Copy>(
     open(alloc, frames, state, opening)
 }
 
-/// Begins a turn, where one begins.
+/// Begins the turn of an opening, if it has one, and else gives its outcome.
 fn open<A: Allocator + Copy>(
     alloc: A,
     frames: &mut Vec<Frame<A>, A>,
@@ -89,7 +89,7 @@ fn open<A: Allocator + Copy>(
     }
 }
 
-/// A turn, up to its wait or the body of what is chosen.
+/// Takes a turn up to its wait or the body that it chooses.
 pub fn take_turn<A: Allocator + Copy>(
     alloc: A,
     frames: &mut Vec<Frame<A>, A>,
@@ -106,7 +106,7 @@ pub fn take_turn<A: Allocator + Copy>(
     settle(frames, turned)
 }
 
-/// Goes on with the answer to an act of a turn.
+/// Continues a turn with the answer to its act.
 pub fn talk<A: Allocator + Copy>(
     alloc: A,
     frames: &mut Vec<Frame<A>, A>,

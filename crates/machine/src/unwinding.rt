@@ -1,4 +1,4 @@
-//! How frames go on with how the part within them ended, from the top down.
+//! How the frames take the outcome of the part within them, from the top down.
 
 ghost use Rattle.std.specs.Prelude.{◌≡◌, ◌+◌, ◌*◌, [], option_map, Err, IfOk, IfErr};
 ghost use Rattle.state.specs.Prelude.{Ends, Status, FitsState, outcome_of};
@@ -30,16 +30,16 @@ use std::alloc::Allocator;
 use tcltext::Value;
 use words::{Gathered, Gathering};
 
-/// What a frame came to.
+/// What a frame does with the outcome of the part within it.
 #[derive(Drop)]
 pub enum Unwound<A: Allocator> {
-    /// It is over, and so.
+    /// The frame is over, with this outcome.
     Has(Outcome<A>),
-    /// This begins above the frames.
+    /// This begins on top of the frames.
     Begins(Next<A>),
 }
 
-/// Goes on with the frames, from the top down, up to where something begins.
+/// Hands an outcome to the frames, from the top down, until something begins or no frame is left.
 pub(crate) fn unwind<A: Allocator + Copy>(
     alloc: A,
     frames: &mut Vec<Frame<A>, A>,
@@ -63,7 +63,8 @@ pub(crate) fn unwind<A: Allocator + Copy>(
     }
 }
 
-/// Hands the frame on top how the part within it ended; `Err` with that where there is no frame.
+/// Hands the top frame the outcome of the part within it; `Err` with this outcome where there is
+/// no frame.
 fn resume<A: Allocator + Copy>(
     alloc: A,
     frames: &mut Vec<Frame<A>, A>,
@@ -91,7 +92,7 @@ fn resume<A: Allocator + Copy>(
     }
 }
 
-/// Hands a value to what was taken.
+/// Hands a value to what was taken from the top frame.
 fn value_on<A: Allocator + Copy>(
     alloc: A,
     frames: &mut Vec<Frame<A>, A>,
@@ -120,7 +121,7 @@ fn value_on<A: Allocator + Copy>(
     }
 }
 
-/// Hands another outcome than a value to the frame that was on top: scripts and words pass it on.
+/// Hands an outcome other than a value to the frame that was on top: scripts and words pass it on.
 fn leave_on<A: Allocator + Copy>(
     alloc: A,
     frames: &mut Vec<Frame<A>, A>,
@@ -144,7 +145,7 @@ fn leave_on<A: Allocator + Copy>(
     }
 }
 
-/// Behind the commands of a script: the value of the last one, or the fault.
+/// How a script ends after its commands: with the value of the last one, or with the fault.
 fn behind<A: Allocator + Copy>(
     alloc: A,
     fault: Option<tclparse::Fault>,
@@ -160,7 +161,7 @@ fn behind<A: Allocator + Copy>(
     }
 }
 
-/// Goes on with words behind a script in one of them.
+/// Continues words after a script in one of them.
 fn words_on<A: Allocator + Copy>(
     alloc: A,
     frames: &mut Vec<Frame<A>, A>,
@@ -193,7 +194,7 @@ fn words_on<A: Allocator + Copy>(
     }
 }
 
-/// Hands the outcome of the body of what was chosen to its turn of `expect`.
+/// Hands a turn of `expect` the outcome of the body that it chose.
 fn turn_on<A: Allocator + Copy>(
     alloc: A,
     frames: &mut Vec<Frame<A>, A>,
@@ -215,7 +216,7 @@ fn turn_on<A: Allocator + Copy>(
     }
 }
 
-/// Goes on with a command behind a script that it ran.
+/// Continues a command after a script that it ran.
 fn held_on<A: Allocator + Copy>(
     alloc: A,
     frames: &mut Vec<Frame<A>, A>,

@@ -16,7 +16,7 @@ pub enum Waits<A: Allocator> {
     Turn(expects::turn::Waits<A>),
 }
 
-/// How far a command that runs no script has come.
+/// How far a command that runs no script has come, with what it waits for as one of `Waits`.
 #[inline(always)]
 pub fn plainly<A: Allocator>(leaf: Leaf<A, commands::Waits<A>>) -> Leaf<A, Waits<A>>
     ensures course { (s : Status) → course_of next_of result s ≡ course_of table.next_of leaf s }

@@ -279,7 +279,7 @@ fits_sized j b size fits =
       max = refl;
     }
 
--- the last of the last are the last
+-- the last n of the last m elements are the last n
 pub kept_within : (n m : ℕ) (xs : List ℕ) → n ≤ m → keep_last n (keep_last m xs) ≡ keep_last n xs
 kept_within n m xs le =
     let over = length xs - m in
@@ -323,7 +323,7 @@ pub refilled : (m : ℕ) (one two three : Buffer ℕ) (first second bytes : List
 refilled m one two three first second bytes e₁ e₂ e₃ e =
     rw e₃ (rw e₂ (rw e₁ (kept_twice m first second ∙ ap (keep_last m) e)))
 
--- the bytes of which the first ones stand behind the last ones
+-- the bytes, with the first m moved after the last one
 abbrev pub turned : ℕ → List ℕ → List ℕ
 turned m xs = drop m xs ++ take m xs
 
@@ -331,7 +331,7 @@ pub length-turned : (m : ℕ) (xs : List ℕ) → m ≤ length xs → length (tu
 length-turned m xs le =
     omega (arith, length-append (drop m xs) (take m xs), length-drop m xs, length-take m xs)
 
--- where all are left, or none is, they stand as before
+-- where all bytes are still to be moved, or none is, they stand as before
 pub turned_none : (left : ℕ) (xs : List ℕ) → left ≡ length xs → turned (length xs - left) xs ≡ xs
 turned_none left xs is =
     let none : length xs - left ≡ 0 = omega (arith, is) in
@@ -344,7 +344,7 @@ turned_all left xs is =
     ∙ ap (λ ys. ys ++ take (length xs) xs) (drop_of_length-le xs (omega arith))
     ∙ take-length xs
 
--- so many more are put behind the last ones
+-- k more bytes are moved after the last one
 turned_on : (m k : ℕ) (xs : List ℕ) → m + k ≤ length xs →
     drop k (turned m xs) ++ take k (turned m xs) ≡ turned (m + k) xs
 turned_on m k xs le =
@@ -360,7 +360,7 @@ turned_on m k xs le =
     ∙ append_assoc (drop (m + k) xs) (take m xs) (take k (drop m xs))
     ∙ ap (λ ys. drop (m + k) xs ++ ys) front
 
--- a ring of which some bytes were read from its front and put behind its last ones
+-- a ring of which some bytes were read from its front and put after its last ones
 pub brought : (xs : List ℕ) (left k : ℕ) (before read after : Buffer ℕ) (room filled : List ℕ)
     → left ≤ length xs → before.items ≡ turned (length xs - left) xs
     → length before.items ≤ before.capacity → length room ≤ left → k ≡ length room

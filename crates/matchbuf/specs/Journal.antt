@@ -25,7 +25,8 @@ size_of (Arrived bytes ∷ journal) = size_of journal
 size_of (Consumed place ∷ journal) = size_of journal
 size_of (Sized size ∷ journal) = size
 
--- it begins with a size, and consumes no place that no byte has reached (this project's own rule)
+-- a journal begins with a size, and consumes no place that no byte has reached (this project's own
+-- rule)
 abbrev pub IsJournal : List Record → Type 0
 IsJournal [] = ⊥
 IsJournal (Arrived bytes ∷ journal) = IsJournal journal
@@ -44,7 +45,8 @@ spares place (Arrived bytes) = true
 spares place (Consumed first) = nat_le first place
 spares place (Sized size) = true
 
--- the place is one of the last at that moment, of as many as the size; expect(1), match_max
+-- the place is one of the last places at that moment, which are as many as the size; expect(1),
+-- match_max
 abbrev pub remembers : ℕ → List Record → Bool
 remembers place moment = nat_le (length (history moment) - size_of moment) place
 

@@ -15,21 +15,21 @@ abbrev pub ConsumptionsTake : Type 0
 ConsumptionsTake = (j : List Record) (n : ℕ) → IsJournal j → n ≤ length (window j)
     → window (Consumed (place_after j n) ∷ j) ≡ drop n (window j)
 
--- a size keeps the newest bytes of the window, and brings none back
+-- to set a size keeps the newest bytes of the window, and brings none back
 abbrev pub SizesKeep : Type 0
 SizesKeep = (j : List Record) (size : ℕ) → IsJournal j
     → window (Sized size ∷ j) ≡ keep_last size (window j)
 
--- the window is the end of the history, of at most the size
+-- the window is the end of the history, and no longer than the size
 abbrev pub WindowsEnd : Type 0
 WindowsEnd = (j : List Record) → IsJournal j
     → (window j ≡ keep_last (length (window j)) (history j)) × (length (window j) ≤ size_of j)
 
--- a window has at most the size, whatever the records; expect(1), match_max
+-- a window is no longer than the size, whatever the records; expect(1), match_max
 abbrev pub WindowsHold : Type 0
 WindowsHold = (j : List Record) → length (window j) ≤ size_of j
 
--- a place is visible exactly where it lies in that end
+-- a place is visible exactly where it lies in the end of the history that is the window
 abbrev pub VisibleAtEnd : Type 0
 VisibleAtEnd = (j : List Record) (place : ℕ) → IsJournal j
     → IsTrue (is_visible j place)

@@ -157,8 +157,8 @@ impl<A: Allocator + Copy> MatchBuf<A> {
     }
 }
 
-/// Where the bytes go round the end of the block, puts each behind the last one in turn: then they
-/// lie in one piece near its beginning, with the room beyond their size behind them.
+/// Where the bytes go round the end of the block, moves each in turn after the last one: then they
+/// lie in one piece near the beginning of the block, with the room beyond their size after them.
 fn bring_round<A: Allocator>(ring: &mut HeapCircularBuffer<u8, A>)
     ensures { ring.new ≡ ring.old }
 {

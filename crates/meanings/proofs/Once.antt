@@ -1,17 +1,17 @@
--- A meaning comes to one answer alone.
+-- A meaning yields only one answer.
 use Rattle.std.proofs.Common.{◌≡◌, ◌↔◌, ℕ, Bool, true, false, List, Result, Ok, Err, MatchResult, IsTrue, refl, sym, ap, subst, ◌∙◌}
 use Rattle.meanings.specs.Meaning.{Answer, Meaning, Gives, Raises, Splits, Matches, Comes, IsSplit, flaw_of_list}
 use Rattle.tcltext.specs.Flaw.{Flaw}
 use Rattle.tcltext.proofs.Unique.{one_list, one_flaw, no_list_with_flaw}
 
--- two tests of one thing come out the same
+-- two tests of the same thing have the same result
 pub same_truth : (p q : Bool) (P : Type 0) → IsTrue p ↔ P → IsTrue q ↔ P → p ≡ q
 same_truth true true P one other = refl
 same_truth true false P one other = sym (other.1 (one.0 refl))
 same_truth false true P one other = one.1 (other.0 refl)
 same_truth false false P one other = refl
 
--- what follows the one reading of a text as a list
+-- a text is read as a list in one way, so that what follows has one answer
 split_once : (text : List ℕ) (next : List (List ℕ) → Meaning) →
     ((v : List (List ℕ)) (a b : Answer) → Comes (next v) a → Comes (next v) b → a ≡ b) →
     (s t : Result (List (List ℕ)) Flaw) → IsSplit text s → IsSplit text t → (a b : Answer) →

@@ -8,7 +8,7 @@ use Rattle.meanings.specs.View.{Answers, Tells, IsNoList}
 use Rattle.tcltext.specs.Elements.{IsList, HasFlaw}
 use Rattle.tcltext.specs.Flaw.{Flaw}
 
--- the text has a flaw, and the fault tells it
+-- the text has a flaw, and the fault reports it
 pub is_no_list : {A : Type 0} (text : List ℕ) (told : Raise A) (seen : Option Flaw) →
     Tells told (option_map flaw_of_list seen) → IfSome seen (λ flaw. HasFlaw flaw text) →
     IsNoList text told
@@ -18,7 +18,7 @@ is_no_list text (raise.Fault why) (Some flaw) tells has next =
 is_no_list text (raise.NoMemory refusal) seen tells has next = tt
 
 module _ {A : Type 0} (text : List ℕ) (next : List (List ℕ) → Meaning) where
-  -- the text is no list, and the reason is handed on
+  -- the text is not a list, and the reason is passed on
   pub no_list : (r : Result (List ℕ) (Raise A)) (why : Raise A) →
       IsNoList text why → IsErrAnd r (λ passed. passed ≡ why) → Answers (Splits text next) r
   no_list (Ok value) why is passed = absurd passed

@@ -1,4 +1,4 @@
-//! How a truth value is told.
+//! The text of a truth value.
 
 ghost use Rattle.std.specs.Prelude.{◌≡◌, IfOk};
 ghost use Rattle.meanings.specs.Meaning as meant;

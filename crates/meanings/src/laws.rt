@@ -1,9 +1,9 @@
-//! The law of the definitions: what a function of texts comes to is one answer alone.
+//! The law of the definitions: a function of texts has only one answer.
 
 ghost use Rattle.std.specs.Prelude.{◌≡◌};
 ghost use Rattle.meanings.specs.Meaning.{Answer, Meaning, Comes};
 
-/// A meaning comes to one answer at most.
+/// A meaning yields at most one answer.
 pub fn one_answer()
     ensures { (meaning : Meaning) (one other : Answer) →
         Comes meaning one → Comes meaning other → one ≡ other }

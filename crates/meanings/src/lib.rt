@@ -1,5 +1,5 @@
-//! What a function of texts comes to: a value or an error, and what follows where a text is read as
-//! a list or a pattern is held against one.
+//! The result of a function of texts: a value or an error, or what follows once a text is read as a
+//! list or a pattern is matched against one.
 #![tactic(auto)]
 
 mod boolean;

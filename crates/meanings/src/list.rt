@@ -11,10 +11,10 @@ use acts::{Fault, Raise};
 use std::alloc::Allocator;
 use tcltext::{ListFault, Value, split_values};
 
-/// The elements of the list that a text is (Tcl_SplitList(3)).
+/// The elements of the list that a text spells (Tcl_SplitList(3)).
 ///
 /// # Errors
-/// The script's error where the text is no list. `NoMemory` where memory is refused.
+/// The script's error where the text is not a list. `NoMemory` where memory is refused.
 pub fn elements<A: Allocator + Copy>(alloc: A, text: &[u8]) -> Result<Vec<Value<A>, A>, Raise<A>>
     ensures list { IfOk result (λ elements. IsList elements.items text.now) }
     ensures fault { IfErr result (IsNoList text.now) }
@@ -25,7 +25,7 @@ pub fn elements<A: Allocator + Copy>(alloc: A, text: &[u8]) -> Result<Vec<Value<
     }
 }
 
-/// The canonical text of the list that a text is (Tcl_SplitList(3); list(n)).
+/// The canonical text of the list that a text spells (Tcl_SplitList(3); list(n)).
 ///
 /// # Errors
 /// Those of [`elements`].
@@ -39,8 +39,8 @@ pub fn list_of<A: Allocator + Copy>(alloc: A, text: &Value<A>) -> Result<Value<A
     }
 }
 
-/// How many elements the list has that a text is (llength(n)). A long text keeps them, so that they
-/// are read once.
+/// The number of elements of the list that a text spells (llength(n)). A long text keeps its
+/// elements, so that they are read once.
 ///
 /// # Errors
 /// Those of [`elements`].
@@ -54,8 +54,8 @@ pub fn list_len<A: Allocator + Copy>(alloc: A, text: &Value<A>) -> Result<usize,
     }
 }
 
-/// The element at a place of the list that a text is, or none where the place is beyond them
-/// (lindex(n)). A long text keeps its elements, so that they are read once.
+/// The element at a place, counted from 0, of the list that a text spells, or `None` where the list
+/// has no such place (lindex(n)). A long text keeps its elements, so that they are read once.
 ///
 /// # Errors
 /// Those of [`elements`].
@@ -74,8 +74,8 @@ pub fn element_at<A: Allocator + Copy>(
     }
 }
 
-/// The canonical text of so many elements at most, from a place on, of the list that a text is
-/// (lrange(n)). A long text keeps its elements, so that they are read once.
+/// The canonical text of at most `most` elements, from the place `from` on, of the list that a text
+/// spells (lrange(n)). A long text keeps its elements, so that they are read once.
 ///
 /// # Errors
 /// Those of [`elements`].
@@ -95,7 +95,7 @@ pub fn range_of<A: Allocator + Copy>(
     }
 }
 
-/// Why a text is no list, as the script's error (Tcl_SplitList(3)); `NoMemory` where memory was
+/// Why a text is not a list, as the script's error (Tcl_SplitList(3)); `NoMemory` where memory was
 /// refused.
 pub fn no_list<A: Allocator>(fault: ListFault) -> Raise<A>
     ensures { Tells result (option_map flaw_of_list (flaw_of fault)) }

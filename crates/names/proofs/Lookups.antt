@@ -16,7 +16,7 @@ one_more : {X : Type 0} (row : List ℕ × X) (rows : Table X) (name : List ℕ)
 one_more row rows name true is rest = rw (is, rest) refl
 one_more row rows name false is rest = rw (is, other name row.0 is) rest
 
--- among all names as among those of its length
+-- a look-up among all names gives the same as one among those of the name's length
 pub by_length : {X : Type 0} (rows : Table X) (name : List ℕ) →
     found rows name ≡ found (so_long (length name) rows) name
 by_length [] name = refl

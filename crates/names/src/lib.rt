@@ -1,2 +1,3 @@
-//! How a text is told from names: what a `match` on byte strings tests is what the definitions say.
+//! How a text is compared with names: what a `match` on byte strings tests is what the definitions
+//! say.
 #![tactic(auto)]

@@ -1,4 +1,4 @@
--- What follows the numbers that operands are, or that they are none.
+-- What follows where operands are numbers, and where they are not.
 use Rattle.std.proofs.Common.{◌≡◌, List, ℕ, Some, None, ℤ, Result, Ok, Err, IfErr, IsErrAnd, sym, subst}
 use Rattle.acts.specs.Flaw as flaw
 use Rattle.meanings.specs.Meaning.{Meaning, Raises}
@@ -24,7 +24,7 @@ module _ {A : Type 0} where
       AreNoNumbers left right fault
   no_left left right fault none next = none (λ x. with_number right (λ y. next x y))
 
-  -- the left text is a number, and the right one is none
+  -- the left text is a number, and the right one is not
   pub no_right : (left right : List ℕ) (x : ℤ) (fault : Raise A) →
       number_of left ≡ Some x → IsNoNumber right fault → AreNoNumbers left right fault
   no_right left right x fault is none next =
@@ -38,14 +38,14 @@ module _ {A : Type 0} where
       one left numbers.0 (λ x. with_number right (λ y. next x y)) r are.0
       (one right numbers.1 (next numbers.0) r are.1 says)
 
-  -- an error is handed on
+  -- an error is passed on
   pub passed : (m : Meaning) (r : Result (List ℕ) (Raise A)) (fault : Raise A) →
       Answers m (Err fault) → IsErrAnd r (λ handed. handed ≡ fault) → Answers m r
   passed m (Ok value) fault says handed = absurd handed
   passed m (Err why) fault says handed =
       subst (λ (f : Raise A). Answers m (Err f)) (sym handed) says
 
--- what holds of an error holds where it is handed on
+-- what holds of an error still holds where it is passed on
 pub of_passed : {A T : Type 0} (P : Raise A → Type 0) (r : Result T (Raise A))
     (fault : Raise A) → P fault → IsErrAnd r (λ handed. handed ≡ fault) → IfErr r P
 of_passed P (Ok value) fault holds handed = absurd handed

@@ -14,7 +14,7 @@ negated : (n : ℕ) → FitsSigned w64 (pos n) → FitsSigned w64 (neg_ℤ (pos 
 negated zero small = small
 negated (suc n) small = let below = small.sfits in record { sfits = omega arith }
 
--- 64 bits hold the absolute value where they hold the other number
+-- 64 bits hold the absolute value of a number where they hold its negation
 pub absolute_fits : (n : ℤ) (r : Option ℤ) → FitsSigned w64 n →
     SomeIff r (FitsSigned w64 (neg_ℤ n)) (pos (unsigned_abs n)) →
     SomeIff r (FitsSigned w64 (pos (unsigned_abs n))) (pos (unsigned_abs n))

@@ -3,7 +3,7 @@ use Rattle.std.proofs.Common.{◌≡◌, ℕ, List, Bool, Ok, ap, ◌∙◌}
 use Rattle.meanings.specs.Meaning.{Answer, Gives, Splits, Comes, truth}
 use Rattle.operators.specs.Member.{contains, IsFound}
 
--- it was looked for, and how a function of the outcome is told
+-- the text was looked for, and the result is a function of whether it was found
 pub found_told : (of : Bool → Bool) (text list value : List ℕ) (found : Bool) →
     IsFound text list found → value ≡ truth (of found) →
     Comes (Splits list (λ elements. Gives (truth (of (contains text elements))))) (Ok value)

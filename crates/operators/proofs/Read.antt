@@ -1,4 +1,4 @@
--- What a text is read as, and what is told of a number.
+-- What a text is read as, and numbers as results.
 use Rattle.std.proofs.Common.{◌≡◌, ℕ, ◌≤◌, Bool, true, false, cond, List, Option, Some, None, MatchOption, IfSome, option_and_then, ℤ, pos, negsuc, FitsSigned, w64, refl, sym, ap, ◌∙◌, arith}
 use Rattle.std.proofs.lemmas.Int.{ints}
 use Rattle.std.proofs.lemmas.Bool.Decides.{nat_tests}
@@ -53,7 +53,7 @@ none_read : (text : List ℕ) (o : Option ℤ) → numeral text ≡ o →
 none_read text None read none = refl
 none_read text (Some n) read none = none_held text n (is_in_range n) refl read none
 
--- what a text is read as is the number that it is
+-- the number that a text is read as is the one that it spells
 pub read_is : (text : List ℕ) (r : Option ℤ) →
     MatchOption r ((n : ℤ) → IsNumeral n text → IsInRange n → ⊥) (λ n. IsNumeral n text) →
     IfSome r IsInRange → r ≡ number_of text

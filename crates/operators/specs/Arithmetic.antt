@@ -1,4 +1,4 @@
--- What the operators do that ask for two numbers.
+-- What the operators that need two numbers do.
 use Rattle.std.specs.Prelude.{ℤ, ◌+ℤ◌, ◌-ℤ◌, ◌*ℤ◌}
 use Rattle.integers.specs.Bits.{bits_and, bits_or, bits_xor}
 use Rattle.meanings.specs.Meaning.{Meaning}
@@ -8,7 +8,7 @@ use Rattle.operators.specs.Division.{divide, modulo}
 use Rattle.operators.specs.Number.{told}
 use Rattle.operators.specs.Shift.{shift_left, shift_right}
 
--- what an operation makes of two numbers (expr(n), operators)
+-- the result of an operation on two numbers (expr(n), operators)
 abbrev pub computed : Arithmetic → ℤ → ℤ → Meaning
 computed operation.Multiply x y = told (x *ℤ y)
 computed operation.Divide x y = divide x y

@@ -11,7 +11,7 @@ use Rattle.operators.specs.Member.{is_in, is_not_in}
 use Rattle.operators.specs.Number.{with_both}
 use Rattle.operators.specs.Order.{compared}
 
--- what an operator makes of its operands (expr(n), operators)
+-- the result of an operator for its operands (expr(n), operators)
 abbrev pub binary : Binary → List ℕ → List ℕ → Meaning
 binary operator.Multiply a b = with_both a b (computed operation.Multiply)
 binary operator.Divide a b = with_both a b (computed operation.Divide)

@@ -1,4 +1,4 @@
--- What the operators do that divide.
+-- What the operators that divide do.
 use Rattle.std.specs.Prelude.{ℤ, pos, if◌then◌else◌}
 use Rattle.std.specs.Ordering.{int_eq}
 use Rattle.acts.specs.Flaw as flaw

@@ -14,7 +14,7 @@ use Rattle.operators.specs.Number.{with_number, with_all, told}
 abbrev pub absolute : List ℕ → Meaning
 absolute text = with_number text (λ n. told (pos (unsigned_abs n)))
 
--- the one of two numbers that counts (mathfunc(n), min, max)
+-- the lesser or the greater of two numbers (mathfunc(n), min, max)
 abbrev pub chosen : Extreme → ℤ → ℤ → ℤ
 chosen extreme.Least x y = int_min x y
 chosen extreme.Greatest x y = int_max x y
@@ -24,7 +24,7 @@ abbrev pub among : Extreme → List ℤ → Meaning
 among which [] = Raises flaw.BadExpression
 among which (n ∷ numbers) = told (fold (chosen which) n numbers)
 
--- what a function makes of its operands; a wrong number of them is a fault of the formula
+-- the result of a function for its operands; a wrong number of them is a fault of the formula
 -- (mathfunc(n))
 abbrev pub call : Function → List (List ℕ) → Meaning
 call function.Abs (a ∷ []) = absolute a

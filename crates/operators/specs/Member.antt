@@ -9,15 +9,15 @@ use Rattle.tcltext.specs.Elements.{IsList}
 abbrev pub contains : List ℕ → List (List ℕ) → Bool
 contains text elements = list_any (λ element. bytes_eq element text) elements
 
--- the text is in the list that another one is (expr(n), in)
+-- the text is in the list that another one spells (expr(n), in)
 abbrev pub is_in : List ℕ → List ℕ → Meaning
 is_in text list = Splits list (λ elements. Gives (truth (contains text elements)))
 
--- the text is not in that list (expr(n), ni)
+-- the text is not in the list that another one spells (expr(n), ni)
 abbrev pub is_not_in : List ℕ → List ℕ → Meaning
 is_not_in text list = Splits list (λ elements. Gives (truth (not (contains text elements))))
 
--- whether the text was found in the list that another one is (expr(n), in)
+-- whether the text was found in the list that another one spells (expr(n), in)
 abbrev pub IsFound : List ℕ → List ℕ → Bool → Type 0
 IsFound text list found =
     (elements : List (List ℕ)) × IsList elements list × (found ≡ contains text elements)

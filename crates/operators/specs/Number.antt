@@ -1,4 +1,4 @@
--- The numbers that operands are, and how a number is told.
+-- The numbers that operands are, and numbers as results.
 use Rattle.std.specs.Prelude.{ℕ, List, [], ◌∷◌, Option, Some, None, option_and_then, ℤ, if◌then◌else◌}
 use Rattle.std.specs.Fmt.{signed_decimal}
 use Rattle.acts.specs.Flaw as flaw
@@ -13,7 +13,7 @@ held n = if is_in_range n then Some n else None
 unfoldable pub number_of : List ℕ → Option ℤ
 number_of text = option_and_then held (numeral text)
 
--- what follows a number; where there is none, the text that is none is the error
+-- what follows a number; where there is none, the error names the text that is not a number
 abbrev pub follows : Option ℤ → List ℕ → (ℤ → Meaning) → Meaning
 follows (Some n) text next = next n
 follows None text next = Raises (flaw.NotANumber text)
@@ -32,6 +32,6 @@ with_all [] next = next []
 with_all (text ∷ texts) next =
     with_number text (λ n. with_all texts (λ numbers. next (n ∷ numbers)))
 
--- a number is told in decimal, where 64 bits hold it (expr(n))
+-- a number as a result: its decimal text, if 64 bits hold it, else the error (expr(n))
 abbrev pub told : ℤ → Meaning
 told n = if is_in_range n then Gives (signed_decimal n) else Raises flaw.OutOfRange

@@ -5,7 +5,7 @@ use Rattle.integers.specs.Division.{rounded_down}
 use Rattle.meanings.specs.Meaning.{Meaning, Raises}
 use Rattle.operators.specs.Number.{told}
 
--- what a count leads to; one below 0 is the error (expr(n), operators)
+-- what follows a count; a count below 0 is the error (expr(n), operators)
 abbrev pub counted : ℤ → (ℕ → Meaning) → Meaning
 counted (pos n) next = next n
 counted (negsuc n) next = Raises flaw.NegativeShift

@@ -23,7 +23,8 @@ of_word word =
     else if is_false word then Ok false
     else Err (flaw.NotATruth word)
 
--- a number is true where it is not 0; a text that is none is taken as a word (expr(n), operands)
+-- a number is true where it is not 0; a text that is not a number is taken as a word (expr(n),
+-- operands)
 abbrev pub of_number : Option ℤ → List ℕ → Result Bool Flaw
 of_number (Some n) text = Ok (not (int_eq n (pos 0)))
 of_number None text = of_word text

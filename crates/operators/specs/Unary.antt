@@ -8,12 +8,13 @@ use Rattle.tclparse.specs.declared.operator.Unary.TheVariants as operator
 use Rattle.operators.specs.Number.{with_number, told}
 use Rattle.operators.specs.Truth.{truth_of}
 
--- the other truth value, as 0 or 1; what is none is the error (expr(n), operators)
+-- the opposite truth value, as 0 or 1; an operand without a truth value is the error (expr(n),
+-- operators)
 abbrev pub turned : Result Bool Flaw → Meaning
 turned (Ok holds) = Gives (truth (not holds))
 turned (Err flaw) = Raises flaw
 
--- what an operator makes of its operand (expr(n), operators)
+-- the result of an operator for its operand (expr(n), operators)
 abbrev pub unary : Unary → List ℕ → Meaning
 unary operator.Negate text = with_number text (λ n. told (neg_ℤ n))
 unary operator.Plus text = with_number text (λ n. told n)

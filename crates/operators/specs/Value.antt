@@ -5,7 +5,7 @@ use Rattle.acts.specs.Flaw as flaw
 use Rattle.meanings.specs.Meaning.{Meaning, Gives, Raises}
 use Rattle.operators.specs.Number.{number_of}
 
--- a spelling stands as it is, where it has a number within 64 bits (expr(n), operands)
+-- a spelling is kept as it is, if it has a number within 64 bits (expr(n), operands)
 abbrev pub spelled : Option ℤ → List ℕ → Meaning
 spelled (Some n) spelling = Gives spelling
 spelled None spelling = Raises flaw.OutOfRange

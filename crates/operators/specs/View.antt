@@ -1,4 +1,4 @@
--- What an operand is seen as, and what is said of its reading.
+-- The text that an operand is seen as, and what is said of reading operands.
 use Rattle.std.specs.Prelude.{◌≡◌, ℕ, List, ℤ, Some, Err}
 use Rattle.std.specs.Fmt.{signed_decimal}
 use Rattle.meanings.specs.Meaning.{Meaning}
@@ -31,7 +31,7 @@ abbrev pub AreNoNumbers : {A : Type 0} → List ℕ → List ℕ → Raise A →
 AreNoNumbers left right fault =
     (next : ℤ → ℤ → Meaning) → Answers (with_both left right next) (Err fault)
 
--- the fault is why the text has no truth value, but where memory was refused (expr(n), operands)
+-- the fault is why the text has no truth value, except where memory was refused (expr(n), operands)
 abbrev pub IsNoTruth : {A : Type 0} → List ℕ → Raise A → Type 0
 IsNoTruth text (raise.Fault why) = truth_of text ≡ Err (flaw.flaw_of why)
 IsNoTruth text (raise.NoMemory refusal) = Unit {0}

@@ -14,10 +14,10 @@ use acts::Raise;
 use std::alloc::Allocator;
 use tclparse::{Binary, Unary};
 
-/// What an operator makes of its operand (expr(n), operators).
+/// Applies an operator to its operand (expr(n), operators).
 ///
 /// # Errors
-/// The script's error: an operand that is no number, for `!` one that is no truth value; a result
+/// The script's error: an operand that is not a number, or for `!` not a truth value; a result
 /// outside of 64 bits. `NoMemory` where memory is refused.
 pub fn unary<A: Allocator + Copy>(
     alloc: A,
@@ -34,12 +34,12 @@ pub fn unary<A: Allocator + Copy>(
     }
 }
 
-/// What an operator makes of its two operands (expr(n), operators).
+/// Applies an operator to its two operands (expr(n), operators).
 ///
 /// # Errors
-/// The script's error, the first one where there are several: an operand that is no number, the
-/// left one first, where numbers are asked for, or a right one that is no list for `in` and `ni`;
-/// a divisor that is 0; a negative count of a shift; a result outside of 64 bits. `NoMemory` where
+/// The script's error, the first one where there are several: an operand that is not a number, the
+/// left one first, where numbers are needed, or a right one that is not a list for `in` and `ni`; a
+/// divisor that is 0; a negative count of a shift; a result outside of 64 bits. `NoMemory` where
 /// memory is refused.
 pub fn binary<A: Allocator + Copy>(
     alloc: A,

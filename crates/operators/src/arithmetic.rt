@@ -1,4 +1,4 @@
-//! The operators that ask for two numbers.
+//! The operators that need two numbers.
 
 ghost use Rattle.meanings.specs.View.{Answers};
 ghost use Rattle.operators.specs.Arithmetic as meant;
@@ -11,7 +11,7 @@ use crate::shifts::{shift_left, shift_right};
 use acts::Raise;
 use std::alloc::Allocator;
 
-/// An operator that asks for two numbers (expr(n), operators).
+/// An operator that needs two numbers (expr(n), operators).
 #[derive(Clone, Copy)]
 pub enum Arithmetic {
     Multiply,
@@ -26,7 +26,7 @@ pub enum Arithmetic {
     Or,
 }
 
-/// What an operation makes of two operands (expr(n), operators).
+/// Applies an operation to two operands, which must be numbers (expr(n), operators).
 pub fn on_numbers<A: Allocator + Copy>(
     alloc: A,
     operation: Arithmetic,
@@ -39,7 +39,7 @@ pub fn on_numbers<A: Allocator + Copy>(
     computed(operation, x, y)
 }
 
-/// What an operation makes of two numbers (expr(n), operators).
+/// Applies an operation to two numbers (expr(n), operators).
 fn computed<A: Allocator>(operation: Arithmetic, x: i64, y: i64) -> Result<Operand<A>, Raise<A>>
     ensures { Answers (meant.computed operation x y) result }
 {

@@ -11,17 +11,17 @@ use acts::{Fault, Raise};
 use std::alloc::Allocator;
 use tclparse::Function;
 
-/// Which of some numbers counts.
+/// Which of several numbers is the result.
 #[derive(Clone, Copy)]
 pub enum Extreme {
     Least,
     Greatest,
 }
 
-/// What a function makes of its operands (mathfunc(n)).
+/// Applies a function to its operands (mathfunc(n)).
 ///
 /// # Errors
-/// The script's error: the first operand that is no number; a result outside of 64 bits; a wrong
+/// The script's error: the first operand that is not a number; a result outside of 64 bits; a wrong
 /// number of operands, which no formula that was read has. `NoMemory` where memory is refused.
 pub fn call<A: Allocator + Copy>(
     alloc: A,
@@ -62,7 +62,7 @@ fn among<A: Allocator + Copy>(
     told(Some(best))
 }
 
-/// The one of two numbers that counts.
+/// The lesser or the greater of two numbers.
 fn chosen(which: Extreme, x: i64, y: i64) -> i64
     ensures { result ≡ meant.chosen which x y }
 {

@@ -36,7 +36,7 @@ pub fn is_not_in<A: Allocator + Copy>(
     Ok(Operand::truth(!found))
 }
 
-/// Whether a text is an element of the list that another one is.
+/// Whether a text is an element of the list that another text spells.
 fn is_found<A: Allocator + Copy>(
     alloc: A,
     text: &Operand<A>,

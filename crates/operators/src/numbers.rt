@@ -1,4 +1,4 @@
-//! Operands that are asked for as numbers, and numbers that are told.
+//! Operands that must be numbers, and numbers as results.
 
 ghost use Rattle.std.specs.Prelude.{◌≡◌, ℤ, Some, IfOk, IfErr, SomeIff, FitsSigned};
 ghost use Rattle.std.specs.Int.{w64};
@@ -24,7 +24,7 @@ pub fn number<A: Allocator + Copy>(alloc: A, operand: &Operand<A>) -> Result<i64
     Err(Raise::Fault(Fault::NotANumber(text)))
 }
 
-/// The numbers that two operands are; the left one is looked at first (expr(n), operators).
+/// The numbers that two operands are; the left one is read first (expr(n), operators).
 pub fn numbers<A: Allocator + Copy>(
     alloc: A,
     left: &Operand<A>,
@@ -38,7 +38,7 @@ pub fn numbers<A: Allocator + Copy>(
     Ok((x, y))
 }
 
-/// A number that 64 bits hold, or the error that they do not (expr(n)).
+/// A number as a result; `None`, a number that 64 bits do not hold, is the error (expr(n)).
 pub fn told<A: Allocator>(number: Option<i64>) -> Result<Operand<A>, Raise<A>>
     ensures { (n : ℤ) → SomeIff number (FitsSigned w64 n) n → Answers (meant.told n) result }
 {

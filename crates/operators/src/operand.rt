@@ -55,7 +55,7 @@ impl<A: Allocator> Operand<A> {
         }
     }
 
-    /// How a test is told: 1 or 0 (expr(n), operators).
+    /// The result of a test: 1 or 0 (expr(n), operators).
     pub fn truth(holds: bool) -> Operand<A>
         ensures { result ≡ meant.truth holds }
     {
@@ -106,7 +106,7 @@ pub(crate) fn number_in<A: Allocator>(text: &Value<A>) -> Option<i64>
     text.number()
 }
 
-/// A text that is a number in decimal, any other one as it stands.
+/// The decimal text of the number where the text is one; any other text as it stands.
 fn in_decimal<A: Allocator + Copy>(alloc: A, text: Value<A>) -> Result<Value<A>, NoMemory>
     ensures { IfOk result (λ told. told ≡ value.result text) }
 {

@@ -1,4 +1,4 @@
-//! Operands that are asked for as truth values.
+//! Operands that must be truth values.
 
 ghost use Rattle.std.specs.Prelude.{◌≡◌, Ok, IfOk, IfErr};
 ghost use Rattle.std.specs.Result.{result_ok};

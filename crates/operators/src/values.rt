@@ -1,4 +1,4 @@
-//! What a formula writes, and what it gives.
+//! The numerals that a formula writes, and the value that it gives.
 
 ghost use Rattle.std.specs.Prelude.{◌≡◌, IfOk};
 ghost use Rattle.meanings.specs.View.{Answers};
@@ -10,7 +10,7 @@ use memory::NoMemory;
 use std::alloc::Allocator;
 use tcltext::Value;
 
-/// A numeral that a formula writes: it stands as it is spelled (expr(n), operands).
+/// A numeral that a formula writes: it keeps its spelling (expr(n), operands).
 ///
 /// # Errors
 /// Where its number is not within 64 bits.

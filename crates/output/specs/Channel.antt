@@ -15,7 +15,7 @@ write_to channel.Output bytes = said.Out bytes
 write_to channel.Errors bytes = said.Err bytes
 write_to channel.Log bytes = said.Log bytes
 
--- it is no wait, so that no rows have to hold (this project's own rule)
+-- a write is no wait, so that no rows have to hold (this project's own rule)
 abbrev pub holds : (to : Channel) (bytes : List ℕ) → Holds (write_to to bytes)
 holds channel.Output bytes = tt
 holds channel.Errors bytes = tt
@@ -42,7 +42,8 @@ abbrev pub bytes_told : Deed → List ℕ
 bytes_told (said.Out bytes) = bytes
 bytes_told _ = []
 
--- what follows the answer to a write: nothing, or that to the log (puts(n); expect(1), send_user)
+-- what follows the answer to a write: nothing, or the write to the log (puts(n); expect(1),
+-- send_user)
 abbrev pub follows : Waits → Deed → Status → Reply → Exchange 3
 follows waits.Written deed s reply = written (gives []) reply
 follows waits.Told deed s reply = written (note (bytes_told deed) s) reply

@@ -12,7 +12,7 @@ use Rattle.output.specs.Request.{Request, request_by, request_of}
 use Rattle.output.specs.declared.log_file.Waits.{Waits}
 use Rattle.output.specs.declared.log_file.Waits.TheVariants as waits
 
--- the bytes that the file has are dropped, or kept (expect(1), log_file)
+-- the bytes that the file already has are dropped, or kept (expect(1), log_file)
 abbrev pub mode_by : Bool → LogMode
 mode_by drops = if drops then mode.Truncate else mode.Append
 
@@ -31,8 +31,8 @@ by_mode (all, words) = by_name all (after_flag (codes "-noappend") words)
 abbrev pub request : List (List ℕ) → Result Request Flaw
 request args = by_mode (after_flag (codes "-a") args)
 
--- what an answer to the opening of a log comes to: it is open, and gets all or what is shown, or
--- it cannot be opened (expect(1), log_file)
+-- what follows the answer to the opening of a log: the log is open, and gets all or only what is
+-- shown, or it cannot be opened (expect(1), log_file)
 abbrev pub opened : {n : ℕ} → Bool → List ℕ → Reply → Exchange (suc n)
 opened all name said.Done = Opens (OpensLog all) (gives [])
 opened all name _ = fails (flaw.CannotOpenLog name)

@@ -13,7 +13,7 @@ setting_of w =
     else if bytes_eq w (codes "1") then Ok true
     else Err (flaw.BadArgument w (codes "log_user"))
 
--- log_user 0|1: it is set whether what arrives is shown (expect(1), log_user)
+-- log_user 0|1: sets whether what arrives is shown (expect(1), log_user)
 abbrev pub log_user : List (List ℕ) → Result (Exchange 0) Flaw
 log_user (w ∷ []) = bind (setting_of w) (λ shows. Ok (Edits (ShowsArrivals shows) (gives [])))
 log_user _ = Err (flaw.WrongArgs (codes "log_user"))

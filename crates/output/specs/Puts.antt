@@ -8,7 +8,7 @@ use Rattle.output.specs.Channel.{put}
 use Rattle.output.specs.declared.channel.Channel.{Channel}
 use Rattle.output.specs.declared.channel.Channel.TheVariants as channel
 
--- the flag by which no newline is written (puts(n))
+-- the flag that omits the newline (puts(n))
 abbrev pub is_nonewline : List ℕ → Bool
 is_nonewline w = bytes_eq w (codes "-nonewline")
 

@@ -11,16 +11,16 @@ use state::leaf::{empty, stops};
 use state::{Leaf, State, Stop};
 use std::alloc::Allocator;
 
-/// What waits for the answer to an act.
+/// The state of a command that waits for the answer to an act.
 #[derive(Clone, Copy, Debug, PartialEq, Eq)]
 pub enum Waits {
-    /// The text is written, and the command is over.
+    /// The text is being written; then the command is over.
     Written,
-    /// The text is written to standard output, and goes to the log where one is open.
+    /// The text is being written to standard output; then it goes to the log where one is open.
     Told,
 }
 
-/// Where a text is written to.
+/// Where a text is written.
 #[derive(Clone, Copy, Debug, PartialEq, Eq)]
 pub enum Channel {
     Output,
@@ -62,7 +62,7 @@ pub fn tell<A: Allocator + Copy>(bytes: Vec<u8, A>) -> Leaf<A, Waits>
     Leaf::Asks(Act::Out(bytes), Waits::Told)
 }
 
-/// Goes on with the answer to the write.
+/// Continues a command with the answer to its write.
 pub fn answered<A: Allocator + Copy>(
     alloc: A,
     state: &State<A>,

@@ -1,5 +1,5 @@
 //! The commands that write to standard output, to standard error and to the log, and those that set
-//! where what arrives is written.
+//! where arriving bytes are written.
 #![tactic(auto)]
 
 pub mod channel;

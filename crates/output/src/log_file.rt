@@ -20,23 +20,23 @@ const USAGE: Usage<'static> = Usage {
     flags: &[b"-a", b"-noappend"],
 };
 
-/// What the words ask for.
+/// What the words of `log_file` ask for.
 #[derive(Debug, Drop)]
 pub struct Request<A: Allocator> {
     /// Whether the log gets what arrives whatever `log_user` is.
     pub all: bool,
-    /// What becomes of the bytes that the file has.
+    /// What becomes of the bytes that the file already has.
     pub mode: LogMode,
     /// The name of the file, where one is to be opened.
     pub name: Option<Vec<u8, A>>,
 }
 
-/// What waits for the answer to an act.
+/// The state of a command that waits for the answer to an act.
 #[derive(Debug, Drop)]
 pub enum Waits<A: Allocator> {
-    /// The log is closed, and the one that is asked for is opened.
+    /// The log is being closed; then the one that is asked for, if any, is opened.
     Closed(Request<A>),
-    /// The log is opened, and gets all or what is shown.
+    /// The log is being opened; then it gets all that arrives, or only what is shown.
     Opened(bool),
 }
 
@@ -56,7 +56,7 @@ pub fn begin<A: Allocator + Copy>(
     Ok(change(state, request))
 }
 
-/// Goes on with the answer to the close or to the opening.
+/// Continues the command with the answer to the close or to the opening.
 ///
 /// # Errors
 /// The log is not opened; or memory is refused.

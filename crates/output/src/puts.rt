@@ -27,7 +27,7 @@ pub fn begin<A: Allocator + Copy>(alloc: A, args: &[Value<A>]) -> Result<Leaf<A,
     Ok(write(channel, bytes))
 }
 
-/// Where the words say that bytes are written, and which.
+/// The channel that the words name, and the bytes to write to it.
 fn read_words<A: Allocator + Copy>(
     alloc: A,
     args: &[Value<A>],
@@ -52,7 +52,7 @@ fn read_words<A: Allocator + Copy>(
     }
 }
 
-/// Whether a word is the flag by which no newline is written.
+/// Whether a word is the flag that omits the newline.
 fn is_nonewline(word: &[u8]) -> bool
     ensures { result ≡ definition.is_nonewline word.now }
 {

@@ -1,4 +1,4 @@
-//! The changes of what is written where.
+//! Changes of the settings that say what is written where.
 
 ghost use Rattle.std.specs.Prelude.{◌≡◌};
 ghost use Rattle.state.specs.Prelude.{Status, FitsState};
@@ -7,7 +7,7 @@ ghost use Rattle.kinds.specs.Edits.{ShowsArrivals, EndsLog, OpensLog, edited, op
 use state::State;
 use std::alloc::Allocator;
 
-/// What arrives is shown, or is not (expect(1), log_user).
+/// Sets whether what arrives is shown (expect(1), log_user).
 pub(crate) fn show_arrivals<A: Allocator>(state: &mut State<A>, shows: bool)
     ensures fits { (s : Status) → FitsState state.old s →
         FitsState state.new (edited (ShowsArrivals shows) s) }
@@ -16,7 +16,7 @@ pub(crate) fn show_arrivals<A: Allocator>(state: &mut State<A>, shows: bool)
     state.log.user = shows;
 }
 
-/// No log is open (expect(1), log_file).
+/// Records that no log is open (expect(1), log_file).
 pub(crate) fn end_log<A: Allocator>(state: &mut State<A>)
     ensures fits { (s : Status) → FitsState state.old s →
         FitsState state.new (edited EndsLog s) }
@@ -25,7 +25,7 @@ pub(crate) fn end_log<A: Allocator>(state: &mut State<A>)
     state.log.logging = false;
 }
 
-/// A log is open, and gets all or what is shown (expect(1), log_file).
+/// Records that a log is open, and whether it gets all or only what is shown (expect(1), log_file).
 pub(crate) fn start_log<A: Allocator>(state: &mut State<A>, all: bool)
     ensures fits { (s : Status) → FitsState state.old s →
         FitsState state.new (opened_by (OpensLog all) s) }

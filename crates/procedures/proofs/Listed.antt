@@ -1,4 +1,4 @@
--- Which formals a text is read as, where it is known what it is.
+-- Which formals a text is read as, where it is known whether it is a list of formals.
 use Rattle.std.proofs.Common.{◌≡◌, ℕ, List, [], ◌∷◌, Option, Some, None, Result, Ok, Err, ◌⊎◌, inl, inr, refl}
 use Rattle.acts.specs.Flaw as acts
 use Rattle.kinds.proofs.Readings.{bind_comes, bind_fails, list_comes}
@@ -9,7 +9,7 @@ use Rattle.tcltext.specs.Elements.{IsList, HasFlaw}
 use Rattle.tcltext.specs.Flaw.{Flaw}
 use Rattle.tcltext.proofs.Total.{list_or_flaw}
 
--- text is that of all formals
+-- text is the whole text of the formals
 module _ (text : List ℕ) where
   -- a name, and its default if it has one, are a formal
   formal_is : (name : List ℕ) (default : Option (List ℕ)) →
@@ -21,7 +21,7 @@ module _ (text : List ℕ) where
   formal_comes : (f : Formal) (e : List ℕ) → IsFormal f e → ComesTo (formal_of text e) (Ok f)
   formal_comes f e is = (Ok (parts f.name f.default), is, formal_is f.name f.default)
 
-  -- an element that is read as none
+  -- an element that is read as no formal
   abbrev IsNone : List ℕ → Type 0
   IsNone e = ComesTo (formal_of text e) (Err (bad_formals text))
 

@@ -1,4 +1,4 @@
--- What proc comes to, where its words are known.
+-- What proc does, where its words are known.
 use Rattle.std.proofs.Common.{◌≡◌, ℕ, List, [], ◌∷◌, length, get_or, sym, arith}
 use Rattle.procedures.specs.Proc.{defines_named, proc}
 use Rattle.tclstate.specs.Procs.{Procs}

@@ -7,7 +7,7 @@ use Rattle.kinds.specs.Variables.{name_in}
 use Rattle.tclstate.specs.Formals.{Formal}
 use Rattle.tcltext.specs.Flaw as list
 
--- the error of formals that are none; all of their text is told (this project's own rule)
+-- the error of a text that is no list of formals; it names the whole text (this project's own rule)
 abbrev pub bad_formals : List ℕ → Flaw
 bad_formals text = flaw.BadArgument text (codes "proc")
 
@@ -21,7 +21,7 @@ formal_in text _ = Err (bad_formals text)
 abbrev pub formal_of : List ℕ → List ℕ → Reading (Result Formal Flaw)
 formal_of text element = Reads (ListText element) (λ split. Found (formal_in text split))
 
--- its elements are read as formals in turn, up to the first that is none (proc(n))
+-- the elements of the text are read as formals in turn, up to the first that is none (proc(n))
 abbrev pub each_of : List ℕ → List (List ℕ) → Reading (Result (List Formal) Flaw)
 each_of text [] = Found (Ok [])
 each_of text (e ∷ es) =
@@ -31,7 +31,7 @@ each_of text (e ∷ es) =
 abbrev pub listed : List ℕ → Reading (Result (List Formal) Flaw)
 listed text = and_bind (elements text) (λ es. each_of text es)
 
--- no index stands behind the name of a formal, or there is the error (proc(n))
+-- no index stands after the name of a formal, or there is the error (proc(n))
 abbrev pub without_index : List ℕ → Option (List ℕ) → Result (Unit {0}) Flaw
 without_index text None = Ok tt
 without_index text (Some index) = Err (bad_formals text)
@@ -51,6 +51,6 @@ abbrev pub usable : List ℕ → List Formal → Result (List Formal) Flaw
 usable text fs = bind (all_whole text fs) (λ done. Ok fs)
 
 -- the formals that a text is; the text that is no list, the element that is no formal and the name
--- that is not that of a variable are told in this order (proc(n))
+-- that is not that of a variable are reported in this order (proc(n))
 abbrev pub formals_of : List ℕ → Reading (Result (List Formal) Flaw)
 formals_of text = and_bind (listed text) (λ fs. Found (usable text fs))

@@ -8,17 +8,17 @@ use Rattle.tclstate.specs.Formals.{Formal}
 use Rattle.tclstate.specs.Pairs.{put}
 use Rattle.tclstate.specs.Procs.{Procs}
 
--- the name is defined so, in place of what was defined for it before (proc(n))
+-- a procedure is defined for a name, in place of what was defined for it before (proc(n))
 abbrev pub defines : List ℕ → List Formal → List ℕ → Procs → Done Procs
 defines name formals body procs =
     (put procs name (record { formals = formals; body = body }), Ok [])
 
--- the same, where a text is formals (proc(n))
+-- the same, with the formals that a text is (proc(n))
 abbrev pub defines_read : List ℕ → List ℕ → List ℕ → Procs → Reading (Done Procs)
 defines_read name formals body procs =
     once (formals_of formals) procs (λ fs. Found (defines name fs body procs))
 
--- the same, but that a name that holds the mark of a namespace is none (proc(n); the mark is this
+-- the same, but a name that holds the mark of a namespace is refused (proc(n); the mark is this
 -- project's own rule)
 abbrev pub defines_named : List ℕ → List ℕ → List ℕ → Procs → Reading (Done Procs)
 defines_named name formals body procs =

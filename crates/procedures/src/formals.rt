@@ -14,8 +14,8 @@ use tclstate::{Formal, Formals, FormalsError};
 /// The formals that a text is, each with the name of a variable as a whole (proc(n)).
 ///
 /// # Errors
-/// The text is no list; an element of it is no formal; a name is none of a variable as a whole. Or
-/// memory is refused.
+/// The text is no list; an element of it is no formal; the name of a formal is not that of a
+/// variable as a whole. Or memory is refused.
 pub fn formals_of<A: Allocator + Copy>(alloc: A, text: &[u8]) -> Result<Formals<A>, Raise<A>>
     ensures { Finds (λ formals. formals) (definition.formals_of text.now) result }
 {
@@ -72,7 +72,7 @@ fn whole<A: Allocator + Copy>(alloc: A, text: &[u8], name: &[u8]) -> Result<(), 
     }
 }
 
-/// A text that is no formals.
+/// The error of a text that is no list of formals.
 fn bad_formals<A: Allocator + Copy>(alloc: A, text: &[u8]) -> Raise<A>
     ensures { Raises (definition.bad_formals text.now) result }
 {

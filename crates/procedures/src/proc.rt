@@ -12,12 +12,12 @@ use tclparse::holds_colons;
 use tclstate::{Formals, Procedure, Procs};
 use tcltext::Value;
 
-/// Defines a procedure, in place of what was defined for its name before. The name is looked at
+/// Defines a procedure, in place of what was defined for its name before. The name is examined
 /// first, then the formals; the body is read when the procedure is called.
 ///
 /// # Errors
-/// Another number of words; a name that holds `::`; formals that are none; or memory is refused.
-/// Nothing changes.
+/// The wrong number of words; a name that holds `::`; a text that is no list of formals; or memory
+/// is refused. Nothing changes.
 pub fn begin<A: Allocator + Copy>(
     alloc: A,
     procs: &mut Procs<A>,
@@ -34,7 +34,7 @@ pub fn begin<A: Allocator + Copy>(
     }
 }
 
-/// Defines the procedure of a name, which is none where it holds `::`.
+/// Defines the procedure of a name; a name that holds `::` is refused.
 fn define_named<A: Allocator + Copy>(
     alloc: A,
     procs: &mut Procs<A>,

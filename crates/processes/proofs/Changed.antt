@@ -1,4 +1,4 @@
--- The state fits again where an open id was changed that may be waited for as before.
+-- The states fit again where an open id was changed and may be waited for as before.
 use Rattle.std.proofs.Common.{◌≡◌, ◌==◌, ℕ, Bool, true, false, List, [], ◌∷◌, Some, is_some, if◌then◌else◌, refl, ap}
 use Rattle.state.specs.Prelude.{Id, Status, FitsState}
 use Rattle.dialog.proofs.Changes.{fits_size}

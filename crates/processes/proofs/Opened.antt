@@ -1,4 +1,4 @@
--- What comes of a command once the id of a process is open.
+-- How a command continues once the id of a process is open.
 use Rattle.std.proofs.Common.{ℕ, Result, Ok, Err}
 use Rattle.state.specs.Prelude.{Id, Raise, Deed, Reply, Course, Status, FitsState}
 use Rattle.acts.specs.declared.raise.Raise.TheVariants as raise
@@ -10,7 +10,7 @@ use Rattle.processes.specs.Numbers.{Opens}
 use Rattle.state.specs.declared.leaf.Leaf.{Leaf}
 use Rattle.state.specs.declared.state.State.{State}
 
--- it goes on as it does where the id is open
+-- a program that was started leads on as it does from the state in which its id is open
 pub running_goes_on : {A W : Type 0} (next : W → Deed → Status → Reply → Course) (pid : ℕ)
     (i : Id) (s : Status) (r : Result (Leaf A W) (Raise A)) (old new : State A) →
     ((t : Status) → FitsState old t → GoesOn next (enters_process {n = 2} pid i t) t r new) →

@@ -48,7 +48,7 @@ id_said args s = by_words (after_pair (codes "-i") args) s
 abbrev pub close : List (List ℕ) → Status → Result (Exchange 4) Flaw
 close args s = bind (id_said args s) (λ i. Ok (closes i))
 
--- what follows the answer to its act (expect(1), close)
+-- what follows the answer to the act of close (expect(1), close)
 abbrev pub follows : Waits → Exchange 3
 follows waits = over waits.id
 

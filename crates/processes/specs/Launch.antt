@@ -1,4 +1,4 @@
--- How a program is started, after its echo; n counts the acts that are to spare behind it.
+-- How a program is started, after its echo; n is the number of acts to spare after the start.
 use Rattle.std.specs.Prelude.{ℕ, suc, Bool, true, false, List, [], ◌∷◌, ◌++◌, None, codes, decimal, Result, Ok}
 use Rattle.state.specs.Prelude.{Id, Reply, Flaw, bind, Status, Scopes}
 use Rattle.acts.specs.Deed as said
@@ -37,7 +37,7 @@ runs pid s i = Opens (OpensId i (Process pid)) (enters_process pid i s)
 abbrev pub running : {n : ℕ} → ℕ → Status → Exchange (suc n)
 running pid s = settled (bind (next_id s) (λ i. Ok (runs pid s i)))
 
--- what an answer to the start of a program comes to (expect(1), spawn)
+-- what follows an answer to the start of a program (expect(1), spawn)
 abbrev pub started : {n : ℕ} → List (List ℕ) → Status → Reply → Exchange (suc n)
 started words s (said.Started pid) = running pid s
 started words s _ = Edits Skips (fails (flaw.CannotExecute (name_of words)))
@@ -62,8 +62,8 @@ noted true i words =
     Performs (said.Log (echo_of words)) tt (λ s reply. written (starts i words) reply)
 noted false i words = starts i words
 
--- the echo is written to the log where what arrives is, and the program is started (expect(1),
--- spawn and log_file)
+-- the echo is written to the log if what arrives is written there, and the program is started
+-- (expect(1), spawn and log_file)
 abbrev pub notes : {n : ℕ} → Id → List (List ℕ) → Status → Exchange (suc (suc (suc n)))
 notes i words s = noted (is_logged s.log) i words
 
@@ -74,8 +74,8 @@ shown true i words s =
     Performs (said.Out (echo_of words)) tt (λ t reply. written (notes i words t) reply)
 shown false i words s = notes i words s
 
--- a program is started, after its echo where it has one, which is written where what arrives is
--- (expect(1), spawn and log_user)
+-- a program is started, after its echo where it has one; the echo is written where what arrives is
+-- written (expect(1), spawn and log_user)
 abbrev pub echoes : Bool → Id → List (List ℕ) → Status → Exchange 4
 echoes true i words s = shown (goes_out s.log) i words s
 echoes false i words s = starts i words

@@ -32,13 +32,13 @@ size_said word = bind (number word) (λ n. sized_by (size_of n))
 abbrev pub size_at : Id → Status → Option ℕ
 size_at i s = option_map (λ l. l.held.max) (line_of (lines s) i)
 
--- what is told of the size of an id's buffer (expect(1), match_max)
+-- the text that reports the size of an id's buffer (expect(1), match_max)
 abbrev pub told : Option ℕ → List ℕ
 told (Some bytes) = decimal bytes
 told None = []
 
--- the size is given, or set as a word says: the name of an id stands before the word, and the id in
--- force is sought behind it (expect(1), match_max)
+-- the size is given, or set as a word says: an id that is named is looked up before the word is
+-- read, the id in force after that (expect(1), match_max)
 abbrev pub asked : Whose → Option (List ℕ) → Status → Result (Exchange 0) Flaw
 asked Later None s = Ok (gives (decimal s.ids.size))
 asked Later (Some w) s = bind (size_said w) (λ n. Ok (Edits (SizesLater n) (gives [])))

@@ -13,7 +13,7 @@ abbrev pub numbered : Option Id → Result Id Flaw
 numbered (Some i) = Ok i
 numbered None = Err flaw.TooManyIds
 
--- the id of the next number, for which an act is made; the answer to the act uses the number up
+-- the id of the next number, under which an act is made; the answer to the act uses the number up
 -- (this project's own rule)
 abbrev pub next_id : Status → Result Id Flaw
 next_id s = numbered (next_in s.ids)

@@ -16,7 +16,7 @@ drops_said word =
     else if bytes_eq word (codes "1") then Ok true
     else Err (flaw.BadArgument word (codes "remove_nulls"))
 
--- how it is told whether nulls are removed (expect(1), remove_nulls)
+-- the text that reports whether nulls are removed (expect(1), remove_nulls)
 abbrev pub told : Bool → List ℕ
 told true = codes "1"
 told false = codes "0"
@@ -25,13 +25,13 @@ told false = codes "0"
 abbrev pub drops_at : Id → Status → Option Bool
 drops_at i s = option_map (λ l. l.drops_nulls) (line_of (lines s) i)
 
--- what is told of that for an id (expect(1), remove_nulls)
+-- the text that reports the same of an id (expect(1), remove_nulls)
 abbrev pub told_of : Option Bool → List ℕ
 told_of (Some drops) = told drops
 told_of None = []
 
--- it is given, or set as a word says: the name of an id stands before the word, and the id in force
--- is sought behind it (expect(1), remove_nulls)
+-- whether nulls are removed is given, or set as a word says: an id that is named is looked up
+-- before the word is read, the id in force after that (expect(1), remove_nulls)
 abbrev pub asked : Whose → Option (List ℕ) → Status → Result (Exchange 0) Flaw
 asked Later None s = Ok (gives (told s.ids.drops_nulls))
 asked Later (Some w) s =

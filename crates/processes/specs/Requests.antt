@@ -14,11 +14,11 @@ pub record Request : Type 0 where
   pub whose : Whose
   pub value : Option (List ℕ)
 
--- a request by its parts
+-- a request, put together from its parts
 abbrev pub request_by : Whose → Option (List ℕ) → Request
 request_by whose value = record { whose = whose; value = value }
 
--- the id of a name, which is not looked at for the setting of later ids (expect(1), match_max)
+-- whose setting it is; a name is not examined for the setting of later ids (expect(1), match_max)
 abbrev pub whose_name : Bool → Option (List ℕ) → Whose
 whose_name true name = Later
 whose_name false name = Of name

@@ -30,7 +30,7 @@ by_name (name, words) s =
 abbrev pub send : List (List ℕ) → Status → Result (Exchange 4) Flaw
 send args s = by_name (after_pair (codes "-i") args) s
 
--- what follows the answer to its act (expect(1), send)
+-- what follows the answer to the act of send (expect(1), send)
 abbrev pub follows : Waits → Reply → Exchange 3
 follows (waits.Sent id) = sent id
 

@@ -11,7 +11,7 @@ use Rattle.processes.specs.declared.sleep.Waits.{Waits}
 abbrev pub follows : Exchange 3
 follows = gives []
 
--- so many seconds pass, where they are not below 0 (expect(1), sleep)
+-- a number of seconds pass, where the number is not below 0 (expect(1), sleep)
 abbrev pub sleeps : List ℕ → ℤ → Result (Exchange 4) Flaw
 sleeps word (pos seconds) = Ok (Performs (said.Sleep seconds) tt (λ s reply. follows))
 sleeps word (negsuc n) = Err (flaw.BadArgument word (codes "sleep"))
@@ -21,6 +21,6 @@ abbrev pub sleep : List (List ℕ) → Result (Exchange 4) Flaw
 sleep (w ∷ []) = bind (number w) (sleeps w)
 sleep _ = Err (flaw.WrongArgs (codes "sleep"))
 
--- what follows the answer to its act, as a part of a run (expect(1), sleep)
+-- what follows the answer to the act of sleep, as a part of a run (expect(1), sleep)
 abbrev pub next_of : Waits → Deed → Status → Reply → Course
 next_of waits deed s reply = course follows s

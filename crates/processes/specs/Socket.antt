@@ -19,7 +19,7 @@ opens i = Opens (OpensId i Socket) (gives (channel_text i.0))
 abbrev pub reached : Status → Exchange 3
 reached s = settled (bind (next_id s) (λ i. Ok (opens i)))
 
--- what an answer to a call of a server comes to (socket(n))
+-- what follows an answer to a call of a server (socket(n))
 abbrev pub connected : Flaw → Status → Reply → Exchange 3
 connected why s said.Done = reached s
 connected why s _ = Edits Skips (fails why)
@@ -42,7 +42,7 @@ port_of word (negsuc n) = Err (flaw.BadArgument word (codes "socket"))
 abbrev pub port_said : List ℕ → Result ℕ Flaw
 port_said word = bind (number word) (port_of word)
 
--- the word of a host and that of a port, which stand alone (socket(n))
+-- the words of a host and of a port, where there are these two words and no other (socket(n))
 abbrev pub two_words : List (List ℕ) → Result (List ℕ × List ℕ) Flaw
 two_words (host ∷ word ∷ []) = Ok (host, word)
 two_words _ = Err (flaw.WrongArgs (codes "socket"))
@@ -61,7 +61,7 @@ abbrev pub refusal_of : Deed → Flaw
 refusal_of (said.Connect i host port) = flaw.CannotConnect host port
 refusal_of _ = flaw.CannotConnect [] 0
 
--- what follows the answer to its act (socket(n))
+-- what follows the answer to the act of socket (socket(n))
 abbrev pub follows : Deed → Status → Reply → Exchange 3
 follows deed = connected (refusal_of deed)
 

@@ -12,21 +12,21 @@ use Rattle.processes.specs.View.{words_of, words_spawned}
 use Rattle.processes.specs.declared.spawn.Waits.{Waits}
 use Rattle.processes.specs.declared.spawn.Waits.TheVariants as waits
 
--- the flag behind which an open channel stands (expect(1), spawn)
+-- the flag after which an open channel stands (expect(1), spawn)
 abbrev pub is_open_flag : List ℕ → Bool
 is_open_flag w = bytes_eq w (codes "-open")
 
--- the open connection of the one word behind the flag (expect(1), spawn)
+-- the open connection of the one word after the flag (expect(1), spawn)
 abbrev pub channel_said : List (List ℕ) → Status → Result Id Flaw
 channel_said (w ∷ []) s = connection_id w s
 channel_said _ s = Err (flaw.WrongArgs (codes "spawn"))
 
 -- the id of an open channel is in force, and 0 is given, as no process is started; no word may
--- stand behind the channel (expect(1), spawn)
+-- stand after the channel (expect(1), spawn)
 abbrev pub by_channel : List (List ℕ) → Status → Result (Exchange 4) Flaw
 by_channel words s = bind (channel_said words s) (λ i. enters (codes "0") i s.scopes)
 
--- the words behind the first flag: those of a channel, or those of a program, of which the first is
+-- the words after the first flag: those of a channel, or those of a program, of which the first is
 -- no flag (expect(1), spawn)
 abbrev pub spawns : Bool → List (List ℕ) → Status → Result (Exchange 4) Flaw
 spawns echo [] s = Err (flaw.WrongArgs (codes "spawn"))

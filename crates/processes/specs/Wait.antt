@@ -23,7 +23,8 @@ abbrev pub spelled : Option Unreaped → List ℕ → Result Unreaped Flaw
 spelled (Some u) text = Ok u
 spelled None text = Err (flaw.NotOpen (Some text))
 
--- the id, not yet waited for, that a text spells; another is named as it stands (expect(1), wait)
+-- the id, not yet waited for, that a text spells; a text that spells none is named in the error as
+-- it stands (expect(1), wait)
 abbrev pub unreaped_named : List ℕ → Status → Result Unreaped Flaw
 unreaped_named text s = spelled (among (unreaped s.ids.peers) text) text
 
@@ -69,7 +70,7 @@ abbrev pub status_in : Reply → Option ℕ
 status_in (said.Exited status) = status
 status_in _ = None
 
--- a process is waited for; a connection is over at once (expect(1), wait)
+-- a process is waited for; the wait for a connection is over at once (expect(1), wait)
 abbrev pub waits_by : Kind → Id → Exchange 4
 waits_by (Process pid) i =
     Performs (said.Reap i) tt (λ s reply. over i pid (status_in reply))
@@ -79,7 +80,7 @@ waits_by Socket i = over i 0 (Some 0)
 abbrev pub wait : List (List ℕ) → Status → Result (Exchange 4) Flaw
 wait args s = bind (unreaped_said args s) (λ u. Ok (waits_by u.kind u.id))
 
--- what follows the answer to its act (expect(1), wait)
+-- what follows the answer to the act of wait (expect(1), wait)
 abbrev pub follows : Waits → Reply → Exchange 3
 follows waits reply = over waits.id waits.pid (status_in reply)
 

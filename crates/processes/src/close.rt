@@ -19,17 +19,17 @@ const USAGE: Usage<'static> = Usage {
     flags: &[b"-i"],
 };
 
-/// What waits for the answer to an act: once its connection is closed an id is no longer open, and
-/// the command is over.
+/// What waits for the answer to an act: once the connection of this id is closed, the id is no
+/// longer open, and the command is over.
 #[derive(Clone, Copy, Debug, PartialEq, Eq)]
 pub struct Waits {
     pub id: Id,
 }
 
-/// Begins to close the id in force, the one that stands behind the flag, or that of a channel.
+/// Begins to close the id in force, the one that stands after the flag, or that of a channel.
 ///
 /// # Errors
-/// The words are others, or the id is not open; or memory is refused.
+/// The words are not those that `close` takes, or the id is not open; or memory is refused.
 pub fn begin<A: Allocator + Copy>(
     alloc: A,
     state: &State<A>,
@@ -42,7 +42,7 @@ pub fn begin<A: Allocator + Copy>(
     Ok(Leaf::Asks(Act::Close(id), Waits { id }))
 }
 
-/// Goes on once the connection is closed; there is no error.
+/// Continues the command once the connection is closed; there is no error.
 pub fn answered<A: Allocator + Copy>(
     state: &mut State<A>,
     waits: Waits,
@@ -71,7 +71,7 @@ fn id_said<A: Allocator + Copy>(
     }
 }
 
-/// The open id of a name, where no word stands after it.
+/// The open id of a name, where no word stands after the name.
 fn by_name<A: Allocator + Copy>(
     alloc: A,
     state: &State<A>,

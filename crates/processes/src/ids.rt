@@ -1,4 +1,4 @@
-//! The changes of what is kept of ids.
+//! Changes of what the state keeps about ids.
 
 ghost use Rattle.std.specs.Prelude.{◌≡◌, ◌==◌, not, OnErr, OnOk, filter};
 ghost use Rattle.state.specs.Prelude.{Status, FitsState};

@@ -21,7 +21,8 @@ use state::{Leaf, State};
 use std::alloc::Allocator;
 use tcltext::Value;
 
-/// Starts a program of these words under the next number, after its echo unless it has none.
+/// Begins to start the program of these words under the next number; the echo, if there is to be
+/// one, comes first.
 ///
 /// # Errors
 /// No id is left; or memory is refused.
@@ -39,8 +40,8 @@ pub(crate) fn launch<A: Allocator + Copy>(
     Ok(show(alloc, state, echo, id, copies)?)
 }
 
-/// Writes the echo, where there is one, to standard output, where what arrives is written there,
-/// then to the log, and then starts the program.
+/// Writes the echo, where there is one, to standard output if what arrives is written there, then
+/// to the log, and then starts the program.
 fn show<A: Allocator + Copy>(
     alloc: A,
     state: &State<A>,
@@ -62,7 +63,7 @@ fn show<A: Allocator + Copy>(
     Ok(Leaf::Asks(Act::Out(line), Waits::Shown(id, words)))
 }
 
-/// Writes the echo to the log, where what arrives is written there, and then starts the program.
+/// Writes the echo to the log if what arrives is written there, and then starts the program.
 #[tactic(auto, using(crate::proofs::Spare::after_write))]
 pub(crate) fn note<A: Allocator + Copy>(
     alloc: A,
@@ -81,10 +82,11 @@ pub(crate) fn note<A: Allocator + Copy>(
     Ok(Leaf::Asks(Act::Log(line), Waits::Noted(id, words)))
 }
 
-/// After the start of a program its id is open and in force, or the program could not be started.
+/// Continues after the start of a program: opens its id and puts it in force, unless the program
+/// could not be started.
 ///
 /// # Errors
-/// The program could not be started, no id is left, or the variable `spawn_id` is not written; or
+/// The program could not be started, no id is left, or the variable `spawn_id` can't be written; or
 /// memory is refused.
 pub(crate) fn started<A: Allocator + Copy>(
     alloc: A,
@@ -142,7 +144,7 @@ fn enter_process<A: Allocator + Copy>(
 /// Puts an open id in force.
 ///
 /// # Errors
-/// The variable `spawn_id` is not written, and nothing changes; or memory is refused.
+/// The variable `spawn_id` can't be written, and nothing changes; or memory is refused.
 pub(crate) fn enter<A: Allocator + Copy>(
     alloc: A,
     state: &mut State<A>,

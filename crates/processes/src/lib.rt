@@ -1,5 +1,5 @@
 //! The commands that start programs and call servers, talk to them, wait for them and close them,
-//! and those that read and set what is kept of each.
+//! and those that read and set the settings of each.
 #![tactic(auto)]
 
 pub mod close;

@@ -18,7 +18,8 @@ use tcltext::Value;
 /// Gives the size of a match buffer, or that of later ones, or sets it.
 ///
 /// # Errors
-/// The words are others, the id is not open, or the word says no size; or memory is refused.
+/// The words are not those that `match_max` takes, the id is not open, or the word says no size; or
+/// memory is refused.
 pub fn begin<A: Allocator + Copy>(
     alloc: A,
     state: &mut State<A>,

@@ -11,7 +11,7 @@ use dialog::{Kind, OpenError};
 use state::State;
 use std::alloc::Allocator;
 
-/// The id of the next number, for which an act is made: the answer to the act uses the number up.
+/// The id of the next number, under which an act is made: the answer to the act uses the number up.
 ///
 /// # Errors
 /// Too many ids are open, or no number is left.

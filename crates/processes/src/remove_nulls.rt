@@ -14,10 +14,12 @@ use state::State;
 use std::alloc::Allocator;
 use tcltext::Value;
 
-/// Gives whether nulls are removed from what arrives at an id, or at later ones, or sets it.
+/// Gives whether nulls are removed from what arrives at an id, or at later ones, or sets whether
+/// they are.
 ///
 /// # Errors
-/// The words are others, the id is not open, or the word says neither; or memory is refused.
+/// The words are not those that `remove_nulls` takes, the id is not open, or the word is neither
+/// `0` nor `1`; or memory is refused.
 pub fn begin<A: Allocator + Copy>(
     alloc: A,
     state: &mut State<A>,

@@ -26,10 +26,10 @@ pub struct Request<'a> {
     pub value: Option<&'a [u8]>,
 }
 
-/// Reads the words of a command.
+/// Reads the words of a command as a request.
 ///
 /// # Errors
-/// The words are others; or memory is refused for the error.
+/// The words are not those that the command takes; or memory is refused for the error.
 pub(crate) fn read_request<'a, A: Allocator + Copy>(
     alloc: A,
     args: &'a [Value<A>],
@@ -48,7 +48,7 @@ pub(crate) fn read_request<'a, A: Allocator + Copy>(
     Ok(Request { whose, value })
 }
 
-/// The setting is that of later ids, or that of an id.
+/// Whose setting it is: that of later ids, or that of the id of a name.
 fn whose_name(later: bool, name: Option<&[u8]>) -> Whose<'_>
     ensures { whose_of result ≡ definition.whose_name later (option_copied name.entry) }
 {

@@ -45,7 +45,10 @@ pub fn begin<A: Allocator + Copy>(
     Ok(send_bytes(alloc, id, text)?)
 }
 
-/// Goes on with the answer to the send.
+/// Continues the command with the answer to the send.
+///
+/// # Errors
+/// The send failed.
 pub fn answered<A: Allocator + Copy>(
     state: &State<A>,
     waits: Waits,

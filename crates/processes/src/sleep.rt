@@ -19,10 +19,10 @@ pub enum Waits {
     Slept,
 }
 
-/// Begins to sleep for so many seconds.
+/// Begins to sleep for as many seconds as the word says.
 ///
 /// # Errors
-/// There is not one word, or it is no number, or is one below 0; or memory is refused.
+/// There is not one word, or the word is no number or a number below 0; or memory is refused.
 pub fn begin<A: Allocator + Copy>(
     alloc: A,
     state: &State<A>,
@@ -41,7 +41,7 @@ pub fn begin<A: Allocator + Copy>(
     Ok(Leaf::Asks(Act::Sleep(number.unsigned_abs()), Waits::Slept))
 }
 
-/// Goes on after the sleep, whatever its answer.
+/// Continues the command after the sleep, whatever the answer is.
 ///
 /// # Errors
 /// There are none.

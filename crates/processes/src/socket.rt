@@ -42,7 +42,7 @@ pub fn begin<A: Allocator + Copy>(
     Ok(Leaf::Asks(Act::Connect(id, name, port), Waits::Connected))
 }
 
-/// Goes on with the answer to the call: it opens an id, or uses the number up.
+/// Continues the command with the answer to the call: opens an id, or uses the number up.
 ///
 /// # Errors
 /// The server could not be reached, or no id is left; or memory is refused.
@@ -65,7 +65,7 @@ pub fn answered<A: Allocator + Copy>(
     }
 }
 
-/// The word of a host and that of a port, which stand alone.
+/// The words of a host and of a port, where there are these two words and no other.
 fn two_words<A: Allocator + Copy>(alloc: A, args: &[Value<A>]) -> Result<(&[u8], &[u8]), Raise<A>>
     ensures { Answers (λ words. (words.0.now, words.1.now)) (definition.two_words args.now) result }
 {

@@ -24,10 +24,10 @@ const USAGE: Usage<'static> = Usage {
 /// What waits for the answer to an act.
 #[derive(Debug, Drop)]
 pub enum Waits<A: Allocator> {
-    /// The echo is on standard output, goes to the log where what arrives does, and a program of
-    /// these words is started under this id.
+    /// The echo is written to standard output. Next it goes to the log, if what arrives is written
+    /// there, and a program of these words is started under this id.
     Shown(Id, Vec<Vec<u8, A>, A>),
-    /// The echo is in the log, and a program of these words is started under this id.
+    /// The echo is written to the log. Next a program of these words is started under this id.
     Noted(Id, Vec<Vec<u8, A>, A>),
     /// The program is started, and its id is opened.
     Started,
@@ -37,8 +37,9 @@ pub enum Waits<A: Allocator> {
 /// puts the id of an open channel in force.
 ///
 /// # Errors
-/// No word stands behind the flags, or a flag that is none; the channel is not open, or a word
-/// stands behind it; no id is left; the variable `spawn_id` is not written; or memory is refused.
+/// No word stands after the flags, or a word that looks like a flag and is none; the channel is not
+/// open, or a word stands after it; no id is left; the variable `spawn_id` can't be written; or
+/// memory is refused.
 pub fn begin<A: Allocator + Copy>(
     alloc: A,
     state: &mut State<A>,
@@ -52,10 +53,10 @@ pub fn begin<A: Allocator + Copy>(
     spawn(alloc, state, !quiet, words)
 }
 
-/// Goes on with the answer to a write of the echo or to the start of the program.
+/// Continues the command with the answer to a write of the echo or to the start of the program.
 ///
 /// # Errors
-/// The program could not be started, no id is left, or the variable `spawn_id` is not written; or
+/// The program could not be started, no id is left, or the variable `spawn_id` can't be written; or
 /// memory is refused.
 pub fn answered<A: Allocator + Copy>(
     alloc: A,
@@ -76,14 +77,14 @@ pub fn answered<A: Allocator + Copy>(
     }
 }
 
-/// Whether a word is the flag behind which an open channel stands.
+/// Whether a word is the flag after which an open channel stands.
 fn is_open_flag(word: &[u8]) -> bool
     ensures { result ≡ definition.is_open_flag word.now }
 {
     word == b"-open".as_slice()
 }
 
-/// Puts the id of a channel in force, or starts a program, by the words behind the first flag.
+/// Puts the id of a channel in force, or starts a program, by the words after the first flag.
 fn spawn<A: Allocator + Copy>(
     alloc: A,
     state: &mut State<A>,
@@ -122,7 +123,7 @@ fn enter_channel<A: Allocator + Copy>(
     Ok(gives(zero))
 }
 
-/// The open connection of the one word behind the flag.
+/// The open connection of the one word after the flag.
 fn channel_said<A: Allocator + Copy>(
     alloc: A,
     state: &State<A>,

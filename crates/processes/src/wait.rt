@@ -31,11 +31,12 @@ pub struct Waits {
     pub pid: u64,
 }
 
-/// Begins to wait for the id in force, or the one that stands behind the flag; a connection is over
-/// at once.
+/// Begins to wait for the id in force, or the one that stands after the flag; the wait for a
+/// connection is over at once.
 ///
 /// # Errors
-/// The words are others, or the id was waited for; or memory is refused.
+/// The words are not those that `wait` takes, or mean no id that is still to be waited for; or
+/// memory is refused.
 pub fn begin<A: Allocator + Copy>(
     alloc: A,
     state: &mut State<A>,
@@ -56,7 +57,7 @@ pub fn begin<A: Allocator + Copy>(
     }
 }
 
-/// Goes on with the answer to the wait.
+/// Continues the command with the answer to the wait.
 ///
 /// # Errors
 /// Memory is refused.
@@ -103,7 +104,7 @@ fn unreaped_said<A: Allocator + Copy>(
     }
 }
 
-/// The id, not yet waited for, that the variable names, where it is set.
+/// The id, not yet waited for, that the variable `spawn_id` names, where the variable is set.
 fn unreaped_current<A: Allocator + Copy>(alloc: A, state: &State<A>) -> Result<Unreaped, Raise<A>>
     ensures { (s : Status) → FitsState state.now s →
         Answers unreaped_of (definition.unreaped_current s) result }
@@ -142,7 +143,7 @@ fn unreaped_among(unreaped: &[Unreaped], text: &[u8]) -> Option<Unreaped>
     None
 }
 
-/// What is given of an id that was waited for: the number of its process, the id, and how it ended.
+/// What the command gives for an id: the number of its process, the id, and how the process ended.
 fn report<A: Allocator + Copy>(
     alloc: A,
     pid: u64,

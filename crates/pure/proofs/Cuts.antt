@@ -5,7 +5,7 @@ use Rattle.std.proofs.lemmas.List.Sums.{position_or_len_is}
 use Rattle.std.specs.List.{slice_split, onto_first, position_or_len}
 
 module _ (p : ℕ → Bool) where
-  -- at the first byte that passes
+  -- the cut at the first byte that passes
   pub cut_here : (xs : List ℕ) (i : ℕ) → i < length xs →
       ((k : ℕ) → k < i → p (get_or xs k 0) ≡ false) → p (get_or xs i 0) ≡ true →
       slice_split p xs ≡ take i xs ∷ slice_split p (drop (i + 1) xs)
@@ -15,7 +15,7 @@ module _ (p : ℕ → Bool) where
       subst (λ n. slice_split p xs ≡ take n xs ∷ slice_split p (drop (n + 1) xs)) at
       (slice_split_first p xs 0 (omega arith))
 
-  -- no byte passes
+  -- no cut, where no byte passes
   pub cut_nowhere : (xs : List ℕ) → ((k : ℕ) → k < length xs → p (get_or xs k 0) ≡ false) →
       slice_split p xs ≡ xs ∷ []
   cut_nowhere [] none = refl

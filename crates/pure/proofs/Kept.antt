@@ -6,14 +6,14 @@ use Rattle.pure.specs.Joined.{separated}
 use Rattle.pure.specs.Trim.{trim, white}
 use Rattle.tcltext.specs.Canonical.{is_empty}
 
--- the word at a place, and those behind it
+-- the word at a place, and those after it
 word_at : (words : List (List ℕ)) (i : ℕ) (x : List ℕ) → i < length words →
     x ≡ get_or words i x → drop i words ≡ x ∷ drop (i + 1) words
 word_at words i x below is =
     drop-cons words i x below ∙ ap (λ y. y ∷ drop (suc i) words) (sym is)
     ∙ ap (λ n. x ∷ drop n words) (sym (add-one i))
 
--- what is kept of a word and others
+-- the kept words: a word, unless it is empty, and then the others
 abbrev with : List ℕ → List (List ℕ) → List (List ℕ)
 with t rest = cond (not (is_empty t)) (t ∷ rest) rest
 
@@ -32,7 +32,7 @@ module _ (words : List (List ℕ)) (i : ℕ) (x t : List ℕ) (below : i < lengt
       ∙ ap (λ u. with u (kept (drop (i + 1) words))) (sym trimmed)
 
   module _ (text all : List ℕ) (first : Bool) where
-    -- a word that is not empty is kept, and stands behind the text
+    -- a word that is not empty is kept, and stands after the text
     pub added : (new : List ℕ) → (length t == 0) ≡ false →
         text ++ separated first (32 ∷ []) (kept (drop i words)) ≡ all →
         new ≡ text ++ ((if first then [] else 32 ∷ []) ++ t) →

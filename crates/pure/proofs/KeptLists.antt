@@ -11,7 +11,7 @@ use Rattle.pure.specs.Place.{item_at, placed, within}
 use Rattle.tcltext.proofs.Unique.{one_list}
 use Rattle.tcltext.specs.Elements.{IsList}
 
--- on with a place that is known
+-- what follows a place that is known
 module _ {A : Type 0} (command word : List ℕ) (next : ℤ → Meaning)
     (r : Result (List ℕ) (Raise A)) where
   pub placed_none : (place : Option ℤ) → place ≡ None →
@@ -23,7 +23,7 @@ module _ {A : Type 0} (command word : List ℕ) (next : ℤ → Meaning)
       Answers (placed place command word next) r
   placed_some place p some says = subst (λ p. Answers (placed p command word next) r) (sym some) says
 
--- a place beyond the elements has none
+-- a place beyond the elements has no element
 by_test : (v : List (List ℕ)) (n : ℕ) (b : Bool) → nat_lt n (length v) ≡ b →
     (if b then Some n else None) ≡ None → slice_get v n ≡ None
 by_test v n true is none = absurd (cc)
@@ -34,7 +34,7 @@ pub none_there : (v : List (List ℕ)) (p : ℤ) → within p (length v) ≡ Non
 none_there v (pos n) none = by_test v n (nat_lt n (length v)) refl none
 none_there v (negsuc n) none = refl
 
--- one of theirs is that of the element
+-- a place within the elements is the index of its element
 some_by : (n m : ℕ) (b : Bool) → (if b then Some n else None) ≡ Some m → n ≡ m
 some_by n m true is = cc
 some_by n m false is = absurd (cc)
@@ -44,7 +44,7 @@ pub item_there : (v : List (List ℕ)) (p : ℤ) (n : ℕ) → within p (length 
 item_there v (pos k) n is = ap (slice_get v) (some_by k n (nat_lt k (length v)) is)
 item_there v (negsuc k) n is = absurd (cc)
 
--- a part by places within the elements is that by the places themselves
+-- a part by places that are cut off at the number of elements is the part by the places themselves
 pub part_same : (v : List (List ℕ)) (a b : ℕ) →
     take (min b (length v) - min a (length v)) (drop (min a (length v)) v) ≡ slice_range v a b
 part_same v a b =
@@ -57,7 +57,7 @@ part_same v a b =
         ≡ min (b - a) (length (drop a v))
     same = omega (arith, length-drop a v)
 
--- two readings of one text have as many elements
+-- two readings of one text have the same number of elements
 pub as_many : (text : List ℕ) (v u : List (List ℕ)) (n : ℕ) → IsList v text → IsList u text →
     n ≡ length v → n ≡ length u
 as_many text v u n one other is = is ∙ ap length (one_list text v u one other)

@@ -5,11 +5,11 @@ use Rattle.meanings.specs.Meaning.{Meaning, Gives}
 use Rattle.pure.specs.Trim.{trim, white}
 use Rattle.tcltext.specs.Canonical.{is_empty}
 
--- the words without white at their ends, and without those that are empty then (concat(n))
+-- the words without white space at their ends, and without those that are empty then (concat(n))
 abbrev pub kept : List (List ℕ) → List (List ℕ)
 kept words = filter (λ x. not (is_empty x)) (map (trim white) words)
 
--- these words with a blank between them (concat(n))
+-- the kept words with a blank between them (concat(n))
 abbrev pub concatenated : List (List ℕ) → List ℕ
 concatenated words = joined (codes " ") (kept words)
 

@@ -1,4 +1,4 @@
--- Texts one after the other, with another between them.
+-- Texts one after the other, with a separator between them.
 use Rattle.std.specs.Prelude.{ℕ, List, [], ◌∷◌, ◌++◌, Bool, true, false, if◌then◌else◌}
 
 -- the texts, each but the very first with the separator before it (join(n))

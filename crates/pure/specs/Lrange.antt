@@ -5,7 +5,7 @@ use Rattle.meanings.specs.Meaning.{Meaning, Gives, Raises, Splits}
 use Rattle.pure.specs.Place.{on_place, items_from}
 use Rattle.tcltext.specs.Canonical.{canonical}
 
--- the list of the elements from one place up to another (lrange(n))
+-- the list of the elements from one place up to and including another (lrange(n))
 abbrev pub part : List ℕ → List ℕ → List (List ℕ) → Meaning
 part first last elements =
     on_place (codes "lrange") first (length elements) (λ from.

@@ -1,4 +1,4 @@
--- Which command a name has, and what it says of its words.
+-- The commands by their names, and the meaning of each for its words.
 use Rattle.std.specs.Prelude.{ℕ, List, codes, Option, Some, None, if◌then◌else◌}
 use Rattle.std.specs.Str.{bytes_eq}
 use Rattle.pure.specs.declared.command.Pure.{Pure}
@@ -13,8 +13,8 @@ use Rattle.pure.specs.Split.{split}
 use Rattle.pure.specs.Strings.{string}
 use Rattle.tcltext.specs.Canonical.{canonical}
 
--- the command of a name (concat(n), join(n), lindex(n), list(n), llength(n), lrange(n), split(n),
--- string(n))
+-- the command that has this name, if one has (concat(n), join(n), lindex(n), list(n), llength(n),
+-- lrange(n), split(n), string(n))
 abbrev pub named : List ℕ → Option Pure
 named name =
     if bytes_eq name (codes "concat") then Some pure.Concat
@@ -27,7 +27,7 @@ named name =
     else if bytes_eq name (codes "string") then Some pure.String
     else None
 
--- what a command says of the words behind its name (Tcl(n), rule 2)
+-- the meaning of a command for the words after its name (Tcl(n), rule 2)
 abbrev pub says : Pure → List (List ℕ) → Meaning
 says pure.Concat words = concat words
 says pure.Join words = join words

@@ -6,7 +6,7 @@ use Rattle.meanings.specs.Meaning.{Meaning, Gives, Raises}
 use Rattle.pure.specs.Trim.{is_among}
 use Rattle.tcltext.specs.Canonical.{canonical}
 
--- the pieces of a text before, between and behind those of its bytes that are among these; the
+-- the pieces of a text before, between and after those of its bytes that are among these; the
 -- empty text has none; where no bytes are named each byte is a piece (split(n))
 abbrev pub pieces : List ℕ → List ℕ → List (List ℕ)
 pieces bytes [] = []

@@ -45,7 +45,7 @@ subcommands =
 abbrev pub named : List ℕ → Option Subcommand
 named name = found subcommands name
 
--- what a subcommand does with the words behind its name (string(n))
+-- what a subcommand does with the words after its name (string(n))
 abbrev pub does : Subcommand → List (List ℕ) → Meaning
 does subcommand.Length words = length words
 does subcommand.Index words = index words
@@ -61,12 +61,13 @@ does subcommand.TrimRight words = trimmed trim_right words
 does subcommand.First words = first words
 does subcommand.Last words = last words
 
--- the subcommand that a name has; a name without one is the error (string(n))
+-- the meaning of the subcommand that a name has; a name without a subcommand is the error
+-- (string(n))
 abbrev pub called : Option Subcommand → List ℕ → List (List ℕ) → Meaning
 called (Some found) name words = does found words
 called None name words = Raises (flaw.BadArgument name (codes "string"))
 
--- string subcommand ..: the name comes before the number of the words behind it (string(n))
+-- string subcommand ..: the name is examined before the number of the words after it (string(n))
 abbrev pub string : List (List ℕ) → Meaning
 string [] = Raises (flaw.WrongArgs (codes "string"))
 string (name ∷ words) = called (named name) name words

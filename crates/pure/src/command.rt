@@ -29,7 +29,7 @@ pub enum Pure {
 }
 
 impl Pure {
-    /// The command of a name.
+    /// The command that has this name, if one has.
     #[tactic(auto, using(names::proofs::Compared::compared))]
     pub fn named(name: &[u8]) -> Option<Pure>
         ensures { result ≡ meant.named name.now }
@@ -47,12 +47,12 @@ impl Pure {
         }
     }
 
-    /// What the command says of the words behind its name.
+    /// Runs the command on the words after its name.
     ///
     /// # Errors
-    /// The script's error, the first one where there are several: of an unknown word behind
-    /// `string`, of a wrong number of words, of the words from left to right. `NoMemory` where
-    /// memory is refused.
+    /// The script's error. Where there are several, an unknown word after `string` comes first,
+    /// then a wrong number of words, then the words from left to right. `NoMemory` where memory is
+    /// refused.
     pub fn apply<A: Allocator + Copy>(
         self,
         alloc: A,

@@ -10,7 +10,7 @@ use memory::NoMemory;
 use std::alloc::Allocator;
 use tcltext::Value;
 
-/// Gives the words without white at their ends, with a blank between them.
+/// Gives the words without white space at their ends, with a blank between them.
 pub fn concat<A: Allocator + Copy>(alloc: A, words: &[Value<A>]) -> Result<Value<A>, Raise<A>>
     ensures { Answers (meant.concat words.now) result }
 {
@@ -18,7 +18,7 @@ pub fn concat<A: Allocator + Copy>(alloc: A, words: &[Value<A>]) -> Result<Value
     Ok(Value::new(alloc, text)?)
 }
 
-/// The words without white at their ends, with a blank between them (concat(n)).
+/// The words without white space at their ends, with a blank between them (concat(n)).
 ///
 /// # Errors
 /// Where memory is refused.
@@ -38,7 +38,7 @@ pub fn concatenated<A: Allocator>(alloc: A, words: &[Value<A>]) -> Result<Vec<u8
     Ok(text)
 }
 
-/// Writes a word behind a text, with a blank before it where it is not the first.
+/// Appends a word to a text, with a blank before it where it is not the first.
 fn push_next<A: Allocator>(text: &mut Vec<u8, A>, first: bool, word: &[u8]) -> Result<(), NoMemory>
     ensures { OnOk result (text.new.items ≡
         text.old.items ++ ((if first then [] else 32 ∷ []) ++ word.now)) }

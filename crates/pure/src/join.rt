@@ -24,7 +24,7 @@ pub fn join<A: Allocator + Copy>(alloc: A, words: &[Value<A>]) -> Result<Value<A
     }
 }
 
-/// The elements of the list that a word is, with a separator between them.
+/// The elements of the list that a word spells, with a separator between them.
 fn text_of<A: Allocator + Copy>(
     alloc: A,
     list: &[u8],

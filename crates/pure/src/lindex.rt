@@ -22,7 +22,7 @@ pub fn lindex<A: Allocator + Copy>(alloc: A, words: &[Value<A>]) -> Result<Value
     }
 }
 
-/// The list as it stands, where it is one.
+/// The word as it stands, if it is a list.
 fn whole<A: Allocator + Copy>(alloc: A, list: &Value<A>) -> Result<Value<A>, Raise<A>>
     ensures { Answers (meant.lindex (list.now ∷ [])) result }
 {
@@ -41,7 +41,7 @@ fn at<A: Allocator + Copy>(alloc: A, list: &Value<A>, index: &[u8]) -> Result<Va
     }
 }
 
-/// The element at the place that an index word names, of a list that is read for it.
+/// The element at the place that an index word names, of a list whose text is read for this alone.
 fn read_at<A: Allocator + Copy>(alloc: A, list: &[u8], index: &[u8]) -> Result<Value<A>, Raise<A>>
     ensures { Answers (meant.lindex (list.now ∷ index.now ∷ [])) result }
 {

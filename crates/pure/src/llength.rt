@@ -20,7 +20,7 @@ pub fn llength<A: Allocator + Copy>(alloc: A, words: &[Value<A>]) -> Result<Valu
     }
 }
 
-/// The number of the elements of the list that a word is.
+/// The number of the elements of the list that a word spells.
 fn count<A: Allocator + Copy>(alloc: A, list: &Value<A>) -> Result<Value<A>, Raise<A>>
     ensures { Answers (meant.llength (list.now ∷ [])) result }
 {

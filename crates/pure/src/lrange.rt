@@ -21,7 +21,7 @@ pub fn lrange<A: Allocator + Copy>(alloc: A, words: &[Value<A>]) -> Result<Value
     }
 }
 
-/// The part of the list that a word is.
+/// The part of the list that a word spells.
 fn part_of<A: Allocator + Copy>(
     alloc: A,
     list: &Value<A>,
@@ -37,7 +37,7 @@ fn part_of<A: Allocator + Copy>(
     }
 }
 
-/// The part of a list that is read for it.
+/// The part of a list whose text is read for this alone.
 fn read_part<A: Allocator + Copy>(
     alloc: A,
     list: &[u8],
@@ -50,7 +50,7 @@ fn read_part<A: Allocator + Copy>(
     part(alloc, first, last, &elements)
 }
 
-/// The list of the elements from one place up to another.
+/// The list of the elements from one place up to and including another.
 fn part<A: Allocator + Copy>(
     alloc: A,
     first: &[u8],

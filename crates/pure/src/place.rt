@@ -5,8 +5,8 @@ ghost use Rattle.pure.specs.Place as meant;
 
 use tcltext::read_int;
 
-/// The place that an index word names among so many elements, which may lie before or behind them
-/// all; `None` where the word is no index (string(n), string index).
+/// The place that an index word names among `len` elements, which may lie before or after them all;
+/// `None` where the word is not an index (string(n), string index).
 pub fn place_of(word: &[u8], len: usize) -> Option<i128>
     ensures { result ≡ meant.place_of word.now len }
 {
@@ -16,7 +16,7 @@ pub fn place_of(word: &[u8], len: usize) -> Option<i128>
     }
 }
 
-/// The place that `end` with this text behind it names.
+/// The place that `end` with this text after it names.
 fn behind_end(text: &[u8], len: usize) -> Option<i128>
     ensures { result ≡ meant.behind_end len text.now }
 {
@@ -27,7 +27,8 @@ fn behind_end(text: &[u8], len: usize) -> Option<i128>
     }
 }
 
-/// The place so many before the last one.
+/// The place that precedes the last one of `len` elements by the number that this text spells;
+/// `None` where it spells none.
 fn before_last(number: &[u8], len: usize) -> Option<i128>
     ensures { result ≡ option_map (λ k. meant.last_of len -ℤ k) (meant.whole_of number.now) }
 {
@@ -35,14 +36,14 @@ fn before_last(number: &[u8], len: usize) -> Option<i128>
     Some(last - i128::from(whole_of(number)?))
 }
 
-/// The whole number that a text is, where 64 bits hold it.
+/// The whole number that a text spells, if 64 bits hold it.
 fn whole_of(text: &[u8]) -> Option<i64>
     ensures { result ≡ meant.whole_of text.now }
 {
     read_int(text)
 }
 
-/// A place among so many elements, where it is one of theirs.
+/// The place as the index of one of `len` elements; `None` where it lies before or after them.
 pub fn within(place: i128, len: usize) -> Option<usize>
     ensures { result ≡ meant.within place len }
 {
@@ -52,7 +53,7 @@ pub fn within(place: i128, len: usize) -> Option<usize>
     Some(place as usize)
 }
 
-/// What stands at a place.
+/// The item at a place, if there is one.
 pub fn item_at<T>(items: &[T], place: i128) -> Option<&T>
     ensures { option_copied result ≡ meant.item_at items.now place }
 {
@@ -62,7 +63,7 @@ pub fn item_at<T>(items: &[T], place: i128) -> Option<&T>
     items.get(place as usize)
 }
 
-/// What stands from one place up to another, as far as there is anything.
+/// The items from one place up to and including another, as far as there are any.
 pub fn items_from<T>(items: &[T], first: i128, last: i128) -> &[T]
     ensures { result.now ≡ meant.items_from items.now first last }
 {
@@ -71,7 +72,7 @@ pub fn items_from<T>(items: &[T], first: i128, last: i128) -> &[T]
     if from < to { &items[from..to] } else { &[] }
 }
 
-/// How many of so many elements stand before a place.
+/// How many of `len` elements stand before a place.
 pub fn up_to(place: i128, len: usize) -> usize
     ensures { result ≡ min (meant.natural place) len }
 {
@@ -84,7 +85,7 @@ pub fn up_to(place: i128, len: usize) -> usize
     }
 }
 
-/// How many of so many elements stand before a place or at it.
+/// How many of `len` elements stand before a place or at it.
 pub fn behind(place: i128, len: usize) -> usize
     ensures { result ≡ min (meant.natural (place +ℤ pos 1)) len }
 {

@@ -25,7 +25,8 @@ pub fn split<A: Allocator + Copy>(alloc: A, words: &[Value<A>]) -> Result<Value<
     Ok(Value::new(alloc, list)?)
 }
 
-/// The list of the pieces of a text that is cut at these bytes, or into its bytes.
+/// The list of the pieces of a text that is cut at these bytes, or into single bytes where there
+/// are none.
 fn pieces<A: Allocator>(alloc: A, bytes: &[u8], text: &[u8]) -> Result<Vec<u8, A>, NoMemory>
     ensures { IfOk result (λ list. list.items ≡ canonical (meant.pieces bytes.now text.now)) }
 {
@@ -51,8 +52,8 @@ fn each_byte<A: Allocator>(alloc: A, text: &[u8]) -> Result<Vec<u8, A>, NoMemory
     Ok(list)
 }
 
-/// The list of the pieces of a text before, between and behind those of its bytes that are among
-/// these.
+/// The list of the pieces of a text before, between and after those of its bytes that are among
+/// `bytes`.
 fn cut_at<A: Allocator>(alloc: A, bytes: &[u8], text: &[u8]) -> Result<Vec<u8, A>, NoMemory>
     ensures { IfOk result (λ list.
         list.items ≡ canonical (slice_split (is_among bytes.now) text.now)) }
@@ -69,7 +70,7 @@ fn cut_at<A: Allocator>(alloc: A, bytes: &[u8], text: &[u8]) -> Result<Vec<u8, A
     Ok(list)
 }
 
-/// A text before and behind the first of its bytes that is among these.
+/// The text before and after its first byte that is among `bytes`; `None` where no byte is.
 fn first_piece<'a>(bytes: &[u8], text: &'a [u8]) -> Option<(&'a [u8], &'a [u8])>
     ensures pieces { let cut = slice_split (is_among bytes.now) in MatchOption result
         (cut text.now ≡ text.now ∷ [])
@@ -84,7 +85,7 @@ fn first_piece<'a>(bytes: &[u8], text: &'a [u8]) -> Option<(&'a [u8], &'a [u8])>
     None
 }
 
-/// Writes an element behind a list, with a blank before it where it is not the first.
+/// Appends an element to a list, with a blank before it where it is not the first.
 fn push_next<A: Allocator>(
     list: &mut Vec<u8, A>,
     first: bool,

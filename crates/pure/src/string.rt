@@ -23,7 +23,7 @@ use std::alloc::Allocator;
 use tcltext::Value;
 use trimming::{at_both_ends, at_the_end, in_front};
 
-/// What `string` does.
+/// A subcommand of `string`.
 #[derive(Clone, Copy, Debug, PartialEq, Eq)]
 pub enum Subcommand {
     Length,
@@ -42,7 +42,7 @@ pub enum Subcommand {
 }
 
 impl Subcommand {
-    /// The subcommand of a name, which is sought only among the names of its length.
+    /// The subcommand that has this name, if one has; only names of the same length are compared.
     fn named(name: &[u8]) -> Option<Subcommand>
         ensures { result ≡ meant.named name.now }
     {
@@ -57,7 +57,7 @@ impl Subcommand {
         }
     }
 
-    /// What the subcommand does with the words behind its name.
+    /// Runs the subcommand on the words after its name.
     fn apply<A: Allocator + Copy>(self, alloc: A, words: &[Value<A>]) -> Result<Value<A>, Raise<A>>
         ensures { Answers (meant.does self words.now) result }
     {
@@ -79,7 +79,7 @@ impl Subcommand {
     }
 }
 
-/// A subcommand by its name, and what it does with the words behind it.
+/// Finds a subcommand by its name and runs it on the words after the name.
 pub fn string<A: Allocator + Copy>(alloc: A, words: &[Value<A>]) -> Result<Value<A>, Raise<A>>
     ensures { Answers (meant.string words.now) result }
 {

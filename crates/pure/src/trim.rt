@@ -1,9 +1,9 @@
-//! Texts without the bytes at their ends that are among others.
+//! Texts without those bytes at their ends that are among given ones.
 
 ghost use Rattle.std.specs.Prelude.{◌≡◌};
 ghost use Rattle.pure.specs.Trim as meant;
 
-/// White: tab, newline, vertical tab, form feed, carriage return and blank (concat(n)).
+/// White space: tab, newline, vertical tab, form feed, carriage return and blank (concat(n)).
 pub const WHITE: &[u8] = b"\t\n\x0b\x0c\r ";
 
 /// A text without the bytes at both its ends that are among these (string(n), string trim).

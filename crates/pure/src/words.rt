@@ -1,4 +1,4 @@
-//! What is asked of the words of a command.
+//! The errors of the words of a command, and the text of a number.
 
 ghost use Rattle.std.specs.Prelude.{◌≡◌, IfOk, decimal};
 ghost use Rattle.acts.specs.Flaw as flaw;
@@ -18,7 +18,7 @@ pub fn wrong_args<A: Allocator + Copy>(alloc: A, command: &[u8]) -> Result<Value
     Err(Raise::Fault(Fault::WrongArgs(command)))
 }
 
-/// The error of a command that does not take a word.
+/// The error of a command that does not accept this word.
 pub fn bad_argument<A: Allocator + Copy>(
     alloc: A,
     word: &[u8],

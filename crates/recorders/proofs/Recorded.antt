@@ -9,7 +9,7 @@ use Rattle.records.proofs.Sinks.{Takes-none, Takes-then}
 use Rattle.recorders.specs.Laws.{IsRecorded, IsWholeRecord, MayBeRecorded}
 use Rattle.recorders.specs.Recorder.{MayRecord, Records, entries_of}
 
--- the lines of some entries, and of others behind them
+-- the lines of some entries and then those of others are the lines of all
 AreNotes-append : (xs ys : List Note) (a b : List ℕ) → AreNotes xs a → AreNotes ys b →
     AreNotes (xs ++ ys) (a ++ b)
 AreNotes-append [] ys a b none are = rw none are
@@ -21,7 +21,7 @@ AreNotes-append (x ∷ xs) ys a b (front, rest, is, split, others) are = (
   AreNotes-append xs ys rest b others are,
 )
 
--- what a sink takes that has not failed in the end, it gets
+-- a sink that has not failed in the end got the whole text
 taken_whole : {S : Type 0} (adds : S → List ℕ → S → Type 0) (failed : S → Bool) (before after : S)
     (text : List ℕ) (had : Bool) → failed before ≡ had → failed after ≡ false →
     Takes adds failed before text after → Gets adds before text after

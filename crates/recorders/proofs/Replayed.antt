@@ -13,7 +13,7 @@ use Rattle.replays.specs.Due.{IsDue}
 use Rattle.replays.specs.Recording.{Answers, Recorded}
 use Rattle.replays.specs.Replay.{Replays}
 
--- an answer has an entry, or says that there are no more
+-- an answer is `NoMore`, or has an entry
 entry_cases : (act : Deed) (reply : Reply) → (reply ≡ said.NoMore)
     ⊎ (entry_of act reply ≡ record { rows = rows_of act; reply = reply } ∷ [])
 entry_cases act said.Done = inr refl
@@ -66,7 +66,7 @@ due_given entries answered act told reply after (inl (due, same, left)) = (same,
 due_given entries answered act told reply after (inr (other, none, left)) =
     absurd (other (is_due act))
 
--- what it answers where the entry of the act is next
+-- what a replay answers where the entry of the act is next
 next_given : (entries : List Note) (answered : ℕ) (act : Deed) (told reply : Reply)
     (before after : Recorded) →
     before ≡ at (record { rows = rows_of act; reply = told } ∷ entries) answered →
@@ -81,13 +81,13 @@ tail_of a b xs ys e = cc e
 same_act : (a b : Deed × Reply) (h k : History) → AreLedAlike (a ∷ h) (b ∷ k) → a.0 ≡ b.0
 same_act a b h k alike = cc (alike 0 refl)
 
--- and where it is answered alike, the rest is led alike
+-- where the first answers are the same too, the rest is led alike
 led_behind : (a b : Deed × Reply) (h k : History) → a.1 ≡ b.1 → AreLedAlike (a ∷ h) (b ∷ k) →
     AreLedAlike h k
 led_behind a b h k same alike = λ n front.
     tail_of a.0 b.0 _ _ (alike (suc n) (same_cons a.1 b.1 _ _ same front))
 
--- a history that is led as one that is over is over
+-- a history that is led as an empty one is empty
 over_alike : (b : Deed × Reply) (k : History) → AreLedAlike [] (b ∷ k) → ⊥
 over_alike b k alike = cc (alike 0 refl)
 
@@ -107,7 +107,7 @@ same_history a b h k pair rest = cc (pair, rest)
 
 module _ {O E : Type 0} (out : O → List ℕ → O → Type 0) (out_failed : O → Bool)
     (err : E → List ℕ → E → Type 0) (err_failed : E → Bool) where
-  -- a replay from some entries on, of which some were given before
+  -- a replay of the rest of a recorded run, after some of its entries were given
   abbrev IsOn : History → History → Type 0
   IsOn h k =
       (answered : ℕ) (first now : Recorded × (O × E)) →
@@ -115,7 +115,7 @@ module _ {O E : Type 0} (out : O → List ℕ → O → Type 0) (out_failed : O 
       Past (Replays out out_failed err err_failed) first now k →
       (k ≡ h) × (now.0.differs ≡ None)
 
-  -- the next act had no answer: both are over
+  -- the next act had no answer: both histories are over
   at_end : (a b : Deed × Reply) (h k : History) → a.1 ≡ said.NoMore → IsOn (a ∷ h) (b ∷ k)
   at_end a b h k none answered first now ends alike is (mid, (answers, writes), past) =
       let nothing : h ≡ [] = ends.0 none in
@@ -131,7 +131,7 @@ module _ {O E : Type 0} (out : O → List ℕ → O → Type 0) (out_failed : O 
         ap (λ state. state.0.differs) (sym stays) ∙ ap (λ recorded. recorded.differs) left,
       )
 
-  -- the next act was answered: it is answered so again
+  -- the next act was answered: the replay answers it in the same way
   on_by : (a b : Deed × Reply) (h k : History) → IsOn h k →
       entry_of a.0 a.1 ≡ record { rows = rows_of a.0; reply = a.1 } ∷ [] → IsOn (a ∷ h) (b ∷ k)
   on_by a b h k on entry answered first now ends alike is (mid, (answers, writes), past) =

@@ -1,4 +1,4 @@
--- Which rows records can tell.
+-- Which rows records can state.
 use Rattle.std.proofs.Common.{◌≡◌, ◌<◌, ◌≤◌, ◌^◌, ◌==◌, ◌&&◌, ◌⊎◌, ℕ, Bool, true, false, List, [], ◌∷◌, refl, sym, ◌∙◌, inl, inr, arith}
 use Rattle.std.specs.Prelude.{nat_le}
 use Rattle.std.specs.Bool.{Decides}
@@ -29,7 +29,7 @@ row_decides row =
       λ (id, some, most, fits, want). back (id, (some, (most, (fits, want)))),
     )
 
--- each row is one that records can tell, exactly where the test says so
+-- records can state each row, exactly where the test says so
 pub rows_decide : (rows : List Row) → Decides (list_all is_row rows) (AllByRecursion IsRow rows)
 rows_decide [] = (λ holds. tt, λ all. refl)
 rows_decide (row ∷ rows) = Decides-and _ _ (row_decides row) (rows_decide rows)

@@ -1,4 +1,4 @@
--- What the record of a run leads to.
+-- What holds of the record of a run and of its replay.
 use Rattle.std.specs.Prelude.{◌≡◌, ℕ, suc, Bool, false, List, [], ◌∷◌, Option, Some, None, MatchOption, map, take}
 use Rattle.acts.specs.Deed.{Deed, Reply}
 use Rattle.acts.specs.Deed as said
@@ -9,7 +9,7 @@ use Rattle.recorders.specs.Recorder.{MayRecord, Records, entries_of}
 use Rattle.replays.specs.Recording.{Recorded, whole}
 use Rattle.replays.specs.Replay.{Replays}
 
--- nothing follows where there were no more answers
+-- no act follows one that was answered by `NoMore`
 abbrev pub EndsAtNoMore : History → Type 0
 EndsAtNoMore [] = Unit {0}
 EndsAtNoMore (pair ∷ h) = (pair.1 ≡ said.NoMore → h ≡ []) × EndsAtNoMore h
@@ -18,7 +18,7 @@ EndsAtNoMore (pair ∷ h) = (pair.1 ≡ said.NoMore → h ≡ []) × EndsAtNoMor
 abbrev pub acts_of : History → List Deed
 acts_of h = map (λ pair. pair.0) h
 
--- their answers
+-- the answers of a history
 abbrev pub answers_of : History → List Reply
 answers_of h = map (λ pair. pair.1) h
 
@@ -39,7 +39,7 @@ module _ {W S : Type 0} (step : W → Deed → Reply → W → Type 0) (adds : S
       × ((lines : List ℕ) × AreNotes (entries_of h) lines
       × Takes adds failed first.1 lines now.1)
 
-  -- a sink that was given the header, and has not failed since, got the record of the history
+  -- a sink that was given the header, and has not failed in the end, got the record of the history
   abbrev pub IsWholeRecord : Type 0
   IsWholeRecord =
       (h : History) (sink : S) (first now : W × S) →
@@ -47,7 +47,7 @@ module _ {W S : Type 0} (step : W → Deed → Reply → W → Type 0) (adds : S
       Past (Records step adds failed) first now h → failed now.1 ≡ false →
       (text : List ℕ) × IsSecondRecord (entries_of h) text × Gets adds sink text now.1
 
-  -- where a record is made, steps that may be recorded are a recorder's, and else the world's
+  -- steps that may be recorded are a recorder's where a record is made, and else the world's
   abbrev pub MayBeRecorded : Type 0
   MayBeRecorded =
       (h : History) (first now : W × Option S) → Past (MayRecord step adds failed) first now h →

@@ -9,7 +9,7 @@ use Rattle.records.specs.Entry.{AreNotes, Note, second_header}
 use Rattle.records.specs.Rows.{greatest_size, wanted}
 use Rattle.records.specs.Sink.{Takes}
 
--- whether records can tell a row: its sizes are in range, and it wants what they say
+-- whether a record can state a row: its sizes are in range, and `want` follows from them
 abbrev pub is_row : Row → Bool
 is_row row =
     nat_lt row.id.0 (2 ^ 64)
@@ -17,16 +17,16 @@ is_row row =
     && (nat_le row.max greatest_size
     && (nat_le row.held row.max && row.want == wanted row.held row.max)))
 
--- the rows of a wait, where records can tell each
+-- the rows of a wait, where a record can state each of them
 abbrev pub told_rows : List Row → Option (List Row)
 told_rows rows = if list_all is_row rows then Some rows else None
 
--- the rows that are told of an act: only a wait has some
+-- the rows that a record states for an act: only a wait has some
 abbrev pub rows_of : Deed → Option (List Row)
 rows_of (said.Wait rows timer) = told_rows rows
 rows_of _ = None
 
--- the entry of an act with its answer; that there are no more answers has none
+-- the entry of an act with its answer; `NoMore` has none
 abbrev pub entry_of : Deed → Reply → List Note
 entry_of act said.NoMore = []
 entry_of act reply = record { rows = rows_of act; reply = reply } ∷ []
@@ -37,14 +37,14 @@ entries_of [] = []
 entries_of (pair ∷ h) = entry_of pair.0 pair.1 ++ entries_of h
 
 -- `adds` says whether a put may lead from one state of a sink to another and add these bytes,
--- `failed` whether it has failed.
+-- `failed` whether a sink has failed.
 module _ {S : Type 0} (adds : S → List ℕ → S → Type 0) (failed : S → Bool) where
   -- a sink takes the lines of an act with its answer
   abbrev pub TakesEntry : S → Deed → Reply → S → Type 0
   TakesEntry before act reply after =
       (lines : List ℕ) × AreNotes (entry_of act reply) lines × Takes adds failed before lines after
 
-  -- the same where a record is made
+  -- the same where a record is made; where none is, there is no sink before or after
   abbrev pub Notes : Option S → Deed → Reply → Option S → Type 0
   Notes before act reply after =
       MatchOption before (after ≡ None)
@@ -61,7 +61,7 @@ abbrev pub is_lost : {S : Type 0} → (S → Bool) → Option S → Bool
 is_lost failed None = false
 is_lost failed (Some sink) = failed sink
 
--- `step` says how a world goes on by an act that is answered so.
+-- `step` says whether a world may go from one state to another by an act with an answer.
 module _ {W S : Type 0} (step : W → Deed → Reply → W → Type 0) (adds : S → List ℕ → S → Type 0)
     (failed : S → Bool) where
   -- a step of a recorder: the world makes it, and the sink takes the lines
@@ -69,7 +69,7 @@ module _ {W S : Type 0} (step : W → Deed → Reply → W → Type 0) (adds : S
   Records before act reply after =
       step before.0 act reply after.0 × TakesEntry adds failed before.1 act reply after.1
 
-  -- the same where a record is made, and else a step of the world alone
+  -- the same where a record is made; where none is, a step of the world alone
   abbrev pub MayRecord : W × Option S → Deed → Reply → W × Option S → Type 0
   MayRecord before act reply after =
       step before.0 act reply after.0 × Notes adds failed before.1 act reply after.1

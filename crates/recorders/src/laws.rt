@@ -1,4 +1,4 @@
-//! What the record of a run leads to.
+//! What holds of the record of a run and of its replay.
 
 ghost use Rattle.recorders.specs.Laws.{IsRecorded, IsReplayed, IsWholeRecord, MayBeRecorded};
 
@@ -14,9 +14,9 @@ pub fn runs_are_recorded<A: Allocator, W: World<A>, S: Sink>()
     ensures lent { MayBeRecorded W.step S.adds S.has_failed }
 {}
 
-/// A replay of what was recorded answers each act as it was answered, and no act differs, where its
-/// acts are led by their answers as the recorded ones were, and nothing followed once there were no
-/// more answers. Both hold of the runs of one script.
+/// A replay of what was recorded answers each act as it was answered when it was recorded, and no
+/// act differs, provided that equal answers lead to equal acts in both runs, and that the recorded
+/// run ended once there were no more answers. Both conditions hold of the runs of one script.
 pub fn records_are_replayed<O: Sink, E: Sink>()
     ensures { IsReplayed O.adds O.has_failed E.adds E.has_failed }
 {}

@@ -18,7 +18,7 @@ pub struct LentRecorder<'w, 's, W, S> {
 }
 
 impl<A: Allocator, W: World<A>, S: Sink> World<A> for LentRecorder<'_, '_, W, S> {
-    // A step that may be recorded, after which the same places are lent.
+    // A step that may be recorded, after which the same world and sink are still lent.
     ghost step = { λ before act reply after. MayRecord W.step S.adds S.has_failed
         (before.world.now, before.made.now) act reply (after.world.now, after.made.now)
         × (after.world.ghost_name ≡ before.world.ghost_name)
@@ -42,7 +42,7 @@ fn note<A: Allocator, S: Sink>(made: &mut Option<S>, act: &Act<A>, answer: &Answ
     }
 }
 
-/// Begins a record, where one is to be made: its first line.
+/// Writes the first line of a record, where one is to be made.
 pub fn begin<S: Sink>(made: &mut Option<S>)
     ensures { Begins S.adds S.has_failed made.old made.new }
 {

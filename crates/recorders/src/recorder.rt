@@ -12,8 +12,8 @@ use records::{Sink, are_rows, write_header, write_line, write_waited};
 use std::alloc::Allocator;
 
 /// A world that passes each act to another world, and writes each answer, with the rows of its
-/// wait, to a sink as it comes: a record of version 2. It keeps nothing. To a sink that has failed
-/// nothing more is written; acts are answered all the same.
+/// wait, to a sink as it comes: a record of version 2. A recorder keeps no answers. Nothing more is
+/// written to a sink that has failed; acts are answered all the same.
 #[derive(Drop)]
 pub struct Recorder<W, S> {
     world: W,
@@ -50,7 +50,7 @@ impl<A: Allocator, W: World<A>, S: Sink> World<A> for Recorder<W, S> {
     }
 }
 
-/// Writes the lines of an act with its answer; that there are no more answers has none.
+/// Writes the lines of an act with its answer; `Answer::NoMore` has none.
 pub(crate) fn write_step<A: Allocator, S: Sink>(sink: &mut S, act: &Act<A>, answer: &Answer<A>)
     ensures { TakesEntry S.adds S.has_failed sink.old (deed_of act.now) (reply_of answer.now)
         sink.new }
@@ -61,7 +61,7 @@ pub(crate) fn write_step<A: Allocator, S: Sink>(sink: &mut S, act: &Act<A>, answ
     }
 }
 
-/// Writes the lines of an act with an answer other than that there are no more.
+/// Writes the lines of an act with an answer other than `Answer::NoMore`.
 fn write_told<A: Allocator, S: Sink>(sink: &mut S, act: &Act<A>, answer: &Answer<A>)
     requires { IsTold (reply_of answer.now) }
     ensures { (lines : List ℕ)
@@ -74,7 +74,7 @@ fn write_told<A: Allocator, S: Sink>(sink: &mut S, act: &Act<A>, answer: &Answer
     }
 }
 
-/// Writes the lines of a wait with its answer: its rows where records can tell them.
+/// Writes the lines of a wait with its answer, and with its rows where a record can state them.
 fn write_wait<A: Allocator, S: Sink>(sink: &mut S, rows: &[Row], answer: &Answer<A>)
     requires { IsTold (reply_of answer.now) }
     ensures { (lines : List ℕ) × AreLinesOf (told_rows rows.now) (reply_of answer.now) lines

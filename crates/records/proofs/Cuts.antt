@@ -17,7 +17,7 @@ tail e = cc e
 cons_same : (c d : ℕ) (a b : List ℕ) → c ≡ d → a ≡ b → c ∷ a ≡ d ∷ b
 cons_same c d a b e f = cc (e, f)
 
--- a front at whose places the byte is not
+-- the front of a text lacks a byte that is at none of its places
 Lacks-take : (byte : ℕ) (text : List ℕ) (n : ℕ) → ((k : ℕ) → k < n → ¬ Passes (is_byte byte) text k)
     → Lacks byte (take n text)
 Lacks-take byte text zero others = tt
@@ -27,7 +27,7 @@ Lacks-take byte (b ∷ text) (suc n) others = (
   Lacks-take byte text n (λ k lt. others (suc k) (omega arith)),
 )
 
--- the place of the byte, and the parts around it
+-- the parts around the place of the first such byte are cut there
 pub cut_there : (byte : ℕ) (text : List ℕ) (place : ℕ)
     → IsFirstByte (is_byte byte) text (Some place)
     → (text ≡ take place text ++ byte ∷ take (length text - (place + 1)) (drop (place + 1) text))
@@ -40,7 +40,7 @@ cut_there byte text place (within, here) =
       Lacks-take byte text place (λ k below. within.before k (omega arith) below),
     )
 
--- no place
+-- a text with no place for the byte lacks it
 pub cut_nowhere : (byte : ℕ) (text : List ℕ) → IsFirstByte (is_byte byte) text None →
     Lacks byte text
 cut_nowhere byte text none =
@@ -74,7 +74,7 @@ pub some_weaker : {T : Type 0} {P Q : T → Type 0} (o : Option T) → IfSome o 
 some_weaker None p more = tt
 some_weaker (Some x) p more = more x p
 
--- a text whose front is found to be a word
+-- a text whose front is found to be a word is that word and the rest
 pub prefix_split : (text word rest : List ℕ) → bytes_eq (take (length word) text) word ≡ true → rest
     ≡ drop (length word) text → text ≡ word ++ rest
 prefix_split text word rest test is =
@@ -82,14 +82,14 @@ prefix_split text word rest test is =
     ((bytes_eq-Decides (take (length word) text) word).0 test)
     ∙ ap (λ tail. word ++ tail) (sym is)
 
--- a text whose front is found to be another
+-- a text whose front is found to be another does not begin with the word
 pub no_prefix : (text word rest : List ℕ) → bytes_eq (take (length word) text) word ≡ false → text
     ≡ word ++ rest → ⊥
 no_prefix text word rest differs e =
     absurd (false≢true (sym differs ∙ (bytes_eq-Decides (take (length word) text) word).1
     (ap (take (length word)) e ∙ take-append_seam word rest)))
 
--- what stands before the first byte of a value, and from it on
+-- a text is the part before the first byte of a value and the part from it on
 pub cut_rest : (byte : ℕ) (text : List ℕ) (place : ℕ) → IsFirstByte (is_byte byte) text (Some place)
     → (text ≡ take place text ++ take (length text - place) (drop place text))
     × Lacks byte (take place text) × StartsAt byte (take (length text - place) (drop place text))

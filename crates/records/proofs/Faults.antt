@@ -1,4 +1,4 @@
--- What the reading of the lines says of the whole text.
+-- What reading the lines after the header says of the whole text.
 use Rattle.std.proofs.Common.{◌≡◌, ℕ, true, List, ◌++◌, take, drop, Ok, Err, IfOk, IfErr, MatchResult, sym, ap, ◌∙◌, inl, inr, take-append-drop}
 use Rattle.std.specs.Prelude.{Result, ◌⊎◌}
 use Rattle.std.specs.Str.{bytes_eq}
@@ -10,7 +10,7 @@ use Rattle.records.specs.Fault.{IsLineFault, IsRefused}
 use Rattle.records.specs.Record.{AreLines, IsFirstBad, IsRecord, header}
 use Rattle.records.proofs.Records.{after_header, no_bad_line, one_bad_line, same_answers}
 
--- a text whose front is the header
+-- a text whose front is the header is the header and the lines
 pub header_split : (text lines : List ℕ) → bytes_eq (take 12 text) header ≡ true → lines
     ≡ drop 12 text → text ≡ header ++ lines
 header_split text lines test is =
@@ -18,7 +18,7 @@ header_split text lines test is =
     ((bytes_eq-Decides (take 12 text) header).0 test)
     ∙ ap (λ rest. header ++ rest) (sym is)
 
--- the list of a record is read
+-- the list of a record is read unless memory is refused
 pub record_read : {T : Type 0} (view : T → List Reply) (text lines : List ℕ)
     (read : Result T RecordFault) → text ≡ header ++ lines
     → IfOk read (λ found. AreLines (view found) lines) → IfErr read (IsLineFault lines)
@@ -32,7 +32,7 @@ record_read view text lines (Err (fault.Line n)) whole good (count, number, at) 
     absurd (no_bad_line replies text n are (count, lines, number, whole, at))
 record_read view text lines (Err (fault.NoMemory refusal)) whole good bad replies are = tt
 
--- the first bad line is found
+-- the first bad line is reported unless memory is refused
 pub bad_line_found : {T : Type 0} (view : T → List Reply) (text lines : List ℕ)
     (read : Result T RecordFault) → text ≡ header ++ lines
     → IfOk read (λ found. AreLines (view found) lines) → IfErr read (IsLineFault lines)

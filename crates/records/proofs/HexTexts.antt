@@ -8,7 +8,7 @@ use lib.Lanes.{put_chunk}
 use Rattle.hex.specs.Hex.{IsBytes, encode_lower, encode_with, lower_digits}
 use Rattle.records.specs.Record.{is_lower_digit}
 
--- the test of each number below n
+-- the test holds of each number below n
 abbrev all_below : (ℕ → Bool) → ℕ → Bool
 all_below test zero = true
 all_below test (suc n) = test n && all_below test n
@@ -60,7 +60,7 @@ pub no_digits : [] ≡ encode_lower []
 unfolding encode_with
 no_digits = refl
 
--- two items more
+-- two more items of a text
 take_two : (text : List ℕ) (place : ℕ) → 2 * place + 1 < length text → take (2 * (place + 1)) text
     ≡ take (2 * place) text
     ++ (slice_index text (2 * place) ∷ slice_index text (2 * place + 1) ∷ [])
@@ -70,7 +70,7 @@ take_two text place fits =
     let first = take_more text (2 * place) 0 (omega arith) in
     rw (two, second, first) (append_assoc (take (2 * place) text) _ _)
 
--- one byte more is read
+-- one more byte is read
 pub byte_read : (text bytes : List ℕ) (place high low byte : ℕ) → 2 * place + 1 < length text →
     place < length bytes → high < 16 → low < 16
     → slice_index lower_digits high ≡ slice_index text (2 * place)
@@ -95,7 +95,7 @@ byte_read text bytes place high low byte fits room first second hi lo is so_far 
       lo,
     ) refl)
 
--- bytes of which one is written
+-- bytes are still bytes where one of them is written
 pub IsBytes-set : (bytes : List ℕ) (k b : ℕ) → IsBytes bytes → b < 256
     → IsBytes (slice_set bytes k b)
 IsBytes-set [] k b small below i = small i
@@ -105,7 +105,7 @@ IsBytes-set (c ∷ bytes) (suc k) b small below zero = small 0
 IsBytes-set (c ∷ bytes) (suc k) b small below (suc i) =
     IsBytes-set bytes k b (λ j. small (suc j)) below i
 
--- bytes of which some are written
+-- bytes are still bytes where a block of them is written
 pub IsBytes-put : (bytes block : List ℕ) (k : ℕ) → IsBytes bytes → IsBytes block
     → IsBytes (put_chunk k bytes block)
 IsBytes-put [] block k small others i = small i
@@ -117,7 +117,7 @@ IsBytes-put (b ∷ bytes) block (suc k) small others zero = small 0
 IsBytes-put (b ∷ bytes) block (suc k) small others (suc i) =
     IsBytes-put bytes block k (λ j. small (suc j)) others i
 
--- two digits more are lower case ones
+-- with two more lower case digits, all digits up to them are lower case ones
 pub lower_two : (text : List ℕ) (place : ℕ) → 2 * place + 1 < length text
     → is_lower_digit (slice_index text (2 * place)) ≡ true
     → is_lower_digit (slice_index text (2 * place + 1)) ≡ true

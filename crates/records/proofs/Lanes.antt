@@ -1,4 +1,4 @@
--- What the lanes of a step hold: the digits of bytes, and the bytes and values of digits.
+-- What the lanes of one step hold: the digits of bytes, and the bytes and values of digits.
 use Rattle.std.proofs.Common.{◌≡◌, ℕ, ◌+◌, ◌-◌, ◌*◌, ◌/◌, ◌%◌, ◌^◌, ◌<◌, ◌≤◌, ◌&&◌, ◌||◌, zero, suc, Bool, true, false, not, cond, ltb, leb, List, [], ◌∷◌, ◌++◌, length, map, get_or, take, drop, slice_index, nat_eq, replicate, bit_or, Fits, w8, refl, sym, ap, ap₂, ◌∙◌, arith}
 use Rattle.std.proofs.lemmas.Bool.{agree_below, agree_below_at, and_parts, eqb-true, false≢true, ne_eqb, ltb-true}
 use Rattle.std.proofs.lemmas.Bool.Decides.{nat_tests}
@@ -22,7 +22,7 @@ digit value = slice_index lower_digits value
 
 -- ---- each lane for itself
 
--- lanes as they are
+-- lanes as they are, as a map
 pub itself : (v : List ℕ) → v ≡ map (λ x. x) v
 itself [] = refl
 itself (x ∷ v) = ap (λ l. x ∷ l) (itself v)
@@ -57,7 +57,7 @@ same_digits lane values lanes are small agree = are ∙ at_each values small
 module _ (lane : ℕ → ℕ) (agree : agree_below is_lower_digit (λ d. is_value (lane d)) 256 ≡ true)
     (right : agree_below (λ d. not (is_lower_digit d) || nat_eq d (digit (lane d))) (λ d. true) 256
     ≡ true) where
-  -- the lanes of digits are values just where these are lower case digits
+  -- lanes computed from digits are values just where the digits are lower case ones
   pub lower_lanes : (digits lanes : List ℕ) → lanes ≡ map lane digits → Each1 (Fits w8) digits
       → list_all is_lower_digit digits ≡ list_all is_value lanes
   lower_lanes digits lanes are small = at_each digits small ∙ ap (list_all is_value) (sym are)
@@ -69,7 +69,7 @@ module _ (lane : ℕ → ℕ) (agree : agree_below is_lower_digit (λ d. is_valu
           ap₂ ◌&&◌ (agree_below_at is_lower_digit (λ d. is_value (lane d)) 256 d agree small.0.fits)
           (at_each digits small.1)
 
-  -- and then they are their values
+  -- where the digits are lower case ones, the lanes are their values
   pub right_lanes : (digits lanes : List ℕ) → lanes ≡ map lane digits → Each1 (Fits w8) digits
       → list_all is_lower_digit digits ≡ true → digits ≡ map digit lanes
   right_lanes digits lanes are small lower = at_each digits small lower ∙ ap (map digit) (sym are)
@@ -85,7 +85,7 @@ module _ (lane : ℕ → ℕ) (agree : agree_below is_lower_digit (λ d. is_valu
           (eqb-true d (digit (lane d)) (rw here at one))
           (at_each digits small.1 others)
 
-  -- both
+  -- both of the above
   pub lanes_read : (digits lanes : List ℕ) → lanes ≡ map lane digits → Each1 (Fits w8) digits
       → record {
         lower : list_all is_lower_digit digits ≡ list_all is_value lanes;
@@ -152,7 +152,7 @@ byte_is values k small inside =
       low,
     )
 
--- values, two a byte, have the digits of these bytes
+-- the digits of values are those of the bytes that the values make, two a byte
 pub values_joined : (values : List ℕ) → list_all is_value values ≡ true → (n a : ℕ)
     → length values ≡ 2 * (a + n)
     → map digit (drop (2 * a) values) ≡ encode_lower (map (byte_at values) (range_with_len a n))
@@ -166,7 +166,7 @@ values_joined values small (suc n) a long =
     ap (map digit) (drop-pair values a (omega arith))
     ∙ (λ i. digit (upper i) ∷ digit (lower i) ∷ others i)
 
--- and these are bytes
+-- the numbers that values make, two a byte, are bytes
 pub joined_small : (values : List ℕ) → list_all is_value values ≡ true → (n a : ℕ)
     → length values ≡ 2 * (a + n) → IsBytes (map (byte_at values) (range_with_len a n))
 joined_small values small zero a long i = omega arith
@@ -205,7 +205,7 @@ bits n xs ys =
 bit_set : (x y : ℕ) → top 7 (cond (leb 16 (larger x y)) 255 0) ≡ not (is_value x && is_value y)
 bit_set x y = grind (arith, nat_tests)
 
--- a bit more
+-- one more bit
 bit_counted : (p q r s : Bool) (m : ℕ) → nat_eq m 0 ≡ (r && s)
     → nat_eq (cond (not (p && q)) 1 0 + 2 * m) 0 ≡ ((p && r) && (q && s))
 bit_counted true true r s zero others = others
@@ -244,7 +244,7 @@ empty_mask xs ys n first second few =
 
 -- ---- the steps of the loops
 
--- two chunks more
+-- two more chunks
 two_chunks : (i n m : ℕ) (xs : List ℕ) → m ≡ i + n + n
     → take m xs ≡ take i xs ++ (chunk i n xs ++ chunk (i + n) n xs)
 two_chunks i n m xs is =
@@ -262,7 +262,7 @@ some_false true true true s some = absurd (false≢true (sym some))
 -- what is stored by two steps of n lanes
 module _ (n done : ℕ) (bytes digits : List ℕ) (twice : length digits ≡ 2 * length bytes)
     (within : done + n ≤ length bytes) where
-  -- n bytes more are spelled
+  -- n more bytes are spelled
   pub more_spelled : (first second : List ℕ) → length first ≡ n
       → first ++ second ≡ encode_lower (chunk done n bytes)
       → take (2 * done) digits ++ encode_lower (drop done bytes) ≡ encode_lower bytes
@@ -288,7 +288,7 @@ module _ (n done : ℕ) (bytes digits : List ℕ) (twice : length digits ≡ 2 *
       ∙ append_assoc front (first ++ second) rest ∙ ap (λ text. front ++ text) (sym behind)
       ∙ so_far
 
-  -- n bytes more are read
+  -- n more bytes are read
   pub more_read : (first second joined : List ℕ)
       → chunk (2 * done) n digits ≡ map digit first
       → chunk (2 * done + n) n digits ≡ map digit second
@@ -313,7 +313,7 @@ module _ (n done : ℕ) (bytes digits : List ℕ) (twice : length digits ≡ 2 *
       ∙ ap encode_lower
       (sym (take_more_put_chunk done bytes joined (done + n) (omega arith) (omega arith)))
 
-  -- so many lower case digits more
+  -- 2 n more digits are lower case ones
   pub more_lower : list_all is_lower_digit (take (2 * done) digits) ≡ true
       → list_all is_lower_digit (chunk (2 * done) n digits) ≡ true
       → list_all is_lower_digit (chunk (2 * done + n) n digits) ≡ true
@@ -343,11 +343,11 @@ module _ (n done : ℕ) (bytes digits : List ℕ) (twice : length digits ≡ 2 *
       ∙ some_false (list_all is_lower_digit front) (list_all is_lower_digit a)
       (list_all is_lower_digit b) (list_all is_lower_digit rest) some
 
--- what is behind a beginning, by how long it is
+-- the rest of a list after a front, by its length
 to_end : (i : ℕ) (xs : List ℕ) → take (length xs - i) (drop i xs) ≡ drop i xs
 to_end i xs = take_all (length xs - i) (drop i xs) (omega (arith, length-drop i xs))
 
--- what is behind a beginning of lower case digits decides
+-- where the front has only lower case digits, the rest decides whether all are
 pub rest_lower : (i : ℕ) (digits : List ℕ) → list_all is_lower_digit (take i digits) ≡ true
     → list_all is_lower_digit (take (length digits - i) (drop i digits))
     ≡ list_all is_lower_digit digits
@@ -357,7 +357,7 @@ rest_lower i digits front =
     ∙ sym (list_all-append is_lower_digit (take i digits) (drop i digits))
     ∙ ap (list_all is_lower_digit) (take-append-drop i digits)
 
--- what is behind a beginning is read too
+-- where the front is read, and the rest too, all is read
 pub rest_read : (i done : ℕ) (digits bytes rest : List ℕ)
     → take i digits ≡ encode_lower (take done bytes)
     → take (length digits - i) (drop i digits) ≡ encode_lower rest

@@ -31,7 +31,7 @@ Lacks-decimal byte n other below =
     decimal_by_steps (λ _ text. Lacks byte text) (λ d small. ((λ e. absurd (omega arith)), tt))
     (λ d text large front. Lacks-append byte text _ front ((λ e. absurd (omega arith)), tt)) n below
 
--- the same of a byte above the digits
+-- a decimal number has no byte above the digits
 pub Lacks-decimal_above : (byte n : ℕ) → 57 < byte → n < 2 ^ 64 → Lacks byte (decimal n)
 Lacks-decimal_above byte n other below =
     decimal_by_steps (λ _ text. Lacks byte text) (λ d small. ((λ e. absurd (omega arith)), tt))
@@ -74,7 +74,7 @@ arrival_parts line name digits n bytes below cut lacks whole =
     same_cut 32 name (id_text n) digits (encode_lower bytes) lacks (Lacks-id n below)
     (ap (drop 7) (sym cut ∙ whole))
 
--- the line of no answer
+-- a line of none of the forms of an answer's line is the line of no answer
 pub no_line : (line : List ℕ) → line ≢ codes "done" → line ≢ codes "refused"
     → line ≢ codes "exited -" → line ≢ codes "timeout"
     → ((sent : ℕ) → sent < 2 ^ 64 → line ≢ codes "failed " ++ decimal sent)
@@ -103,7 +103,7 @@ no_line line done refused killed timeout failed started exited ended arrive said
     timeout is
 no_line line done refused killed timeout failed started exited ended arrive said.NoMore is = is
 
--- a word and a number
+-- a word without a newline and a number have no newline
 Lacks-number : (word : List ℕ) (n : ℕ) → list_all (λ b. not (b == 10)) word ≡ true → n < 2 ^ 64 →
     Lacks 10 (word ++ decimal n)
 Lacks-number word n test below =
@@ -152,7 +152,7 @@ letter said.NoMore = 0
 abbrev second : List ℕ → ℕ
 second line = get_or line 1 0
 
--- it stands in its line
+-- the second byte of an answer's line is this letter
 lettered : (reply : Reply) (line : List ℕ) → IsLine reply line → second line ≡ letter reply
 lettered said.Done line is = ap second is
 lettered (said.Failed sent) line is = ap second is.1
@@ -202,11 +202,11 @@ is_timeout _ e = absurd (omega (arith, e))
 same_id : (a b : Id) → a.0 ≡ b.0 → a ≡ b
 same_id a b e = ap (λ (n : ℕ). record { 0 = n }) e
 
--- two lines whose first bytes differ
+-- no line begins with two different bytes
 heads_differ : (a b : ℕ) (x y : List ℕ) (line : List ℕ) → a ≢ b → line ≡ a ∷ x → line ≡ b ∷ y → ⊥
 heads_differ a b x y line differ is is' = differ (head (sym is ∙ is'))
 
--- two ids that are spelled alike
+-- ids that are spelled alike are the same
 pub same_name : (a b : Id) → a.0 < 2 ^ 64 → b.0 < 2 ^ 64 → id_text a.0 ≡ id_text b.0 → a ≡ b
 same_name a b below below' e = same_id a b (decimal_injective a.0 b.0 below below' (ap (drop 3) e))
 
@@ -239,7 +239,7 @@ same_exit (Some status) (Some status') line is is' =
     ap Some (decimal_injective status status' (omega arith) (omega arith)
     (ap (drop 7) (sym is.1 ∙ is'.1)))
 
--- a line of the kind of this one
+-- two answers of the same line are of the same kind
 same_kind : (a b : Reply) (line : List ℕ) → IsLine a line → IsLine b line → letter b ≡ letter a
 same_kind a b line is is' = sym (lettered b line is') ∙ lettered a line is
 
@@ -307,7 +307,7 @@ one_line (said.Ended id) a b is is' = is.1 ∙ sym is'.1
 one_line said.TimedOut a b is is' = is ∙ sym is'
 one_line said.NoMore a b is is' = absurd is
 
--- a text that is found to be another than this one
+-- a line that is found to be unequal to a word is not that word
 pub other_text : (line word given : List ℕ) (same : Bool) → same ≡ bytes_eq line given → given
     ≡ word → same ≡ false → line ≢ word
 other_text line word given same test is differs e =

@@ -17,7 +17,7 @@ use Rattle.records.proofs.Lines.{Lacks-line, no_wait, one_line, same_line}
 use Rattle.records.proofs.Records.{no_bad_line, nothing_after, one_bad_line, one_list, whole_rest}
 use Rattle.records.proofs.RowTexts.{Lacks-wait, same_rows}
 
--- two first lines of answers and what follows them
+-- where texts that begin with the lines of answers are equal, so are the answers and the rests
 same_answer : (a b : Reply) (x y r s : List ℕ) → IsWholeLine a x → IsWholeLine b y → x ++ r ≡ y
     ++ s → (a ≡ b) × (r ≡ s)
 same_answer a b x y r s (line, is, whole) (line', is', whole') e =
@@ -25,7 +25,7 @@ same_answer a b x y r s (line, is, whole) (line', is', whole') e =
     (sym (whole_rest x line r whole) ∙ e ∙ whole_rest y line' s whole') in
     (same_line a b line' (rw same at is) is', rest)
 
--- two lines of waits and what follows them
+-- where texts that begin with the lines of waits are equal, so are the rows and the rests
 same_wait : (a b : List Row) (x y r s : List ℕ) → IsWait a x → IsWait b y → x ++ 10 ∷ r ≡ y ++ 10
     ∷ s → (a ≡ b) × (r ≡ s)
 same_wait a b x y r s is is' e =
@@ -40,7 +40,7 @@ wait_or_answer rows reply x y r s is is' e =
     let (same, rest) = same_cut 10 x y r s (Lacks-wait rows x is) (Lacks-line reply y is') e in
     no_wait reply y _ is' (sym same ∙ is.1)
 
--- the lines of two entries and what follows them
+-- where texts that begin with the lines of entries are equal, so are the entries and the rests
 same_lines : (ra rb : Option (List Row)) (a b : Reply) (x y r s : List ℕ) → AreLinesOf ra a x
     → AreLinesOf rb b y → x ++ r ≡ y ++ s → (ra ≡ rb) × (a ≡ b) × (r ≡ s)
 same_lines None None a b x y r s is is' e =
@@ -61,7 +61,7 @@ same_lines (Some rows) (Some rows') a b x y r s is is' e =
     let (same, rest) = same_answer a b is.1 is'.1 r s is.3 is'.3 behind in
     (ap Some wait, same, rest)
 
--- an entry is what its parts are
+-- entries whose parts are equal are equal
 same_note : (a b : Note) → a.rows ≡ b.rows → a.reply ≡ b.reply → a ≡ b
 same_note a b e f =
     ap (λ (rows : Option (List Row)). record { rows = rows; reply = a.reply }) e
@@ -75,7 +75,7 @@ no_line_end : (line rest : List ℕ) → line ++ 10 ∷ rest ≡ [] → ⊥
 no_line_end [] rest e = cc e
 no_line_end (c ∷ line) rest e = cc e
 
--- the lines of an entry are some text
+-- the lines of an entry are not empty
 some_front : (rows : Option (List Row)) (reply : Reply) (front : List ℕ) → AreLinesOf rows reply
     front → front ≡ [] → ⊥
 some_front None reply front is e = no_line_end is.0 [] (sym is.2 ∙ e)
@@ -153,13 +153,13 @@ stops_no_lines (suc zero) bad (Some rows) reply front rest stops is e =
     stops.5 (reply, line, rest, one, behind ∙ whole_rest is.1 line rest whole)
 stops_no_lines (suc (suc more)) bad rows reply front rest stops is e = absurd stops
 
--- nor is the text at its end
+-- a text in which no entry begins, though one should, is not empty
 stops_some : (more : ℕ) (bad : List ℕ) → StopsAfter more bad → bad ≡ [] → ⊥
 stops_some zero bad stops e = stops.0 e
 stops_some (suc zero) bad stops e = no_line_end stops.1 stops.2 (sym stops.4 ∙ e)
 stops_some (suc (suc more)) bad stops e = absurd stops
 
--- and it is so in one way
+-- the number of lines before the bad one is unique
 stops_once : (m n : ℕ) (bad : List ℕ) → StopsAfter m bad → StopsAfter n bad → m ≡ n
 stops_once zero zero bad s t = refl
 stops_once zero (suc zero) bad s t = absurd (s.2 (t.0, t.1, t.2, t.3, t.4))
@@ -215,7 +215,7 @@ same_bad_note (a ∷ others) (b ∷ more) text good fair bad ill m n la lb e f s
     let here : lines_of a.rows ≡ lines_of b.rows = ap lines_of rows in
     omega (arith, here, others_same)
 
--- what stands after the header
+-- two texts that follow the header in the same text are equal
 pub after_second : (text x y : List ℕ) → text ≡ second_header ++ x → text ≡ second_header ++ y → x
     ≡ y
 after_second text x y e f = ap (drop 12) (sym e ∙ f)
@@ -302,7 +302,7 @@ long_front (Some rows) reply front is =
     let long = ap length is.4 ∙ length-append is.0 (10 ∷ is.1) in
     omega (arith, long, answer)
 
--- what the reading of entries keeps, one entry on
+-- what holds while entries are read still holds after one more entry
 pub notes_on : {T : Type 0} (view : T → Note) (lines good rest after : List ℕ)
     (before items : List T) (entry : T) (line next : ℕ)
     → lines ≡ good ++ rest → AreNotes (map view before) good
@@ -329,7 +329,7 @@ notes_on view lines good rest after before items entry line next whole are numbe
       omega (arith, room, long, some, count),
     )
 
--- the fault of an entry, behind the entries that were read
+-- the fault of an entry, as a fault of all lines, after the entries that were read
 pub notes_fault : (notes : List Note) (lines good rest : List ℕ) (line : ℕ) (f : RecordFault)
     → lines ≡ good ++ rest → AreNotes notes good → line ≡ lines_in notes + 2
     → IsNoteFault line rest f → IsNotesFault lines f
@@ -350,7 +350,7 @@ notes_fault notes lines good rest line (fault.Line n) whole are number (more, at
 )
 notes_fault notes lines good rest line (fault.NoMemory refusal) whole are number is = tt
 
--- the fault of the lines, behind the header
+-- the fault of the lines after the header, as a fault of the whole text
 pub entries_fault : (text lines : List ℕ) (f : RecordFault) → text ≡ second_header ++ lines →
     IsNotesFault lines f → IsEntriesFault text f
 entries_fault text lines fault.Header whole is = absurd is
@@ -358,7 +358,7 @@ entries_fault text lines (fault.Line n) whole (count, number, bad) =
     inr (count, lines, number, whole, bad)
 entries_fault text lines (fault.NoMemory refusal) whole is = tt
 
--- the fault of a record of version 1, where the header of version 2 is missing
+-- the fault of a record of version 1, as a fault of a text without the header of version 2
 pub first_fault : (text : List ℕ) (f : RecordFault) → (¬ HasSecondHeader text) → IsFault text f →
     IsEntriesFault text f
 first_fault text fault.Header lacks is = (is, lacks)
@@ -379,7 +379,7 @@ entries_read view text (Err (fault.Line n)) good bad notes are =
     absurd (no_bad_entry notes text n are bad)
 entries_read view text (Err (fault.NoMemory refusal)) good bad notes are = tt
 
--- the headers are missed
+-- a text without either header is reported to lack them
 pub no_headers : {T : Type 0} (view : T → List Note) (text : List ℕ)
     (read : Result T RecordFault) → IfOk read (λ found. AreEntries (view found) text)
     → IfErr read (IsEntriesFault text) → (¬ HasHeader text) → (¬ HasSecondHeader text)
@@ -394,7 +394,7 @@ no_headers view text (Err (fault.Line n)) good (inr is) first second =
     absurd (second (is.1, is.3))
 no_headers view text (Err (fault.NoMemory refusal)) good bad first second = inr tt
 
--- the first bad line is found
+-- the first bad line is reported unless memory is refused
 pub bad_entry_found : {T : Type 0} (view : T → List Note) (text : List ℕ)
     (read : Result T RecordFault) → IfOk read (λ found. AreEntries (view found) text)
     → IfErr read (IsEntriesFault text) → (n : ℕ) → IsBadLine text n → MatchResult read (λ _. ⊥)

@@ -13,14 +13,14 @@ pub whole_rest : (text line rest : List ℕ) → text ≡ line ++ 10 ∷ []
     → text ++ rest ≡ line ++ 10 ∷ rest
 whole_rest text line rest e = ap (λ front. front ++ rest) e ∙ append_assoc line (10 ∷ []) rest
 
--- two first lines and what follows them
+-- where texts that begin with lines are equal, so are the answers and the rests
 same_first : (a b : Reply) (x y rest after : List ℕ) → IsLine a x → IsLine b y → x ++ 10 ∷ rest ≡ y
     ++ 10 ∷ after → (a ≡ b) × (rest ≡ after)
 same_first a b x y rest after is is' e =
     let (line, others) = same_cut 10 x y rest after (Lacks-line a x is) (Lacks-line b y is') e in
     (same_line a b y (rw line at is) is', others)
 
--- the text of no answers, where a line stands
+-- a text that begins with a line is not the empty text of no answers
 no_lines : (line rest text : List ℕ) → text ≡ line ++ 10 ∷ rest → text ≡ [] → ⊥
 no_lines [] rest text is empty = absurd (cc (is, empty))
 no_lines (c ∷ line) rest text is empty = absurd (cc (is, empty))
@@ -49,7 +49,7 @@ same_text (reply ∷ replies) a b la lb =
     la.3 ∙ ap (λ front. front ++ 10 ∷ la.1) line ∙ ap (λ after. lb.0 ++ 10 ∷ after) others
     ∙ sym lb.3
 
--- no text stands behind a front of no text
+-- no text stands after a front of the empty text
 pub nothing_after : (front rest : List ℕ) → [] ≡ front ++ rest → rest ≡ []
 nothing_after [] rest e = sym e
 nothing_after (c ∷ front) rest e = cc e
@@ -94,7 +94,7 @@ same_bad (a ∷ others) (b ∷ more) text good fair bad ill la lb e f none none'
     ∙ ap (λ front. front ++ bad) la.3 ∙ append_assoc la.0 (10 ∷ la.1) bad) f lb.3 in
     ap suc (same_bad others more (la.1 ++ bad) la.1 lb.1 bad ill la.4 lb.4 refl rest none none')
 
--- what stands after the header
+-- two texts that follow the header in the same text are equal
 pub after_header : (text x y : List ℕ) → text ≡ header ++ x → text ≡ header ++ y → x ≡ y
 after_header text x y e f = ap (drop 12) (sym e ∙ f)
 
@@ -118,7 +118,7 @@ AreLines-more (first ∷ replies) text reply line before is =
       AreLines-more replies before.1 reply line before.4 is,
     )
 
--- what is read and what is left, one line on
+-- what was read and what is still unread, after one more line
 pub one_line_on : (lines good rest line after : List ℕ) → lines ≡ good ++ rest → rest ≡ line ++ 10
     ∷ after
     → lines ≡ (good ++ (line ++ 10 ∷ [])) ++ after
@@ -151,7 +151,7 @@ some_lines (reply ∷ replies) ((line, is), all) =
     let (rest, are) = some_lines replies all in
     (line ++ 10 ∷ rest, (line, rest, is, refl, are))
 
--- what the reading of lines keeps, one line on
+-- what holds while lines are read still holds after one more line
 pub read_on : {T : Type 0} (view : T → Reply) (lines good rest after : List ℕ)
     (before items : List T) (answer : T)
     → lines ≡ good ++ rest → AreLines (map view before) good → length before

@@ -25,14 +25,14 @@ Lacks-colon n below = (
 abbrev pub sizes_text : Row → List ℕ
 sizes_text row = decimal row.held ++ (codes ":" ++ decimal row.max)
 
--- the name and the sizes of a row's text
+-- a row's text that is cut at its first colon gives the name and the sizes
 pub row_cut : (text name sizes : List ℕ) (row : Row) → IsRow row → text ≡ name ++ 58 ∷ sizes
     → Lacks 58 name → text ≡ row_text row → (name ≡ id_text row.id.0) × (sizes ≡ sizes_text row)
 row_cut text name sizes row is cut lacks e =
     same_cut 58 name (id_text row.id.0) sizes (sizes_text row) lacks (Lacks-colon row.id.0 is.0)
     (sym cut ∙ e)
 
--- the two sizes
+-- the sizes' text that is cut at its colon gives the two sizes
 pub sizes_cut : (sizes held max : List ℕ) (row : Row) → IsRow row → sizes ≡ held ++ 58 ∷ max
     → Lacks 58 held → sizes ≡ sizes_text row → (held ≡ decimal row.held) × (max ≡ decimal row.max)
 sizes_cut sizes held max row is cut lacks e =
@@ -41,7 +41,7 @@ sizes_cut sizes held max row is cut lacks e =
     same_cut 58 held (decimal row.held) max (decimal row.max) lacks
     (Lacks-decimal_above 58 row.held (omega arith) below) (sym cut ∙ e)
 
--- a row is what its parts are
+-- rows whose parts are equal are equal
 same_parts : (a b : Row) → a.id ≡ b.id → a.held ≡ b.held → a.max ≡ b.max → a.want ≡ b.want → a ≡ b
 same_parts a b e f g h =
     ap (λ (i : Id). record { id = i; held = a.held; max = a.max; want = a.want }) e
@@ -88,7 +88,7 @@ Lacks-blank row is =
     (Lacks-decimal 32 row.held (omega arith) (omega arith))
     (Lacks-decimal 32 row.max (omega arith) (omega arith))
 
--- and no newline
+-- a row's text has no newline
 Lacks-end : (row : Row) → IsRow row → Lacks 10 (row_text row)
 Lacks-end row is =
     let (id, some, most, fits, want) = is in
@@ -126,12 +126,12 @@ wait_split text line rest rows is whole =
     whole ∙ ap (λ front. front ++ 10 ∷ rest) is.1
     ∙ append_assoc (codes "wait") (rows_text rows) (10 ∷ rest)
 
--- rows end, or go on with a blank
+-- the text of rows is empty or begins with a blank
 pub starts : (rows : List Row) → StartsAt 32 (rows_text rows)
 starts [] = tt
 starts (row ∷ rows) = refl
 
--- what follows the first row
+-- two ways to take a first row from a text give the same row's text and the same rest
 pub after_row : (row first : Row) (more : List Row) (rest after : List ℕ) → IsRow row → IsRow first
     → StartsAt 32 after → rest ≡ 32 ∷ (row_text row ++ after)
     → rest ≡ 32 ∷ (row_text first ++ rows_text more)
@@ -166,7 +166,7 @@ rows_text-more (first ∷ rows) row =
     ∙ ap (λ text. 32 ∷ text) (sym (append_assoc (row_text first) (rows_text rows) (32
     ∷ row_text row)))
 
--- what is read of the rows and what is left, one row on
+-- what was read of the rows and what is still unread, after one more row
 pub rows_on : (text rest after : List ℕ) (before items : List Row) (row : Row)
     → AllByRecursion IsRow before → text ≡ rows_text before ++ rest → IsRow row
     → rest ≡ 32 ∷ (row_text row ++ after) → items ≡ before ++ row ∷ []
@@ -188,7 +188,7 @@ rows_left [] rest after row are is blank e = cc (sym e ∙ are.1)
 rows_left (first ∷ more) rest after row are is blank e =
     (more, (are.0.1, (after_row row first more rest after is are.0.0 blank e are.1).1))
 
--- where a text of some bytes has no first row it is that of no rows
+-- a text that is not empty and begins with no row is not a text of rows
 pub rows_none : (left : List Row) (rest : List ℕ) → 0 < length rest
     → ((row : Row) (after : List ℕ) → IsRow row → StartsAt 32 after
     → rest ≢ 32 ∷ (row_text row ++ after)) → AreRows left rest → ⊥

@@ -26,7 +26,7 @@ Gets-more adds before mid after front piece (pieces, puts, joined) step =
     (sym (append-nil piece)) ∙ sym (concat-append pieces (piece ∷ [])) in
     (pieces ++ piece ∷ [], Puts-more adds before mid after pieces piece puts step, whole)
 
--- it failed before the text was through
+-- a sink that failed before it had taken the whole text took a part of it
 pub Takes-part : {S : Type 0} (adds : S → List ℕ → S → Type 0) (failed : S → Bool)
     (before after : S) (text front rest : List ℕ)
     → failed before ≡ false → failed after ≡ true → Gets adds before front after → text ≡ front
@@ -40,7 +40,7 @@ pub fails_at-nothing : (had : Bool) (bytes : List ℕ) (taken : ℕ) → taken �
     fails_at had bytes taken ≡ true
 fails_at-nothing had bytes taken none some = grind (arith, nat_tests)
 
--- a put that took something does not
+-- a put that took something does not fail a sink
 pub fails_at-something : (had : Bool) (bytes : List ℕ) (taken : ℕ) → had ≡ false → taken ≢ 0 →
     fails_at had bytes taken ≡ false
 fails_at-something had bytes taken well some = grind (arith, nat_tests)
@@ -57,7 +57,7 @@ pub some_left : (bytes : List ℕ) → (length bytes == 0) ≡ false → 0 < len
 some_left [] test = cc test
 some_left (b ∷ bytes) test = omega arith
 
--- what is left where nothing was taken
+-- where nothing of a text was taken, the untaken rest is not empty
 pub left_over : (rest : List ℕ) (n : ℕ) → n ≡ 0 → 0 < length rest → drop n rest ≢ []
 left_over rest n none some = λ empty.
     let same : drop n rest ≡ rest = rw none refl in
@@ -117,7 +117,7 @@ takes_both adds failed before mid after x y false false false eb em ea t u =
     let more = rw (em, ea) at u in
     rw (eb, ea) (Gets-append adds before mid after x y gets more)
 
--- a text, and then another
+-- a sink that takes a text, and then another, takes both joined
 pub Takes-then : {S : Type 0} (adds : S → List ℕ → S → Type 0) (failed : S → Bool)
     (before mid after : S) (x y : List ℕ)
     → Takes adds failed before x mid → Takes adds failed mid y after →
@@ -132,7 +132,7 @@ takes_none : {S : Type 0} (adds : S → List ℕ → S → Type 0) (failed : S �
 takes_none adds failed before true e = rw e refl
 takes_none adds failed before false e = rw e ([], refl, refl)
 
--- no text
+-- taking an empty text leaves a sink as it is
 pub Takes-none : {S : Type 0} (adds : S → List ℕ → S → Type 0) (failed : S → Bool) (before : S) →
     Takes adds failed before [] before
 Takes-none adds failed before = takes_none adds failed before (failed before) refl

@@ -1,4 +1,4 @@
--- What is written of answers, entries and rows, one by one.
+-- What is written of answers, entries, rows and bytes, one by one.
 use Rattle.std.proofs.Common.{◌≡◌, ℕ, ◌+◌, ◌<◌, Bool, List, [], ◌∷◌, ◌++◌, length, get_or, drop, map, refl, sym, ap, subst, ◌∙◌, append-nil, codes, true, ◌==◌, arith}
 use Rattle.std.proofs.lemmas.Bool.{eqb-true}
 use Rattle.std.proofs.lemmas.List.{append_assoc, drop_more}
@@ -14,7 +14,7 @@ use Rattle.records.proofs.HexTexts.{encode-append, no_digits}
 use Rattle.records.proofs.Records.{whole_rest}
 use Rattle.records.proofs.Sinks.{Takes-then}
 
--- the item at a place, and those behind it
+-- the item at a place, and those after it
 pub item_at : {T : Type 0} (xs : List T) (i : ℕ) (x : T) → i < length xs → x ≡ get_or xs i x →
     drop i xs ≡ x ∷ drop (i + 1) xs
 item_at xs i x below is =
@@ -22,7 +22,7 @@ item_at xs i x below is =
 
 module _ {T S : Type 0} (adds : S → List ℕ → S → Type 0) (failed : S → Bool) (xs : List T) (i : ℕ)
     (x : T) (first mid after : S) (step : drop i xs ≡ x ∷ drop (i + 1) xs) where
-  -- one answer on
+  -- what holds while answers are written still holds after one more answer
   pub answers_on : (view : T → Reply) (all : List Reply)
       → AllByRecursion IsTold (map view (drop i xs)) × (done : List ℕ)
       × Takes adds failed first done mid
@@ -39,7 +39,7 @@ module _ {T S : Type 0} (adds : S → List ℕ → S → Type 0) (failed : S →
         (so_far (text ++ rest) (rw step (line, rest, is, whole_rest text line rest whole, are))),
   )
 
-  -- one entry on
+  -- what holds while entries are written still holds after one more entry
   pub entries_on : (view : T → Note) (all : List Note)
       → AllByRecursion IsNote (map view (drop i xs)) × (done : List ℕ)
       × Takes adds failed first done mid
@@ -57,7 +57,7 @@ module _ {T S : Type 0} (adds : S → List ℕ → S → Type 0) (failed : S →
         (so_far (text ++ rest) (rw step (text, rest, is, refl, are))),
   )
 
--- one row on
+-- what holds while rows are written still holds after one more row
 pub rows_written : {S : Type 0} (adds : S → List ℕ → S → Type 0) (failed : S → Bool)
     (rows rest behind : List Row) (row : Row) (first mid after : S) → rest ≡ row ∷ behind
     → (done : List ℕ) × Takes adds failed first done mid × (rows_text rows ≡ done ++ rows_text rest)
@@ -80,7 +80,7 @@ rows_done adds failed rows rest first last none (done, takes, so_far) =
     subst (λ text. Takes adds failed first text last)
     (sym (so_far ∙ ap (λ left. done ++ rows_text left) none ∙ append-nil done)) takes
 
--- one piece of bytes on
+-- what holds while bytes are spelled still holds after one more piece
 pub piece_written : (bytes done rest piece after : List ℕ) → encode_lower bytes ≡ done
     ++ encode_lower rest → rest ≡ piece ++ after
     → encode_lower bytes ≡ (done ++ encode_lower piece) ++ encode_lower after

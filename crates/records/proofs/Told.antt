@@ -19,7 +19,7 @@ line_told (said.Ended id) line is = tt
 line_told said.TimedOut line is = tt
 line_told said.NoMore line is = is
 
--- the answers of lines
+-- the answers of lines that were read may be written
 pub lines_told : (replies : List Reply) (text : List ℕ) → AreLines replies text →
     AllByRecursion IsTold replies
 lines_told [] text are = tt
@@ -42,12 +42,12 @@ plain_told : (replies : List Reply) → AllByRecursion IsTold replies →
 plain_told [] all = tt
 plain_told (reply ∷ replies) (told, all) = ((tt, told), plain_told replies all)
 
--- the answers of a record
+-- the answers of a record may be written
 answers_told : (replies : List Reply) (text : List ℕ) → IsRecord replies text →
     AllByRecursion IsTold replies
 answers_told replies text (lines, whole, are) = lines_told replies lines are
 
--- the entries of a record of either version
+-- the entries of a record of either version may be written
 pub entries_told : (notes : List Note) (text : List ℕ) → AreEntries notes text →
     AllByRecursion IsNote notes
 entries_told notes text (inl (replies, is, same)) =

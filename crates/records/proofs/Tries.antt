@@ -18,7 +18,7 @@ AreInterrupted-more writes (first ∷ errors) error before mid after text (next,
     write is =
     (next, write', is', AreInterrupted-more writes errors error next mid after text others write is)
 
--- known bytes stay over two steps
+-- bytes that are known and kept by each of two steps are kept by both together
 pub Keeps-then : (a b c : Option (List ℕ)) → Keeps a b → Keeps b c → Keeps a c
 Keeps-then None b c first second = tt
 Keeps-then (Some x) None c first second = absurd first

@@ -9,7 +9,7 @@ use Rattle.records.specs.declared.entry.Entry.{Entry}
 use Rattle.records.specs.Record.{BeginsWithLine, IsFirstBad, IsRecord, IsTold, IsWholeLine, newline}
 use Rattle.records.specs.Rows.{BeginsWithWait, IsRow, IsWait}
 
--- what an entry says: an answer, and the rows of the wait that it answers where they are told
+-- what an entry says: an answer, and the rows of the wait that it answers where these are stated
 pub record Note : Type 0 where
   pub rows : Option (List Row)
   pub reply : Reply
@@ -21,11 +21,11 @@ note_of entry = record {
   reply = reply_of entry.answer;
 }
 
--- an answer whose wait is not told
+-- the entry of an answer without rows
 abbrev pub plain_note : Reply → Note
 plain_note reply = record { rows = None; reply = reply }
 
--- an entry that a record of version 2 tells
+-- an entry that a record of version 2 can state
 abbrev pub IsNote : Note → Type 0
 IsNote note = IfSome note.rows (AllByRecursion IsRow) × IsTold note.reply
 
@@ -56,7 +56,7 @@ abbrev pub IsSecondRecord : List Note → List ℕ → Type 0
 IsSecondRecord notes text =
     (lines : List ℕ) × (text ≡ second_header ++ lines) × AreNotes notes lines
 
--- a record of either version; one of version 1 tells no rows
+-- a record of either version; the entries of one of version 1 have no rows
 abbrev pub AreEntries : List Note → List ℕ → Type 0
 AreEntries notes text =
     ((replies : List Reply) × IsRecord replies text × (notes ≡ map plain_note replies))
@@ -72,9 +72,9 @@ abbrev pub lines_in : List Note → ℕ
 lines_in [] = 0
 lines_in (note ∷ notes) = lines_of note.rows + lines_in notes
 
--- where an entry should begin there is none, and after so many lines more comes the first bad one:
--- something is left that begins with the line of no answer and of no wait, or that lacks its
--- newline; or behind the line of a wait the line of no answer begins
+-- a text in which an entry should begin, but none does, and whose first bad line comes after `more`
+-- lines: it is not empty and begins neither with the line of an answer nor with that of a wait,
+-- each with its newline; or it begins with the line of a wait, and no line of an answer follows
 abbrev pub StopsAfter : ℕ → List ℕ → Type 0
 StopsAfter zero bad = (bad ≢ []) × (¬ BeginsWithLine bad) × (¬ BeginsWithWait bad)
 StopsAfter (suc zero) bad =
@@ -82,7 +82,7 @@ StopsAfter (suc zero) bad =
     × (¬ BeginsWithLine rest)
 StopsAfter _ bad = ⊥
 
--- the line after so many is the first bad one
+-- the line after `count` lines is the first bad one
 pub record IsBadNoteAfter (count : ℕ) (lines : List ℕ) : Type 0 where
   pub notes : List Note
   pub good : List ℕ

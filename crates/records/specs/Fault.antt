@@ -5,7 +5,7 @@ use Rattle.records.specs.declared.record.RecordFault.TheVariants.{Header, Line, 
 use Rattle.records.specs.Entry.{HasSecondHeader, IsBadLine, IsBadNoteAfter, StopsAfter}
 use Rattle.records.specs.Record.{HasHeader, IsBadAfter, IsFirstBad}
 
--- it lacks the header, or else has a first bad line; where memory was refused nothing is said
+-- the text lacks the header, or else has a first bad line; refused memory says nothing of the text
 abbrev pub IsFault : List ℕ → RecordFault → Type 0
 IsFault text Header = ¬ HasHeader text
 IsFault text (Line n) = IsFirstBad text n
@@ -17,7 +17,7 @@ IsLineFault lines Header = ⊥
 IsLineFault lines (Line n) = (count : ℕ) × (n ≡ count + 2) × IsBadAfter count lines
 IsLineFault lines (NoMemory refusal) = Unit {0}
 
--- it lacks both headers, or else has a first bad line
+-- the text lacks both headers, or else has a first bad line
 abbrev pub IsEntriesFault : List ℕ → RecordFault → Type 0
 IsEntriesFault text Header = (¬ HasHeader text) × (¬ HasSecondHeader text)
 IsEntriesFault text (Line n) = IsBadLine text n
@@ -29,7 +29,7 @@ IsNotesFault lines Header = ⊥
 IsNotesFault lines (Line n) = (count : ℕ) × (n ≡ count + 2) × IsBadNoteAfter count lines
 IsNotesFault lines (NoMemory refusal) = Unit {0}
 
--- the same where an entry should begin, at the line of a number
+-- the same of a text in which an entry should begin, at the line of this number
 abbrev pub IsNoteFault : ℕ → List ℕ → RecordFault → Type 0
 IsNoteFault line text Header = ⊥
 IsNoteFault line text (Line n) = (more : ℕ) × (n ≡ line + more) × StopsAfter more text

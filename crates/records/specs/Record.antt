@@ -14,7 +14,7 @@ newline = 10
 abbrev pub header : List ℕ
 header = codes "rx-record 1\n"
 
--- the line of an answer, without its newline; that there are no more answers has none
+-- the line of an answer, without its newline; `NoMore` has none
 abbrev pub IsLine : Reply → List ℕ → Type 0
 IsLine said.Done line = line ≡ codes "done"
 IsLine (said.Failed sent) line = (sent < 2 ^ 64) × (line ≡ codes "failed " ++ decimal sent)
@@ -34,7 +34,7 @@ IsLine said.NoMore line = ⊥
 abbrev pub IsWholeLine : Reply → List ℕ → Type 0
 IsWholeLine reply text = (line : List ℕ) × IsLine reply line × (text ≡ line ++ newline ∷ [])
 
--- an answer that records tell: not that there are no more
+-- an answer that a record can state: any but `NoMore`
 abbrev pub IsTold : Reply → Type 0
 IsTold said.NoMore = ⊥
 IsTold _ = Unit {0}
@@ -67,8 +67,8 @@ abbrev pub BeginsWithLine : List ℕ → Type 0
 BeginsWithLine text =
     (reply : Reply) × (line rest : List ℕ) × IsLine reply line × (text ≡ line ++ newline ∷ rest)
 
--- the line after so many is the first bad one: after the lines of some answers something is left,
--- which begins with the line of no answer, or that lacks its newline
+-- the line after `count` lines is the first bad one: after the lines of some answers the text is
+-- not at its end, and the rest begins with the line of no answer, or lacks the newline of its line
 pub record IsBadAfter (count : ℕ) (lines : List ℕ) : Type 0 where
   pub replies : List Reply
   pub good : List ℕ

@@ -1,4 +1,4 @@
--- The rows of waits in records: what a wait tells of the buffers of its ids (this project's own
+-- The rows of waits in records: what a wait says of the buffers of its ids (this project's own
 -- format).
 use Rattle.std.specs.Prelude.{◌≡◌, ◌+◌, ◌-◌, ◌/◌, ◌^◌, ◌<◌, ◌≤◌, ◌==◌, ℕ, if◌then◌else◌, List, [], ◌∷◌, ◌++◌, codes, decimal}
 use Rattle.std.specs.List.{AllByRecursion}
@@ -14,7 +14,7 @@ greatest_size = 1000000
 abbrev pub wanted : ℕ → ℕ → ℕ
 wanted held max = if max - held == 0 then (max + 1) / 2 else max - held
 
--- a row that has a text: its buffer holds at most its size, and it wants what the two say
+-- a row that has a text: its buffer holds at most its size, and `want` follows from the two
 abbrev pub IsRow : Row → Type 0
 IsRow row =
     (row.id.0 < 2 ^ 64) × (1 ≤ row.max) × (row.max ≤ greatest_size) × (row.held ≤ row.max)
@@ -25,12 +25,12 @@ abbrev pub row_text : Row → List ℕ
 row_text row =
     id_text row.id.0 ++ (codes ":" ++ (decimal row.held ++ (codes ":" ++ decimal row.max)))
 
--- each row behind a blank
+-- each row after a blank
 abbrev pub rows_text : List Row → List ℕ
 rows_text [] = []
 rows_text (row ∷ rows) = codes " " ++ (row_text row ++ rows_text rows)
 
--- a text that is that of these rows
+-- a text that spells these rows
 abbrev pub AreRows : List Row → List ℕ → Type 0
 AreRows rows text = AllByRecursion IsRow rows × (text ≡ rows_text rows)
 

@@ -2,7 +2,7 @@
 use Rattle.std.specs.Prelude.{◌≡◌, ◌≢◌, ℕ, ◌==◌, ◌&&◌, ◌||◌, nat_lt, Bool, List, [], ◌∷◌, ◌++◌, length, MatchBool}
 use Rattle.std.specs.List.{concat}
 
--- a sink has failed from the first time on that it took nothing of some bytes
+-- a sink has failed from the first time on that it took nothing of a text that is not empty
 abbrev pub fails_at : Bool → List ℕ → ℕ → Bool
 fails_at failed bytes taken = failed || (taken == 0 && nat_lt 0 (length bytes))
 
@@ -18,7 +18,7 @@ module _ {S : Type 0} (adds : S → List ℕ → S → Type 0) where
   Gets before bytes after =
       (pieces : List (List ℕ)) × Puts before pieces after × (bytes ≡ concat pieces)
 
-  -- it gets a beginning of the text, and not all of it
+  -- a sink gets a beginning of the text, and not all of it
   abbrev pub GetsPart : S → List ℕ → S → Type 0
   GetsPart before text after =
       (front rest : List ℕ) × Gets before front after × (text ≡ front ++ rest) × (rest ≢ [])

@@ -4,7 +4,7 @@ use Rattle.std.specs.IoError.{error_kind}
 use Rattle.std.specs.declared.io.Error.{Error}
 use Rattle.std.specs.declared.io.ErrorKind.TheVariants.{Interrupted}
 
--- `writes` says whether a write of a text may be answered so and lead from one state to another.
+-- `writes` says whether a write of a text may give an answer and lead from one state to another.
 module _ {W : Type 0} (writes : W → List ℕ → Result ℕ Error → W → Type 0) where
   -- writes of the text that these errors interrupted, one after the other
   abbrev pub AreInterrupted : List Error → W → List ℕ → W → Type 0
@@ -13,7 +13,7 @@ module _ {W : Type 0} (writes : W → List ℕ → Result ℕ Error → W → Ty
       (mid : W) × writes before text (Err error) mid × (error_kind error ≡ Interrupted)
       × AreInterrupted errors mid text after
 
-  -- a write that is not interrupted takes so many bytes, none where it fails
+  -- a write that is not interrupted takes `taken` bytes, none where it fails
   abbrev pub TakesOnce : W → List ℕ → ℕ → W → Type 0
   TakesOnce before text taken after =
       writes before text (Ok taken) after

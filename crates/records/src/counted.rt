@@ -10,12 +10,12 @@ ghost use Rattle.records.specs.Tries.{Tries};
 use crate::sink::Sink;
 use std::io::{self, ErrorKind, Write};
 
-/// An `io::Write`, each of whose writes is a step.
+/// An `io::Write`, each of whose writes is a step from one state to the next.
 pub trait Writer {
     /// The bytes that it holds, where they are known.
     ghost held: { Self → Option (List ℕ) };
 
-    /// Whether a write of a text may be answered so, and lead from one state to another.
+    /// Whether a write of this text may give this answer and lead from one state to another.
     ghost writes: { Self → List ℕ → Result ℕ Error → Self → Type 0 };
 
     /// Writes some bytes from the front of a text, and says how many, as `io::Write::write`.
@@ -36,8 +36,8 @@ impl<W: Write> Writer for W {
     }
 }
 
-/// A sink over an `io::Write`. It fails at the first write that fails, or that takes nothing of
-/// some bytes; a write that was interrupted is tried again.
+/// A sink over an `io::Write`. It fails at the first write that fails, or that takes none of a text
+/// that is not empty; a write that was interrupted is tried again.
 #[derive(Drop)]
 pub struct Counted<W> {
     writer: W,
@@ -69,11 +69,11 @@ impl<W: Writer> Sink for Counted<W> {
             (take result bytes.now) }
         ensures fails { self.new.failed ≡ fails_at self.old.failed bytes.now result }
 
-        // It takes nothing of some bytes only where its writer did.
+        // The sink takes nothing of a text that is not empty only where its writer did or failed.
         ensures tries { self.old.failed ≡ false
             → Tries W.writes self.old.writer bytes.now result self.new.writer }
 
-        // To one that has failed nothing is written.
+        // Nothing is written to a sink that has failed.
         ensures kept { self.old.failed ≡ true → self.new ≡ self.old }
     {
         if self.failed {

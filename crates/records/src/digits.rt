@@ -9,13 +9,13 @@ ghost use Rattle.records.specs.declared.digits.TheConstants.{LANES};
 
 use std::simd::prelude::*;
 
-/// How many bytes are spelled into one room.
+/// How many bytes at most are spelled into one buffer.
 pub const PIECE: usize = 512;
 
-/// How many bytes are taken at a time where there are so many.
+/// How many bytes are converted at a time while at least that many remain.
 const LANES: usize = 16;
 
-/// Writes the two digits of each byte, by `LANES` bytes at a time as long as there are so many.
+/// Writes the two digits of each byte, `LANES` bytes at a time while at least that many remain.
 pub fn write_digits(bytes: &[u8], digits: &mut [u8])
     requires { length digits.old ≡ 2 * length bytes.now }
     ensures { digits.new ≡ encode_lower bytes.now }
@@ -60,8 +60,8 @@ fn digits_of(values: u8x16) -> u8x16
     values + small.select(u8x16::splat(b'0'), u8x16::splat(b'a' - 10))
 }
 
-/// Reads bytes from their two digits each, by `LANES` bytes at a time as long as there are so many,
-/// and says whether all were lower case digits.
+/// Reads bytes from their two digits each, `LANES` bytes at a time while at least that many remain,
+/// and says whether all digits were lower case ones.
 pub fn read_digits(digits: &[u8], bytes: &mut [u8]) -> bool
     requires { length digits.now ≡ 2 * length bytes.old }
     ensures lower { result ≡ list_all is_lower_digit digits.now }
@@ -81,7 +81,8 @@ pub fn read_digits(digits: &[u8], bytes: &mut [u8]) -> bool
     read_rest(&digits[2 * done..], &mut bytes[done..])
 }
 
-/// Reads bytes from their two digits each, one byte at a time.
+/// Reads bytes from their two digits each, one byte at a time, and says whether all digits were
+/// lower case ones.
 fn read_rest(digits: &[u8], bytes: &mut [u8]) -> bool
     requires { length digits.now ≡ 2 * length bytes.old }
     ensures lower { result ≡ list_all is_lower_digit digits.now }
@@ -99,7 +100,7 @@ fn read_rest(digits: &[u8], bytes: &mut [u8]) -> bool
     true
 }
 
-/// The value of each lower case digit, and more than any of them for another byte.
+/// The value of each lower case digit, and a number that is no such value for another byte.
 fn values_of(digits: u8x16) -> u8x16
     ensures lower { list_all is_lower_digit digits ≡ list_all is_value result }
     ensures values { list_all is_lower_digit digits ≡ true
@@ -121,7 +122,7 @@ fn are_values(first: u8x16, second: u8x16) -> bool
     larger.simd_ge(u8x16::splat(16)).to_bitmask() == 0
 }
 
-/// The bytes of values, two a byte.
+/// The bytes that values of digits make, two values a byte.
 fn join(first: u8x16, second: u8x16) -> u8x16
     requires { list_all is_value (first ++ second) ≡ true }
     ensures digits { map (slice_index lower_digits) (first ++ second) ≡ encode_lower result }
@@ -143,7 +144,7 @@ fn digit_of(value: u8) -> u8
     }
 }
 
-/// The value of a lower case digit, and more than any of them for another byte.
+/// The value of a lower case digit, and a number that is no such value for another byte.
 fn value_of(digit: u8) -> u8
     ensures lower { nat_lt result 16 ≡ is_lower_digit digit }
     ensures value { result < 16 → slice_index lower_digits result ≡ digit }

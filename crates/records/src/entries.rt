@@ -16,17 +16,17 @@ use std::alloc::Allocator;
 /// The first line of a record of version 2, with its newline.
 pub(crate) const SECOND_HEADER: &[u8; 12] = b"rx-record 2\n";
 
-/// The entries whose record a text is, in time linear in its length. A record of version 1 tells no
-/// rows.
+/// Reads the record that a text is, of either version, as entries, in time linear in its length.
+/// The entries of a record of version 1 have no rows.
 pub fn read_entries<A: Allocator + Copy>(
     alloc: A,
     text: &[u8],
 ) -> Result<Vec<Entry<A>, A>, RecordFault>
     ensures read { IfOk result (λ entries. AreEntries (map note_of entries.items) text.now) }
-    // So they may be written.
+    // So these entries may be written again.
     ensures told { IfOk result (λ entries. AllByRecursion IsNote (map note_of entries.items)) }
     ensures fault { IfErr result (λ fault. IsEntriesFault text.now fault) }
-    // The other way round, where memory is not refused.
+    // Conversely, the entries of a record are read unless memory is refused.
     ensures record { (notes : List Note) → AreEntries notes text.now
         → MatchResult result (λ entries. map note_of entries.items ≡ notes) IsRefused }
     ensures no_header { ¬ HasHeader text.now → ¬ HasSecondHeader text.now
@@ -37,7 +37,7 @@ pub fn read_entries<A: Allocator + Copy>(
     read_either(alloc, text)
 }
 
-/// The same, by the header.
+/// Reads a record of the version that its header names.
 fn read_either<A: Allocator + Copy>(alloc: A, text: &[u8]) -> Result<Vec<Entry<A>, A>, RecordFault>
     ensures read { IfOk result (λ entries. AreEntries (map note_of entries.items) text.now) }
     ensures fault { IfErr result (λ fault. IsEntriesFault text.now fault) }
@@ -63,7 +63,7 @@ fn read_plain<A: Allocator + Copy>(alloc: A, text: &[u8]) -> Result<Vec<Entry<A>
     }
 }
 
-/// Answers as entries that tell no rows.
+/// Answers as entries without rows.
 fn without_rows<A: Allocator>(
     alloc: A,
     answers: Vec<Answer<A>, A>,
@@ -78,7 +78,7 @@ fn without_rows<A: Allocator>(
     Ok(entries)
 }
 
-/// The entries whose lines a text has, after the header of version 2.
+/// The entries whose lines a text has; `lines` is what follows the header of version 2.
 fn read_notes<A: Allocator + Copy>(alloc: A, lines: &[u8]) -> Result<Vec<Entry<A>, A>, RecordFault>
     requires { length lines.now + 12 < 2 ^ 64 }
     ensures read { IfOk result (λ entries. AreNotes (map note_of entries.items) lines.now) }
@@ -96,7 +96,8 @@ fn read_notes<A: Allocator + Copy>(alloc: A, lines: &[u8]) -> Result<Vec<Entry<A
     Ok(entries)
 }
 
-/// The entry that a text of some bytes begins with, at the line of this number, and what follows.
+/// The entry that a text begins with, which is not empty, and the text after it. `line` is the
+/// number of the first line, for faults.
 fn read_entry<A: Allocator + Copy>(
     alloc: A,
     text: &[u8],
@@ -134,7 +135,8 @@ fn count_lines<A: Allocator>(entry: &Entry<A>) -> u64
 }
 
 /// A list of entries that have lines has one text of version 2, no two lists have the same text of
-/// either version, and a text that has a bad line is of no list and has one first bad line.
+/// either version, and a text that has a bad line is the text of no list and has one first bad
+/// line.
 pub fn one_list_of_entries()
     ensures some_text { (notes : List Note)
         → AllByRecursion HasLines notes → (text : List ℕ) × IsSecondRecord notes text }

@@ -14,7 +14,7 @@ use acts::decimal::read_decimal;
 use acts::{Answer, Id, NoMemory};
 use std::alloc::Allocator;
 
-/// The answer whose line this is.
+/// The answer whose line this is, without the newline; `None` where it is the line of no answer.
 pub fn read_line<A: Allocator>(alloc: A, line: &[u8]) -> Result<Option<Answer<A>>, NoMemory>
     ensures { IfOk result (λ found. MatchOption found
         ((reply : Reply) → IsLine reply line.now → ⊥)
@@ -50,7 +50,7 @@ pub fn read_line<A: Allocator>(alloc: A, line: &[u8]) -> Result<Option<Answer<A>
     }
 }
 
-/// The number that stands in a line behind a word.
+/// The number after a word in a line; `None` where the line is not the word and a number.
 fn read_number(line: &[u8], word: &[u8]) -> Option<u64>
     ensures number { IfSome result (λ number. line.now ≡ word.now ++ decimal number) }
     ensures none { IfNone result ((number : ℕ)

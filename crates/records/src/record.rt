@@ -47,16 +47,16 @@ impl<T: Drop> From<AllocFailed<T>> for RecordFault {
     }
 }
 
-/// The answers whose record a text is, in time linear in its length.
+/// Reads the record that a text is, of version 1, as answers, in time linear in its length.
 pub fn read_record<A: Allocator + Copy>(
     alloc: A,
     text: &[u8],
 ) -> Result<Vec<Answer<A>, A>, RecordFault>
     ensures read { IfOk result (λ answers. IsRecord (map reply_of answers.items) text.now) }
-    // So they may be written.
+    // So these answers may be written again.
     ensures told { IfOk result (λ answers. AllByRecursion IsTold (map reply_of answers.items)) }
     ensures fault { IfErr result (λ fault. IsFault text.now fault) }
-    // The other way round, where memory is not refused.
+    // Conversely, the answers of a record are read unless memory is refused.
     ensures record { (replies : List Reply) → IsRecord replies text.now
         → MatchResult result (λ answers. map reply_of answers.items ≡ replies) IsRefused }
     ensures no_header { ¬ HasHeader text.now → result ≡ Err RecordFault.Header }
@@ -69,7 +69,7 @@ pub fn read_record<A: Allocator + Copy>(
     }
 }
 
-/// The answers whose lines a text has, after the header.
+/// The answers whose lines a text has; `lines` is what follows the header.
 fn read_lines<A: Allocator + Copy>(alloc: A, lines: &[u8]) -> Result<Vec<Answer<A>, A>, RecordFault>
     requires { length lines.now + 12 < 2 ^ 64 }
     ensures read { IfOk result (λ answers. AreLines (map reply_of answers.items) lines.now) }
@@ -87,7 +87,8 @@ fn read_lines<A: Allocator + Copy>(alloc: A, lines: &[u8]) -> Result<Vec<Answer<
     Ok(answers)
 }
 
-/// The answer whose line a text begins with, and what follows that line.
+/// The answer whose line a text begins with, and what follows that line; `None` where it begins
+/// with the line of no answer.
 pub(crate) fn read_first<A: Allocator>(
     alloc: A,
     text: &[u8],
@@ -107,7 +108,7 @@ pub(crate) fn read_first<A: Allocator>(
 }
 
 /// A list of answers that have lines has one text, no two lists have the same text, and a text that
-/// has a bad line is of no list and has one first bad line.
+/// has a bad line is the text of no list and has one first bad line.
 pub fn one_record()
     ensures some_text { (replies : List Reply)
         → AllByRecursion HasLine replies → (text : List ℕ) × IsRecord replies text }

@@ -16,7 +16,8 @@ use std::alloc::Allocator;
 /// The greatest size of a match buffer in bytes (expect(1), match_max).
 const GREATEST_SIZE: u64 = 1_000_000;
 
-/// The rows of the wait whose line a text begins with, and what follows that line.
+/// The rows of the wait whose line a text begins with, and what follows that line; `None` where it
+/// begins with the line of no wait.
 pub fn read_wait<A: Allocator>(
     alloc: A,
     text: &[u8],
@@ -26,7 +27,7 @@ pub fn read_wait<A: Allocator>(
         (λ first. (line : List ℕ) × IsWait first.0.items line
         × (text.now ≡ line ++ newline ∷ first.1.now))) }
 {
-    // The line of an answer, which may be long, is not sought for its end here.
+    // An answer's line, which may be long, is not searched for its end here.
     let Some(behind) = text.strip_prefix(b"wait") else {
         return Ok(None);
     };
@@ -39,7 +40,7 @@ pub fn read_wait<A: Allocator>(
     }
 }
 
-/// The rows whose text this is, each behind a blank.
+/// The rows that this text spells, each after a blank; `None` where it is not a text of rows.
 fn read_rows<A: Allocator>(alloc: A, text: &[u8]) -> Result<Option<Vec<Row, A>>, NoMemory>
     ensures { IfOk result (λ found. MatchOption found
         ((rows : List WaitRow) → ¬ AreRows rows text.now)
@@ -57,7 +58,7 @@ fn read_rows<A: Allocator>(alloc: A, text: &[u8]) -> Result<Option<Vec<Row, A>>,
     Ok(Some(rows))
 }
 
-/// The row that a text begins with behind a blank, and what follows: nothing or another blank.
+/// The row that a text begins with after a blank, and what follows: nothing or another blank.
 fn read_first_row(text: &[u8]) -> Option<(Row, &[u8])>
     ensures row { IfSome result (λ first. IsRow first.0 × StartsAt 32 first.1.now
         × (text.now ≡ 32 ∷ (row_text first.0 ++ first.1.now))) }
@@ -70,7 +71,7 @@ fn read_first_row(text: &[u8]) -> Option<(Row, &[u8])>
     Some((row, after))
 }
 
-/// The row whose text this is.
+/// The row that this text spells.
 fn read_row(text: &[u8]) -> Option<Row>
     ensures row { IfSome result (λ row. IsRow row × (text.now ≡ row_text row)) }
     ensures none { IfNone result ((row : WaitRow) → IsRow row → text.now ≢ row_text row) }
@@ -83,7 +84,8 @@ fn read_row(text: &[u8]) -> Option<Row>
     row_of(id, held, max)
 }
 
-/// The row of an id whose buffer holds so many bytes and may hold so many.
+/// The row of an id whose buffer holds `held` bytes and may hold `max`; `None` where these sizes
+/// are out of range.
 fn row_of(id: Id, held: u64, max: u64) -> Option<Row>
     ensures row { IfSome result (λ row. IsRow row
         × (row.id ≡ id) × (row.held ≡ held) × (row.max ≡ max)) }
@@ -100,7 +102,7 @@ fn row_of(id: Id, held: u64, max: u64) -> Option<Row>
     })
 }
 
-/// How many bytes are wanted for a buffer that holds so many and may hold so many.
+/// How many bytes are wanted for a buffer that holds `held` bytes and may hold `max`.
 fn wanted(held: u32, max: u32) -> u32
     requires held { held ≤ max }
     requires max { max ≤ 1000000 }
@@ -113,7 +115,7 @@ fn wanted(held: u32, max: u32) -> u32
     }
 }
 
-/// Whether records can tell these rows.
+/// Whether a record can state these rows.
 pub fn are_rows(rows: &[Row]) -> bool
     ensures { IsTrue result ↔ AllByRecursion IsRow rows.now }
 {
@@ -125,7 +127,7 @@ pub fn are_rows(rows: &[Row]) -> bool
     true
 }
 
-/// Whether a record can tell this row: its sizes are in range, and it wants what they say.
+/// Whether a record can state this row: its sizes are in range, and `want` follows from them.
 fn is_row(row: &Row) -> bool
     ensures { IsTrue result ↔ IsRow row.now }
 {

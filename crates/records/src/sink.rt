@@ -5,8 +5,8 @@ ghost use Rattle.records.specs.Sink.{Takes, fails_at};
 
 use itoa::Buffer;
 
-/// A destination of bytes. It takes what it can of each text, and once it could take nothing of one
-/// it has failed.
+/// A destination of bytes. It takes what it can of each text, and has failed once it took nothing
+/// of a text that is not empty.
 pub trait Sink {
     /// Whether a put may lead from one state to another and add these bytes.
     ghost adds: { Self → List ℕ → Self → Type 0 };
@@ -14,14 +14,14 @@ pub trait Sink {
     /// Whether a sink in this state has failed.
     ghost has_failed: { Self → Bool };
 
-    /// Takes some bytes from the front of a text, and says how many. It has failed from the first
-    /// time on that it takes none of a text that has some.
+    /// Takes some bytes from the front of a text, and says how many. The sink has failed from the
+    /// first time on that it takes nothing of a text that is not empty.
     fn put(&mut self, bytes: &[u8]) -> usize
         ensures within { result ≤ length bytes.now }
         ensures adds { adds self.old (take result bytes.now) self.new }
         ensures fails { has_failed self.new ≡ fails_at (has_failed self.old) bytes.now result };
 
-    /// Whether it has failed.
+    /// Whether the sink has failed.
     fn failed(&self) -> bool
         ensures { result ≡ has_failed self.now };
 }
@@ -37,7 +37,7 @@ pub fn put_all<S: Sink>(sink: &mut S, text: &[u8])
     let mut rest = text;
     'text: while !rest.is_empty() {
         let taken = sink.put(rest);
-        // It has failed now.
+        // The sink took nothing of some bytes, so it has failed now.
         if taken == 0 {
             return;
         }

@@ -25,8 +25,8 @@ use thiserror::Error;
 #[error("the record could not be written")]
 pub struct SinkFailed;
 
-/// Writes the record of some answers, of version 1. None of them says that there are no more, which
-/// has no line. After an error the sink has got a beginning of it.
+/// Writes the record of some answers, of version 1. None of the answers is `Answer::NoMore`, which
+/// has no line. After an error the sink has got a beginning of the record.
 pub fn write_record<A: Allocator, S: Sink>(
     answers: &[Answer<A>],
     sink: &mut S,
@@ -41,8 +41,8 @@ pub fn write_record<A: Allocator, S: Sink>(
     ended(sink)
 }
 
-/// Writes the record of some entries, of version 2. None of their answers says that there are no
-/// more, and their rows are in range. After an error the sink has got a beginning of it.
+/// Writes the record of some entries, of version 2. None of their answers is `Answer::NoMore`, and
+/// their rows are in range. After an error the sink has got a beginning of the record.
 pub fn write_entries<A: Allocator, S: Sink>(
     entries: &[Entry<A>],
     sink: &mut S,
@@ -64,7 +64,7 @@ pub fn write_header<S: Sink>(sink: &mut S)
     put_all(sink, SECOND_HEADER);
 }
 
-/// Whether a sink has taken all.
+/// An error where a sink has failed, and so has not taken the whole text.
 fn ended<S: Sink>(sink: &S) -> Result<(), SinkFailed>
     ensures { IsErr result ↔ (S.has_failed sink.now ≡ true) }
 {
@@ -109,7 +109,7 @@ pub fn write_entry<A: Allocator, S: Sink>(sink: &mut S, entry: &Entry<A>)
     }
 }
 
-/// Writes the line of a wait for these rows, which are in range, and that of its answer.
+/// Writes the line of a wait for these rows, which are in range, and the line of its answer.
 pub fn write_waited<A: Allocator, S: Sink>(sink: &mut S, rows: &[Row], answer: &Answer<A>)
     requires rows { AllByRecursion IsRow rows.now }
     requires answer { IsTold (reply_of answer.now) }
@@ -122,7 +122,7 @@ pub fn write_waited<A: Allocator, S: Sink>(sink: &mut S, rows: &[Row], answer: &
     write_line(sink, answer);
 }
 
-/// Writes the line of an answer. That there are no more has none.
+/// Writes the line of an answer that is not `Answer::NoMore`, which has none.
 pub fn write_line<A: Allocator, S: Sink>(sink: &mut S, answer: &Answer<A>)
     requires { IsTold (reply_of answer.now) }
     ensures { (text : List ℕ) × IsWholeLine (reply_of answer.now) text
@@ -141,7 +141,7 @@ pub fn write_line<A: Allocator, S: Sink>(sink: &mut S, answer: &Answer<A>)
     }
 }
 
-/// Puts the line of a failure after so many bytes.
+/// Puts the line of a failure after `sent` bytes.
 fn put_failed<S: Sink>(sink: &mut S, sent: u64)
     ensures { (text : List ℕ) × IsWholeLine (said.Failed sent) text
         × Takes S.adds S.has_failed sink.old text sink.new }
@@ -186,7 +186,7 @@ fn put_arrival<S: Sink>(sink: &mut S, id: Id, bytes: &[u8])
     put_all(sink, b"\n");
 }
 
-/// Puts rows, each behind a blank.
+/// Puts rows, each after a blank.
 fn put_rows<S: Sink>(sink: &mut S, rows: &[Row])
     ensures { Takes S.adds S.has_failed sink.old (rows_text rows.now) sink.new }
 {
@@ -195,7 +195,7 @@ fn put_rows<S: Sink>(sink: &mut S, rows: &[Row])
     }
 }
 
-/// Puts a row behind a blank.
+/// Puts a row after a blank.
 fn put_row<S: Sink>(sink: &mut S, row: &Row)
     ensures { Takes S.adds S.has_failed sink.old (32 ∷ row_text row.now) sink.new }
 {

@@ -4,7 +4,7 @@ use records::{RecordFault, read_record};
 use refusal::Refusing;
 use std::test::Fail;
 
-/// Each line that has an answer, an empty arrival and the greatest numbers among them.
+/// A record with each kind of line, an empty arrival and the greatest numbers among them.
 const RECORD: &str = "rx-record 1\nstarted 100\ndone\narrive exp4 68690a\ntimeout\n\
     arrive exp18446744073709551615 \nstarted 18446744073709551615\nstarted 0\narrive exp0 00ff\n\
     failed 0\nfailed 18446744073709551615\nrefused\nexited 0\nexited 255\nexited -\nended exp4\n";

@@ -4,8 +4,8 @@ use records::{Counted, Sink, put_all};
 use std::io::{self, ErrorKind, Write};
 use std::test::Fail;
 
-/// A writer that is interrupted so often before each write, takes two bytes at a time, and takes
-/// nothing or fails where it has no room left.
+/// A writer that is interrupted `interruptions` times before each write, takes two bytes at a time,
+/// and takes nothing or fails where it has no room left.
 #[derive(Drop)]
 struct Halting<'a> {
     taken: &'a mut [u8],

@@ -5,11 +5,11 @@ use records::{RecordFault, read_entries, read_record};
 /// A record of version 1.
 const FIRST: &[u8] = b"rx-record 1\nstarted 100\ndone\narrive exp4 68690a\ndone\ndone\n";
 
-/// The same as a record of version 2, which tells the rows of the wait.
+/// The same as a record of version 2, which states the rows of the wait.
 const SECOND: &[u8] =
     b"rx-record 2\nstarted 100\ndone\nwait exp4:0:2000\narrive exp4 68690a\ndone\ndone\n";
 
-/// What has to come of a text that is cut: how many answers it has, or its fault.
+/// The expected result of reading a text that is cut: how many answers it has, or its fault.
 fn wanted(front: &[u8]) -> Result<usize, RecordFault> {
     if front.len() < 12 {
         return Err(RecordFault::Header);

@@ -1,4 +1,4 @@
-//! Replays of records that tell rows.
+//! Replays of records that state rows.
 
 use acts::{Act, Answer, Id, Row, Timer, World};
 use records::{Counted, read_entries};
@@ -6,7 +6,7 @@ use replays::Replay;
 use std::alloc::Global;
 use std::test::Fail;
 
-/// Entries with rows, with none, and with no rows at a wait.
+/// Entries with rows, without rows, and with an empty list of rows at a wait.
 const RECORD: &[u8] = b"rx-record 2\nstarted 100\nwait exp4:0:2000\ntimeout\ntimeout\n\
     wait exp4:1:2000 exp5:5:5\nended exp5\nwait\ntimeout\ndone\n";
 
@@ -28,7 +28,7 @@ fn wait_for(alloc: Global, rows: &[Row], timer: Timer) -> Result<Act<Global>, Fa
     })
 }
 
-/// The acts that the record answers. The third entry tells no rows, and answers any wait.
+/// The acts that the record answers. The third entry states no rows, and answers any wait.
 fn acts(alloc: Global) -> Result<Vec<Act<Global>>, Fail> {
     let waits: [(&[Row], Timer); 4] = [
         (&[row(4, 0, 2000, 2000)], Timer::Start(10)),
@@ -45,7 +45,8 @@ fn acts(alloc: Global) -> Result<Vec<Act<Global>>, Fail> {
     Ok(acts)
 }
 
-/// The answers to the acts, and which of them differed, where the act of this place is another one.
+/// The answers to the acts, and which of them differed, where `other` stands for the act at
+/// `place`.
 fn replayed(alloc: Global, place: usize, other: Option<Act<Global>>) -> Result<String, Fail> {
     let (mut out, mut err) = ([0u8; 1], [0u8; 1]);
     let mut replay = Replay::of_entries(

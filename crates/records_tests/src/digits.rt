@@ -1,11 +1,11 @@
-//! The digits of arrivals, of which many are taken at a time and the last ones one by one.
+//! The digits of arrivals, which are converted many at a time and the last ones one by one.
 
 use acts::{Answer, Id};
 use records::{Counted, RecordFault, read_record, write_record};
 use std::alloc::Global;
 use std::test::Fail;
 
-/// How many bytes arrive: none, some, and some more or fewer than are taken at a time.
+/// How many bytes arrive: none, some, and some more or fewer than are converted at a time.
 const SIZES: [usize; 14] = [0, 1, 15, 16, 17, 31, 32, 33, 64, 256, 511, 512, 513, 545];
 
 /// What stands before the digits of an arrival in its record.
@@ -15,7 +15,7 @@ const FRONT: &str = "rx-record 1\narrive exp4 ";
 /// that differ from a digit in one bit.
 const OTHERS: &[u8] = b"/:`g@GABCDEF \0\x10\x7f\x80\xb0\xb9\xe1\xe6\xff";
 
-/// So many bytes, each number that a byte can be in turn, from a first on.
+/// `size` bytes from `first` on, each number that a byte can be in turn.
 fn bytes_from(alloc: Global, first: u8, size: usize) -> Result<Vec<u8>, Fail> {
     let mut bytes = Vec::new(alloc);
     let mut byte = first;
@@ -92,7 +92,7 @@ fn is_read(alloc: Global, record: &[u8], number: usize, byte: u8) -> Result<bool
 fn takes_the_lower_case_digits_alone(rt: HostRuntime) -> Result<(), Fail> {
     let bytes = bytes_from(rt.alloc(), 0xa0, 17)?;
     let record = record_of(rt.alloc(), &bytes)?;
-    // The first and the last digit of each half of a step, and one of those that are left.
+    // The first and the last digit of each half of a step, and one of the digits after the step.
     for number in [0, 15, 16, 31, 32] {
         for byte in 0..=u8::MAX {
             let is_digit = matches!(byte, b'0'..=b'9' | b'a'..=b'f');

@@ -12,11 +12,11 @@ use std::test::Fail;
 /// The answers of a dialogue: a program is started and sent `hi`, which comes back.
 const ANSWERS: &[u8] = b"rx-record 1\nstarted 100\ndone\narrive exp4 68690a\ndone\ndone\n";
 
-/// The record of the dialogue, which tells the rows of its wait.
+/// The record of the dialogue, which states the rows of its wait.
 const RECORD: &[u8] =
     b"rx-record 2\nstarted 100\ndone\nwait exp4:0:2000\narrive exp4 68690a\ndone\ndone\n";
 
-/// The row of an empty buffer of so many bytes, of which so many are wanted.
+/// The row of an empty buffer of `max` bytes, of which `want` are wanted.
 fn empty_row(max: u32, want: u32) -> Row {
     Row {
         id: Id(4),

@@ -1,4 +1,4 @@
-//! Test support: an allocator that refuses the requests that a test chooses, and hands the others
+//! Test support: an allocator that refuses the requests that a test chooses, and passes the others
 //! on.
 #![tactic(auto)]
 
@@ -42,7 +42,7 @@ impl Gate {
 /// the `Copy` allocator to hand in.
 ///
 /// A growth or a shrinking counts as one request, and so does each new block. Giving a block back
-/// is none, and is never refused.
+/// is no request, and is never refused.
 #[derive(Drop)]
 pub struct Refusing<B: Allocator> {
     inner: B,
@@ -50,7 +50,7 @@ pub struct Refusing<B: Allocator> {
 }
 
 impl<B: Allocator> Refusing<B> {
-    /// Refuses nothing yet.
+    /// An allocator over `inner` that refuses nothing yet.
     pub fn new(inner: B) -> Refusing<B> {
         let gate = Gate {
             requests: Cell::new(0),

@@ -4,7 +4,7 @@ use Rattle.acts.specs.declared.row.Row.{Row}
 use Rattle.acts.specs.Deed.{Deed}
 use Rattle.acts.specs.Deed as said
 
--- an entry answers a wait for the rows that it tells, and where it tells none, any act
+-- an entry with rows answers a wait for these rows, and an entry without rows any act
 abbrev pub IsDue : Option (List Row) → Deed → Type 0
 IsDue None act = Unit {0}
 IsDue (Some told) (said.Wait rows timer) = told ≡ rows

@@ -7,14 +7,15 @@ use Rattle.replays.specs.Due.{IsDue}
 use Rattle.replays.specs.Left.{left_in}
 use Rattle.replays.specs.declared.recording.Recording.{Recording}
 
--- what is left of a recorded run: the entries, how many acts were answered by one, and the number
--- of the act that differed from the wait that was due, counted from 1, if one did
+-- how far a recorded run was replayed: the entries that are left, how many acts were answered by
+-- one, and the number of the act that differed from the wait that was due, counted from 1, if one
+-- did
 pub record Recorded : Type 0 where
   pub entries : List Note
   pub answered : ℕ
   pub differs : Option ℕ
 
--- the beginning of a recorded run
+-- a recorded run of which nothing was replayed yet
 abbrev pub whole : List Note → Recorded
 whole entries = record { entries = entries; answered = 0; differs = None }
 
@@ -26,7 +27,7 @@ recorded_in recording = record {
   differs = recording.differs;
 }
 
--- the next entry answers the act and is gone; an act that it does not answer differs; where no
+-- the next entry answers the act and is used up; an act that it does not answer differs; where no
 -- entry is left, there are no more answers
 abbrev pub AnswersNext : List Note → ℕ → Deed → Reply → Recorded → Type 0
 AnswersNext [] answered act reply after =

@@ -5,14 +5,14 @@ use Rattle.acts.specs.Deed as said
 use Rattle.records.specs.Sink.{Takes}
 use Rattle.replays.specs.Recording.{Recorded, Answers}
 
--- what goes out of a text that is written: all of it where that is done, as many bytes as the
--- answer says where it failed after a number that the text has, and else nothing
+-- the bytes that go out of a text that is written: all where the write is done, the first `sent`
+-- bytes where it failed after that many and the text has them, and else none
 abbrev pub gone_out : List ℕ → Reply → List ℕ
 gone_out text said.Done = text
 gone_out text (said.Failed sent) = if nat_le sent (length text) then take sent text else []
 gone_out text _ = []
 
--- `out` and `err` say what a writer does at a text.
+-- `out` and `err` say what a writer does with a text.
 module _ {O E : Type 0} (out : O → List ℕ → O → Type 0) (err : E → List ℕ → E → Type 0) where
   -- only what goes out of a writing act is written, to its own writer
   abbrev pub Writes : O × E → Deed → Reply → O × E → Type 0
@@ -23,10 +23,10 @@ module _ {O E : Type 0} (out : O → List ℕ → O → Type 0) (err : E → Lis
   Writes before _ reply after = (after.0 ≡ before.0) × (after.1 ≡ before.1)
 
 -- `out` and `err` say whether a put may lead from one state of a writer to another and add these
--- bytes, `out_failed` and `err_failed` whether it has failed.
+-- bytes, `out_failed` and `err_failed` whether a writer has failed.
 module _ {O E : Type 0} (out : O → List ℕ → O → Type 0) (out_failed : O → Bool)
     (err : E → List ℕ → E → Type 0) (err_failed : E → Bool) where
-  -- a step of a replay, which has what is left of a recorded run and the two writers
+  -- a step of a replay, whose state is how far the recorded run was replayed, and the two writers
   abbrev pub Replays : Recorded × (O × E) → Deed → Reply → Recorded × (O × E) → Type 0
   Replays before act reply after =
       Answers before.0 act reply after.0

@@ -1,4 +1,4 @@
-//! What is left of a record.
+//! The part of a record that was not replayed yet.
 
 ghost use Rattle.std.specs.Prelude.{◌≡◌, ◌+◌, ◌∷◌, [], MatchOption};
 ghost use Rattle.records.specs.Entry.{note_of};
@@ -9,7 +9,7 @@ use records::Entry;
 use std::alloc::Allocator;
 use std::vec::IntoIter;
 
-/// The answers that are left, or the entries.
+/// The answers, or the entries, that were not given yet.
 #[derive(Drop)]
 pub enum Left<A: Allocator> {
     Answers(IntoIter<Answer<A>, A>),

@@ -11,9 +11,10 @@ use acts::{Act, Answer};
 use records::Entry;
 use std::alloc::Allocator;
 
-/// What is left of a recorded run: its answers, the first one first. Where the entry of an answer
-/// tells the rows of a wait, only a wait with these rows gets it; another act differs from the run
-/// that was recorded, and from there on there are no more answers.
+/// The part of a recorded run that was not replayed yet: its answers, the first one first. Where
+/// the entry of an answer states the rows of a wait, only a wait with these rows gets the answer;
+/// any other act differs from the run that was recorded, and from that act on there are no more
+/// answers.
 #[derive(Drop)]
 pub struct Recording<A: Allocator> {
     left: Left<A>,
@@ -25,7 +26,7 @@ pub struct Recording<A: Allocator> {
 impl<A: Allocator> Recording<A> {
     ghost use Rattle.replays.specs.Recording.{Answers, recorded_in, whole};
 
-    /// A run of these answers, of which no rows are told.
+    /// A recorded run of these answers, without rows.
     pub fn of_answers(answers: Vec<Answer<A>, A>) -> Recording<A>
         ensures { recorded_in result ≡ whole (map plain_note (map reply_of answers.items)) }
     {
@@ -36,7 +37,7 @@ impl<A: Allocator> Recording<A> {
         }
     }
 
-    /// A run of these entries.
+    /// A recorded run of these entries.
     pub fn of_entries(entries: Vec<Entry<A>, A>) -> Recording<A>
         ensures { recorded_in result ≡ whole (map note_of entries.items) }
     {
@@ -66,7 +67,8 @@ impl<A: Allocator> Recording<A> {
         next.answer
     }
 
-    /// The number of the act that differed from the run that was recorded, counted from 1.
+    /// The number of the act that differed from the run that was recorded, counted from 1; `None`
+    /// if none did.
     pub fn differs(&self) -> Option<u64>
         ensures { result ≡ (recorded_in self.now).differs }
     {

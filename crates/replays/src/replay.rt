@@ -11,8 +11,8 @@ use acts::{Act, Answer, World};
 use records::{Entry, Sink, put_all};
 use std::alloc::Allocator;
 
-/// A world that answers from a recorded run, the first answer first, and then that there is no
-/// more. It writes what goes out of the acts Out and Err to its two writers, and only answers the
+/// A world that answers from a recorded run, the first answer first, and then `Answer::NoMore`. It
+/// writes the bytes that go out by the acts Out and Err to its two writers, and only answers the
 /// others.
 #[derive(Drop)]
 pub struct Replay<A: Allocator, O, E> {
@@ -38,7 +38,8 @@ impl<A: Allocator, O: Sink, E: Sink> Replay<A, O, E> {
         }
     }
 
-    /// The same of entries: where one tells rows, its answer is given to a wait for these alone.
+    /// A replay of a list of entries. The answer of an entry with rows is given only to a wait for
+    /// these.
     pub fn of_entries(entries: Vec<Entry<A>, A>, out: O, err: E) -> Replay<A, O, E>
         requires out { O.has_failed out ≡ false }
         requires err { E.has_failed err ≡ false }
@@ -60,7 +61,8 @@ impl<A: Allocator, O: Sink, E: Sink> Replay<A, O, E> {
         self.out.failed() || self.err.failed()
     }
 
-    /// The number of the act that differed from the recorded run, counted from 1.
+    /// The number of the act that differed from the recorded run, counted from 1; `None` if none
+    /// did.
     pub fn differs(&self) -> Option<u64>
         ensures { result ≡ (recorded_in self.now.recording).differs }
     {
@@ -88,7 +90,7 @@ pub struct LentReplay<'a, 'o, 'e, A: Allocator, O, E> {
 }
 
 impl<A: Allocator, O: Sink, E: Sink> World<A> for LentReplay<'_, '_, '_, A, O, E> {
-    // A step of a replay, after which the same places are lent.
+    // A step of a replay, after which the same recorded run and writers are still lent.
     ghost step = { λ before act answer after.
         Replays O.adds O.has_failed E.adds E.has_failed
         (recorded_in before.recording.now, (before.out.now, before.err.now))
@@ -103,7 +105,7 @@ impl<A: Allocator, O: Sink, E: Sink> World<A> for LentReplay<'_, '_, '_, A, O, E
     }
 }
 
-/// Gives the answer to an act, and writes what goes out of an act Out or Err.
+/// Gives the answer to an act, and writes the bytes that go out by an act Out or Err.
 fn answer_from<A: Allocator, O: Sink, E: Sink>(
     recording: &mut Recording<A>,
     out: &mut O,
@@ -124,7 +126,7 @@ fn answer_from<A: Allocator, O: Sink, E: Sink>(
     answer
 }
 
-/// What goes out of a text that is written, by the answer to the write.
+/// The bytes that go out of a text that is written, as the answer to the write says.
 fn went_out<'a, A: Allocator>(text: &'a [u8], answer: &Answer<A>) -> &'a [u8]
     ensures { result.now ≡ gone_out text.now (reply_of answer.now) }
 {

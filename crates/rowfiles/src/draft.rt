@@ -9,7 +9,7 @@ use acts::{Act, Answer, Limits};
 use std::alloc::Global;
 use tcltext::split_list;
 
-/// The ticks of a run where a row says none.
+/// The ticks of a run where its row states none.
 const TICKS: u64 = 10_000_000;
 
 /// The blanks before a line of a script or an act.
@@ -30,7 +30,7 @@ enum Block {
     None,
     /// The script, of which no line came yet.
     Script,
-    /// The script behind its first line.
+    /// The script after its first line.
     Further,
     Acts,
 }
@@ -53,13 +53,13 @@ enum Line {
     Again,
 }
 
-/// Whether a line says nothing.
+/// Whether a line is empty or a comment.
 pub fn is_comment(line: &str) -> bool {
     line.is_empty() || line.starts_with('#')
 }
 
 impl Draft {
-    /// The row of a title.
+    /// A draft of the row with this title, of which nothing else was read yet.
     pub fn new(alloc: Global, title: &str) -> Result<Draft, RowFault> {
         let limits = limits(TICKS)?;
         let title = String::from_str(alloc, title)?;
@@ -84,7 +84,7 @@ impl Draft {
         })
     }
 
-    /// Takes the line of a number.
+    /// Takes the next line, which has this number.
     pub fn take(&mut self, alloc: Global, number: usize, line: &str) -> Result<(), RowFault> {
         match line.strip_prefix(INDENT) {
             Some(inner) => self.take_inner(alloc, number, inner),
@@ -104,7 +104,7 @@ impl Draft {
         self.take_named(alloc, name, rest.trim())
     }
 
-    /// Takes the part of a name.
+    /// Takes the part of the row with this name; `rest` is what stands after the name in its line.
     fn take_named(&mut self, alloc: Global, name: &str, rest: &str) -> Result<(), RowFault> {
         match name {
             "script" => self.begin_script(rest)?,
@@ -122,7 +122,7 @@ impl Draft {
         Ok(())
     }
 
-    /// Takes a script of one line, or goes on to the lines of one.
+    /// Takes a script of one line, or begins one that stands in the lines that follow.
     fn begin_script(&mut self, line: &str) -> Result<(), RowFault> {
         if line.is_empty() {
             self.block = Block::Script;
@@ -131,7 +131,7 @@ impl Draft {
         Ok(())
     }
 
-    /// Takes a line of a part that has several.
+    /// Takes a line that belongs to a part of several lines.
     fn take_inner(&mut self, alloc: Global, number: usize, line: &str) -> Result<(), RowFault> {
         match self.block {
             Block::None => Err(RowFault::NoPart),
@@ -147,7 +147,7 @@ impl Draft {
         }
     }
 
-    /// Takes an act, or what is said of the last one.
+    /// Takes a line among the acts: an act, or something about the acts before it.
     fn take_act(&mut self, alloc: Global, number: usize, line: &str) -> Result<(), RowFault> {
         if is_comment(line) {
             return Ok(());
@@ -161,7 +161,7 @@ impl Draft {
         }
     }
 
-    /// Puts an act behind the others.
+    /// Adds an act after the others.
     fn push_act(&mut self, line: usize, act: Vec<Vec<u8>>) -> Result<(), RowFault> {
         self.acts.push(Asked {
             line,
@@ -172,7 +172,7 @@ impl Draft {
         Ok(())
     }
 
-    /// Puts an answer to the last act.
+    /// Sets the answer to the last act.
     fn put_answer(&mut self, words: Vec<Vec<u8>>) -> Result<(), RowFault> {
         let Some(asked) = self.acts.last_mut() else {
             return Err(RowFault::NoActBefore);
@@ -181,7 +181,7 @@ impl Draft {
         Ok(())
     }
 
-    /// Has the script catch an error of the last act.
+    /// Records that the script catches an error of the last act.
     fn put_caught(&mut self) -> Result<(), RowFault> {
         let Some(asked) = self.acts.last_mut() else {
             return Err(RowFault::NoActBefore);
@@ -202,7 +202,7 @@ impl Draft {
         Ok(())
     }
 
-    /// Puts so many acts from a place on behind the last one.
+    /// Copies `many` acts, from the one at the place `first` on, to the end of the acts.
     fn copy_acts(&mut self, first: usize, many: usize) -> Result<(), RowFault> {
         for place in first..first.saturating_add(many) {
             let Some(asked) = self.acts.get(place) else {
@@ -214,7 +214,8 @@ impl Draft {
         Ok(())
     }
 
-    /// Reads the acts and the end, now that all lines were taken. `line` is the line that is read.
+    /// Reads the acts and the end, now that all lines were taken. `line` is set to the number of
+    /// the line of each act that is read, for faults.
     pub fn complete(&mut self, alloc: Global, line: &mut usize) -> Result<(), RowFault> {
         for asked in &self.acts {
             *line = asked.line;
@@ -226,7 +227,7 @@ impl Draft {
         Ok(())
     }
 
-    /// The row.
+    /// The row that was read.
     pub fn into_row(self) -> Row {
         let Draft {
             row,
@@ -259,7 +260,7 @@ impl Asked {
     }
 }
 
-/// What a line of these words is. One of the word `caught` alone tells of an act before it.
+/// What a line of these words states. The word `caught` alone concerns the act before it.
 fn line_of(words: &[Vec<u8>]) -> Line {
     if is_act(words) {
         return Line::Act;
@@ -279,7 +280,7 @@ fn repetition(line: &[Vec<u8>]) -> Result<(u64, usize), RowFault> {
     }
 }
 
-/// The text of the error that the last write to standard error tells.
+/// The text of the error that the last write to standard error reports.
 fn last_error(exchanges: &[Exchange]) -> Option<&[u8]> {
     let mut text = None;
     for exchange in exchanges {
@@ -290,7 +291,7 @@ fn last_error(exchanges: &[Exchange]) -> Option<&[u8]> {
     text
 }
 
-/// The limit of so many ticks.
+/// The limit of this many ticks.
 fn limits(ticks: u64) -> Result<Limits, RowFault> {
     match Limits::new(ticks) {
         Some(limits) => Ok(limits),

@@ -34,7 +34,7 @@ pub struct LineFault {
 }
 
 impl RowFault {
-    /// What is wrong.
+    /// What is wrong, in words.
     pub fn text(self) -> &'static str {
         match self {
             RowFault::NoMemory(_) => "no memory",

@@ -59,14 +59,14 @@ impl Reader {
         }
     }
 
-    /// Begins the row of a title.
+    /// Begins the row with this title.
     fn begin(&mut self, title: &str) -> Result<(), RowFault> {
         self.finish()?;
         self.draft = Some(Draft::new(self.alloc, title)?);
         Ok(())
     }
 
-    /// Puts the row that was read to the others.
+    /// Completes the row that is being read, if there is one, and adds it to the others.
     fn finish(&mut self) -> Result<(), RowFault> {
         if let Some(mut draft) = self.draft.take() {
             draft.complete(self.alloc, &mut self.line)?;
@@ -75,7 +75,7 @@ impl Reader {
         Ok(())
     }
 
-    /// The rows.
+    /// The rows that were read.
     fn into_rows(self) -> Vec<Row> {
         let Reader {
             alloc: _,

@@ -7,7 +7,7 @@ use std::alloc::{AllocError, Global};
 /// The first line of a record.
 pub const HEADER: &str = "rx-record 1\n";
 
-/// The record of a row's answers, up to where the world had no more.
+/// The record of a row's answers, up to the first act for which the world had no more.
 pub fn record_of(alloc: Global, row: &Row) -> Result<String, AllocError> {
     let mut text = String::from_str(alloc, HEADER)?;
     for exchange in &row.exchanges {

@@ -13,7 +13,7 @@ pub fn repeated(alloc: Global, line: &str) -> Result<String, AllocError> {
     Ok(text)
 }
 
-/// Writes what stands behind a `<<`.
+/// Writes the part of a line after a `<<`: its repetition written out, or else the part as it is.
 fn push_part(text: &mut String, part: &str) -> Result<(), AllocError> {
     let Some((times, unit, rest)) = repetition(part) else {
         text.push_str("<<")?;
@@ -25,7 +25,7 @@ fn push_part(text: &mut String, part: &str) -> Result<(), AllocError> {
     text.push_str(rest)
 }
 
-/// How often which text stands, and what follows.
+/// How often a text is repeated, that text, and what follows the repetition.
 fn repetition(part: &str) -> Option<(u64, &str, &str)> {
     let (inside, rest) = part.split_once(">>")?;
     let (times, unit) = inside.split_once(' ')?;

@@ -4,11 +4,11 @@ use crate::end::End;
 use acts::{Act, Answer, Limits};
 use std::alloc::{AllocError, Allocator, Global};
 
-/// How many bytes the script and the answers of a row have at most, if it is run in each way there
-/// is.
+/// How many bytes the script and the answers of a row may have at most for it to be run in each way
+/// there is.
 const BULK: usize = 50_000;
 
-/// A script, the acts that have to come of it with their answers, and its end.
+/// A script, the acts that it has to perform with the answers to them, and its end.
 #[derive(Drop)]
 pub struct Row {
     /// What the row shows.
@@ -52,7 +52,7 @@ impl Exchange {
     }
 }
 
-/// The same answer, held by another allocator.
+/// A copy of an answer, held by another allocator.
 pub fn answer_in<A: Allocator>(alloc: A, answer: &Answer<Global>) -> Result<Answer<A>, AllocError> {
     Ok(match answer {
         Answer::Done => Answer::Done,
@@ -101,7 +101,7 @@ impl Row {
     }
 }
 
-/// Words, held by another allocator.
+/// Copies of words, held by another allocator.
 pub fn copies_in<A: Allocator + Copy>(
     alloc: A,
     words: &[Vec<u8>],

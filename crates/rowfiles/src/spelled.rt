@@ -1,4 +1,4 @@
-//! Acts, answers and ends out of the words of a line.
+//! Acts, answers and ends that are read from the words of a line.
 
 use crate::end::End;
 use crate::fault::RowFault;
@@ -16,7 +16,7 @@ pub fn is_act(line: &[Vec<u8>]) -> bool {
     }
 }
 
-/// The act of a line.
+/// The act that a line states.
 pub fn act_of(alloc: Global, line: &[Vec<u8>]) -> Result<Act<Global>, RowFault> {
     let mut words = Words::new(line);
     let name = words.take()?;
@@ -25,7 +25,7 @@ pub fn act_of(alloc: Global, line: &[Vec<u8>]) -> Result<Act<Global>, RowFault> 
     Ok(act)
 }
 
-/// The act of a name and the words behind it.
+/// The act that a name and the words after it state.
 fn named_act(alloc: Global, name: &[u8], words: &mut Words<'_>) -> Result<Act<Global>, RowFault> {
     match name {
         b"Out" => Ok(Act::Out(words.take_copy(alloc)?)),
@@ -44,7 +44,7 @@ fn named_act(alloc: Global, name: &[u8], words: &mut Words<'_>) -> Result<Act<Gl
     }
 }
 
-/// The call of a server.
+/// The act that connects to a server.
 fn connect_of(alloc: Global, words: &mut Words<'_>) -> Result<Act<Global>, RowFault> {
     let id = words.take_id()?;
     let host = words.take_copy(alloc)?;
@@ -60,7 +60,7 @@ fn mode_of(word: &[u8]) -> Result<LogMode, RowFault> {
     }
 }
 
-/// The wait of these rows and this timer.
+/// The wait that the words of a line state: its rows, and the timer at the end.
 fn wait_of(alloc: Global, line: &[Vec<u8>]) -> Result<Act<Global>, RowFault> {
     let (timer, places) = timer_of(line)?;
     let mut rows = Vec::new(alloc);
@@ -101,7 +101,7 @@ fn row_of(alloc: Global, place: &[u8]) -> Result<Row, RowFault> {
     Ok(row)
 }
 
-/// The answer of a line.
+/// The answer that a line states.
 pub fn answer_of(alloc: Global, line: &[Vec<u8>]) -> Result<Answer<Global>, RowFault> {
     let mut words = Words::new(line);
     let name = words.take()?;
@@ -110,7 +110,7 @@ pub fn answer_of(alloc: Global, line: &[Vec<u8>]) -> Result<Answer<Global>, RowF
     Ok(answer)
 }
 
-/// The answer of a name and the words behind it.
+/// The answer that a name and the words after it state.
 fn named_answer(
     alloc: Global,
     name: &[u8],
@@ -139,7 +139,7 @@ fn status_of(word: &[u8]) -> Result<Option<u8>, RowFault> {
     }
 }
 
-/// The answer to an act of which none is written: Done, where that fits.
+/// The answer to an act for which no answer is written: Done, where that fits.
 pub fn usual_answer(act: &Act<Global>) -> Result<Answer<Global>, RowFault> {
     if fits(act, &Answer::<Global>::Done) {
         Ok(Answer::Done)
@@ -148,7 +148,7 @@ pub fn usual_answer(act: &Act<Global>) -> Result<Answer<Global>, RowFault> {
     }
 }
 
-/// The end of a line. The text of an error is the one that was written, where the line has none.
+/// The end that a line states. Where the line has no text for an error, `written` is its text.
 pub fn end_of(alloc: Global, line: &[Vec<u8>], written: Option<&[u8]>) -> Result<End, RowFault> {
     let mut words = Words::new(line);
     let name = words.take()?;
@@ -157,7 +157,7 @@ pub fn end_of(alloc: Global, line: &[Vec<u8>], written: Option<&[u8]>) -> Result
     Ok(end)
 }
 
-/// The end of a name and the words behind it.
+/// The end that a name and the words after it state.
 fn named_end(
     alloc: Global,
     name: &[u8],
@@ -175,7 +175,7 @@ fn named_end(
     }
 }
 
-/// The end by an error, of the text that is the next word or else was written.
+/// The end by an error, whose text is the next word, or `written` where there is none.
 fn error_of(alloc: Global, words: &mut Words<'_>, written: Option<&[u8]>) -> Result<End, RowFault> {
     if !words.is_empty() {
         return Ok(End::Error(words.take_copy(alloc)?));

@@ -73,7 +73,7 @@ pub fn push_end(line: &mut String, end: &End) -> Result<(), AllocError> {
     }
 }
 
-/// Writes an id behind a name, and a blank where the line goes on behind it.
+/// Writes a name and then an id.
 fn push_id(line: &mut String, name: &str, id: Id) -> Result<(), AllocError> {
     let number = id.0;
     write!(line, "{name}exp{number}")
@@ -110,7 +110,8 @@ fn push_wait(line: &mut String, rows: &[Row], timer: Timer) -> Result<(), AllocE
     }
 }
 
-/// Writes a blank and a word: bare where it has neither white nor signs of lists, else in quotes.
+/// Writes a blank and a word: bare where it is short, not empty and of plain bytes alone, else in
+/// quotes.
 pub fn push_word(line: &mut String, bytes: &[u8]) -> Result<(), AllocError> {
     line.push_str(" ")?;
     if !bytes.is_empty() && bytes.len() < 12 && bytes.iter().all(|byte| is_plain(*byte)) {

@@ -12,7 +12,7 @@ pub struct Words<'a> {
 }
 
 impl<'a> Words<'a> {
-    /// All words of a line.
+    /// All words of a line, none of them taken yet.
     pub fn new(line: &'a [Vec<u8>]) -> Words<'a> {
         Words { rest: line }
     }
@@ -49,7 +49,7 @@ impl<'a> Words<'a> {
         number(self.take()?)
     }
 
-    /// All words that are left.
+    /// Takes all remaining words.
     pub fn take_rest(&mut self) -> &'a [Vec<u8>] {
         let rest = self.rest;
         self.rest = &[];

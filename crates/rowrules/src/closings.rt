@@ -4,7 +4,7 @@ use acts::{Act, Answer, Id};
 use rowfiles::Row;
 use std::alloc::{AllocError, Global};
 
-/// What is open in a run.
+/// The ids that are open in a run, and whether its log is.
 #[derive(Drop)]
 struct Opened {
     ids: Vec<Id>,
@@ -12,7 +12,7 @@ struct Opened {
 }
 
 impl Opened {
-    /// Takes what an act that was answered so opens or closes.
+    /// Records what an act with this answer opens or closes.
     fn take(&mut self, act: &Act<Global>, answer: &Answer<Global>) -> Result<(), AllocError> {
         match (act, answer) {
             (Act::Spawn(id, _), Answer::Started(_)) | (Act::Connect(id, _, _), Answer::Done) => {
@@ -27,8 +27,8 @@ impl Opened {
     }
 }
 
-/// Writes the closings of what is open behind the act at a place, where that is answered so: ids in
-/// rising order, as they were opened, and then the log.
+/// Writes the acts that close what is open after the act at `place`, where that has this answer:
+/// the ids in rising order, as they were opened, and then the log.
 pub fn push_closings(
     text: &mut String,
     row: &Row,

@@ -4,27 +4,27 @@ use rowfiles::spelling::{push_act, push_end};
 use rowfiles::{End, Row};
 use std::alloc::{AllocError, Global};
 
-/// What a run came to.
+/// How a run ended.
 #[derive(Drop)]
 pub enum Ended {
-    /// Its end.
+    /// It came to an end that rows can state.
     End(End),
     /// Memory was refused.
     NoMemory,
-    /// A session did what none may do.
+    /// A session did what no session may do.
     Broken(Breach),
 }
 
 /// What no session may do.
 #[derive(Clone, Copy)]
 pub enum Breach {
-    /// It asks for acts without an end.
+    /// It asks for acts without ever ending.
     Endless,
-    /// It goes on behind its end.
+    /// It goes on after its end.
     GoesOn,
     /// It has lost the end that it gave.
     EndLost,
-    /// It goes on behind a refusal of memory.
+    /// It goes on after a refusal of memory.
     GoesOnRefused,
     /// It has an end although memory was refused.
     EndsRefused,
@@ -35,9 +35,9 @@ impl Breach {
     fn text(self) -> &'static str {
         match self {
             Breach::Endless => "a session has no end",
-            Breach::GoesOn => "a session goes on behind its end",
+            Breach::GoesOn => "a session goes on after its end",
             Breach::EndLost => "a session has lost its end",
-            Breach::GoesOnRefused => "a session goes on behind a refusal of memory",
+            Breach::GoesOnRefused => "a session goes on after a refusal of memory",
             Breach::EndsRefused => "a refused session has an end",
         }
     }
@@ -54,7 +54,7 @@ pub struct Course {
 const REFUSED: &str = "NoMemory";
 
 impl Course {
-    /// The course of a run that told these acts.
+    /// The course of a run that asked for these acts and ended in this way.
     pub fn of_run(alloc: Global, acts: String, ended: &Ended) -> Result<Course, AllocError> {
         let end = match ended {
             Ended::End(end) => end_text(alloc, end)?,
@@ -64,14 +64,14 @@ impl Course {
         Ok(Course { acts, end })
     }
 
-    /// The course that a row has.
+    /// The course that a row states.
     pub fn of_row(alloc: Global, row: &Row) -> Result<Course, AllocError> {
         let acts = acts_before(alloc, row, row.exchanges.len())?;
         let end = end_text(alloc, &row.end)?;
         Ok(Course { acts, end })
     }
 
-    /// The acts and the end.
+    /// The acts and the end, as one text.
     pub fn text(&self) -> Result<String, AllocError> {
         let mut text = self.acts.clone()?;
         text.push_str(self.end.as_str())?;
@@ -95,7 +95,7 @@ fn end_text(alloc: Global, end: &End) -> Result<String, AllocError> {
     Ok(text)
 }
 
-/// The first acts of a row as lines.
+/// The acts of a row before a place, as lines.
 pub fn acts_before(alloc: Global, row: &Row, place: usize) -> Result<String, AllocError> {
     let mut text = String::new(alloc);
     for exchange in row.exchanges.iter().take(place) {

@@ -9,8 +9,9 @@ use std::alloc::{AllocError, Global};
 /// The longest record that is cut after each byte.
 const LONGEST: usize = 1000;
 
-/// Reads the record of a row cut after each byte: behind a line's end it has the answers so far,
-/// within the header it is none, and else its last line is bad.
+/// Reads the record of a row cut after each of its bytes: cut at the end of a line, it has the
+/// answers so far; cut within the header, it is no record; and cut anywhere else, its last line is
+/// bad.
 pub fn run_cuts(alloc: Global, report: &mut Report, row: &Row) -> Result<(), AllocError> {
     let record = record_of(alloc, row)?;
     if LONGEST < record.len() {
@@ -23,7 +24,7 @@ pub fn run_cuts(alloc: Global, report: &mut Report, row: &Row) -> Result<(), All
     report.compare(row.title.as_str(), by, wanted.as_str(), came.as_str())
 }
 
-/// Writes what has to come, and what comes, of a record cut after each byte.
+/// Writes the expected and the actual results of reading a record cut after each byte.
 fn push_cuts(wanted: &mut String, came: &mut String, record: &[u8]) -> Result<(), AllocError> {
     for end in 0..=record.len() {
         let front = record.get(..end).unwrap_or(b"");
@@ -33,7 +34,7 @@ fn push_cuts(wanted: &mut String, came: &mut String, record: &[u8]) -> Result<()
     Ok(())
 }
 
-/// Writes what has to come of a cut record.
+/// Writes the expected result of reading a cut record.
 fn push_wanted(text: &mut String, front: &[u8]) -> Result<(), AllocError> {
     let end = front.len();
     let lines = count_lines(front);
@@ -59,7 +60,7 @@ fn count_lines(text: &[u8]) -> usize {
     lines
 }
 
-/// Writes what comes of a cut record.
+/// Writes the actual result of reading a cut record.
 fn push_read(text: &mut String, front: &[u8]) -> Result<(), AllocError> {
     let end = front.len();
     match read_record(*text.allocator(), front) {

@@ -1,9 +1,9 @@
-//! The errors that acts are which were refused or have failed.
+//! The errors that acts which were refused or have failed give the script.
 
 use acts::{Act, Answer, Id};
 use std::alloc::{AllocError, Global};
 
-/// Writes the text of the error that an act is which is answered so.
+/// Writes the text of the error that an act with this answer gives the script.
 pub fn push_error(
     text: &mut Vec<u8>,
     act: &Act<Global>,

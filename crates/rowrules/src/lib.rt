@@ -1,5 +1,6 @@
-//! The rules by which rows are run, over any product that runs scripts: what has to come of a row
-//! as it stands, with each answer turned, with memory refused, and as a call of the program.
+//! The rules by which rows are run, over any product that runs scripts: what is expected of a row
+//! as it stands, with each answer turned into another, with memory refused, and as a call of the
+//! program.
 #![tactic(auto)]
 
 mod closings;

@@ -16,7 +16,7 @@ const ROOM: usize = 40;
 /// The status of a failed writer.
 const WRITER_FAILED: u8 = 4;
 
-/// More requests than a call for a row comes to.
+/// More requests for memory than a call for a row makes.
 const MANY: u64 = 100_000;
 
 /// A call of the program under a record.
@@ -64,8 +64,9 @@ fn call_of<'a>(row: &'a Row, own: &'a [u8]) -> Call<'a> {
     }
 }
 
-/// What has to be printed: by the acts and the end, which what the row says of it has to agree
-/// with; for a row with a text for its record it is what the row says alone.
+/// What has to be printed: what the acts and the end of the row print, and what the row itself says
+/// is printed has to agree with that; for a row with a text for its record, only what the row
+/// itself says counts.
 fn wanted(alloc: Global, report: &mut Report, row: &Row) -> Result<Prints, AllocError> {
     let mut wanted = Prints::of_row(alloc, row)?;
     let by_course = wanted.text(alloc)?;
@@ -103,7 +104,7 @@ fn compare(
     report.compare(call.title, way, wanted.as_str(), came.as_str())
 }
 
-/// What a call prints with these copies of its arguments, whose writers take all.
+/// What a call prints with these arguments, to writers that take all.
 fn play_whole<P: Product, A: Allocator + Copy>(
     log: Global,
     product: &P,
@@ -117,7 +118,7 @@ fn play_whole<P: Product, A: Allocator + Copy>(
     Prints { out, err, status }
 }
 
-/// What a call prints, whose writers have room for so many bytes.
+/// What a call prints to writers that have room for `out` and `err` bytes.
 fn play_short<P: Product>(
     alloc: Global,
     product: &P,
@@ -137,8 +138,9 @@ fn play_short<P: Product>(
     Ok(Prints { out, err, status })
 }
 
-/// Plays a call with a standard output that fails after each number of bytes: it has got that
-/// beginning, the run goes on as before, and the line and the status are those of a failed writer.
+/// Plays a call with a standard output that fails after each number of bytes: the output has got
+/// that beginning, the run goes on as before, and the line and the status are those of a failed
+/// writer.
 fn run_short_out<P: Product>(
     alloc: Global,
     product: &P,
@@ -178,7 +180,7 @@ fn run_short_err<P: Product>(
     Ok(())
 }
 
-/// The first bytes of a text.
+/// The first `room` bytes of a text.
 fn front(bytes: &Vec<u8>, room: usize) -> Result<Vec<u8>, AllocError> {
     let mut front = bytes.clone()?;
     front.truncate(room);

@@ -37,7 +37,7 @@ impl Prints {
         Ok(prints)
     }
 
-    /// Takes what goes out by an act that is answered so.
+    /// Adds the bytes that go out by an act with this answer.
     fn take(&mut self, act: &Act<Global>, answer: &Answer<Global>) -> Result<(), AllocError> {
         match act {
             Act::Out(bytes) => self.out.extend_from_slice(gone(bytes, answer)),
@@ -46,7 +46,7 @@ impl Prints {
         }
     }
 
-    /// Puts what a row says of it in its place.
+    /// Replaces the parts for which the row itself says what is printed.
     pub fn say(&mut self, printed: &Printed) -> Result<(), AllocError> {
         if let Some(out) = &printed.out {
             self.out = out.clone()?;
@@ -60,7 +60,7 @@ impl Prints {
         Ok(())
     }
 
-    /// The same once more.
+    /// A copy of these prints.
     pub fn copy(&self) -> Result<Prints, AllocError> {
         let out = self.out.clone()?;
         let err = self.err.clone()?;
@@ -71,7 +71,7 @@ impl Prints {
         })
     }
 
-    /// The same in lines.
+    /// The two outputs and the status as lines.
     pub fn text(&self, alloc: Global) -> Result<String, AllocError> {
         let mut text = String::new(alloc);
         text.push_str("out:")?;
@@ -84,7 +84,7 @@ impl Prints {
     }
 
     /// Whether a call printed the whole, or, where memory was refused, a beginning of what the acts
-    /// print and the line of that.
+    /// print and then the line that reports the refusal.
     pub fn is_like(&self, whole: &Prints, by_acts: &Prints, is_refused: bool) -> bool {
         if is_refused && self.status == NO_MEMORY {
             self.is_beginning(whole, by_acts)
@@ -104,7 +104,7 @@ impl Prints {
 /// The status of refused memory.
 const NO_MEMORY: u8 = 6;
 
-/// What goes out of a text that is written.
+/// The bytes that go out of a text that is written.
 fn gone<'a>(bytes: &'a [u8], answer: &Answer<Global>) -> &'a [u8] {
     match answer {
         Answer::Done => bytes,
@@ -113,7 +113,7 @@ fn gone<'a>(bytes: &'a [u8], answer: &Answer<Global>) -> &'a [u8] {
     }
 }
 
-/// So many bytes from the front of a text, or none where it has fewer.
+/// The first `sent` bytes of a text, or none where it has fewer.
 fn front(bytes: &[u8], sent: u64) -> &[u8] {
     match usize::try_from(sent) {
         Ok(sent) => bytes.get(..sent).unwrap_or(&[]),

@@ -1,4 +1,4 @@
-//! What rows try: the calls that run scripts.
+//! What rows test: the calls that run scripts.
 
 use crate::course::Ended;
 use crate::played::Call;
@@ -11,7 +11,7 @@ use std::io::Write;
 pub enum Way {
     /// By one call.
     Run,
-    /// By a session, of which each act is asked for.
+    /// By a session, which is asked for each act.
     Session,
 }
 
@@ -30,8 +30,8 @@ impl Way {
 
 /// The calls that run scripts.
 pub trait Product {
-    /// Runs a script in a world to its end, or up to where memory is refused. `log` is for what is
-    /// told of it.
+    /// Runs a script in a world to its end, or up to where memory is refused. What is reported of
+    /// the run is held in memory of `log`.
     fn run<A: Allocator + Copy, W: World<A>>(
         &self,
         way: Way,

@@ -8,12 +8,12 @@ use refusal::Refusing;
 use rowfiles::Row;
 use std::alloc::{AllocError, Global};
 
-/// More requests than a run of a row comes to.
+/// More requests for memory than a run of a row makes.
 const MANY: u64 = 100_000;
 
-/// Runs a row by each way with each of its requests refused in turn, up to a run that meets no
-/// refusal. The acts are then a beginning of the row's, or, where the run goes on without that
-/// memory, all of them and the end.
+/// Runs a row by each way with each of its requests for memory refused in turn, up to a run that
+/// meets no refusal. The acts of a refused run are a beginning of the row's, or, where the run goes
+/// on without that memory, all of them and the end.
 pub fn run_refused<P: Product>(
     alloc: Global,
     product: &P,
@@ -30,7 +30,8 @@ pub fn run_refused<P: Product>(
     Ok(())
 }
 
-/// What came of the first refusal that did not end as it should, if one did not.
+/// The course of the first run with a refusal that did not end as it should; empty if there is
+/// none.
 fn refuse_each<P: Product>(
     alloc: Global,
     product: &P,
@@ -70,7 +71,7 @@ fn refuse_nth<P: Product>(
     Course::of_run(alloc, world.into_told(), &ended?)
 }
 
-/// What came where a request was refused.
+/// The course of a run whose n-th request was refused, with that number.
 fn told(alloc: Global, n: u64, came: &Course) -> Result<String, AllocError> {
     let course = came.text()?;
     format!(in alloc; "request {n} refused:\n{course}")

@@ -1,4 +1,4 @@
-//! What came of rows.
+//! The results of running rows.
 
 use std::alloc::{AllocError, Global};
 
@@ -15,7 +15,7 @@ pub struct Report {
 }
 
 impl Report {
-    /// Nothing was run yet.
+    /// A report before any row was run.
     pub fn new(alloc: Global) -> Report {
         Report {
             rows: 0,
@@ -30,8 +30,8 @@ impl Report {
         self.rows = self.rows.saturating_add(1);
     }
 
-    /// Counts a way in which a row was run, and writes down what came where it is not what was
-    /// wanted.
+    /// Counts a way in which a row was run, and records the result where it is not the expected
+    /// one.
     pub fn compare(
         &mut self,
         title: &str,
@@ -43,7 +43,7 @@ impl Report {
         self.expect(title, way, wanted, came)
     }
 
-    /// Writes down what came where it is not what was wanted.
+    /// Records the result where it is not the expected one.
     pub fn expect(
         &mut self,
         title: &str,
@@ -61,7 +61,7 @@ impl Report {
         Ok(())
     }
 
-    /// Whether all came as it was wanted.
+    /// Whether every result was the expected one.
     pub fn is_well(&self) -> bool {
         self.failed == 0
     }

@@ -11,7 +11,7 @@ use crate::whole::run_whole;
 use rowfiles::Row;
 use std::alloc::{AllocError, Global};
 
-/// Runs rows by each rule that they take; under their records too where they are played.
+/// Runs rows by each rule that applies to them; under their records too where they are played.
 pub fn run_rows<P: Product>(
     alloc: Global,
     product: &P,
@@ -25,7 +25,7 @@ pub fn run_rows<P: Product>(
     Ok(())
 }
 
-/// Runs a row by each rule that it takes.
+/// Runs a row by each rule that applies to it.
 fn run_row<P: Product>(
     alloc: Global,
     product: &P,

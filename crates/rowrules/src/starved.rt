@@ -10,7 +10,7 @@ use rowfiles::{Exchange, Row};
 use std::alloc::{AllocError, Allocator, Global};
 
 /// Runs a row by each way with all memory refused from each arrival to the next wait, where no
-/// choice stands between them: none is asked for.
+/// branch is chosen between them: no memory may be asked for there.
 pub fn run_starved<P: Product>(
     alloc: Global,
     product: &P,
@@ -36,7 +36,7 @@ pub fn run_starved<P: Product>(
     Ok(())
 }
 
-/// What comes of a row by a way, and how often it asked for memory while there was none.
+/// The course of a row by a way, and how often it asked for memory while there was none.
 fn starve<P: Product>(
     alloc: Global,
     product: &P,
@@ -70,8 +70,8 @@ fn starved_course<P: Product, A: Allocator + Copy>(
     Course::of_run(log, world.into_told(), &ended?)
 }
 
-/// Of each act of a row, whether it stands from an arrival on and before the next wait, without a
-/// choice between them.
+/// For each act of a row, whether it stands from an arrival on and before the next wait, with no
+/// branch chosen between the two.
 fn hungry(alloc: Global, row: &Row) -> Result<Vec<bool>, AllocError> {
     let mut hungry = vec![in alloc; false; row.exchanges.len()]?;
     let mut last: Option<(usize, &Exchange)> = None;
@@ -88,7 +88,7 @@ fn hungry(alloc: Global, row: &Row) -> Result<Vec<bool>, AllocError> {
     Ok(hungry)
 }
 
-/// Sets the flags from the last wait on and before the next one, which goes on after it.
+/// Sets the flags from the last wait on and before the next one, if that continues the last one.
 fn mark(flags: &mut [bool], last: Option<(usize, &Exchange)>, end: usize, wait: &Exchange) {
     let Some((first, arrival)) = last else {
         return;
@@ -101,8 +101,8 @@ fn mark(flags: &mut [bool], last: Option<(usize, &Exchange)>, end: usize, wait: 
     }
 }
 
-/// Whether a wait goes on after the arrival of an earlier one without a choice: its timer was not
-/// started anew, and its buffers hold what they held and the bytes that came.
+/// Whether a wait continues an earlier one after its arrival, with no branch chosen: its timer was
+/// not started anew, and its buffers hold what they held and the bytes that came.
 fn goes_on(arrival: &Exchange, wait: &Exchange) -> bool {
     let Answer::Arrive(id, bytes) = &arrival.answer else {
         return false;
@@ -127,7 +127,7 @@ fn count(bytes: &[u8]) -> usize {
     came
 }
 
-/// Whether later rows hold what rows held, and that of an id so many bytes more.
+/// Whether later rows hold what earlier rows held, and the one of `id` also the bytes that `came`.
 fn are_filled(before: &[acts::Row], later: &[acts::Row], id: Id, came: usize) -> bool {
     if before.len() != later.len() {
         return false;
@@ -141,7 +141,7 @@ fn are_filled(before: &[acts::Row], later: &[acts::Row], id: Id, came: usize) ->
     true
 }
 
-/// Whether a later row holds what a row held and so many bytes, as far as they have room.
+/// Whether a later row holds what a row held and `came` bytes more, as far as it has room.
 fn is_filled(row: &acts::Row, later: &acts::Row, came: usize) -> bool {
     let held = (row.held as usize)
         .saturating_add(came)

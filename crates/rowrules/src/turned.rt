@@ -1,5 +1,5 @@
-//! One answer of a row turned into another. What has to follow is computed from the row: its acts
-//! up to that one stay.
+//! One answer of a row turned into another. What is expected then is computed from the row: its
+//! acts up to the turned answer stay.
 
 use crate::closings::push_closings;
 use crate::course::{Course, acts_before};
@@ -64,7 +64,7 @@ fn run_turns<P: Product>(
 }
 
 impl Turned<'_> {
-    /// Runs the row so, unless the answer is the act's own.
+    /// Runs the row with this answer, unless it is the act's own.
     fn run<P: Product>(
         &self,
         alloc: Global,
@@ -95,7 +95,7 @@ impl Turned<'_> {
         self.place.saturating_add(1)
     }
 
-    /// Whether this is an error of the script.
+    /// Whether the act with this answer is an error of the script.
     fn is_error(&self) -> bool {
         let is_kind = match &self.exchange.act {
             Act::Send(_, _) => matches!(self.answer, Answer::Failed(_)),
@@ -104,12 +104,13 @@ impl Turned<'_> {
         is_kind && fits(&self.exchange.act, self.answer)
     }
 
-    /// Whether the script itself says how it goes on.
+    /// Whether the script catches the error, and so decides itself how it continues.
     fn is_open(&self) -> bool {
         self.exchange.is_caught && self.is_error()
     }
 
-    /// What comes of it by a way.
+    /// The course of the row with this answer, by a way, or only the acts up to it where the script
+    /// catches an error.
     fn came<P: Product>(&self, alloc: Global, product: &P, way: Way) -> Result<String, AllocError> {
         let mut answers = self.row.answers_before(alloc, self.place)?;
         answers.push(answer_in(alloc, self.answer)?)?;
@@ -121,7 +122,8 @@ impl Turned<'_> {
         }
     }
 
-    /// What has to come of it, or only the acts up to it.
+    /// The expected course with this answer, or only the acts up to it where the script catches an
+    /// error.
     fn wanted(&self, alloc: Global) -> Result<String, AllocError> {
         let mut text = acts_before(alloc, self.row, self.number())?;
         if !self.is_open() {
@@ -130,7 +132,7 @@ impl Turned<'_> {
         Ok(text)
     }
 
-    /// Writes what has to come behind the act.
+    /// Writes the expected course after the act.
     fn push_rest(&self, text: &mut String) -> Result<(), AllocError> {
         if matches!(self.answer, Answer::NoMore) {
             text.push_str("NoMore\n")
@@ -145,7 +147,8 @@ impl Turned<'_> {
         }
     }
 
-    /// Writes what an error that nothing catches comes to.
+    /// Writes the rest of the course after an error that nothing catches: its message, the closings
+    /// and the end.
     fn push_raised(&self, text: &mut String) -> Result<(), AllocError> {
         let mut error = Vec::new(*text.allocator());
         push_error(&mut error, &self.exchange.act, self.answer)?;
@@ -163,7 +166,7 @@ fn answer_text(alloc: Global, answer: &Answer<Global>) -> Result<String, AllocEr
     Ok(text)
 }
 
-/// Writes a line of a name and a word.
+/// Writes a line that consists of a name and a word.
 fn push_line(text: &mut String, name: &str, word: &[u8]) -> Result<(), AllocError> {
     text.push_str(name)?;
     push_word(text, word)?;

@@ -8,7 +8,7 @@ use acts::Answer;
 use rowfiles::Row;
 use std::alloc::{AllocError, Global};
 
-/// The course of a row's script by a way, in a world of these answers.
+/// The course of a row's script by a way, in a world that gives these answers.
 pub fn course<P: Product>(
     alloc: Global,
     product: &P,

@@ -6,12 +6,12 @@ use rowfiles::spelling::push_act;
 use std::alloc::{Allocator, Global};
 use std::vec::IntoIter;
 
-/// A world that writes down each act and answers from a list, the first answer first. Behind the
+/// A world that writes down each act and answers from a list, the first answer first. After the
 /// list it answers Done where that fits.
 #[derive(Drop)]
 pub struct Scripted<A: Allocator> {
     answers: IntoIter<Answer<A>, A>,
-    /// The acts so far, a line each. Where memory lacks for one it is left out.
+    /// The acts so far, a line each. An act is left out where there is no memory for its line.
     told: String,
 }
 
@@ -46,13 +46,13 @@ impl<A: Allocator> World<A> for Scripted<A> {
     }
 }
 
-/// A scripted world with which memory is refused for a while: from the answers to some acts to the
-/// next act each.
+/// A scripted world that has memory refused for a while: from the answers to some acts to the next
+/// act each time.
 #[derive(Drop)]
 pub struct Starved<'h, A: Allocator> {
     inner: Scripted<A>,
     heap: &'h Refusing<Global>,
-    /// Of each act, whether memory is refused from its answer on.
+    /// For each act, whether memory is refused from its answer on.
     hungry: IntoIter<bool>,
 }
 

@@ -94,7 +94,7 @@ fn args_of<R: Files + AllocGlobal>(rt: &R, folder: &str) -> Result<Vec<Vec<u8>>>
     Ok(args)
 }
 
-/// What was read of a file, if the file is there.
+/// The text that was read of a file, if the file is there.
 fn found(read: io::Result<String>) -> Result<Option<String>> {
     match read {
         Ok(text) => Ok(Some(text)),

@@ -40,7 +40,8 @@ fn print_scripts<R: Files + Print + AllocGlobal>(rt: &R, path: &str) -> Result<E
     Ok(ExitCode::from(0))
 }
 
-/// Runs the families of the list and the examples, and tells whether all came as it was wanted.
+/// Runs the families of the list and the examples, and reports whether every result was the
+/// expected one.
 fn run_rows<R>(rt: &R) -> Result<ExitCode>
 where
     R: Files + Print + AllocGlobal + Clone + Drop,

@@ -1,4 +1,4 @@
-//! The product that the rows try.
+//! The product that the rows test.
 
 use acts::{Limits, NoMemory, World};
 use engine::{Session, Step, run};
@@ -9,7 +9,7 @@ use std::io::Write;
 use worlds::Counted;
 use worlds::play::play;
 
-/// `run`, sessions and `play`.
+/// The product: `run`, sessions and `play`.
 #[derive(Clone, Copy)]
 pub struct Rx;
 
@@ -57,7 +57,7 @@ impl Product for Rx {
     }
 }
 
-/// How a session stands whose acts have been performed.
+/// The state of a session whose acts have been performed.
 #[derive(Clone, Copy)]
 enum Stand {
     /// It has given its end, and gives it again.
@@ -77,7 +77,7 @@ fn perform<A: Allocator + Copy, W: World<A>>(
     ended(log, stand, &session.into_end())
 }
 
-/// What a session that stands so has come to, by the end that it has.
+/// How the run of a session in this state ended, by the end that the session has.
 fn ended<A: Allocator>(
     log: Global,
     stand: Stand,
@@ -92,7 +92,7 @@ fn ended<A: Allocator>(
     })
 }
 
-/// Performs each act that a session asks for, and tells how it stands then.
+/// Performs each act that a session asks for, and gives the state of the session then.
 fn stand_of<A: Allocator + Copy, W: World<A>>(session: &mut Session<A>, world: &mut W) -> Stand {
     let mut answer = None;
     for _ in 0..u64::MAX {
@@ -105,7 +105,7 @@ fn stand_of<A: Allocator + Copy, W: World<A>>(session: &mut Session<A>, world: &
     Stand::Broken(Breach::Endless)
 }
 
-/// How a session stands that has given its end, when it is asked once more.
+/// The state of a session that has given its end, found by asking it once more.
 fn stand_at_end<A: Allocator + Copy>(session: &mut Session<A>) -> Stand {
     match session.next(None) {
         Ok(Step::Act(_)) => Stand::Broken(Breach::GoesOn),
@@ -114,7 +114,7 @@ fn stand_at_end<A: Allocator + Copy>(session: &mut Session<A>) -> Stand {
     }
 }
 
-/// How a session stands that has been refused memory, when it is asked once more.
+/// The state of a session that has been refused memory, found by asking it once more.
 fn stand_refused<A: Allocator + Copy>(session: &mut Session<A>) -> Stand {
     match session.next(None) {
         Ok(Step::Act(_)) => Stand::Broken(Breach::GoesOnRefused),
@@ -123,7 +123,7 @@ fn stand_refused<A: Allocator + Copy>(session: &mut Session<A>) -> Stand {
     }
 }
 
-/// The same end, in memory of its own.
+/// A copy of an end, in memory of its own.
 fn end_in<A: Allocator>(alloc: Global, end: &engine::End<A>) -> Result<End, AllocError> {
     Ok(match end {
         engine::End::Exit(number) => End::Exit(*number),

@@ -12,7 +12,7 @@ use std::rt::Files;
 /// The ticks of a script.
 const TICKS: u64 = 100_000;
 
-/// A world that does what it can, and keeps what is printed.
+/// A world that does each act that can be done, and keeps what is printed.
 #[derive(Drop)]
 struct Printing {
     out: Vec<u8>,

@@ -44,7 +44,7 @@ waits_hold text args limit h e run =
     (plan_kept.acts_are_kept plan_of IsTree AnyState Holds (λ (o : Over). Unit {0}) each_keeps
     (whole text args limit) h run.over (whole_keeps text args limit) run.runs).0
 
--- a beginning of what the plan does is one of a run
+-- a beginning of a run of the script's plan is a beginning of a run of the script
 goes_from : (text : List ℕ) (args : List (List ℕ)) (limit : ℕ) (h : History) →
     RunsOn plan_of IsTree (whole text args limit) h → BeginsRun text args limit h
 goes_from text args limit h on = record {
@@ -53,7 +53,7 @@ goes_from text args limit h on = record {
   run = record { over = on.result; runs = on.runs; ends = refl };
 }
 
--- and back
+-- and a beginning of a run of the script is one of a run of its plan
 runs_from : (text : List ℕ) (args : List (List ℕ)) (limit : ℕ) (h : History) →
     BeginsRun text args limit h → RunsOn plan_of IsTree (whole text args limit) h
 runs_from text args limit h goes =

@@ -18,7 +18,7 @@ use Rattle.runs.specs.Scripts.{plan_of}
 use Rattle.state.specs.Dialogue.{is_no_more}
 use Rattle.state.specs.Outcome as stop
 
--- in each run the numbers of the ids that are closed are a beginning of these
+-- in each run the numbers of the ids that are closed are a beginning of ns
 abbrev Front : List ℕ → Dialogue Over → Type 0
 Front ns p =
     (h : History) (over : Over) → Runs plan_of IsTree p h over →

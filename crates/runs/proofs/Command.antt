@@ -1,5 +1,5 @@
--- What holds of each command, procedures among them, where it holds of those that run no script, of
--- loops, and of all that is put together so.
+-- A property that is closed under the steps of which courses are made holds of each command,
+-- procedures among them, where it holds of the commands that run no script, of loops and of turns.
 use Rattle.std.proofs.Common.{ℕ, List, [], ◌∷◌, Option, Some, None}
 use Rattle.commands.specs.Commands as leaf
 use Rattle.control.specs.Commands.{named}

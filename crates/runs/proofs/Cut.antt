@@ -23,7 +23,7 @@ use Rattle.state.specs.Cut.{CutsOff, WasCut}
 use Rattle.state.specs.Dialogue.{is_no_more}
 use Rattle.state.specs.Outcome as stop
 
--- the same at each rank, from any state
+-- a course closes, at each rank and from any state
 abbrev ClosesFrom : ℕ → Status → Course → Type 0
 ClosesFrom r s c = CourseCloses c
 
@@ -48,11 +48,11 @@ each_closes piece s =
     proceeds_closes (2 * u.left + 1) (worth u) (turns turn levels u) (turns_proceed turn levels u))
     piece s
 
--- whatever a run that is over comes to
+-- the property that every end of a run has
 abbrev AnyEnd : Over → Type 0
 AnyEnd over = Unit {0}
 
--- answers that cut a dialogue off end it, which closes a run
+-- answers that cut a run off end a dialogue that closes this run
 abbrev ClosingCloses : Dialogue Over → Type 0
 ClosingCloses p = Closes IsTree CutsOff WasCut AnyEnd p
 

@@ -1,4 +1,4 @@
--- No piece goes on for ever: behind a tick its budget is smaller, and before it takes one it calls
+-- No piece goes on for ever: after a tick its budget is smaller, and before it takes one it calls
 -- only pieces of a lower rank.
 use Rattle.std.proofs.Common.{◌≡◌, ℕ, zero, suc, ◌+◌, ◌*◌, ◌<◌, ◌≤◌, List, [], Option, Some, None, refl, arith}
 use Rattle.acts.specs.Deed as said
@@ -21,11 +21,11 @@ use Rattle.tclparse.specs.Fault.{Fault}
 use Rattle.tclparse.specs.Tree.{Commands, no_commands}
 use Rattle.tclparse.specs.Tree as tree
 
--- the calls of a course fall from t and below a rank
+-- the calls of a course have smaller budgets than t, or t itself and a lower rank than r
 abbrev CourseFalls : ℕ → ℕ → Course → Type 0
 CourseFalls t r c = Falls IsTree budget left_after rank said.NoMore t r c
 
--- what stands in a command behind its tick, or in a loop: any outcome may end it
+-- the course of a command after its tick, or of a loop: any outcome may end it
 abbrev FallsFrom : ℕ → Status → Course → Type 0
 FallsFrom r s c = CourseFalls (2 * s.left + 1) r c
 
@@ -40,7 +40,7 @@ budget_within (One ws levels) s = omega arith
 budget_within (Loop loop levels) s = omega arith
 budget_within (Turn turn levels) s = omega arith
 
--- behind a tick a course falls, whatever its rank was before
+-- after a tick the calls of a course fall, whatever its rank was before
 ticked_falls : (t r : ℕ) (s : Status) (course : Course) → 2 * s.left + 1 < t →
     FallsFrom top s course → CourseFalls t r course
 ticked_falls t r s course less falls =

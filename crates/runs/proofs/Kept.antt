@@ -1,4 +1,4 @@
--- The rows of each wait hold.
+-- At each wait every buffer holds at most its size.
 use Rattle.std.proofs.Common.{ℕ, ◌+◌, ◌*◌, List, [], ◌∷◌, ◌++◌, Bool, true, false, if◌then◌else◌}
 use Rattle.state.specs.Prelude.{Deed, Reply, text_of, Peer, Ends, worth, Course, Dialogue, Outcome, Gives, Leaves, Stops, Error, Return, Break, Continue, Again, AgainRunning, IsTree, Status}
 use Rattle.acts.specs.Deed as said
@@ -20,11 +20,11 @@ use Rattle.state.specs.Dialogue.{is_no_more}
 use Rattle.state.specs.Outcome as stop
 use Rattle.state.specs.Rows.{Holds}
 
--- any state may come
+-- the property that every state has
 abbrev pub AnyState : Status → Type 0
 AnyState s = Unit {0}
 
--- each wait of a course holds
+-- at each wait of a course every buffer holds at most its size
 abbrev pub CourseKeeps : Course → Type 0
 CourseKeeps c = Keeps IsTree AnyState Holds (λ left. Unit {0}) c
 

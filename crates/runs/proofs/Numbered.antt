@@ -1,13 +1,13 @@
--- Runs whose ends are told by the number of their answers.
+-- Runs whose ends depend on the number of their answers.
 use Rattle.std.proofs.Common.{◌≡◌, ◌∙◌, ℕ, zero, suc, ◌+◌, List, [], ◌∷◌, length, take, refl, sym, ap, ap₂, arith}
 use Rattle.plan.specs.Answers.{Event, Performs, Over, events, GoAlike}
 
 module _ {D R X Y : Type 0} (told : ℕ → X → Y) where
-  -- the events of a run whose end is told after so many answers more
+  -- the events of a run, with an end that depends on the number of its answers and m more
   tells : ℕ → List (D × R) → X → List (Event D Y)
   tells m h x = events h (told (m + length h) x)
 
-  -- events that are the same up to a place are the same where their ends are told
+  -- events that are the same up to a place stay so where the ends depend on the number of answers
   pub told_same : (m n : ℕ) (h k : List (D × R)) (x y : X) →
       take n (events h x) ≡ take n (events k y) →
       take n (events h (told (m + length h) x)) ≡ take n (events k (told (m + length k) y))
@@ -39,7 +39,7 @@ module _ {D R X Y : Type 0} (told : ℕ → X → Y) where
       (ap (λ i. take n (events h (told i x))) here ∙ on
       ∙ ap (λ i. take n (events k (told i y))) (sym there))
 
-  -- runs that go alike go alike where their ends are told
+  -- runs that go alike still do where their ends depend on the number of answers
   pub told_alike : (h k : List (D × R)) (x y : X) → GoAlike h x k y →
       GoAlike h (told (length h) x) k (told (length k) y)
   told_alike h k x y alike n given =

@@ -26,16 +26,16 @@ use Rattle.state.specs.Piece.{Piece, Script, One, Loop, Turn}
 abbrev pub price : Piece → Status → ℕ
 price piece s = worth s
 
--- a course that pays so, and leaves what its state is worth
+-- a course pays for its acts and pieces by these prices, and keeps what its last state is worth
 abbrev pub CoursePays : ℕ → Course → Type 0
 CoursePays had c = Pays IsTree price worth (λ left. worth left.0) had c
 
--- what a course has beside what its state is worth: behind a tick, four
+-- what a course has besides what its state is worth: after a tick, four
 abbrev spare : ℕ → ℕ
 spare (suc (suc (suc r))) = 4
 spare _ = 0
 
--- a course pays out of what its state is worth, and of what it has beside that
+-- a course pays out of what its state is worth, and of what it has besides that
 abbrev PaysFrom : ℕ → Status → Course → Type 0
 PaysFrom r s c = CoursePays (worth s + spare r) c
 
@@ -61,7 +61,7 @@ plain_pays : (s : Status) (words : List (List ℕ)) → PaysFrom top s (leaf.com
 plain_pays s words =
     behaves_pays price s.left (worth s + 4) (leaf.command s words) (command_behaves s words)
 
--- a turn of expect
+-- a turn of expect pays for its acts
 turns_pay : (turn : TurnTree) (levels : ℕ) (s : Status) → PaysFrom 2 s (turns turn levels s)
 turns_pay turn levels s =
     more_pays IsTree price worth (λ left. worth left.0) (worth s) (worth s + spare 2)
@@ -80,7 +80,7 @@ each_pays piece s =
     more_pays IsTree price worth (λ left. worth left.0) (worth s + spare (rank piece)) (worth s)
     (plan_of piece s) (omega (arith, none)) (piece_holds PaysFrom pays_inherited plain_pays turns_pay piece s)
 
--- a dialogue that closes a run pays so, and keeps nothing
+-- a dialogue that closes a run pays by these prices, and keeps nothing
 abbrev ClosingPays : ℕ → Dialogue Over → Type 0
 ClosingPays had p = Pays IsTree price worth (λ (o : Over). 0) had p
 

@@ -1,4 +1,4 @@
--- What holds of each piece, by the pieces that it calls.
+-- What holds of each piece, proved from the pieces that it calls.
 use Rattle.std.proofs.Common.{ℕ, ◌<◌, List, [], Option, Some, None, refl, arith}
 use Rattle.commands.specs.Commands as leaf
 use Rattle.conditions.proofs.Closed.{turns_closed}
@@ -17,20 +17,22 @@ use Rattle.tclparse.specs.Tree as tree
 use Rattle.words.proofs.Closed.{words_closed}
 use Rattle.words.specs.Words.{words}
 
--- a script is above its commands, and loops and turns are above their scripts
+-- the rank of a script is above that of its commands, and the rank of loops and turns above that of
+-- their scripts
 abbrev pub rank : Piece → ℕ
 rank (One _ _) = 0
 rank (Script _ _) = 1
 rank (Loop _ _) = 2
 rank (Turn _ _) = 2
 
--- above all pieces: behind a tick each may be called
+-- the rank above all pieces: after a tick each of them may be called
 abbrev pub top : ℕ
 top = 3
 
--- P says of each rank which courses are so that call pieces below it, and from which states: ends
--- are, and so is what begins with such a call whose stops are passed on, a text that is read, a
--- variable that is written or a tick, where all that may follow is
+-- P says for each rank of which courses, from which states, a property holds, where they call only
+-- pieces of a lower rank. It holds of ends; and where it holds of all that may follow, it holds of
+-- what begins with such a call whose stops are passed on, with a text that is read, with a variable
+-- that is written or with a tick
 pub record Inherited (P : ℕ → Status → Course → Type 0) : Type 0 where
   pub over : (r : ℕ) (s : Status) (o : Outcome) → P r s (Ends (s, o))
   pub calls : (r : ℕ) (piece : Piece) (s : Status) (next : Status → Outcome → Course) →
@@ -78,7 +80,7 @@ module _ (P : ℕ → Status → Course → Type 0) (so : Inherited P)
       (value_closed (P 1) (so.over 1) (script levels cs fault)
       (λ u v. script_holds levels cs fault u v))
 
-  -- one command, behind its tick
+  -- one command, after its tick
   pub one_holds : (levels : ℕ) (ws : Words) (t : Status) →
       P top t (words levels ws [] t (command levels))
   one_holds levels ws t =
@@ -92,7 +94,7 @@ module _ (P : ℕ → Status → Course → Type 0) (so : Inherited P)
       turns_closed (P 2) (P top) (closed_above 2 (omega arith)) (so.ticking 2)
       (closed_above top (omega arith)) loops loop levels s
 
-  -- each piece, where turns of expect are so
+  -- each piece, where the property holds of turns of expect
   pub piece_holds : ((turn : TurnTree) (levels : ℕ) (s : Status) →
       P 2 s (plan_of (Turn turn levels) s)) → (piece : Piece) (s : Status) →
       P (rank piece) s (plan_of piece s)

@@ -4,7 +4,7 @@ use Rattle.acts.specs.History.{History}
 use Rattle.runs.specs.Ending.{Ending}
 use Rattle.runs.specs.Run.{Run}
 
--- the acts of a run at most: four for each tick, and one that reports an uncaught error
+-- the greatest number of acts of a run: four for each tick, and one that reports an uncaught error
 abbrev pub most_acts : ℕ → ℕ
 most_acts limit = 4 * limit + 1
 

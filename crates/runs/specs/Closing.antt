@@ -23,11 +23,11 @@ abbrev pub closes : Bool → List Peer → Ending → Dialogue Over
 closes log [] e = closes_log log e
 closes log (p ∷ ps) e = does (said.Close p.id) (λ reply. closes log ps e)
 
--- all that is open is closed, and the run ends so
+-- all that is open is closed, and the run ends with this end
 abbrev pub ends_with : Ending → Status → Dialogue Over
 ends_with e s = closes s.log.logging (opened s.ids.peers) e
 
--- an error that was written to standard error, or could not be
+-- the end after an uncaught error: its text was written to standard error, or could not be
 abbrev pub reported : List ℕ → Reply → Ending
 reported text (said.Failed sent) = ending.WriterFailed
 reported text _ = ending.Error text
@@ -36,8 +36,8 @@ reported text _ = ending.Error text
 abbrev pub reports : List ℕ → Status → Dialogue Over
 reports text s = does (said.Err (text ++ 10 ∷ [])) (λ reply. ends_with (reported text reply) s)
 
--- a code that no command takes: an error, the end of the script by return(n), and what is an error
--- outside of its command (break(n), continue(n); expect(1), exp_continue)
+-- a code that no command catches: an error, the end of the script by return(n), and what is an
+-- error outside of its command (break(n), continue(n); expect(1), exp_continue)
 abbrev pub leaves : Code → List ℕ → Status → Dialogue Over
 leaves Error text s = reports text s
 leaves Return value s = ends_with (ending.Exit (pos 0)) s
@@ -46,7 +46,8 @@ leaves Continue value s = reports (text_of flaw.ContinueOutside) s
 leaves Again value s = reports (text_of flaw.AgainOutside) s
 leaves AgainRunning value s = reports (text_of flaw.AgainOutside) s
 
--- after a wrong answer or none, nothing follows
+-- the run is closed by the outcome of its script; after a wrong answer, or where there are no more
+-- answers, there is no act
 abbrev pub closing : Status → Outcome → Dialogue Over
 closing s (Gives value) = ends_with (ending.Exit (pos 0)) s
 closing s (Leaves code value) = leaves code value s

@@ -1,4 +1,4 @@
--- What a command does: a procedure, one that runs scripts, one that says branches, or another.
+-- What a command does: a procedure, one that runs scripts, one that takes branches, or another.
 use Rattle.std.specs.Prelude.{ℕ, List, [], ◌∷◌, Option, Some, None}
 use Rattle.state.specs.Prelude.{Course, gives, Status}
 use Rattle.commands.specs.Commands as leaf
@@ -10,12 +10,12 @@ use Rattle.expects.specs.Words.{Form, named as form_of}
 use Rattle.tclstate.specs.Pairs.{found}
 use Rattle.tclstate.specs.Procs.{Procedure}
 
--- a command that says branches (expect(1), expect), or one that runs no script (Tcl(n), rule 2)
+-- a command that takes branches (expect(1), expect), or one that runs no script (Tcl(n), rule 2)
 abbrev pub formed : Option Form → ℕ → List ℕ → List (List ℕ) → Status → Course
 formed (Some form) levels name args s = expect form levels args s
 formed None levels name args s = leaf.command s (name ∷ args)
 
--- one of these by its words; where there are none, nothing is done (Tcl(n), rule 2)
+-- a command of these two kinds by its words; where there are none, nothing is done (Tcl(n), rule 2)
 abbrev pub other_command : ℕ → Status → List (List ℕ) → Course
 other_command levels s [] = gives [] s
 other_command levels s (name ∷ args) = formed (form_of name) levels name args s
@@ -30,7 +30,7 @@ abbrev pub called : Option Procedure → ℕ → List ℕ → List (List ℕ) �
 called (Some procedure) levels name args s = call levels name procedure args s
 called None levels name args s = chosen (named name) levels name args s
 
--- a command by its words, in which so many levels may still stand; where there are no words,
+-- a command by its words, in which this many levels may still nest; where there are no words,
 -- nothing is done (Tcl(n), rules 1, 2 and 7)
 abbrev pub command : ℕ → Status → List (List ℕ) → Course
 command levels s [] = gives [] s

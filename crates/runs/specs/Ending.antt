@@ -25,7 +25,7 @@ stopped stop.WriterFailed = With WriterFailed
 stopped stop.BadAnswer = Unfit
 stopped stop.NoMore = With NoMore
 
--- the end after so many answers: the one that does not fit is the last one, and has their number
+-- the end after this many answers: an answer that does not fit is the last one, and has this number
 abbrev pub numbered : ℕ → Over → Ending
 numbered answers (With ending) = ending
 numbered answers Unfit = BadAnswer answers

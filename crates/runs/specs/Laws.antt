@@ -29,7 +29,7 @@ AnswersDecide =
     Run text args limit h e → Run text args limit k f →
     answers h ≡ answers k → (h ≡ k) × (e ≡ f)
 
--- a run has so many acts at most
+-- a run has at most four acts for each tick, and one more
 abbrev pub ActsAreBounded : Type 0
 ActsAreBounded =
     (text : List ℕ) (args : List (List ℕ)) (limit : ℕ) (h : History) (e : Ending) →
@@ -49,7 +49,8 @@ ClosesRise =
     Rise (numbers_of (opened s.ids.peers)) → Runs plan_of IsTree (closing s outcome) h over →
     Rise (closed_by h)
 
--- behind an answer that does not fit its act, and where there are no more answers, there is no act
+-- after an answer that does not fit its act, and after the answer that there are no more answers,
+-- there is no act
 abbrev pub NothingFollows : Type 0
 NothingFollows =
     (text : List ℕ) (args : List (List ℕ)) (limit : ℕ) (h : History) (e : Ending) →
@@ -59,7 +60,7 @@ NothingFollows =
 abbrev pub EachScriptRuns : Type 0
 EachScriptRuns = (text : List ℕ) (args : List (List ℕ)) (limit : ℕ) → BeginsRun text args limit []
 
--- at each act of a run any other answer leads on
+-- at each act of a run any other answer leads to an end too
 abbrev pub AnyAnswerLeadsOn : Type 0
 AnyAnswerLeadsOn =
     (text : List ℕ) (args : List (List ℕ)) (limit : ℕ) (h : History) (act : Deed)

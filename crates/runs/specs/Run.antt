@@ -35,8 +35,8 @@ variables args =
     ∷ (codes "argc", Text (decimal (length (others_of args))))
     ∷ (codes "timeout", Text (codes "10")) ∷ []
 
--- the beginning: the variables, no procedure, no id, arrivals are shown and no log is open, and all
--- ticks are left (expect(1), spawn, log_user and log_file)
+-- the state at the beginning: the variables, no procedure, no id, arrivals are shown, no log is
+-- open, and all ticks are left (expect(1), spawn, log_user and log_file)
 abbrev pub initial : List (List ℕ) → ℕ → Status
 initial args limit = record {
   scopes = record { locals = []; globals = variables args };

@@ -12,20 +12,19 @@ use Rattle.tclparse.specs.Tree.{Words, Commands, no_commands}
 use Rattle.tclparse.specs.Tree as tree
 use Rattle.words.specs.Words.{words}
 
--- behind the commands of a text: the value of the last one, or the fault that ends the text early,
+-- after the commands of a text: the value of the last one, or the fault that ends the text early,
 -- which costs no tick (Tcl(n))
 abbrev pub behind : Option Fault → Status → List ℕ → Course
 behind None s value = gives value s
 behind (Some fault) s value = raises (flaw_of_fault fault) s
 
--- the commands of a script, one after the other, after one of this value (Tcl(n), rule 1)
+-- the commands of a script, one after the other, after a command with this value (Tcl(n), rule 1)
 abbrev pub script : ℕ → Commands → Option Fault → Status → List ℕ → Course
 script levels no_commands fault s value = behind fault s value
 script levels (tree.command ws cs) fault s value =
     Calls (One ws levels) s (on_value (script levels cs fault))
 
--- a command takes a tick before its words are substituted; then it does what it does (Tcl(n), rule
--- 2)
+-- a command takes a tick before its words are substituted, and then runs (Tcl(n), rule 2)
 abbrev pub one : ℕ → Words → Status → Course
 one levels ws s = tick s (λ t. words levels ws [] t (command levels))
 

@@ -10,7 +10,7 @@ pub fn answers_decide()
     ensures whole { AnswersDecide }
 {}
 
-/// A run makes no more acts than four for each tick, and one.
+/// A run makes at most four acts for each tick, and one more.
 pub fn acts_are_bounded()
     ensures { ActsAreBounded }
 {}
@@ -27,12 +27,13 @@ pub fn closes_rise()
     ensures { ClosesRise }
 {}
 
-/// An answer that does not fit its act is the last one of its run; so is that there are no more.
+/// An answer that does not fit its act is the last one of its run; so is the answer that there are
+/// no more answers.
 pub fn nothing_follows_a_cut()
     ensures { NothingFollows }
 {}
 
-/// Each script has a run, and at each act of a run any other answer leads on to an end too.
+/// Each script has a run, and at each act of a run any other answer leads to an end too.
 #[tactic(auto, using(crate::proofs::AllRuns::finished_runs))]
 pub fn runs_can_be_finished()
     ensures run { EachScriptRuns }

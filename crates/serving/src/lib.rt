@@ -9,7 +9,7 @@ pub use part::Part;
 use std::io;
 use std::net::{Net, TcpListener, TcpStream};
 
-/// Prints the port that the system picks, and plays the part with the first one that connects.
+/// Prints the port that the system picks, and plays the part with the first client that connects.
 pub fn serve<R>(rt: &R, part: Part<'_>) -> io::Result<()>
 where
     R: Net<Listener = TcpListener, Stream = TcpStream> + Print + AllocGlobal,

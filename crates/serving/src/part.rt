@@ -12,7 +12,7 @@ const CHUNK: usize = 512;
 pub enum Part<'a> {
     /// A text is written to it.
     Say(&'a str),
-    /// Nothing is written to it, until the other side closes.
+    /// Nothing is written to it, and it stays open until the other side closes.
     Hush,
     /// Nothing is done.
     Shut,
@@ -29,7 +29,7 @@ impl<'a> Part<'a> {
         }
     }
 
-    /// Plays the part on a connection, which is closed behind it.
+    /// Plays the part on a connection, which is closed after it.
     pub fn play(self, mut stream: TcpStream) -> io::Result<()> {
         match self {
             Part::Say(text) => stream.write_all(text.as_bytes()),

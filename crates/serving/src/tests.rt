@@ -19,8 +19,9 @@ fn words_of(rt: &HostRuntime, call: &[&str]) -> Result<Vec<String>, Fail> {
     Ok(words)
 }
 
-/// What a client hears up to the end that says a text, and that it says no more, before the part is
-/// played. A connection that is closed before it was heard out is an error here.
+/// What a client hears up to the end, if it first says a text, and that it will say no more, before
+/// the part is played. It is an error if the connection is closed before all that the client said
+/// was read.
 fn heard(rt: &HostRuntime, part: Part<'_>, said: &[u8]) -> Result<Vec<u8>, Fail> {
     let listener = TcpListener::bind(rt, "127.0.0.1:0")?;
     let mut client = TcpStream::connect(rt, listener.local_addr()?)?;

@@ -14,7 +14,7 @@ use Rattle.state.specs.Outcome as stop
 use Rattle.state.specs.Piece.{Piece}
 use Rattle.state.specs.Rows.{Holds}
 
--- with more ticks and more to pay with a course behaves too
+-- a course that behaves does so with more ticks and with more to pay with, too
 pub more_behaves : (t u had more : ℕ) (c : Course) → t ≤ u → had ≤ more → Behaves t had c →
     Behaves u more c
 more_behaves t u had more (Ends left) le up behaves =
@@ -33,7 +33,7 @@ more_behaves t u had more (Reads text next) le up behaves =
     λ tree is. more_behaves t u had more (next tree) le up (behaves tree is)
 more_behaves t u had more (Calls piece state next) le up behaves = absurd behaves
 
--- a text that is read as a list, and what is done with its elements
+-- a text is read as a list, and what is done with its elements behaves
 with_list_behaves : (t had : ℕ) (s : Status) → s.left ≤ t → worth s ≤ had →
     (text : List ℕ) (next : List (List ℕ) → Course) →
     ((elements : List (List ℕ)) → Behaves t had (next elements)) →
@@ -41,7 +41,7 @@ with_list_behaves : (t had : ℕ) (s : Status) → s.left ≤ t → worth s ≤ 
 with_list_behaves t had s le paid text next each (Ok elements) is = each elements
 with_list_behaves t had s le paid text next each (Err why) is = (le, paid)
 
--- what a function of texts comes to
+-- the course of a function of texts behaves
 pub meant_behaves : (t had : ℕ) (s : Status) → s.left ≤ t → worth s ≤ had → (m : Meaning) →
     Behaves t had (meant m s)
 meant_behaves t had s le paid (Gives value) = (le, paid)
@@ -61,7 +61,7 @@ judged_behaves t had s next true fit le paid behaves = (le, paid)
 judged_behaves t had s next false true le paid behaves = behaves
 judged_behaves t had s next false false le paid behaves = (le, paid)
 
--- an act that is paid for, and what is done with its answer
+-- an act is paid for, and what is done with its answer behaves
 pub ask_behaves : (t had : ℕ) (deed : Deed) (s : Status) (next : Status → Reply → Course) →
     Holds deed → s.left ≤ t → worth s + 1 ≤ had →
     ((reply : Reply) → Behaves t (had - 1) (next s reply)) → Behaves t had (ask deed s next)
@@ -74,7 +74,7 @@ ask_behaves t had deed s next holds le paid each = (
   replied_cut deed s next,
 )
 
--- a course that behaves falls, where the ticks that are left bound what remains behind it
+-- a course that behaves falls, where the ticks that are left bound what remains after it
 module _ (budget : Piece → Status → ℕ) (remains : Status → Outcome → ℕ) (rank : Piece → ℕ)
     (last : Reply) (t most r : ℕ)
     (within : (left : Status) (o : Outcome) → left.left ≤ t → remains left o ≤ most) where
@@ -87,7 +87,7 @@ module _ (budget : Piece → Status → ℕ) (remains : Status → Outcome → �
       λ tree is. behaves_falls had (next tree) (behaves tree is)
   behaves_falls had (Calls piece state next) behaves = absurd behaves
 
--- it pays for its acts
+-- a course that behaves pays for its acts
 pub behaves_pays : (price : Piece → Status → ℕ) (t had : ℕ) (c : Course) →
     Behaves t had c → Pays IsTree price worth (λ left. worth left.0) had c
 behaves_pays price t had (Ends left) behaves = behaves.1
@@ -97,7 +97,7 @@ behaves_pays price t had (Reads text next) behaves =
     λ tree is. behaves_pays price t had (next tree) (behaves tree is)
 behaves_pays price t had (Calls piece state next) behaves = absurd behaves
 
--- its waits hold
+-- the waits of a course that behaves hold
 pub behaves_keeps : (t had : ℕ) (c : Course) → Behaves t had c →
     Keeps IsTree (λ (s : Status). Unit {0}) Holds (λ left. Unit {0}) c
 behaves_keeps t had (Ends left) behaves = tt

@@ -1,4 +1,4 @@
--- What holds of each course that is put together so.
+-- What holds of each course that is put together from parts of which it holds.
 use Rattle.std.proofs.Common.{◌≡◌, ℕ, zero, suc, List, [], Option, Some, None, Result, Ok, Err, refl}
 use Rattle.acts.specs.Flaw as flaw
 use Rattle.state.specs.Prelude.{text_of, Ends, Reads, Calls, Course, inside, on_value, raises, within, Outcome, Gives, Leaves, Stops, Error, Return, Break, Continue, Again, AgainRunning, ListText, LoopTree, TurnTree, ScriptTree, ScriptText, Status, Scopes}
@@ -16,9 +16,9 @@ use Rattle.tclparse.specs.Variable.{named}
 use Rattle.tclstate.specs.Scopes.{Trouble, read, written}
 use Rattle.tcltext.specs.Flaw as list
 
--- P says from which states which courses are so: ends are, and so is what begins with a script whose
--- stops are passed on, a text that is read, a variable that is written or pairs that stand, where
--- all that may follow is
+-- P is a property of courses, each from a state. Courses that have ended have it; so has one that
+-- begins with a script whose stops are passed on, a text that is read, a variable that is written
+-- or standing pairs that are set, where all that may follow has it
 pub record Closed (P : Status → Course → Type 0) : Type 0 where
   pub over : (s : Status) (o : Outcome) → P s (Ends (s, o))
   pub runs : (levels : ℕ) (tree : ScriptTree) (s : Status) (next : Status → Outcome → Course) →
@@ -30,17 +30,17 @@ pub record Closed (P : Status → Course → Type 0) : Type 0 where
   pub standing : (standing : Standing) (s : Status) (course : Course) →
       P (record s { ids = record s.ids { standing = standing } }) course → P s course
 
--- what is Q behind a tick is P before it
+-- a course that has Q after a tick has P before it
 abbrev pub Ticks : (Status → Course → Type 0) → (Status → Course → Type 0) → Type 0
 Ticks P Q =
     (left : ℕ) (s : Status) (course : Course) → s.left ≡ suc left →
     Q (record s { left = left }) course → P s course
 
--- each loop is so
+-- each loop has P
 abbrev pub Loops : (Status → Course → Type 0) → Type 0
 Loops P = (loop : LoopTree) (levels : ℕ) (s : Status) → P s (goes (Loop loop levels) s)
 
--- each turn of expect is so
+-- each turn of expect has P
 abbrev pub Turns : (Status → Course → Type 0) → Type 0
 Turns P = (turn : TurnTree) (levels : ℕ) (s : Status) → P s (goes (Turn turn levels) s)
 
@@ -52,13 +52,13 @@ module _ (P Q : Status → Course → Type 0) (over : (s : Status) (o : Outcome)
   tick_of_closed (suc left) s next is each =
       ticks left s (next (record s { left = left })) is (each (record s { left = left }))
 
-  -- a tick
+  -- a course that takes a tick has P, where what follows has Q
   pub tick_closed : (s : Status) (next : Status → Course) → ((u : Status) → Q u (next u)) →
       P s (tick s next)
   tick_closed s next each = tick_of_closed s.left s next refl each
 
 module _ (P : Status → Course → Type 0) (over : (s : Status) (o : Outcome) → P s (Ends (s, o))) where
-  -- a value, and on with it
+  -- a course that continues with a value has P, where what follows has it
   pub value_closed : (next : Status → List ℕ → Course) →
       ((u : Status) (v : List ℕ) → P u (next u v)) → (s : Status) (o : Outcome) →
       P s (on_value next s o)

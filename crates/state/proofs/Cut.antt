@@ -11,7 +11,7 @@ use Rattle.state.proofs.Judged.{passes_cut}
 abbrev pub CourseCloses : Course → Type 0
 CourseCloses c = Closes IsTree CutsOff WasCut (λ left. WasCut left.1) c
 
--- a course that behaves
+-- an answer that cuts off a course that behaves ends it
 pub behaves_closes : (t had : ℕ) (c : Course) → Behaves t had c → CourseCloses c
 behaves_closes t had (Ends left) behaves = tt
 behaves_closes t had (Asks deed next) behaves =
@@ -20,7 +20,7 @@ behaves_closes t had (Reads text next) behaves =
     λ tree is. behaves_closes t had (next tree) (behaves tree is)
 behaves_closes t had (Calls piece state next) behaves = absurd behaves
 
--- one that proceeds
+-- the same of a course that proceeds
 pub proceeds_closes : (most had : ℕ) (c : Course) → Proceeds most had c → CourseCloses c
 proceeds_closes most had (Ends left) proceeds = tt
 proceeds_closes most had (Asks deed next) proceeds =

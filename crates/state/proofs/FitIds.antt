@@ -17,13 +17,13 @@ use Rattle.state.specs.View.{FitsIds, FirstCloses, IsNext, unreaped_by, unreaped
 use Rattle.state.specs.declared.ids.Ids.{Ids}
 use Rattle.state.specs.declared.ids.Unreaped as reapable
 
--- a change of an id that may be waited for as before
+-- a change of an id after which it may be waited for as before
 pub record StaysReapable (g : Peer → Peer) : Type 0 where
   pub is_reaped : (p : Peer) → (g p).is_reaped ≡ p.is_reaped
   pub id : (p : Peer) → (g p).id ≡ p.id
   pub kind : (p : Peer) → (g p).kind ≡ p.kind
 
--- the ids that may be waited for, by one of them and the others
+-- the ids that may be waited for: the first id, unless it is reaped, and the others
 abbrev reapable_first : Bool → Id → Kind → List Unreaped → List Unreaped
 reapable_first reaped i kind others =
     if reaped then others else record { id = i; kind = kind } ∷ others
@@ -45,11 +45,11 @@ module _ (g : Peer → Peer) (stays : StaysReapable g) (i : Id) where
   unreaped_stay [] = refl
   unreaped_stay (p ∷ ps) = by p ps (is_open_at i p) (unreaped_stay ps)
 
--- what keeps the other parts of an id
+-- closing an id does not change whether it may be waited for
 pub stays_closed : StaysReapable closed
 stays_closed = record { is_reaped = λ p. refl; id = λ p. refl; kind = λ p. refl }
 
--- one more id may be waited for
+-- two equal lists stay equal with one more id before them, where that may be waited for
 unreaped_by_one : (p : Peer) (b : Bool) (us vs : List Unreaped) → us ≡ vs →
     reapable_first b p.id p.kind us ≡ reapable_first b p.id p.kind vs
 unreaped_by_one p b us vs same = ap (reapable_first b p.id p.kind) same
@@ -70,7 +70,7 @@ map_more : (us : List reapable.Unreaped) (u : reapable.Unreaped) →
 map_more [] u = refl
 map_more (v ∷ us) u = ap (λ vs. unreaped_of v ∷ vs) (map_more us u)
 
--- the number behind the next one
+-- the number after the next one
 pub next_after : (o : Option ℕ) (n : ℕ) → IsNext o n → IsNext (number_after o) (n + 1)
 next_after None n is = omega (arith, is)
 next_after (Some k) n is = by_test (nat_lt (k + 1) (2 ^ 64)) refl
@@ -128,13 +128,13 @@ module _ {A : Type 0} (code : Ids A) (ids : definition.Ids) (fits : FitsIds code
     next = rw next fits.next;
   }
 
--- the lines of some ids, of which one stands first
+-- the first of the lines of some ids is that of the first id
 pub split_lines : (ps : List Peer) (l : Line) (ls : List Line) → map line ps ≡ l ∷ ls →
     (p : Peer) × (others : List Peer) × (ps ≡ p ∷ others) × (line p ≡ l)
 split_lines [] l ls is = absurd (cc)
 split_lines (p ∷ ps) l ls is = (p, ps, refl, cc)
 
--- the id that was opened first is closed
+-- the open id that was opened first is closed
 pub first_closes : {A : Type 0} (code : Ids A) (ids : definition.Ids) → FitsIds code ids →
     {new : Ids A} (i : Id) (l : Line) (ls : List Line) → code.table.lines ≡ l ∷ ls → l.id ≡ i →
     FitsIds new (without_id i ids) → FirstCloses i new ids
@@ -151,7 +151,7 @@ first_closes code ids fits i l ls split same closes =
       fits = closes;
     }
 
--- an id is opened behind all others
+-- an id is opened after all others
 pub fresh_fits : {A : Type 0} (code new : Ids A) (ids : definition.Ids) → FitsIds code ids →
     (table : Listing) (i : Id) (kind : kinds.Kind) →
     FitsPeers table.lines

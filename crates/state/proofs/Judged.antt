@@ -24,13 +24,13 @@ module _ {X : Type 0} (J : X → Type 0) (stopped : Stop → X) (none_cuts : J (
       IsOver J (judged stopped act reply next)
   judged_cut act reply next cuts = judged_over (is_no_more reply) (fits act reply) next cuts
 
--- a course too
+-- a course is over, too, by an answer that cuts it off
 pub replied_cut : (act : Deed) (s : Status) (next : Status → Reply → Course) (reply : Reply) →
     CutsOff act reply → IsCutOff (replied act s next reply)
 replied_cut act s next reply cuts =
     judged_cut (λ left. WasCut left.1) (λ stop. (s, Stops stop)) tt tt act reply (next s reply) cuts
 
--- what passes stops on is over behind a piece that was cut off
+-- what passes stops on is over after a piece that was cut off
 pub passes_cut : (next : Status → Outcome → Course) → PassesStops next → (s : Status)
     (o : Outcome) → WasCut o → IsCutOff (next s o)
 passes_cut next passes s (Gives value) cut = absurd cut

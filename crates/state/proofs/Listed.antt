@@ -1,4 +1,4 @@
--- What follows a text that is read as a list, where it is known what it is.
+-- What follows a text that is read as a list, where it is known whether it is one.
 use Rattle.std.proofs.Common.{◌≡◌, ℕ, List, [], Result, Ok, Err, MatchResult, sym, ap}
 use Rattle.state.specs.Prelude.{Fault, flaw_of, Course, raises, ListText, Reaches, here, Status}
 use Rattle.acts.specs.Flaw as acts
@@ -12,7 +12,7 @@ use Rattle.tcltext.specs.Elements.{IsList}
 use Rattle.tcltext.specs.Flaw.{Flaw}
 
 module _ (text : List ℕ) (s : Status) (next : List (List ℕ) → Course) where
-  -- it is a list
+  -- the text is a list
   pub list_reaches : (elements : List (List ℕ)) → IsList elements text →
       Reaches (with_list text s next) (next elements)
   list_reaches elements is = reads {text = ListText text} (Ok elements) is here
@@ -27,7 +27,7 @@ module _ (text : List ℕ) (s : Status) (next : List (List ℕ) → Course) wher
       let told : flaw ≡ flaw_of_list why = cc in
       reads {text = ListText text} (Err why) is (same_reaches (ap (λ f. raises f s) (sym told)))
 
-  -- it is none, for a reason that is told
+  -- the text is no list, for a reason that is reported
   pub no_list_reaches : {A : Type 0} (why : Fault A) → IsNoList text (raise.Fault why) →
       Reaches (with_list text s next) (raises (flaw_of why) s)
   no_list_reaches why is =

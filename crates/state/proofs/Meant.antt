@@ -1,4 +1,4 @@
--- What a function of texts comes to, as a course.
+-- The value or the error of a function of texts, as a course.
 use Rattle.std.proofs.Common.{◌≡◌, ℕ, List, Result, Ok, Err, MatchResult, refl, sym, ap, subst}
 use Rattle.state.specs.Prelude.{flaw_of, Fault, Raise, Ends, Course, gives, raises, ListText, Reaches, Status}
 use Rattle.meanings.specs.Meaning.{Answer, Comes, Meaning, Gives, Raises, Splits, Matches, flaw_of_list}
@@ -11,7 +11,7 @@ use Rattle.state.specs.Piece.{TestText}
 use Rattle.state.specs.Reaches.{reads}
 use Rattle.tcltext.specs.Flaw.{Flaw}
 
--- on with a value; an error is raised
+-- continues with a value; an error is raised
 abbrev pub on_answer : Answer → Status → (List ℕ → Course) → Course
 on_answer (Ok value) s next = next value
 on_answer (Err flaw) s next = raises flaw s
@@ -30,7 +30,7 @@ split_reaches more answer s next each (Ok elements) comes = each elements comes
 split_reaches more answer s next each (Err why) is =
     same_reaches (ap (λ a. on_answer a s next) (sym is))
 
--- a meaning goes on with its answer
+-- the course of a function of texts continues with the function's answer
 pub meaning_reaches : (meaning : Meaning) (answer : Answer) (s : Status) (next : List ℕ → Course) →
     Comes meaning answer → Reaches (on_meaning meaning s next) (on_answer answer s next)
 meaning_reaches (Gives value) answer s next is =
@@ -60,7 +60,7 @@ fault_reaches meaning it why told s next is also answers =
     meaning_reaches meaning (Err (flaw_of told)) s next
     (subst (λ a. Answers meaning (Err a)) also (subst (λ a. Answers meaning a) is answers))
 
--- it is over with an answer
+-- the course that is over with an answer
 abbrev over_with : Status → Answer → Course
 over_with s answer = Ends (s, told answer)
 
@@ -69,7 +69,7 @@ over_is : (answer : Answer) (s : Status) →
 over_is (Ok value) s = refl
 over_is (Err flaw) s = refl
 
--- where it comes to an answer, its course comes to that answer
+-- where a function of texts has an answer, its course ends with that answer
 pub comes_reaches : (m : Meaning) (a : Answer) (s : Status) → Comes m a →
     Reaches (meant m s) (over_with s a)
 comes_reaches m a s comes =

@@ -1,4 +1,4 @@
--- What a command that runs scripts has come to.
+-- How far a command that runs scripts has come, where it is known how it came there.
 use Rattle.std.proofs.Common.{◌≡◌, ◌∙◌, ℕ, suc, List, option_map, Result, refl, sym, ap, subst}
 use Rattle.acts.specs.Flaw as flaw
 use Rattle.state.specs.Prelude.{text_of, Ends, Course, inside, within, Nests, tree_of, Outcome, Leaves, Error, ScriptText, ScriptTree, Reaches, here, Status, FitsState, outcome_of}
@@ -14,7 +14,7 @@ use Rattle.tclparse.specs.View.{commands_of}
 use Rattle.tclparse.specs.declared.script.Script as coded
 
 module _ {A H : Type 0} (next : H → Status → Outcome → Course) (state : State A) where
-  -- it has ended so
+  -- the command has ended with this outcome
   pub over : (r : Result (List ℕ) (Leave A)) (o : Outcome) (s : Status) (course : Course) →
       FitsState state s → outcome_of r ≡ o → course ≡ Ends (s, o) →
       Nests next (nesting.Has r) state course
@@ -25,12 +25,12 @@ module _ {A H : Type 0} (next : H → Status → Outcome → Course) (state : St
         (ends ∙ ap (λ (x : Outcome). let c : Course = Ends (s, x) in c) (sym is));
   }
 
-  -- an equal course comes to the same
+  -- a command that is as far as a course is as far as an equal course
   pub nests_from : (n : Nesting A H) (c d : Course) → c ≡ d → Nests next n state d →
       Nests next n state c
   nests_from n c d is nests = subst (λ x. Nests next n state x) (sym is) nests
 
-  -- and so does one that reads texts first
+  -- and as far as a course that reads texts first
   pub nests_after : (n : Nesting A H) (c d : Course) → Reaches c d → Nests next n state d →
       Nests next n state c
   nests_after n c d first nests = record {
@@ -54,7 +54,7 @@ pub text_reaches : {A : Type 0} (script : coded.Script A) (levels : ℕ) (text :
     Reaches (within levels text s next) (inside levels (tree_of script) s next)
 text_reaches script levels text s next is = reads {text = ScriptText text} (tree_of script) is here
 
--- where no level is left, that is how it ends
+-- where no level is left, a script ends with the error that says so
 pub inside_over : (levels : ℕ) (tree : ScriptTree) (s : Status)
     (next : Status → Outcome → Course) → levels ≡ 0 →
     inside levels tree s next ≡ next s (Leaves Error (text_of flaw.TooManyNested))

@@ -9,7 +9,7 @@ use Rattle.state.specs.Piece.{Piece}
 use Rattle.state.specs.Proceeds.{Proceeds}
 use Rattle.state.specs.Rows.{Holds}
 
--- with more to leave and more to pay with a course proceeds too
+-- a course that proceeds does so with more to leave and with more to pay with, too
 pub more_proceeds : (most had more higher : ℕ) (c : Course) → most ≤ more → had ≤ higher →
     Proceeds most had c → Proceeds more higher c
 more_proceeds most had more higher (Ends left) le up proceeds =
@@ -39,7 +39,7 @@ more_proceeds most had more higher (Calls piece state next) le up proceeds =
       proceeds.3,
     )
 
--- its calls fall, whatever their ranks
+-- the calls of a course that proceeds fall, whatever the ranks of the pieces are
 pub proceeds_falls : (rank : Piece → ℕ) (last : Reply) (r most had : ℕ) (c : Course) →
     Proceeds most had c → Falls IsTree budget left_after rank last most r c
 proceeds_falls rank last r most had (Ends left) proceeds = proceeds.0
@@ -60,7 +60,7 @@ proceeds_falls rank last r most had (Calls piece state next) proceeds =
           (worth left + (had - worth state)) (next left outcome) (proceeds.2 left outcome)),
     )
 
--- it pays for its acts
+-- a course that proceeds pays for its acts
 pub proceeds_pays : (most had : ℕ) (c : Course) → Proceeds most had c →
     Pays IsTree (λ (piece : Piece) state. worth state) worth (λ left. worth left.0) had c
 proceeds_pays most had (Ends left) proceeds = proceeds.1
@@ -75,7 +75,7 @@ proceeds_pays most had (Calls piece state next) proceeds = (
       (worth left + (had - worth state)) (next left outcome) (proceeds.2 left outcome),
 )
 
--- its waits hold
+-- the waits of a course that proceeds hold
 pub proceeds_keeps : (most had : ℕ) (c : Course) → Proceeds most had c →
     Keeps IsTree (λ (s : Status). Unit {0}) Holds (λ left. Unit {0}) c
 proceeds_keeps most had (Ends left) proceeds = tt

@@ -1,4 +1,4 @@
--- What is at hand, where it is known how it came about.
+-- How far a command has come, where it is known how it came there.
 use Rattle.std.proofs.Common.{sym, ap}
 use Rattle.state.specs.Prelude.{Deed, Reply, Ends, Course, Shows, Outcome, Reaches, Status, FitsState}
 use Rattle.state.specs.declared.leaf.Leaf.{Leaf}
@@ -8,7 +8,7 @@ use Rattle.state.proofs.Reaches.{same_reaches, then_reaches}
 use Rattle.state.specs.Leaf.{HasOutcome}
 
 module _ {A W : Type 0} (next : W → Deed → Status → Reply → Course) where
-  -- it is over once some texts are read
+  -- the command is over once some texts are read
   pub over_after : {o : Outcome} {s : Status} {state : State A} {course : Course}
       (l : Leaf A W) → HasOutcome l o → FitsState state s → Reaches course (Ends (s, o)) →
       Shows next l state course

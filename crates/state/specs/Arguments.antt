@@ -1,4 +1,4 @@
--- What is asked of the words of a command.
+-- What commands ask about their words: whether a word is a flag.
 use Rattle.std.specs.Prelude.{ℕ, ◌==◌, ◌&&◌, Bool, false, not, List, [], ◌∷◌}
 use Rattle.tcltext.specs.Numbers.{is_number}
 

@@ -1,4 +1,4 @@
--- What a command keeps to that runs no script (this project's own rule).
+-- What a command that runs no script keeps to (this project's own rule).
 use Rattle.std.specs.Prelude.{ℕ, ◌+◌, ◌-◌, ◌*◌, ◌≤◌, length, Bool, true, false}
 use Rattle.acts.specs.Deed.{Reply}
 use Rattle.plan.specs.Plan.{Ends, Asks, Reads, Calls}
@@ -20,9 +20,9 @@ closing_of_log false = 0
 abbrev pub worth : Status → ℕ
 worth s = 4 * s.left + length (opened s.ids.peers) + closing_of_log s.log.logging
 
--- it runs no script, leaves so many ticks at most, pays for its acts out of what it had and leaves
--- a state that is worth no more than the rest, each of its waits holds, and an answer that cuts it
--- off ends it
+-- the course of a command behaves: it runs no script, leaves at most the given number of ticks,
+-- pays for its acts out of what it had and leaves a state that is worth no more than the rest of
+-- that; each of its waits holds, and an answer that cuts the course off ends it
 abbrev pub Behaves : ℕ → ℕ → Course → Type 0
 Behaves ticks had (Ends left) = (left.0.left ≤ ticks) × (worth left.0 ≤ had)
 Behaves ticks had (Asks deed next) =

@@ -4,18 +4,19 @@ use Rattle.state.specs.Outcome.{Outcome, Leaves, Again, AgainRunning}
 use Rattle.state.specs.Piece.{Piece, Script, One, Loop, Turn}
 use Rattle.state.specs.Status.{Status}
 
--- an outcome of exp_continue counts as one: the tick of its command is behind it, and a turn of
--- expect may begin by it
+-- an outcome of exp_continue counts as one: the tick of that command is already spent, and a turn
+-- of expect may begin by it
 abbrev pub again_of : Outcome → ℕ
 again_of (Leaves Again value) = 1
 again_of (Leaves AgainRunning value) = 1
 again_of _ = 0
 
--- what is left behind a piece: two for each tick, and one for exp_continue
+-- what may be used up after a piece: two for each tick that is left, and one for exp_continue
 abbrev pub left_after : Status → Outcome → ℕ
 left_after s o = 2 * s.left + again_of o
 
--- what a piece has: two for each tick; loops and turns have one more, for the scripts in them
+-- what a piece may use up: two for each tick; loops and turns have one more, for the scripts in
+-- them
 abbrev pub budget : Piece → Status → ℕ
 budget (Script tree levels) s = 2 * s.left
 budget (One words levels) s = 2 * s.left

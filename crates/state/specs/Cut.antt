@@ -1,5 +1,5 @@
--- Answers that cut a run off: there are no more, or one does not fit its act (this project's own
--- rule).
+-- Answers that cut a run off: the world has no more answers, or one does not fit its act (this
+-- project's own rule).
 use Rattle.std.specs.Prelude.{◌≡◌, ◌⊎◌, true, false}
 use Rattle.acts.specs.Deed.{Deed, Reply}
 use Rattle.acts.specs.Fits.{fits}
@@ -14,7 +14,7 @@ use Rattle.state.specs.Status.{Status}
 abbrev pub CutsOff : Deed → Reply → Type 0
 CutsOff act reply = (is_no_more reply ≡ true) ⊎ (fits act reply ≡ false)
 
--- the stop that comes of one
+-- the stops that such an answer causes
 abbrev pub IsCut : Stop → Type 0
 IsCut stop.BadAnswer = Unit {0}
 IsCut stop.NoMore = Unit {0}

@@ -1,4 +1,4 @@
--- Dialogues with the world: what a part of a run does, from a state on.
+-- Dialogues with the world: what a part of a run does, starting from a state.
 use Rattle.std.specs.Prelude.{ℕ, zero, suc, List, Bool, true, false, if◌then◌else◌}
 use Rattle.acts.specs.Deed.{Deed, Reply}
 use Rattle.acts.specs.Deed as said
@@ -19,35 +19,36 @@ Dialogue X = Plan Piece Status Outcome Deed Reply Text Tree X
 abbrev pub Course : Type 0
 Course = Dialogue (Status × Outcome)
 
--- it is over with a value
+-- the course that is over with a value
 abbrev pub gives : List ℕ → Status → Course
 gives value s = Ends (s, Gives value)
 
--- it is over with another code than ok, and a value (Tcl(n), return codes)
+-- the course that is over with another code than ok, and a value (Tcl(n), return codes)
 abbrev pub leaves : Code → List ℕ → Status → Course
 leaves code value s = Ends (s, Leaves code value)
 
--- it is over with an error, whose value is the error's text (Tcl(n), return codes)
+-- the course that is over with an error, whose value is the error's text (Tcl(n), return codes)
 abbrev pub raises : Flaw → Status → Course
 raises flaw s = Ends (s, Leaves Error (text_of flaw))
 
--- it stops the whole run
+-- the course that stops the whole run
 abbrev pub stops : Stop → Status → Course
 stops stop s = Ends (s, Stops stop)
 
--- goes on where there is a value; every other outcome is passed on (Tcl(n), return codes)
+-- the course continues where there is a value; every other outcome is passed on (Tcl(n), return
+-- codes)
 abbrev pub on_value : (Status → List ℕ → Course) → Status → Outcome → Course
 on_value next s (Gives value) = next s value
 on_value next s (Leaves code value) = Ends (s, Leaves code value)
 on_value next s (Stops stop) = Ends (s, Stops stop)
 
--- a script one level deeper, and on with how it ends; where no level is left, that is how it ends
--- (Tcl(n), rule 7; interp(n), recursionlimit)
+-- a script runs one level deeper, and the course continues with the script's outcome; where no
+-- level is left, that outcome is an error (Tcl(n), rule 7; interp(n), recursionlimit)
 abbrev pub inside : ℕ → ScriptTree → Status → (Status → Outcome → Course) → Course
 inside zero tree s next = next s (Leaves Error (text_of flaw.TooManyNested))
 inside (suc levels) tree s next = Calls (Script tree levels) s next
 
--- the same, of a script by its text
+-- the same, of a script that is given by its text
 abbrev pub within : ℕ → List ℕ → Status → (Status → Outcome → Course) → Course
 within levels text s next = Reads (ScriptText text) (λ tree. inside levels tree s next)
 
@@ -60,24 +61,25 @@ tick_of (suc left) s next = next (record s { left = left })
 abbrev pub tick : Status → (Status → Course) → Course
 tick s next = tick_of s.left s next
 
--- the world had no more answers
+-- whether the reply says that the world had no more answers
 abbrev pub is_no_more : Reply → Bool
 is_no_more said.NoMore = true
 is_no_more _ = false
 
--- a dialogue goes on by an answer that fits; without one, or with another, the whole run stops, so
--- that what follows an act never meets an answer that does not fit (this project's own rule)
+-- a dialogue continues by an answer that fits its act; without an answer, or with one that does not
+-- fit, the whole run stops, so that what follows an act never meets an answer that does not fit
+-- (this project's own rule)
 abbrev pub judged : {X : Type 0} → (Stop → X) → Deed → Reply → Dialogue X → Dialogue X
 judged stopped deed reply next =
     if is_no_more reply then Ends (stopped stop.NoMore)
     else if fits deed reply then next
     else Ends (stopped stop.BadAnswer)
 
--- what a stop leaves
+-- the state and the outcome that a stop leaves
 abbrev pub stopping : Status → Stop → Status × Outcome
 stopping s stop = (s, Stops stop)
 
--- what an answer to the act comes to
+-- the course that follows an answer to the act
 abbrev pub replied : Deed → Status → (Status → Reply → Course) → Reply → Course
 replied deed s next reply = judged (stopping s) deed reply (next s reply)
 
@@ -85,7 +87,7 @@ replied deed s next reply = judged (stopping s) deed reply (next s reply)
 abbrev pub ask : Deed → Status → (Status → Reply → Course) → Course
 ask deed s next = Asks deed (replied deed s next)
 
--- after a write; a write that failed stops the run (this project's own rule)
+-- what follows the answer to a write; a write that failed stops the run (this project's own rule)
 abbrev pub written : (Status → Course) → Status → Reply → Course
 written next s (said.Failed sent) = stops stop.WriterFailed s
 written next s _ = next s

@@ -6,7 +6,7 @@ use Rattle.dialog.specs.Lines.{Line}
 use Rattle.dialog.specs.Peers.{Peer, fresh, opened, at_peer, shut as closed, line}
 use Rattle.dialog.specs.Standing.{Standing, unpaired}
 
--- the ids in the order of their numbers, with all that ever happened to them; the pairs that stand;
+-- the ids in the order of their numbers, with all that ever happened to them; the standing pairs;
 -- the size of later buffers, and whether nulls are removed from what arrives at later ids; the
 -- number of the next id (expect(1), spawn, expect_before, match_max -d and remove_nulls -d)
 pub record Ids : Type 0 where
@@ -16,7 +16,7 @@ pub record Ids : Type 0 where
   pub drops_nulls : Bool
   pub next : ℕ
 
--- what the table has of the open ids
+-- the lines of the open ids, as the table has them
 abbrev pub lines_of : Ids → List Line
 lines_of ids = map line (opened ids.peers)
 

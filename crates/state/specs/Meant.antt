@@ -1,4 +1,4 @@
--- What a function of texts comes to, as a course.
+-- The value or the error of a function of texts, as a course.
 use Rattle.std.specs.Prelude.{ℕ, List, Ok, Err}
 use Rattle.acts.specs.Flaw.{text_of}
 use Rattle.meanings.specs.Meaning.{Answer, Meaning, Gives, Raises, Splits, Matches}
@@ -10,8 +10,8 @@ use Rattle.state.specs.Outcome.{Outcome, Leaves, Error}
 use Rattle.state.specs.Piece.{TestText}
 use Rattle.state.specs.Status.{Status}
 
--- on with the value of a function of texts, once its texts are read; or its error (Tcl(n), rule 2;
--- expr(n))
+-- the course continues with the value of a function of texts, once its texts are read, or ends with
+-- its error (Tcl(n), rule 2; expr(n))
 abbrev pub on_meaning : Meaning → Status → (List ℕ → Course) → Course
 on_meaning (Gives value) s next = next value
 on_meaning (Raises flaw) s next = raises flaw s
@@ -20,7 +20,8 @@ on_meaning (Splits text more) s next =
 on_meaning (Matches pattern text more) s next =
     Reads (TestText pattern text) (λ takes. on_meaning (more takes) s next)
 
--- it is over with its value or its error; the state stays (Tcl(n), rule 2)
+-- the course that ends with the value or the error of a function of texts; the state stays (Tcl(n),
+-- rule 2)
 abbrev pub meant : Meaning → Status → Course
 meant meaning s = on_meaning meaning s (λ value. gives value s)
 

@@ -14,27 +14,29 @@ use Rattle.tclparse.specs.Seen.{fault_of}
 use Rattle.tclparse.specs.View.{commands_of}
 use Rattle.tclparse.specs.declared.script.Script as coded
 
--- the tree that one of the code's stands for
+-- the tree that a script of the code stands for
 abbrev pub tree_of : {A : Type 0} → coded.Script A → ScriptTree
 tree_of script =
     record { commands = commands_of script.commands; fault = option_map fault_of script.fault }
 
--- it has ended, or a script runs and what is held goes on with its outcome (Tcl(n), rule 7)
+-- the course of a command that has come this far: it has ended, or a script runs, and next
+-- continues with the script's outcome by what is held (Tcl(n), rule 7)
 abbrev pub course_of : {A H : Type 0} → (H → Status → Outcome → Course) → Nesting A H → Status →
     Course
 course_of next (nesting.Has outcome) s = Ends (s, outcome_of outcome)
 course_of next (nesting.Runs script levels held) s =
     Calls (Script (tree_of script) levels) s (next held)
 
--- for some state that the code's fits, the course comes to what is at hand, once its texts are read
+-- for some state of the definition that the code's state fits, the course goes on as that of the
+-- command, once the texts that it reads first are read
 pub record Nests {A H : Type 0} (next : H → Status → Outcome → Course) (n : Nesting A H)
     (state : State A) (course : Course) : Type 0 where
   pub status : Status
   pub fits : FitsState state status
   pub reaches : Reaches course (course_of next n status)
 
--- a script runs again only after a tick, or where fewer may follow it without one (this project's
--- own rule)
+-- a script runs again only after a tick, or where fewer scripts than most may follow it without a
+-- tick (this project's own rule)
 abbrev pub Advances : {A H : Type 0} → (H → ℕ) → Nesting A H → ℕ → ℕ → ℕ → Type 0
 Advances scripts (nesting.Has outcome) new old most = Unit {0}
 Advances scripts (nesting.Runs script levels held) new old most =

@@ -11,8 +11,8 @@ pub data Code : Type 0 where
   Again : Code
   AgainRunning : Code
 
--- what ends the whole run (this project's own rule; exit(n)); the answer that does not fit is the
--- last one, so that its number is how many there were
+-- what ends the whole run (this project's own rule; exit(n)); an answer that does not fit its act
+-- is the last one, so that its number is the count of all answers
 pub data Stop : Type 0 where
   Exit : (status : ℤ) → Stop
   Limit : Stop

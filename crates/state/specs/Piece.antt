@@ -23,7 +23,7 @@ pub record ScriptTree : Type 0 where
   pub commands : Commands
   pub fault : Option Fault
 
--- a loop: its test, its body, and the script that stands behind each turn, if there is one
+-- a loop: its test, its body, and the script that stands after each turn, if there is one
 -- (while(n); for(n))
 pub record LoopTree : Type 0 where
   pub test : Formula
@@ -35,16 +35,18 @@ pub record ArgumentTree : Type 0 where
   pub words : Words
   pub fault : Option Fault
 
--- a turn of expect: what it chooses among and waits for, the seconds of -timeout, after what it
--- looks for a pair, and the timer of its next wait, where one was started (expect(1), expect)
+-- a turn of expect: what it chooses among and waits for, the seconds of -timeout, the trigger after
+-- which it looks for a pair, and the timer of its next wait, where one was started (expect(1),
+-- expect)
 pub record TurnTree : Type 0 where
   pub effective : Effective
   pub seconds : Option ℤ
   pub trigger : Trigger
   pub clock : Option Timer
 
--- a script, one command by its words, a loop from a turn on, or a turn of expect; each with the
--- levels that may still stand in it (Tcl(n), rules 1, 2 and 7; while(n); for(n); expect(1), expect)
+-- a script, one command by its words, a loop that begins at one of its turns, or a turn of expect;
+-- each with the levels that may still stand in it (Tcl(n), rules 1, 2 and 7; while(n); for(n);
+-- expect(1), expect)
 pub data Piece : Type 0 where
   Script : (tree : ScriptTree) (levels : ℕ) → Piece
   One : (words : Words) (levels : ℕ) → Piece

@@ -10,13 +10,13 @@ abbrev pub shown : Bool → List ℕ → Status → (Status → Course) → Cour
 shown false bytes s next = next s
 shown true bytes s next = ask (said.Out bytes) s (written next)
 
--- they are written to the log, or are not (expect(1), log_file)
+-- bytes are written to the log, or are not (expect(1), log_file)
 abbrev pub noted : Bool → List ℕ → Status → (Status → Course) → Course
 noted false bytes s next = next s
 noted true bytes s next = ask (said.Log bytes) s (written next)
 
--- to standard output, and then to the log, as the settings say; where there are no bytes, nothing
--- is written (expect(1), log_user and log_file)
+-- bytes are written to standard output, and then to the log, as the settings say; where there are
+-- no bytes, nothing is written (expect(1), log_user and log_file)
 abbrev pub placed : List ℕ → Status → (Status → Course) → Course
 placed [] s next = next s
 placed (b ∷ bs) s next =

@@ -1,4 +1,4 @@
--- What a course keeps to that runs scripts and asks for acts (this project's own rule).
+-- What a course that runs scripts and asks for acts keeps to (this project's own rule).
 use Rattle.std.specs.Prelude.{ℕ, ◌+◌, ◌-◌, ◌<◌, ◌≤◌}
 use Rattle.acts.specs.Deed.{Reply}
 use Rattle.plan.specs.Plan.{Ends, Asks, Reads, Calls}
@@ -11,10 +11,11 @@ use Rattle.state.specs.Piece.{Tree, IsTree}
 use Rattle.state.specs.Rows.{Holds}
 use Rattle.state.specs.Status.{Status}
 
--- it leaves so much at most, pays for its acts out of what it had and leaves a state that is worth
--- no more than the rest, each of its waits holds, an answer that cuts it off ends it, and each
--- piece that it calls has less, and its stops are passed on; had a piece left more than it had, the
--- rest might leave as much more (which no piece does)
+-- the course leaves at most the given budget, pays for its acts out of what it had and leaves a
+-- state that is worth no more than the rest of that; each of its waits holds, and an answer that
+-- cuts it off ends it; each piece that it calls has less than the course may leave, and the stops
+-- of that piece are passed on; had a piece left more than its budget, the rest of the course might
+-- leave as much more (which no piece does)
 abbrev pub Proceeds : ℕ → ℕ → Course → Type 0
 Proceeds most had (Ends left) = (left_after left.0 left.1 ≤ most) × (worth left.0 ≤ had)
 Proceeds most had (Asks deed next) =

@@ -1,4 +1,4 @@
--- Waits whose rows hold.
+-- Waits of which each row says that its buffer holds at most its size.
 use Rattle.std.specs.Prelude.{◌≤◌, List, [], ◌∷◌, sum_by}
 use Rattle.acts.specs.declared.row.Row.{Row}
 use Rattle.acts.specs.Deed.{Deed}
@@ -9,7 +9,7 @@ abbrev pub RowsHold : List Row → Type 0
 RowsHold [] = Unit {0}
 RowsHold (row ∷ rows) = (row.held ≤ row.max) × RowsHold rows
 
--- the rows of a wait do (expect(1), match_max)
+-- each row of a wait says that its buffer holds at most its size (expect(1), match_max)
 abbrev pub Holds : Deed → Type 0
 Holds (said.Wait rows timer) = RowsHold rows
 Holds _ = Unit {0}

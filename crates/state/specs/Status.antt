@@ -9,7 +9,7 @@ use Rattle.state.specs.Ids.{Ids}
 use Rattle.tclstate.specs.Procs.{Procs}
 use Rattle.tclstate.specs.Scopes.{Scopes}
 
--- the variables, the procedures, the spawn ids, where arrivals are written, the ticks left
+-- the variables, the procedures, the spawn ids, where bytes that arrive are written, the ticks left
 pub record Status : Type 0 where
   pub scopes : Scopes
   pub procedures : Procs
@@ -17,7 +17,7 @@ pub record Status : Type 0 where
   pub log : LogState
   pub left : ℕ
 
--- what the table has of the open ids
+-- the lines of the open ids, as the table has them
 abbrev pub lines : Status → List Line
 lines s = ids.lines_of s.ids
 

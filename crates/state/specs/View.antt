@@ -1,4 +1,4 @@
--- How the state of the code stands to that of the definition.
+-- How the state of the code corresponds to that of the definition.
 use Rattle.std.specs.Prelude.{◌≡◌, ℕ, ◌≤◌, ◌<◌, ◌^◌, List, [], ◌∷◌, map, Option, Some, None, Result, Ok, Err, true}
 use Rattle.acts.specs.declared.fault.Fault.{Fault}
 use Rattle.acts.specs.declared.id.Id.{Id}
@@ -21,7 +21,7 @@ use Rattle.state.specs.Status.{Status}
 use Rattle.state.specs.declared.ids.Ids as coded
 use Rattle.state.specs.declared.ids.Unreaped as reapable
 
--- the code that one of the code's stands for (Tcl(n), return codes)
+-- the return code of the definition that one of the Rattle code stands for (Tcl(n), return codes)
 abbrev pub code_of : codes.Code → Code
 code_of code.Error = Error
 code_of code.Return = Return
@@ -30,7 +30,7 @@ code_of code.Continue = Continue
 code_of code.Again = Again
 code_of code.AgainRunning = AgainRunning
 
--- the stop that one of the code's stands for
+-- the stop of the definition that one of the Rattle code stands for
 abbrev pub stop_of : halted.Stop → Stop
 stop_of (halt.Exit status) = stop.Exit status
 stop_of halt.Limit = stop.Limit
@@ -38,7 +38,7 @@ stop_of halt.WriterFailed = stop.WriterFailed
 stop_of halt.BadAnswer = stop.BadAnswer
 stop_of halt.NoMore = stop.NoMore
 
--- the outcome that one of the code's stands for
+-- the outcome of the definition that one of the Rattle code stands for
 abbrev pub outcome_of : {A : Type 0} → Result (List ℕ) (Leave A) → Outcome
 outcome_of (Ok value) = Gives value
 outcome_of (Err (leave.Coded code value)) = Leaves (code_of code) value
@@ -48,11 +48,11 @@ outcome_of (Err (leave.Stopped stop)) = Stops (stop_of stop)
 abbrev pub raised : {A : Type 0} → Fault A → Outcome
 raised fault = Leaves Error (text_of (flaw_of fault))
 
--- an id that may be waited for by its parts
+-- an id that may be waited for, put together from its parts
 abbrev pub unreaped_by : Id → kinds.Kind → reapable.Unreaped
 unreaped_by i kind = record { id = i; kind = kind }
 
--- an id that may be waited for, as the code says it
+-- the definition's form of an id that may be waited for, from that of the code
 abbrev pub unreaped_of : reapable.Unreaped → Unreaped
 unreaped_of u = record { id = u.id; kind = kind_of u.kind }
 
@@ -81,7 +81,7 @@ no_ids = record {
   next = 4;
 }
 
--- the id that was opened first is closed
+-- the open id that was opened first is closed
 pub record FirstCloses {A : Type 0} (id : Id) (code : coded.Ids A) (ids : Ids) : Type 0 where
   pub peer : Peer
   pub others : List Peer

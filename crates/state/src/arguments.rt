@@ -1,4 +1,4 @@
-//! What is asked of the words of a command.
+//! What commands ask about their words: whether a word is a flag, and which number it is.
 
 ghost use Rattle.std.specs.Prelude.{◌≡◌, IfOk};
 ghost use Rattle.state.specs.Prelude.{text_of, Leaves, Error};
@@ -13,7 +13,7 @@ use acts::{Fault, NoMemory};
 use std::alloc::Allocator;
 use tcltext::{Value, read_int};
 
-/// A command that was given another number of words than it takes.
+/// Ends a command with the error that it was given another number of words than it takes.
 pub fn wrong_args<A: Allocator + Copy, W: Drop>(
     alloc: A,
     command: &[u8],

@@ -24,7 +24,7 @@ pub struct Ids<A: Allocator> {
     pub table: Table<A>,
     /// The ids, open or closed, that were not waited for yet, in the order of their numbers.
     pub unreaped: Vec<Unreaped, A>,
-    /// The pairs that stand.
+    /// The standing pairs (expect(1), expect_before and expect_after).
     pub standing: Standing<A>,
     /// The size of later match buffers (expect(1), match_max -d).
     pub size: Size,
@@ -33,7 +33,7 @@ pub struct Ids<A: Allocator> {
 }
 
 impl<A: Allocator + Copy> Ids<A> {
-    /// No id is open, and nothing is set.
+    /// The ids of a new run: none is open, and the settings for later ids have their first values.
     pub fn new(alloc: A) -> Ids<A>
         ensures { FitsIds result no_ids }
     {
@@ -46,10 +46,10 @@ impl<A: Allocator + Copy> Ids<A> {
         }
     }
 
-    /// Opens the id of the next number, with an empty buffer as it is set for later ids.
+    /// Opens the id of the next number, with an empty buffer that has the settings for later ids.
     ///
     /// # Errors
-    /// `TooMany` where no id is left, and nothing changes; `NoMemory`.
+    /// `TooMany` where no id is left, and then nothing changes; `NoMemory` where memory is refused.
     pub fn open(&mut self, alloc: A, kind: Kind) -> Result<Id, OpenError>
         ensures opens { (ids : definition.Ids) → FitsIds self.old ids → IfOk result (λ id.
             (definition.next_in ids ≡ Some id)
@@ -87,7 +87,7 @@ impl<A: Allocator> Ids<A> {
         self.table.next_id()
     }
 
-    /// Uses up the next number.
+    /// Uses up the next number: no id is opened under it.
     pub fn skip(&mut self)
         ensures { (ids : definition.Ids) → FitsIds self.old ids →
             FitsIds self.new (definition.skipped ids) }
@@ -104,7 +104,9 @@ impl<A: Allocator> Ids<A> {
         self.standing.close(id);
     }
 
-    /// Closes the id that was opened first, if one is open.
+    /// Closes the open id that was opened first, removes its standing pairs, and gives the id;
+    /// `None`
+    /// where no id is open.
     pub fn close_oldest(&mut self) -> Option<Id>
         ensures { (ids : definition.Ids) → FitsIds self.old ids → MatchOption result
             ((definition.lines_of ids ≡ []) × FitsIds self.new ids)

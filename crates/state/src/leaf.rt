@@ -11,18 +11,18 @@ use acts::{Act, Fault, NoMemory};
 use std::alloc::Allocator;
 use tcltext::Value;
 
-/// How far a command has come that runs no script; `W` is what it does with the answers to its
-/// acts.
+/// How far a command that runs no script has come; `W` is what the command does with the answers to
+/// its acts.
 #[derive(Drop)]
 pub enum Leaf<A: Allocator, W: Drop> {
-    /// It is over.
+    /// The command is over.
     Has(Outcome<A>),
     /// An act waits for its answer.
     Asks(Act<A>, W),
 }
 
 impl<A: Allocator, W: Drop> Leaf<A, W> {
-    /// The same, where what waits is told otherwise.
+    /// The same, with what waits for the answer converted by `waits`.
     pub fn map<V: Drop, F: FnOnce(W) -> V>(self, waits: F) -> Leaf<A, V>
         requires { F.IsAlwaysCallable waits }
         ensures { Maps (F.post waits) self result }

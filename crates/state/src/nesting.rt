@@ -1,4 +1,4 @@
-//! How far a command has come that runs scripts.
+//! How far a command that runs scripts has come.
 
 ghost use Rattle.std.specs.Prelude.{◌≡◌, IfOk};
 ghost use Rattle.state.specs.Prelude.{tree_of};
@@ -8,12 +8,13 @@ use acts::NoMemory;
 use std::alloc::Allocator;
 use tclparse::Script;
 
-/// How far a command has come that runs scripts; `H` is what it holds while one runs.
+/// How far a command that runs scripts has come; `H` is what it holds while a script runs.
 #[derive(Drop)]
 pub enum Nesting<A: Allocator, H: Drop> {
-    /// It is over.
+    /// The command is over.
     Has(Outcome<A>),
-    /// A script runs, in which so many levels may still stand; its outcome goes to what is held.
+    /// A script runs, in which as many levels may still stand as the number says; the outcome of
+    /// the script goes to what is held.
     Runs(Script<A>, u8, H),
 }
 

@@ -8,7 +8,7 @@ use acts::{Fault, NoMemory};
 use std::alloc::Allocator;
 use tcltext::Value;
 
-/// The codes with which a part ends that has no plain value (Tcl(n), return codes).
+/// The codes with which a part of a run ends where it gives no plain value (Tcl(n), return codes).
 #[derive(Clone, Copy, Debug, PartialEq, Eq)]
 pub enum Code {
     /// 1: an error, whose value is its text.
@@ -40,7 +40,7 @@ pub enum Stop {
     NoMore,
 }
 
-/// How a part ends that does not go on with a value.
+/// How a part of a run ends where it gives no plain value.
 #[derive(Drop)]
 pub enum Leave<A: Allocator> {
     /// With another code than ok, and a value.

@@ -15,11 +15,11 @@ pub struct State<A: Allocator> {
     pub procs: Procs<A>,
     /// The spawn ids.
     pub ids: Ids<A>,
-    /// Where arrivals are written.
+    /// Where the bytes that arrive are written (expect(1), log_user and log_file).
     pub log: LogState,
     /// The ticks that are left.
     pub left: u64,
-    /// The trees of the scripts that ran last within others, which say nothing that their texts do
-    /// not: the definition knows nothing of them.
+    /// The trees of the scripts that ran last within others. They say nothing that the texts of
+    /// these scripts do not, so the definition has no such field.
     pub kept: Kept<A>,
 }

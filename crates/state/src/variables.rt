@@ -48,7 +48,7 @@ pub fn all_named<A: Allocator>(words: &[Value<A>]) -> bool
     true
 }
 
-/// The script's error where a variable is not read or written.
+/// The script's error where a variable could not be read or written.
 pub fn trouble<A: Allocator>(
     alloc: A,
     error: ScopeError,
@@ -69,7 +69,8 @@ pub fn trouble<A: Allocator>(
     })
 }
 
-/// Writes a variable, or answers the script's error where that can't be.
+/// Writes a variable, or answers the script's error where it can't be written; then nothing
+/// changes.
 pub fn store<A: Allocator + Copy>(
     alloc: A,
     state: &mut State<A>,

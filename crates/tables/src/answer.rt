@@ -30,7 +30,7 @@ pub fn number(field: &[u8]) -> u64 {
     }
 }
 
-/// A text so many times over.
+/// A text, repeated the given number of times.
 pub fn repeated<A: Allocator>(alloc: A, text: &[u8], times: u64) -> Result<Vec<u8, A>, NoMemory> {
     let mut all = Vec::new(alloc);
     for _ in 0..times {

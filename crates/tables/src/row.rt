@@ -3,7 +3,7 @@
 use percent_encoding::{AsciiSet, CONTROLS, ascii_set, percent_decode};
 use std::alloc::{AllocError, Global};
 
-/// What is written as `%` and two hexadecimal digits, beside bytes outside ASCII.
+/// The ASCII bytes that are written as `%` and two hexadecimal digits, as those outside ASCII are.
 pub(crate) const ESCAPED: AsciiSet = ascii_set!(CONTROLS.add(b'%').add(b'|'));
 
 /// Whether a line is no row.

@@ -26,7 +26,7 @@ pub trait Answers {
 pub enum Memory {
     /// All that they ask for.
     Whole,
-    /// That too, and before it all but one request: each in turn is refused.
+    /// All of them in the end, and before that all but one, where each in turn is the one refused.
     RefusedInTurn,
 }
 
@@ -38,7 +38,7 @@ struct Counts {
     failed: u64,
 }
 
-/// Runs the rows of a file, tells those that fail, and prints how many there were. Says whether
+/// Runs the rows of a file, and prints those that fail and how many rows there were. Gives whether
 /// none failed.
 ///
 /// A row fails if its answer is not the one that is wanted, or if it is answered although a request
@@ -97,7 +97,7 @@ fn run_row<R: Print + AllocGlobal, T: Answers>(
     Ok(())
 }
 
-/// No refusals, if a row's answer is as wanted.
+/// Gives 0 refusals if a row's answer is as wanted, else `None`.
 fn answers_as_wanted<T: Answers>(
     alloc: Global,
     table: &T,
@@ -113,8 +113,8 @@ fn answers_as_wanted<T: Answers>(
     }
 }
 
-/// How many requests for memory a row makes, if its answer is as wanted, and is none where one of
-/// them is refused.
+/// How many requests for memory a row makes, if its answer is as wanted where all are granted, and
+/// if there is no answer where one of them is refused; else `None`.
 fn refused_in_turn<T: Answers>(
     alloc: Global,
     table: &T,
@@ -142,7 +142,7 @@ fn refused_in_turn<T: Answers>(
     None
 }
 
-/// Tells what a row is answered.
+/// Prints the answer to a row.
 fn tell_answer<R: Print + AllocGlobal, T: Answers>(
     rt: &R,
     table: &T,

@@ -74,12 +74,12 @@ one_value _ _ _ _ (a_continued_line v x h) (a_continued_line w y k) e =
     let same : x ≡ y = cc in
     ap (λ u. 32 ∷ u) (one_value v (skip_blanks x) w (skip_blanks y) h k (ap skip_blanks same))
 
--- What was read of the content x, with y left: whatever value y has, these bytes before it are the
--- value of x.
+-- What was read of the content x, where y is still unread: whatever value y has, front followed by
+-- that value is the value of x.
 abbrev pub ValueSoFar : List ℕ → List ℕ → List ℕ → Type 0
 ValueSoFar front y x = (v : List ℕ) → IsValue v y → IsValue (front ++ v) x
 
--- more of the value, which the next bytes of the content give
+-- the same with more of the value, which the next bytes of the content give
 pub after_piece : (front y x piece z more : List ℕ) → ValueSoFar front y x → more ≡ front ++ piece →
     ((v : List ℕ) → IsValue v z → IsValue (piece ++ v) y) → ValueSoFar more z x
 after_piece front y x piece z more so_far is step v h =
@@ -95,7 +95,7 @@ pub pushed_twice : (front more most : List ℕ) (c d : ℕ) → more ≡ front +
 pushed_twice front more most c d e f = f ∙ ap (λ l. l ++ d ∷ []) e
     ∙ append_assoc front (c ∷ []) (d ∷ [])
 
--- the text behind the first byte, as a slice
+-- the text after the first byte, as a slice
 abbrev pub behind : List ℕ → List ℕ
 behind x = take (length x - 1) (drop 1 x)
 
@@ -113,7 +113,7 @@ pub byte_step : (y v : List ℕ) → 1 ≤ length y → (get_or y 0 0 ≡ 92 →
 byte_step [] v h k i = absurd (omega arith)
 byte_step (c ∷ x) v h k i = a_byte c v x (differs c 92 k) (subst (IsValue v) (behind_is c x) i)
 
--- the last byte is itself, a backslash too
+-- the last byte gives itself, even if it is a backslash
 last_byte : (c : ℕ) (v : List ℕ) → IsValue v [] → IsValue (c ∷ v) (c ∷ [])
 last_byte c v h =
     let none : [] ≡ v = one_value [] [] v [] nothing h refl in

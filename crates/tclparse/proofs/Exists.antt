@@ -72,7 +72,7 @@ parts_exist d index bracket place =
     by_length (PartsRead place d) (λ x rest. part_reads (next place d x) place d x refl
     (piece_shorter place d x) (piece_within place d x) rest index bracket)
 
--- an outcome of the text x leaves less than it
+-- an outcome of reading the text x leaves a shorter text
 abbrev Shrinks : List ℕ → Outcome → Type 0
 Shrinks x (Ok z) = length z < length x
 Shrinks x (Err f) = Unit {0}
@@ -130,7 +130,7 @@ bare_shrinks (script cs ps) context d x o b h =
     (bracket_leaves h.0 h.2 (commands_leave cs bracketed (d - 1) h.0 h.2 h.3)) h.4
     (λ w k. parts_leave ps (in_word context) d w o k)
 
--- the parts of a word without its prefix, of which there is more than nothing
+-- a word without its prefix is read, and takes at least one byte
 abbrev BodyRead : Context → ℕ → Kind → List ℕ → Type 0
 BodyRead context d w x = (ps : Parts) × (r : Outcome)
     × IsWord context ps (λ place z s. IsParts place d ps z s) w x r × Shrinks x r
@@ -197,7 +197,7 @@ unprefixed_begins context (a ∷ b ∷ c ∷ z) h =
     prefix_if ((a == 123) && ((b == 42) && (c == 125))) (ends_word context z) context (a ∷ b ∷ c
     ∷ z) z h refl
 
--- words, which take something where a command does not end at once
+-- words are read, and take at least one byte where the command does not end at once
 abbrev WordsRead : Context → ℕ → List ℕ → Type 0
 WordsRead context d x = (ws : Words) × (o : Outcome) × IsWords context d ws x o
     × (ends_command context x ≡ false → Shrinks x o)
@@ -325,7 +325,7 @@ argument_over : (z : List ℕ) → ends_command argument z ≡ true → z ≡ []
 argument_over [] h = refl
 argument_over (c ∷ z) h = absurd (cc)
 
--- the last of some commands
+-- commands, at least one, are split before the last of them
 last_apart : (cs : Commands) (ws : Words) → (bs : Commands) × (vs : Words)
     × (command ws cs ≡ with_last bs vs)
 last_apart no_commands ws = (no_commands, ws, refl)

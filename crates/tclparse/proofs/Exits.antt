@@ -1,4 +1,4 @@
--- Where a reader stops early: out of memory each clause holds, and a fault is passed on.
+-- Where a reader stops early: where memory was refused each clause holds, and a fault is passed on.
 use Rattle.std.proofs.Common.{◌≡◌, ℕ, List, Result, Ok, Err, IsErrAnd}
 use Rattle.std.proofs.lemmas.Result.{err_from_is_err_and}
 use Rattle.tclparse.specs.Context.{Context}

@@ -1,4 +1,4 @@
--- What is left of a text behind parts, words and commands is its end.
+-- The unread text after parts, words and commands is an end of the text.
 use Rattle.std.proofs.Common.{◌≡◌, ℕ, ◌-◌, ◌==◌, ◌&&◌, ◌||◌, List, [], ◌∷◌, ◌++◌, Bool, true, false, Some, None, Ok, Err, if◌then◌else◌, sym, subst, inl, inr, ◌∙◌, append_assoc}
 use Rattle.tclparse.specs.Fault.{Fault, after_brace, after_quote}
 use Rattle.tclparse.specs.Tree.{Parts, no_parts, byte, variable, element, script, Words, no_words, word, Commands, no_commands, command}
@@ -36,7 +36,7 @@ gap_joins context between (c ∷ x) =
     (joins_more c x (skip_gap context comment x) (gap_joins context comment x))
     (joins_if (is_continuation c x) whole (skip_gap context between x) whole on (joins_self whole)))
 
--- so is what stands behind a closing brace
+-- the text after a closing brace is an end of the text
 pub paired_joins : (x content rest : List ℕ) → IsPaired x content rest → Joins x rest
 paired_joins x content rest h = (
   content ++ 125 ∷ [],
@@ -51,7 +51,7 @@ pub leaves_trans : (x y : List ℕ) (o : Outcome) → Joins x y → Leaves y o �
 leaves_trans x y (Ok z) h k = joins_trans x y z h k
 leaves_trans x y (Err f) h k = tt
 
--- after a fault nothing is left to say
+-- a fault leaves no text, so there is nothing to show
 pub fault_leaves : (x : List ℕ) (o : Outcome) (f : Fault) → o ≡ Err f → Leaves x o
 fault_leaves x o f e = subst (Leaves x) (sym e) tt
 

@@ -41,31 +41,31 @@ yes_push [] h = refl
 yes_push (true ∷ bs) h = yes_push bs h
 yes_push (false ∷ bs) h = absurd (cc)
 
--- one more word or command
+-- all words or commands are normal, with one more at the end too
 pub all_push : {X : Type 0} (f : X → Bool) (xs ys : List X) (x : X) → all_yes (map f xs) ≡ true →
     f x ≡ true → ys ≡ xs ++ x ∷ [] → all_yes (map f ys) ≡ true
 all_push f xs ys x h k e =
     ap (λ l. all_yes (map f l)) e ∙ ap all_yes (map_push f xs x)
     ∙ ap (λ b. all_yes (map f xs ++ b ∷ [])) k ∙ yes_push (map f xs) h
 
--- there is a word
+-- a command is normal whose words all are, where there is at least one
 pub some_all : {X : Type 0} (f : X → Bool) (xs : List X) → all_yes (map f xs) ≡ true → (xs ≡ [] → ⊥)
     → some_yes (map f xs) ≡ true
 some_all f [] h n = absurd (n refl)
 some_all f (x ∷ xs) h n = h
 
--- Whatever parts come behind ps, the whole is normal if they are.
+-- Whatever parts come after ps, the whole is normal if they are.
 abbrev pub IsOpen : {A : Type 0} → List (Part A) → Type 0
 IsOpen ps = (fs : List Form) → are_apart false fs ≡ true → are_apart false (map form_of ps ++ fs)
     ≡ true
 
--- at most a literal at the end
+-- open parts are normal with at most one literal added at the end
 pub open_end : {A : Type 0} (ps qs : List (Part A)) → IsOpen ps → EndsLiteral ps qs →
     are_apart false (map form_of qs) ≡ true
 open_end ps qs o (inl e) = ap (are_apart false) (e ∙ sym (append-nil (map form_of ps))) ∙ o [] refl
 open_end ps qs o (inr e) = ap (are_apart false) e ∙ o (literal ∷ []) refl
 
--- at most a literal, and another part
+-- open parts stay open with at most one literal and then another part added at the end
 pub open_push : {A : Type 0} (ps qs rs : List (Part A)) (p : Part A) → IsOpen ps → EndsLiteral ps qs
     → form_of p ≡ other → rs ≡ qs ++ p ∷ [] → IsOpen rs
 open_push ps qs rs p o (inl e) k is fs h =

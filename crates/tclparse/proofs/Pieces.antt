@@ -12,7 +12,7 @@ use Rattle.tclparse.proofs.Spelled.{next_behind, nothing_next}
 pub joins_length : (x z : List ℕ) → Joins x z → length z ≤ length x
 joins_length x z h = let e = ap length h.1 in omega (arith, e, length-append h.0 z)
 
--- a piece leaves less than the text
+-- a piece leaves a shorter text
 abbrev pub Shorter : Next → List ℕ → Type 0
 Shorter end x = Unit {0}
 Shorter (fault f) x = Unit {0}
@@ -105,7 +105,7 @@ part_within d (c ∷ x) =
 pub piece_within : (place : Place) (d : ℕ) (x : List ℕ) → Within (next place d x) d
 piece_within place d x = within_if (ends_parts place x) end (next_part d x) d tt (part_within d x)
 
--- where a place does not end, parts shrink the text
+-- a piece that is not the end of its place
 abbrev pub IsPiece : Next → Type 0
 IsPiece end = ⊥
 IsPiece (fault f) = Unit {0}

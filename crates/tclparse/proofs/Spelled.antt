@@ -17,7 +17,7 @@ joins_more c x z h = (c ∷ h.0, ap (λ l. c ∷ l) h.1)
 pub joins_trans : (x y z : List ℕ) → Joins x y → Joins y z → Joins x z
 joins_trans x y z h k = (h.0 ++ k.0, h.1 ∙ ap (λ l. h.0 ++ l) k.1 ∙ sym (append_assoc h.0 k.0 z))
 
--- either way
+-- a text that ends with two texts ends with whichever of them a test chooses
 pub joins_if : (b : Bool) (x y z : List ℕ) → Joins x y → Joins x z → Joins x (if b then y else z)
 joins_if true x y z h k = h
 joins_if false x y z h k = k

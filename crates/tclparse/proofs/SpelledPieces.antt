@@ -31,7 +31,7 @@ escape_spelled place x (Ok p) e h = (
 )
 escape_spelled place x (Err f) e h = tt
 
--- a byte that ends no place ends none at the text's end
+-- a byte that does not end a place does not end it as the last byte of the text either
 one_ends : (w s e n m : Bool) → m ≡ false → (w || (s || (e || n))) ≡ false → (w || (s || (e || m)))
     ≡ false
 one_ends true s e n m h k = k
@@ -135,7 +135,7 @@ element_joined : (n : List ℕ) (p : List ℕ × List ℕ) → element_of n ≡ 
 element_joined n p h = until_joined 40 n ∙ index_joined (until 40 n) (from 40 n) p (from_first 40 n)
     h
 
--- the rest of a text in braces
+-- the text after the closing brace of ${name}
 braces_close : (n z : List ℕ) → 36 ∷ 123 ∷ (n ++ 125 ∷ z) ≡ (36 ∷ 123 ∷ (n ++ 125 ∷ [])) ++ z
 braces_close n z = ap (λ l. 36 ∷ 123 ∷ l) (sym (append_assoc n (125 ∷ []) z))
 
@@ -166,7 +166,7 @@ brace_spelled place n (c ∷ z) k f =
     (λ e. subst (λ b. IsSpelled place (next_named (named_as n (element_of n)) z) (36 ∷ 123
     ∷ (n ++ b ∷ z))) (sym f) (named_spelled place n z (element_of n) refl k))
 
--- a name behind a dollar
+-- a name after a dollar
 index_spelled : (place : Place) (d : ℕ) (n z : List ℕ) → IsName n →
     IsSpelled place (next_index d n z) (36 ∷ (n ++ z))
 index_spelled place d n [] k = (36 ∷ n, refl, inl (k, refl))

@@ -11,7 +11,7 @@ use Rattle.tclparse.proofs.Gaps.{white_begins}
 use Rattle.tclparse.proofs.Spelling.{if_known, equal_if, both, white_spelled, gap_spelled}
 use Rattle.tclparse.proofs.SpelledPieces.{IsSpelled, piece_spelled}
 
--- one piece behind the other
+-- one piece after the other
 pub begins_both : (P Q : List ℕ → Type 0) (x y z : List ℕ) → Begins P x y → Begins Q y z →
     Begins (λ t. (p q : List ℕ) × (t ≡ p ++ q) × P p × Q q) x z
 begins_both P Q x y z h k = (
@@ -50,7 +50,7 @@ quotes_open context (Ok (c ∷ w)) z h =
     (c, ap (λ l. Ok (c ∷ l)) open_.0, subst (λ l. ends_word context l ≡ true) open_.0 open_.1)
 quotes_open context (Err f) z h = absurd (cc)
 
--- what is read, and what ends it
+-- ps are spelled at the front of x, and their place ends where z begins
 abbrev PartsAre : Place → Parts → List ℕ → List ℕ → Type 0
 PartsAre place ps x z = Begins (λ t. SpellsParts place ps t) x z × (ends_parts place z ≡ true)
 
@@ -76,7 +76,7 @@ ends_spelled place (an_index n y) x z k h = absurd h
 ends_spelled place (an_element n i y) x z k h = absurd h
 ends_spelled place (a_bracket y) x z k h = absurd h
 
--- the same text in the middle of two others
+-- a text between two others, however the three are grouped
 closed : (f s : List ℕ) (c : ℕ) (w : List ℕ) → f ++ (s ++ c ∷ w) ≡ (f ++ (s ++ c ∷ [])) ++ w
 closed f s c w = ap (λ l. f ++ l) (sym (append_assoc s (c ∷ []) w))
     ∙ sym (append_assoc f (s ++ c ∷ []) w)
@@ -100,7 +100,7 @@ indexed n is x y w c k h =
 abbrev IsBracketed : Commands → List ℕ → Type 0
 IsBracketed cs p = (s : List ℕ) × (p ≡ 91 ∷ (s ++ 93 ∷ [])) × SpellsCommands bracketed cs s
 
--- with a text behind it no comment goes up to the text's end
+-- a comment before another text does not go up to the text's end
 tail_none : (t w : List ℕ) (c : ℕ) → IsTail t (c ∷ w) → t ≡ []
 tail_none t w c (inl e) = e
 tail_none t w c (inr h) = let e = h.0 in absurd (cc)
@@ -221,7 +221,7 @@ prefixed_joined : (e : Bool) (b z : List ℕ) → prefixed e (b ++ z) ≡ prefix
 prefixed_joined true b z = refl
 prefixed_joined false b z = refl
 
--- where words go on, white was skipped
+-- where more words follow, white space was skipped
 parted : (ws : Words) (context : Context) (d : ℕ) (w z g : List ℕ) → ends_word context w ≡ true → w
     ≡ g ++ skip_white context false w
     → IsWords context d ws (skip_white context false w) (Ok z) → AreParted g ws

@@ -1,11 +1,12 @@
--- What is skipped between words and commands is white, separators, continued lines and comments.
+-- What is skipped between words and commands is white space, separators, continued lines and
+-- comments.
 use Rattle.std.proofs.Common.{◌≡◌, ℕ, ◌==◌, ◌&&◌, ◌||◌, List, [], ◌∷◌, ◌++◌, Bool, true, false, if◌then◌else◌, refl, sym, ap, subst, inl, inr, ◌∙◌, ◌⊎◌, append_assoc, append-nil}
 use Rattle.std.proofs.lemmas.Bool.Decides.{eqb_tells}
 use Rattle.tclparse.specs.Context.{Context, whole_script, bracketed, argument, is_white, is_separator, is_continuation}
 use Rattle.tclparse.specs.Gap.{Gap, skip_white, skip_gap, between, comment, in_pair}
 use Rattle.tclparse.specs.Spelling.{IsWhiteText, no_white, white, white_line, IsComment, no_comment, comment_byte, comment_pair, IsGapText, no_gap, gap_byte, gap_line, gap_comment, IsLastComment, Begins, BeginsWhole}
 
--- either way, and the test is known
+-- P holds of whichever branch a test chooses, where each branch may use the result of the test
 pub if_known : {A : Type 0} (P : A → Type 0) (b : Bool) (y z : A) → (b ≡ true → P y) →
     (b ≡ false → P z) → P (if b then y else z)
 if_known P true y z h k = h refl
@@ -60,7 +61,7 @@ white_spelled context (c ∷ d ∷ x) =
 abbrev Gapped : Context → List ℕ → List ℕ → Type 0
 Gapped context x z = BeginsWhole (λ s. IsGapText context s) x z
 
--- in a comment: a newline ends it, with a gap behind it, or the text's end does
+-- in a comment: a newline ends it, with a gap after it, or the text's end does
 abbrev InComment : Context → List ℕ → List ℕ → Type 0
 InComment context x z =
     ((k y : List ℕ) × (x ≡ k ++ 10 ∷ y) × IsComment k × Gapped context y z) ⊎
@@ -101,7 +102,7 @@ last_comment : (x k : List ℕ) → IsComment k → Last x k → IsLastComment (
 last_comment x k h (inl e) = (k, h, inl (ap (λ l. 35 ∷ l) e))
 last_comment x k h (inr e) = (k, h, inr (ap (λ l. 35 ∷ l) e))
 
--- a comment with its newline, and the gap behind it
+-- a comment with its newline, and the gap after it
 at_gap_comment : (context : Context) (x z : List ℕ) → InComment context x z →
     Gapped context (35 ∷ x) z
 at_gap_comment context x z (inl h) =
@@ -152,7 +153,7 @@ at_comment_newline : (context : Context) (c : ℕ) (x z : List ℕ) → (c == 10
     Gapped context x z → InComment context (c ∷ x) z
 at_comment_newline context c x z e h = inl ([], x, ap (λ b. b ∷ x) (equal_if c 10 e), no_comment, h)
 
--- what a byte of a comment goes on to
+-- the state after a byte of a comment
 abbrev After : Context → List ℕ → List ℕ → Gap → Type 0
 After context x y gap = InComment context x (skip_gap context gap y)
 

@@ -20,7 +20,7 @@ use Rattle.tclparse.specs.declared.error.ReadError.{ReadError}
 use Rattle.tclparse.specs.declared.error.ReadError.TheVariants as error
 use Rattle.tclparse.proofs.Trees.{parts_push, words_push, commands_push, bytes_push, commands_last, view_of_command}
 
--- What was read of the text x, with y left: whatever completes y completes x.
+-- What was read of the text x, where y is still unread: whatever completes y completes x.
 abbrev pub PartsSoFar : Place → ℕ → List ℕ → List ℕ → (Parts → Parts) → Type 0
 PartsSoFar place d x y front = (t : Parts) (o : Outcome) → IsParts place d t y o →
     IsParts place d (front t) x o
@@ -42,8 +42,8 @@ after_byte place d x y z b ps bs cs so_far e is t o h =
     subst (λ p. IsParts place d (parts_then ps p) x o)
     (sym (ap (λ l. bytes_then l t) is ∙ bytes_push bs b t)) (so_far (byte b t) o (z, sym e, h))
 
--- a part that is pushed where the bytes before it were made one: what it puts before the parts
--- after it
+-- a part that is pushed after the literal bytes before it were made a part: what it puts before the
+-- parts after it
 pushed_part : {A : Type 0} (p : Part A) (q t : Parts) (ps qs rs : List (Part A)) (bs cs : List ℕ)
     → ((u : Parts) → parts_then qs u ≡ parts_then ps (bytes_then bs u)) → part_view p t ≡ q → rs
     ≡ qs ++ p ∷ [] → cs ≡ []
@@ -52,7 +52,7 @@ pushed_part p q t ps qs rs bs cs ended is pushed none =
     ap (λ l. parts_then rs (bytes_then l t)) none ∙ ap (λ l. parts_then l t) pushed
     ∙ parts_push qs p t ∙ ap (parts_then qs) is ∙ ended q
 
--- one more part, behind the bytes that were made one
+-- one more part, after the literal bytes before it were made a part
 pub after_part : {A : Type 0} (place : Place) (d : ℕ) (x y z : List ℕ) (p : Part A) (front : Parts →
     Parts) (ps qs rs : List (Part A)) (bs cs : List ℕ)
     → PartsSoFar place d x y (λ t. parts_then ps (bytes_then bs t)) → PartsSoFar place d y z front →
@@ -95,7 +95,7 @@ pub element_part : (place : Place) (d : ℕ) (y z n i : List ℕ) → an_element
     PartsSoFar place d y z (element n (bytes_then i no_parts))
 element_part place d y z n i e t o h = inr (i, z, sym e, refl, h)
 
--- the fault of a script is that of the parts
+-- the fault of a nested script is that of the parts it stands in
 script_fault : {A : Type 0} (place : Place) (d : ℕ) (x y w : List ℕ) (f : Fault)
     (ps : List (Part A)) (bs : List ℕ)
     → PartsSoFar place d x y (λ t. parts_then ps (bytes_then bs t)) → a_bracket w ≡ next place d y →
@@ -111,7 +111,7 @@ script_fault place d x y w f ps bs so_far e found =
       so_far (script found.0 no_parts) (Err f) (w, sym e, inner.0, inner.1, stops),
     )
 
--- the fault of an index is that of the parts
+-- the fault of an index is that of the parts it stands in
 index_fault : {A : Type 0} (place : Place) (d : ℕ) (x y w n : List ℕ) (f : Fault)
     (ps : List (Part A)) (bs : List ℕ)
     → PartsSoFar place d x y (λ t. parts_then ps (bytes_then bs t)) → an_index n w ≡ next place d y
@@ -174,7 +174,7 @@ pub words_end : {A : Type 0} (context : Context) (d : ℕ) (x y : List ℕ) (ws 
     IsWords context d (words_then ws no_words) x (Ok y)
 words_end context d x y ws so_far ends = so_far no_words (Ok y) (ends, refl)
 
--- a word is what stands behind its prefix
+-- a word is what stands after its prefix
 pub body_error : {A : Type 0} (context : Context) (d : ℕ) (x y : List ℕ) (e : ReadError)
     (r : Result (Word A × Bor (List ℕ)) ReadError)
     → y ≡ unprefixed context x → ReadsBody {A = A} context d y (Err e) → r ≡ Err e →

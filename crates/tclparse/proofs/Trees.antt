@@ -47,7 +47,7 @@ pub view_Command : {A : Type 0} → (c : Command A) → command_view c
     ≡ words_then (out-Command A c).words.value.items no_words
 view_Command {A} c = search (rules, the_lemmas, join_words_view)
 
--- the same of values that are made from their fields
+-- the trees of values that are built from their fields
 pub view_of_word : {A : Type 0} → (e : Bool) (ps : Rc (Vec (Part A) A) A) (t : Words)
     → word_view (roll-Word A (record { expands = e; parts = ps })) t
     ≡ word e (parts_then ps.value.items no_parts) t

@@ -2,10 +2,10 @@
 use Rattle.std.specs.Prelude.{◌≡◌, ℕ, ◌==◌, List, [], ◌∷◌, false}
 use Rattle.tcltext.specs.Escape.{skip_blanks}
 
--- IsValue v x: v is the value of the content x of a word in braces (Tcl(n), rule 6). Nothing is
--- nothing; a byte that is no backslash is itself, and so is a backslash at the end; a backslash and
--- another byte than a newline both stay; a backslash and a newline, with the blanks and tabs behind
--- them, are one blank.
+-- IsValue v x: v is the value of the content x of a word in braces (Tcl(n), rule 6). The empty
+-- content has the empty value; a byte other than a backslash gives itself, and so does a backslash
+-- at the end; a backslash and any byte but a newline both stay; a backslash and a newline, with the
+-- blanks and tabs after them, give one blank.
 pub data IsValue : List ℕ → List ℕ → Type 0 where
   nothing : IsValue [] []
   a_byte : (c : ℕ) (v x : List ℕ) → (c == 92) ≡ false → IsValue v x → IsValue (c ∷ v) (c ∷ x)

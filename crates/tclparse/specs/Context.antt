@@ -1,8 +1,8 @@
 -- What ends a word, a command and a script.
 use Rattle.std.specs.Prelude.{ℕ, ◌==◌, ◌&&◌, ◌||◌, List, [], ◌∷◌, Bool, true, false}
 
--- What the words of a text stand in: a whole script, a script between brackets (Tcl(n), rule 7), or
--- a braced argument of `expect`, which is one command (expect(1), expect).
+-- The context that the words of a text stand in: a whole script, a script between brackets (Tcl(n),
+-- rule 7), or a braced argument of `expect`, which is one command (expect(1), expect).
 pub data Context : Type 0 where
   whole_script : Context
   bracketed : Context
@@ -23,7 +23,7 @@ is_white whole_script c = is_blank c
 is_white bracketed c = is_blank c
 is_white argument c = is_blank c || (c == 10)
 
--- a newline or a semicolon parts commands (Tcl(n), rule 1); in a braced argument of `expect`
+-- a newline or a semicolon separates commands (Tcl(n), rule 1); in a braced argument of `expect`
 -- nothing does
 abbrev pub is_separator : Context → ℕ → Bool
 is_separator whole_script c = (c == 10) || (c == 59)
@@ -45,12 +45,12 @@ abbrev pub ends_script : Context → List ℕ → Bool
 ends_script context [] = true
 ends_script context (c ∷ x) = is_closing context c
 
--- a command ends there, and at what parts commands
+-- a command ends where its script does, and at what separates commands
 abbrev pub ends_command : Context → List ℕ → Bool
 ends_command context [] = true
 ends_command context (c ∷ x) = is_separator context c || is_closing context c
 
--- a word ends there, at white and at a continued line
+-- a word ends where its command does, at white space and at a continued line
 abbrev pub ends_word : Context → List ℕ → Bool
 ends_word context [] = true
 ends_word context (c ∷ x) =

@@ -1,8 +1,8 @@
--- Why a reader made no part of the tree.
+-- Why a reader gives no piece of the tree.
 use Rattle.tclparse.specs.declared.error.ReadError.{ReadError}
 use Rattle.tclparse.specs.declared.error.ReadError.TheVariants.{Memory, Fault}
 
--- memory was refused
+-- the error says that memory was refused
 abbrev pub IsMemory : ReadError → Type 0
 IsMemory (Memory refusal) = Unit {0}
 IsMemory (Fault fault) = ⊥

@@ -1,4 +1,4 @@
--- What a formula is, without where it lies in memory.
+-- The tree of a formula, regardless of where it lies in memory.
 use Rattle.std.specs.Prelude.{ℕ, List}
 use Rattle.tclparse.specs.declared.operator.Unary.{Unary}
 use Rattle.tclparse.specs.declared.operator.Infix.{Infix}
@@ -17,7 +17,7 @@ mutual
     row : Formula → Links → Formula
     choice : Formula → Formula → Formula → Formula
 
-  -- operators in order, each with the operand behind it
+  -- operators in order, each with the operand after it
   pub data Links : Type 0 where
     no_links : Links
     link : Infix → Formula → Links → Links

@@ -14,38 +14,38 @@ use Rattle.tclparse.specs.FormulaText.{Operand, leaf, prefixed, enclosed, called
 use Rattle.tclparse.specs.FormulaFault.{FormulaFault, of_words, syntax}
 use Rattle.tclparse.specs.FormulaPiece as piece
 
--- Reading gives the text that is left, or the fault at which it stops.
+-- Reading gives the unread text, or the fault at which it stops.
 abbrev pub FormulaOutcome : Type 0
 FormulaOutcome = Result (List ℕ) FormulaFault
 
--- what words give, in a formula
+-- the outcome of reading words, as an outcome of reading a formula
 abbrev pub from_words : Outcome → FormulaOutcome
 from_words (Ok z) = Ok z
 from_words (Err f) = Err (of_words f)
 
--- After an outcome more is read; after a fault nothing is.
+-- Where the outcome is an unread text, more is read from it; after a fault nothing is.
 abbrev pub Goes : FormulaOutcome → Type 0 → (List ℕ → Type 0) → FormulaOutcome → Type 0
 Goes (Ok z) none more o = more z
 Goes (Err f) none more o = none × (o ≡ Err f)
 
--- behind a formula this byte stands (expr(n))
+-- after a formula the byte b stands (expr(n))
 abbrev pub closed : ℕ → FormulaOutcome → FormulaOutcome
 closed b (Ok []) = Err syntax
 closed b (Ok (c ∷ z)) = if c == b then Ok z else Err syntax
 closed b (Err f) = Err f
 
--- behind a quoted text its quote closes; anything may follow (expr(n), operands)
+-- after a quoted text its quote closes; anything may follow (expr(n), operands)
 abbrev pub quote_closed : Outcome → Outcome
 quote_closed (Ok []) = Err open_quote
 quote_closed (Ok (c ∷ z)) = Ok z
 quote_closed (Err f) = Err f
 
--- behind a quote stand parts, and then a quote (expr(n), operands)
+-- after a quote stand parts, and then a quote (expr(n), operands)
 abbrev pub IsQuoted : ℕ → Parts → List ℕ → Outcome → Type 0
 IsQuoted d ps x o = (r : Outcome) × IsParts within_quotes d ps x r × (o ≡ quote_closed r)
 
--- behind an open brace stands what a word in braces is, up to the brace that pairs up; anything may
--- follow (expr(n), operands)
+-- after an open brace stands the content of a word in braces, up to the matching brace; anything
+-- may follow (expr(n), operands)
 abbrev pub IsInBraces : Parts → List ℕ → Outcome → Type 0
 IsInBraces ps x o =
     ((content rest value : List ℕ) × IsPaired x content rest × IsValue value content
@@ -53,7 +53,7 @@ IsInBraces ps x o =
     (((content rest : List ℕ) → IsPaired x content rest → ⊥) × (ps ≡ no_parts)
     × (o ≡ Err open_brace))
 
--- one variable, element or script; a dollar without a name is none (expr(n), operands)
+-- one variable, element or script; a dollar without a name is none of them (expr(n), operands)
 abbrev pub IsSubstitution : ℕ → Parts → Next → FormulaOutcome → Type 0
 IsSubstitution d ps end o = (ps ≡ no_parts) × (o ≡ Err syntax)
 IsSubstitution d ps (fault f) o = (ps ≡ no_parts) × (o ≡ Err (of_words f))
@@ -87,28 +87,29 @@ IsLeafAt d f (piece.a_prefix u z) o = ⊥
 IsLeafAt d f (piece.a_parenthesis z) o = ⊥
 IsLeafAt d f (piece.a_call g z) o = ⊥
 
--- the formula is over, or the fault stands there
+-- the formula ends here, or the fault stands here
 abbrev pub IsOver : piece.Following → FormulaOutcome → Type 0
 IsOver (piece.end z) o = o ≡ Ok z
 IsOver (piece.fault e) o = o ≡ Err e
 IsOver (piece.an_infix i z) o = ⊥
 IsOver (piece.a_choice z) o = ⊥
 
--- abs takes one argument, min and max more (mathfunc(n))
+-- the text of further arguments, if the function takes any: abs takes one argument, min and max
+-- take more (mathfunc(n))
 abbrev pub takes_more : Function → List ℕ → Option (List ℕ)
 takes_more Abs z = None
 takes_more Min z = Some z
 takes_more Max z = Some z
 
--- a comma stands behind an argument, and the function takes more
+-- the text after the comma that follows an argument, if there is one and the function takes more
 abbrev pub behind_comma : Function → FormulaOutcome → Option (List ℕ)
 behind_comma g (Ok []) = None
 behind_comma g (Ok (c ∷ z)) = if c == 44 then takes_more g z else None
 behind_comma g (Err f) = None
 
--- Each says: read from the text x, this is how it is written, and the outcome is o, with no white
--- before what is left of a formula. So many brackets, indexes, parentheses, calls, prefixes and
--- choices more may be open. What a fault leaves out stands there as nothing.
+-- Each says: reading the text x gives this syntax and the outcome o. After a formula the unread
+-- text has no white space at its front. At most d more brackets, indexes, parentheses, calls,
+-- prefixes and choices may be open. `nothing` stands for what is not read because of a fault.
 abbrev mutual
   pub IsOperand : ℕ → Operand → List ℕ → FormulaOutcome → Type 0
   IsOperand d (leaf f) x o = IsLeafAt d f (piece.opening d x) o
@@ -142,7 +143,7 @@ abbrev mutual
       (r : FormulaOutcome) × IsWhole d w x r
       × (z : List ℕ) × (behind_comma g r ≡ Some z) × IsArguments d g args z o
 
--- behind a whole formula the text ends
+-- after a whole formula the text ends
 abbrev pub ended : FormulaOutcome → FormulaOutcome
 ended (Ok []) = Ok []
 ended (Ok (c ∷ z)) = Err syntax

@@ -15,9 +15,9 @@ use Rattle.tclparse.specs.FormulaFault.{FormulaFault, of_words, syntax}
 use Rattle.tclparse.specs.Context.{begins_with}
 use Rattle.tclparse.specs.Variable.{name_at, after_name}
 
--- A leaf of a formula, with the text behind it: a fault; a numeral or a truth word as it is
--- written; what is behind a quote or an open brace; a substitution, which begins here (expr(n),
--- operands).
+-- A leaf of a formula, with the text after it: no leaf but a fault; a numeral or a truth word as it
+-- is written; what a quote or an open brace before the text begins; a substitution that the text
+-- begins with (expr(n), operands).
 pub data Leaf : Type 0 where
   no_leaf : FormulaFault → Leaf
   a_numeral : List ℕ → List ℕ → Leaf
@@ -26,14 +26,14 @@ pub data Leaf : Type 0 where
   in_braces : List ℕ → Leaf
   a_substitution : List ℕ → Leaf
 
--- How an operand begins, with the text behind that (expr(n), operands).
+-- How an operand begins, with the text after that (expr(n), operands).
 pub data Opening : Type 0 where
   a_leaf : Leaf → Opening
   a_prefix : Unary → List ℕ → Opening
   a_parenthesis : List ℕ → Opening
   a_call : Function → List ℕ → Opening
 
--- What stands behind an operand, with the text behind that: the end of the formula, a fault, an
+-- What stands after an operand, with the text after that: the end of the formula, a fault, an
 -- operator, a choice (expr(n), operators).
 pub data Following : Type 0 where
   end : List ℕ → Following
@@ -62,8 +62,8 @@ begins_marked mark base (z ∷ []) = false
 begins_marked mark base (z ∷ m ∷ []) = false
 begins_marked mark base (z ∷ m ∷ c ∷ x) = (z == 48) && ((m == mark) && is_digit base c)
 
--- the length of the longest numeral at the front: behind 0x, 0o or 0b hexadecimal, octal or binary
--- digits, behind another 0 octal ones, else decimal ones (expr(n), operands)
+-- the length of the longest numeral at the front: after 0x, 0o or 0b hexadecimal, octal or binary
+-- digits, after another 0 octal ones, else decimal ones (expr(n), operands)
 abbrev pub numeral_length : List ℕ → ℕ
 numeral_length x =
     if begins_marked 120 16 x then 2 + digit_count 16 (drop 2 x) else
@@ -89,11 +89,12 @@ function w =
     if bytes_eq w (codes "abs") then Some Abs else (if bytes_eq w (codes "min") then Some Min else
     (if bytes_eq w (codes "max") then Some Max else None))
 
--- prefixes, parentheses, calls and choices open where d more may be open (this project's own rule)
+-- prefixes, parentheses, calls and choices open only where d, the number that may still be opened,
+-- is not 0 (this project's own rule)
 abbrev pub opens : ℕ → Opening → Opening
 opens d o = if d == 0 then a_leaf (no_leaf (of_words too_deep)) else o
 
--- behind a function's name its parenthesis opens (mathfunc(n))
+-- after a function's name its parenthesis opens (mathfunc(n))
 abbrev pub call_opening : ℕ → Function → List ℕ → Opening
 call_opening d g [] = a_leaf (no_leaf syntax)
 call_opening d g (c ∷ x) = if c == 40 then opens d (a_call g x) else a_leaf (no_leaf syntax)
@@ -103,7 +104,7 @@ abbrev pub name_opening : ℕ → Option Function → List ℕ → Opening
 name_opening d None z = a_leaf (no_leaf syntax)
 name_opening d (Some g) z = call_opening d g (skip_white z)
 
--- a word w, taken whole, with the text z behind it (expr(n), operands)
+-- a word w, taken whole, with the text z after it (expr(n), operands)
 abbrev pub word_opening : ℕ → List ℕ → List ℕ → Opening
 word_opening d w z = if is_truth_word w then a_leaf (a_word w z) else name_opening d (function w) z
 
@@ -116,7 +117,7 @@ prefix_opening d None x t = word_opening d (name_at t) (after_name t)
 abbrev pub numeral_leaf : List ℕ → Leaf
 numeral_leaf x = a_numeral (take (numeral_length x) x) (drop (numeral_length x) x)
 
--- how an operand without white before it begins, where d more may be open (expr(n), operands)
+-- how an operand without white space before it begins, where d more may be open (expr(n), operands)
 abbrev pub opening_at : ℕ → List ℕ → Opening
 opening_at d [] = a_leaf (no_leaf syntax)
 opening_at d (c ∷ x) =
@@ -126,7 +127,7 @@ opening_at d (c ∷ x) =
     (if is_numeric (c ∷ x) then a_leaf (numeral_leaf (c ∷ x)) else
     prefix_opening d (unary c) x (c ∷ x)))))
 
--- white may stand before each operand and each operator (expr(n))
+-- white space may stand before each operand and each operator (expr(n))
 abbrev pub opening : ℕ → List ℕ → Opening
 opening d x = opening_at d (skip_white x)
 
@@ -164,7 +165,7 @@ abbrev pub begins_letter : List ℕ → Bool
 begins_letter [] = false
 begins_letter (c ∷ x) = is_letter c
 
--- the operator of two bytes at the front; a word ends where no letter follows
+-- the operator of two bytes at the front; one that is a word counts only where no letter follows
 abbrev pub long : List ℕ → Option Infix
 long [] = None
 long (c ∷ []) = None
@@ -187,11 +188,12 @@ abbrev pub short_following : ℕ → Option Infix → List ℕ → Following
 short_following d (Some i) x = an_infix i (drop 1 x)
 short_following d None x = choice_following d x
 
--- an operator of two bytes at the front of a text, or else what is shorter
+-- an operator of two bytes at the front of a text, or else an operator of one byte, a choice or the
+-- end
 abbrev pub long_following : ℕ → Option Infix → List ℕ → Following
 long_following d (Some i) x = an_infix i (drop 2 x)
 long_following d None x = short_following d (short x) x
 
--- what stands behind an operand, where d more may be open (expr(n), operators)
+-- what stands after an operand, where d more may be open (expr(n), operators)
 abbrev pub following : ℕ → List ℕ → Following
 following d x = long_following d (long (skip_white x)) (skip_white x)

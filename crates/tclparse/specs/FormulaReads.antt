@@ -1,4 +1,4 @@
--- What the readers of a formula's texts answer.
+-- What the results of the readers of a formula's texts say.
 use Rattle.std.specs.Prelude.{ℕ, List, Option, Some, None, Result, Ok, Err, Vec}
 use Rattle.std.specs.Borrow.{Bor}
 use Rattle.std.specs.declared.rc.Rc.{Rc}
@@ -13,8 +13,8 @@ use Rattle.tclparse.specs.declared.error.ReadError.{ReadError}
 use Rattle.tclparse.specs.declared.error.ReadError.TheVariants as error
 use Rattle.tclparse.specs.declared.tree.Part.{Part}
 
--- Each says: the parts and the text that are answered are those of the grammar, or there are parts
--- up to the fault. Want of memory says nothing.
+-- Each says: the parts and the text in the result are those of the grammar, or the grammar reads
+-- some parts up to the fault in the result. Where memory was refused nothing is said.
 abbrev pub ReadsQuoted : {A : Type 0} → ℕ → List ℕ → Read A (Part A) → Type 0
 ReadsQuoted d x (Ok r) = IsQuoted d (parts_then r.0.value.items no_parts) x (Ok r.1.now)
 ReadsQuoted d x (Err (error.Memory refusal)) = Unit {0}
@@ -25,7 +25,7 @@ ReadsInBraces x (Ok r) = IsInBraces (parts_then r.0.value.items no_parts) x (Ok 
 ReadsInBraces x (Err (error.Memory refusal)) = Unit {0}
 ReadsInBraces x (Err (error.Fault f)) = (ps : Parts) × IsInBraces ps x (Err (fault_of f))
 
--- parts and the text behind them, if there is a substitution
+-- the result of reading a substitution: its parts and the text after them, or none
 abbrev pub ReadSome : Type 0 → Type 0
 ReadSome A = Result (Option (Rc (Vec (Part A) A) A × Bor (List ℕ))) ReadError
 

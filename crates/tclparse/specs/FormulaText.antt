@@ -16,12 +16,12 @@ mutual
     enclosed : Whole → Operand
     called : Function → Arguments → Operand
 
-  -- an operand and what stands behind it
+  -- an operand and what stands after it
   pub data Whole : Type 0 where
     whole : Operand → Rest → Whole
 
-  -- nothing; an operator, its right operand and what stands behind that; or two formulas, of which
-  -- what stands before them chooses (expr(n), operators)
+  -- the end; an operator, its right operand and what stands after that; or two formulas, between
+  -- which the formula before them chooses (expr(n), operators)
   pub data Rest : Type 0 where
     over : Rest
     joined : Infix → Operand → Rest → Rest
@@ -32,14 +32,14 @@ mutual
     last : Whole → Arguments
     further : Whole → Arguments → Arguments
 
--- what stands in the place of an operand, and of a formula, that is not read
+-- the placeholder of an operand, and of a formula, that is not read
 abbrev pub nothing : Formula
 nothing = text no_parts
 
 abbrev pub nothing_whole : Whole
 nothing_whole = whole (leaf nothing) over
 
--- the formula that is so written
+-- the formula that is written this way
 abbrev mutual
   pub operand_tree : Operand → Formula
   operand_tree (leaf f) = f

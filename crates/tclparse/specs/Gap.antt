@@ -2,8 +2,8 @@
 use Rattle.std.specs.Prelude.{ℕ, ◌==◌, ◌||◌, List, [], ◌∷◌, Bool, true, false, if◌then◌else◌}
 use Rattle.tclparse.specs.Context.{Context, is_white, is_separator, is_continuation}
 
--- Words are parted by white and by continued lines (Tcl(n), rules 3 and 9). So much of the text is
--- skipped; hidden: a backslash stood before this newline.
+-- The text after the white space and the continued lines at its front, which separate words
+-- (Tcl(n), rules 3 and 9); hidden: a backslash stood before the newline at the front.
 abbrev pub skip_white : Context → Bool → List ℕ → List ℕ
 skip_white context hidden [] = []
 skip_white context true (c ∷ x) = skip_white context false x
@@ -11,7 +11,7 @@ skip_white context false (c ∷ x) =
     if is_white context c then skip_white context false x else
     (if is_continuation c x then skip_white context true x else (c ∷ x))
 
--- Where the text between two commands stands: outside a comment, in one, or there behind a
+-- A place in the text between two commands: outside a comment, in one, or in one just after a
 -- backslash.
 pub data Gap : Type 0 where
   between : Gap
@@ -22,8 +22,8 @@ pub data Gap : Type 0 where
 abbrev pub after_comment_byte : ℕ → Gap
 after_comment_byte c = if c == 10 then between else (if c == 92 then in_pair else comment)
 
--- Before a command stand white, separators, continued lines and comments (Tcl(n), rules 1, 3, 9 and
--- 10). So much of the text is skipped.
+-- The text after the white space, separators, continued lines and comments at its front, which may
+-- stand before a command (Tcl(n), rules 1, 3, 9 and 10).
 abbrev pub skip_gap : Context → Gap → List ℕ → List ℕ
 skip_gap context gap [] = []
 skip_gap context in_pair (c ∷ x) = skip_gap context comment x

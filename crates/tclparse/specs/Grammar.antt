@@ -8,16 +8,16 @@ use Rattle.tclparse.specs.Gap.{skip_white, skip_gap, between}
 use Rattle.tclparse.specs.Braces.{IsValue}
 use Rattle.tclparse.specs.Piece.{Place, in_word, within_quotes, within_index, Next, end, fault, a_byte, a_name, an_index, an_element, a_bracket, next}
 
--- Reading gives the text that is left, or the fault at which it stops.
+-- Reading gives the unread text, or the fault at which it stops.
 abbrev pub Outcome : Type 0
 Outcome = Result (List ℕ) Fault
 
--- After an outcome more is read; after a fault nothing is.
+-- Where the outcome is an unread text, more is read from it; after a fault nothing is.
 abbrev pub Then : Outcome → Type 0 → (List ℕ → Type 0) → Outcome → Type 0
 Then (Ok z) nothing more o = more z
 Then (Err f) nothing more o = nothing × (o ≡ Err f)
 
--- the parts of a word are over, or the next one is a fault
+-- the parts of a word end here, or the next one is a fault
 abbrev pub EndsAs : Next → List ℕ → Outcome → Type 0
 EndsAs end x o = o ≡ Ok x
 EndsAs (fault f) x o = o ≡ Err f
@@ -27,23 +27,23 @@ EndsAs (an_index n z) x o = ⊥
 EndsAs (an_element n i z) x o = ⊥
 EndsAs (a_bracket z) x o = ⊥
 
--- behind a nested script its bracket closes (Tcl(n), rule 7)
+-- after a nested script its bracket closes (Tcl(n), rule 7)
 abbrev pub bracket_closed : Outcome → Outcome
 bracket_closed (Ok []) = Err open_bracket
 bracket_closed (Ok (c ∷ z)) = Ok z
 bracket_closed (Err f) = Err f
 
--- behind an index its parenthesis closes (Tcl(n), rule 8)
+-- after an index its parenthesis closes (Tcl(n), rule 8)
 abbrev pub index_closed : Outcome → Outcome
 index_closed (Ok []) = Err bad_variable
 index_closed (Ok (c ∷ z)) = Ok z
 index_closed (Err f) = Err f
 
--- behind a closing brace or quote the word ends (Tcl(n), rules 4 and 6)
+-- after a closing brace or quote the word ends (Tcl(n), rules 4 and 6)
 abbrev pub word_ended : Context → Fault → List ℕ → Outcome
 word_ended context f z = if ends_word context z then Ok z else Err f
 
--- behind a quoted word its quote closes (Tcl(n), rule 4)
+-- after a quoted word its quote closes (Tcl(n), rule 4)
 abbrev pub quotes_closed : Context → Outcome → Outcome
 quotes_closed context (Ok []) = Err open_quote
 quotes_closed context (Ok (c ∷ z)) = word_ended context after_quote z
@@ -55,24 +55,24 @@ pub data Kind : Type 0 where
   in_quotes : List ℕ → Kind
   bare : Kind
 
--- what the first byte says
+-- the kind of a word, by its first byte
 abbrev pub kind : List ℕ → Kind
 kind [] = bare
 kind (c ∷ x) = if c == 123 then in_braces x else (if c == 34 then in_quotes x else bare)
 
--- the text behind {*}
+-- the text after {*}
 abbrev pub after_star : List ℕ → Option (List ℕ)
 after_star [] = None
 after_star (a ∷ []) = None
 after_star (a ∷ b ∷ []) = None
 after_star (a ∷ b ∷ c ∷ z) = if (a == 123) && ((b == 42) && (c == 125)) then Some z else None
 
--- there is {*}, and behind it no end of the word
+-- there is {*}, and the word does not end after it
 abbrev pub is_prefix : Context → Option (List ℕ) → Bool
 is_prefix context None = false
 is_prefix context (Some z) = if ends_word context z then false else true
 
--- a word that begins with {*} and goes on is expanded (Tcl(n), rule 5)
+-- a word that begins with {*} and continues after it is expanded (Tcl(n), rule 5)
 abbrev pub expands : Context → List ℕ → Bool
 expands context x = is_prefix context (after_star x)
 
@@ -85,8 +85,8 @@ without_prefix context x (Some z) = if ends_word context z then x else z
 abbrev pub unprefixed : Context → List ℕ → List ℕ
 unprefixed context x = without_prefix context x (after_star x)
 
--- a braced word is the value of its content, up to the brace that pairs up, no substitution made;
--- where none does, the fault is the open brace (Tcl(n), rule 6)
+-- the value of a braced word is that of its content, up to the matching brace, with no substitution
+-- made; where no brace matches, the fault is the open brace (Tcl(n), rule 6)
 abbrev pub IsBraced : Context → Parts → List ℕ → Outcome → Type 0
 IsBraced context ps x r =
     ((content rest value : List ℕ) × IsPaired x content rest × IsValue value content
@@ -94,7 +94,7 @@ IsBraced context ps x r =
     (((content rest : List ℕ) → IsPaired x content rest → ⊥) × (ps ≡ no_parts)
     × (r ≡ Err open_brace))
 
--- IsParts: how parts are read at a place
+-- ps are the parts of a word of this kind; IsParts says how parts are read at a place
 abbrev pub IsWord : Context → Parts → (Place → List ℕ → Outcome → Type 0) → Kind → List ℕ
     → Outcome → Type 0
 IsWord context ps IsParts (in_braces z) x r = IsBraced context ps z r
@@ -102,8 +102,8 @@ IsWord context ps IsParts (in_quotes z) x r = (s : Outcome) × IsParts within_qu
     × (r ≡ quotes_closed context s)
 IsWord context ps IsParts bare x r = IsParts (in_word context) x r
 
--- Each says: read from the text x, this is the tree, and the outcome is o. So many brackets and
--- indexes more may be open. Before a fault the tree has what was read.
+-- Each says: reading the text x gives this tree and the outcome o. At most d more brackets and
+-- indexes may be open. Where the outcome is a fault, the tree holds what was read before it.
 abbrev mutual
   pub IsParts : Place → ℕ → Parts → List ℕ → Outcome → Type 0
   IsParts place d no_parts x o = EndsAs (next place d x) x o

@@ -35,8 +35,8 @@ abbrev pub some_yes : List Bool → Bool
 some_yes [] = false
 some_yes (b ∷ bs) = all_yes (b ∷ bs)
 
--- No two literals stand side by side, and each part is normal. The first says whether a literal
--- stands before these parts.
+-- No two literals stand side by side, and each part is normal. The first argument says whether a
+-- literal stands before these parts.
 abbrev pub are_apart : Bool → List Form → Bool
 are_apart before [] = true
 are_apart true (literal ∷ fs) = false
@@ -44,7 +44,7 @@ are_apart false (literal ∷ fs) = are_apart true fs
 are_apart before (other ∷ fs) = are_apart false fs
 are_apart before (neither ∷ fs) = false
 
--- one level, with what is inside already known
+-- the form of one level of the tree, where that of what is inside is already known
 abbrev pub form_step : {A : Type 0} → Part-F A Form Bool Bool → Form
 form_step (Part-F.Literal v) = literal_form v
 form_step (Part-F.Variable v) = other
@@ -83,7 +83,7 @@ AreNormalCommand ws = some_yes (map is_normal_word ws.value.items) ≡ true
 abbrev pub AreNormalCommands : {A : Type 0} → Rc (Vec (Command A) A) A → Type 0
 AreNormalCommands cs = all_yes (map is_normal_command cs.value.items) ≡ true
 
--- at most one literal is put behind the parts
+-- qs are the parts ps with at most one literal added at the end, as far as their forms show
 abbrev pub EndsLiteral : {A : Type 0} → List (Part A) → List (Part A) → Type 0
 EndsLiteral ps qs =
     (map form_of qs ≡ map form_of ps) ⊎ (map form_of qs ≡ map form_of ps ++ literal ∷ [])

@@ -5,7 +5,7 @@ use Rattle.tclparse.specs.declared.operator.Binary.TheVariants.{Multiply, Divide
 use Rattle.tclparse.specs.declared.operator.Infix.{Infix}
 use Rattle.tclparse.specs.declared.operator.Infix.TheVariants.{Both, AndAlso, OrElse}
 
--- The level of an operator: the less, the tighter it binds; 1 is that of prefixes (expr(n),
+-- The level of an operator: the lower, the tighter it binds; prefixes have level 1 (expr(n),
 -- operators).
 abbrev pub binary_level : Binary → ℕ
 binary_level Multiply = 2
@@ -29,7 +29,7 @@ binary_level And = 9
 binary_level Xor = 10
 binary_level Or = 11
 
--- the same of what joins two operands
+-- the level of what joins two operands
 abbrev pub level : Infix → ℕ
 level (Both b) = binary_level b
 level AndAlso = 12

@@ -13,9 +13,9 @@ pub data Place : Type 0 where
   within_quotes : Place
   within_index : Place
 
--- What stands next in a word, each with the text behind it: the end of the place, a fault, a byte
--- of the value, a variable, an array whose index stands behind, an array with its index, a script
--- that stands behind.
+-- What stands next in a word: the end of the place, a fault, a byte of the value, a variable, an
+-- array whose index the text after it begins with, an array with its index, a script that the text
+-- after it begins with. Each but the first two has the text after it.
 pub data Next : Type 0 where
   end : Next
   fault : Fault → Next
@@ -39,7 +39,7 @@ abbrev pub escape_piece : Result (ℕ × List ℕ) EscapeNotHere → Next
 escape_piece (Ok r) = a_byte r.0 r.1
 escape_piece (Err e) = fault escape_not_here
 
--- what a backslash begins, with this text behind it
+-- what a backslash begins, with this text after it
 abbrev pub next_escape : List ℕ → Next
 next_escape x = escape_piece (escape x)
 
@@ -47,7 +47,7 @@ next_escape x = escape_piece (escape x)
 abbrev pub next_bracket : ℕ → List ℕ → Next
 next_bracket d x = if d == 0 then fault too_deep else a_bracket x
 
--- a name with this text behind it: at a parenthesis an element's index begins (Tcl(n), rule 8)
+-- a name with this text after it: at a parenthesis an element's index begins (Tcl(n), rule 8)
 abbrev pub next_index : ℕ → List ℕ → List ℕ → Next
 next_index d n [] = a_name n []
 next_index d n (c ∷ z) =
@@ -57,7 +57,7 @@ next_index d n (c ∷ z) =
 abbrev pub next_name : ℕ → List ℕ → List ℕ → Next
 next_name d n z = if begins_with_colons z then fault bad_variable else next_index d n z
 
--- a variable, or an element whose index is written out
+-- a variable, or an element whose index is its bytes themselves
 abbrev pub next_variable : List ℕ → Option (List ℕ) → List ℕ → Next
 next_variable n None z = a_name n z
 next_variable n (Some i) z = an_element n i z
@@ -71,17 +71,17 @@ next_named (Some v) z = next_variable v.0 v.1 z
 abbrev pub next_braced : List ℕ → List ℕ → Next
 next_braced n z = next_named (named n) z
 
--- behind ${ the name goes up to the first closing brace
+-- after ${ the name goes up to the first closing brace
 abbrev pub next_brace : List ℕ → List ℕ → Next
 next_brace n [] = fault bad_variable
 next_brace n (c ∷ z) = next_braced n z
 
--- a dollar with this name behind it, in this text with that rest
+-- a dollar before the text x, which begins with this name and continues with z
 abbrev pub next_plain : ℕ → List ℕ → List ℕ → List ℕ → Next
 next_plain d [] x z = if begins_with_colons x then fault bad_variable else a_byte 36 x
 next_plain d (c ∷ n) x z = next_name d (c ∷ n) z
 
--- a dollar with this text behind it (Tcl(n), rule 8)
+-- a dollar with this text after it (Tcl(n), rule 8)
 abbrev pub next_dollar : ℕ → List ℕ → Next
 next_dollar d [] = a_byte 36 []
 next_dollar d (c ∷ x) =
@@ -98,6 +98,6 @@ next_part d (c ∷ x) =
     (if c == 36 then next_dollar d x else
     (if c == 91 then next_bracket d x else a_byte c x))
 
--- what stands next in a word, at that place and where d more may be open
+-- what stands next in a word, at this place and where d more brackets and indexes may be open
 abbrev pub next : Place → ℕ → List ℕ → Next
 next place d x = if ends_parts place x then end else next_part d x

@@ -1,4 +1,4 @@
--- What the readers answer.
+-- What the results of the readers say.
 use Rattle.std.specs.Prelude.{◌≡◌, ℕ, List, Result, Ok, Err, Vec}
 use Rattle.std.specs.Borrow.{Bor}
 use Rattle.std.specs.declared.rc.Rc.{Rc}
@@ -14,22 +14,22 @@ use Rattle.tclparse.specs.declared.error.ReadError.TheVariants as error
 use Rattle.tclparse.specs.declared.tree.Part.{Part}
 use Rattle.tclparse.specs.declared.tree.Word.{Word}
 
--- a list behind its counted pointer, and the text that is left
+-- a list behind its counted pointer, and the unread text
 abbrev pub Read : Type 0 → Type 0 → Type 0
 Read A T = Result (Rc (Vec T A) A × Bor (List ℕ)) ReadError
 
--- a part, and the text that is left
+-- a part, and the unread text
 abbrev pub ReadPart : Type 0 → Type 0
 ReadPart A = Result (Part A × Bor (List ℕ)) ReadError
 
--- Each says: the tree and the text that are answered are those of the grammar, or there is a tree
--- up to the fault. Want of memory says nothing.
+-- Each says: the tree and the text in the result are those of the grammar, or the grammar reads
+-- some tree up to the fault in the result. Where memory was refused nothing is said.
 abbrev pub ReadsParts : {A : Type 0} → Place → ℕ → List ℕ → Read A (Part A) → Type 0
 ReadsParts place d x (Ok r) = IsParts place d (parts_then r.0.value.items no_parts) x (Ok r.1.now)
 ReadsParts place d x (Err (error.Memory refusal)) = Unit {0}
 ReadsParts place d x (Err (error.Fault f)) = (ps : Parts) × IsParts place d ps x (Err (fault_of f))
 
--- an index, and the parenthesis behind it
+-- an index, and the parenthesis after it
 abbrev pub IsIndex : ℕ → Parts → List ℕ → Outcome → Type 0
 IsIndex d ps x o = (r : Outcome) × IsParts within_index d ps x r × (index_closed r ≡ o)
 
@@ -39,7 +39,7 @@ ReadsElement n d x (Ok r) = (is : Parts) × ((t : Parts) → part_view r.0 t ≡
 ReadsElement n d x (Err (error.Memory refusal)) = Unit {0}
 ReadsElement n d x (Err (error.Fault f)) = (is : Parts) × IsIndex d is x (Err (fault_of f))
 
--- a script, and the bracket behind it
+-- a script, and the bracket after it
 abbrev pub IsBracket : ℕ → Commands → List ℕ → Outcome → Type 0
 IsBracket d cs x o = (r : Outcome) × IsCommands bracketed d cs x r × (bracket_closed r ≡ o)
 
@@ -66,7 +66,7 @@ ReadsBody context d x (Err (error.Memory refusal)) = Unit {0}
 ReadsBody context d x (Err (error.Fault f)) = (ps : Parts)
     × IsBody context d ps x (Err (fault_of f))
 
--- a word, prefix and parts; what stands behind it is t
+-- one word, its prefix and its parts; the words after it are t
 abbrev pub IsOneWord : Context → ℕ → Words → Words → List ℕ → Outcome → Type 0
 IsOneWord context d ws t x r = (ps : Parts) × (ws ≡ word (expands context x) ps t)
     × IsBody context d ps (unprefixed context x) r

@@ -1,4 +1,4 @@
--- What the answers of the code stand for.
+-- What the values of the code stand for in the definitions.
 use Rattle.std.specs.Prelude.{ℕ, ◌<◌, List, length, Option, Some, None, option_map, Result, Ok, Err}
 use Rattle.std.specs.Borrow.{Bor}
 use Rattle.tclparse.specs.Piece.{Place, in_word, within_quotes, within_index, Next, end, fault, a_byte, a_name, an_index, an_element, a_bracket}
@@ -17,7 +17,7 @@ use Rattle.tclparse.specs.declared.word.Opening.TheVariants as opens
 use Rattle.tclparse.specs.declared.piece.Piece.{Piece}
 use Rattle.tclparse.specs.declared.piece.Piece.TheVariants.{End, Fault, Byte, Name, Index, Element, Bracket}
 
--- a fault
+-- the fault that a value of the code stands for
 abbrev pub fault_of : the_fault.Fault → fault_is.Fault
 fault_of the.OpenBrace = fault_is.open_brace
 fault_of the.OpenBracket = fault_is.open_bracket
@@ -28,7 +28,7 @@ fault_of the.TooDeep = fault_is.too_deep
 fault_of the.EscapeNotHere = fault_is.escape_not_here
 fault_of the.BadVariable = fault_is.bad_variable
 
--- what the words of a text stand in
+-- the context that the words of a text stand in
 abbrev pub context_of : the_context.Context → Context
 context_of stands_in.Script = whole_script
 context_of stands_in.Brackets = bracketed
@@ -50,7 +50,7 @@ seen (Index n z) = an_index n.now z.now
 seen (Element n i z) = an_element n.now i.now z.now
 seen (Bracket z) = a_bracket z.now
 
--- the text behind it has fewer bytes than that
+-- the text after a piece has fewer than n bytes
 abbrev pub IsShorter : Piece → ℕ → Type 0
 IsShorter End n = Unit {0}
 IsShorter (Fault f) n = Unit {0}
@@ -70,7 +70,7 @@ OpensWithin (Index m z) d = 0 < d
 OpensWithin (Element m i z) d = Unit {0}
 OpensWithin (Bracket z) d = 0 < d
 
--- the place goes on
+-- the piece is not the end of its place
 abbrev pub IsNotEnd : Piece → Type 0
 IsNotEnd End = ⊥
 IsNotEnd (Fault f) = Unit {0}
@@ -80,7 +80,7 @@ IsNotEnd (Index m z) = Unit {0}
 IsNotEnd (Element m i z) = Unit {0}
 IsNotEnd (Bracket z) = Unit {0}
 
--- two slices, if there are any
+-- the texts that two slices hold, if there are any
 abbrev pub element_seen : Option (Bor (List ℕ) × Bor (List ℕ)) → Option (List ℕ × List ℕ)
 element_seen None = None
 element_seen (Some r) = Some (r.0.now, r.1.now)
@@ -89,7 +89,7 @@ element_seen (Some r) = Some (r.0.now, r.1.now)
 abbrev pub name_seen : the_name.Name → List ℕ × Option (List ℕ)
 name_seen n = (n.name.now, option_map (λ i. i.now) n.index)
 
--- a reader's answer as an outcome
+-- a reader's result as an outcome
 abbrev pub outcome : Result (Bor (List ℕ)) the_fault.Fault → Outcome
 outcome (Ok z) = Ok z.now
 outcome (Err f) = Err (fault_of f)
@@ -100,7 +100,7 @@ opening (opens.Braces z) = in_braces z.now
 opening (opens.Quotes z) = in_quotes z.now
 opening opens.Bare = bare
 
--- what a word opens has fewer bytes behind it than that
+-- the text after what a word opens has fewer than n bytes
 abbrev pub OpensShorter : Opening → ℕ → Type 0
 OpensShorter (opens.Braces z) n = length z.now < n
 OpensShorter (opens.Quotes z) n = length z.now < n

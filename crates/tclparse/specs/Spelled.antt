@@ -1,4 +1,4 @@
--- What is left of a text is an end of it.
+-- The unread part of a text is an end of the text.
 use Rattle.std.specs.Prelude.{◌≡◌, ℕ, List, ◌++◌, Ok, Err}
 use Rattle.tclparse.specs.Piece.{Next, end, fault, a_byte, a_name, an_index, an_element, a_bracket}
 use Rattle.tclparse.specs.Grammar.{Outcome}
@@ -7,7 +7,7 @@ use Rattle.tclparse.specs.Grammar.{Outcome}
 abbrev pub Joins : List ℕ → List ℕ → Type 0
 Joins x z = (s : List ℕ) × (x ≡ s ++ z)
 
--- so it is with what stands behind a piece of a word
+-- the text x ends with the text after a piece of a word, if the piece has one
 abbrev pub Behind : Next → List ℕ → Type 0
 Behind end x = Unit {0}
 Behind (fault f) x = Unit {0}
@@ -17,7 +17,7 @@ Behind (an_index n z) x = Joins x z
 Behind (an_element n i z) x = Joins x z
 Behind (a_bracket z) x = Joins x z
 
--- so it is with what is left of a text; of a fault nothing is left
+-- the text x ends with its unread part; after a fault there is none
 abbrev pub Leaves : List ℕ → Outcome → Type 0
 Leaves x (Ok z) = Joins x z
 Leaves x (Err f) = Unit {0}

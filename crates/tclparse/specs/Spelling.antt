@@ -9,8 +9,7 @@ use Rattle.tclparse.specs.Braces.{IsValue}
 use Rattle.tclparse.specs.Piece.{Place, in_word, within_quotes, within_index, ends_parts}
 use Rattle.tclparse.specs.Grammar.{kind, bare}
 
--- t is a backslash and bytes that stand for the byte b, where some text stands behind them (Tcl(n),
--- rule 9)
+-- t is a backslash and bytes that stand for the byte b when some text follows them (Tcl(n), rule 9)
 abbrev pub IsEscapeOf : ℕ → List ℕ → Type 0
 IsEscapeOf b t = (e z : List ℕ) × (t ≡ 92 ∷ e) × (escape (e ++ z) ≡ Ok (b, z))
 
@@ -40,7 +39,7 @@ SpellsWhole n is t = (i : List ℕ) × (is ≡ bytes_then i no_parts)
     × (from 125 (n ++ 40 ∷ (i ++ 41 ∷ [])) ≡ [])
     × (t ≡ 36 ∷ 123 ∷ ((n ++ 40 ∷ (i ++ 41 ∷ [])) ++ 125 ∷ []))
 
--- words are parted by white and by continued lines (Tcl(n), rules 3 and 9)
+-- words are separated by white space and by continued lines (Tcl(n), rules 3 and 9)
 pub data IsWhiteText : Context → List ℕ → Type 0 where
   no_white : (context : Context) → IsWhiteText context []
   white : (context : Context) (c : ℕ) (s : List ℕ) → is_white context c ≡ true
@@ -48,16 +47,16 @@ pub data IsWhiteText : Context → List ℕ → Type 0 where
   white_line : (context : Context) (s : List ℕ) → IsWhiteText context s
       → IsWhiteText context (92 ∷ 10 ∷ s)
 
--- behind its # a comment has no newline but behind a backslash, which goes with the byte behind it
--- (Tcl(n), rule 10)
+-- after its # a comment has no newline except after a backslash, which is taken together with the
+-- byte after it (Tcl(n), rule 10)
 pub data IsComment : List ℕ → Type 0 where
   no_comment : IsComment []
   comment_byte : (c : ℕ) (s : List ℕ) → (c == 10) ≡ false → (c == 92) ≡ false → IsComment s
       → IsComment (c ∷ s)
   comment_pair : (c : ℕ) (s : List ℕ) → IsComment s → IsComment (92 ∷ c ∷ s)
 
--- before a command stand white, separators, continued lines and comments, each comment up to its
--- newline (Tcl(n), rules 1, 3, 9 and 10)
+-- before a command stand white space, separators, continued lines and comments, each comment up to
+-- its newline (Tcl(n), rules 1, 3, 9 and 10)
 pub data IsGapText : Context → List ℕ → Type 0 where
   no_gap : (context : Context) → IsGapText context []
   gap_byte : (context : Context) (c : ℕ) (s : List ℕ)
@@ -73,14 +72,14 @@ pub data IsGapText : Context → List ℕ → Type 0 where
 abbrev pub IsLastComment : List ℕ → Type 0
 IsLastComment t = (k : List ℕ) × IsComment k × ((t ≡ 35 ∷ k) ⊎ (t ≡ 35 ∷ (k ++ 92 ∷ [])))
 
--- What may stand between the last gap and what is left: nothing, or a comment up to the text's end
--- (Tcl(n), rule 10).
+-- What may stand between the last gap and the unread text: nothing, or a comment up to the text's
+-- end (Tcl(n), rule 10).
 abbrev pub IsTail : List ℕ → List ℕ → Type 0
 IsTail t z = (t ≡ []) ⊎ ((z ≡ []) × IsLastComment t)
 
--- The parts ps are spelled by t, without {*}: in braces that pair up, by a content with that value
--- (Tcl(n), rule 6); in quotes (rule 4); or bare, beginning with none of both. The parts at a place
--- are spelled as Spells says.
+-- The parts ps are spelled by t, without {*}: in braces, by a balanced content with that value
+-- (Tcl(n), rule 6); in quotes (rule 4); or bare, beginning with neither a brace nor a quote. The
+-- parts at a place are spelled as Spells says.
 abbrev pub SpellsBody : Context → Parts → (Place → List ℕ → Type 0) → List ℕ → Type 0
 SpellsBody context ps Spells t =
     ((content value : List ℕ) × (t ≡ 123 ∷ (content ++ 125 ∷ [])) × IsBalanced content
@@ -93,14 +92,14 @@ abbrev pub prefixed : Bool → List ℕ → List ℕ
 prefixed true t = 123 ∷ 42 ∷ 125 ∷ t
 prefixed false t = t
 
--- the gap g before these words: there is one where there are words (Tcl(n), rule 3)
+-- the gap g before the words ws is not empty, unless there are no words (Tcl(n), rule 3)
 abbrev pub AreParted : List ℕ → Words → Type 0
 AreParted g no_words = Unit {0}
 AreParted g (word e ps ws) = g ≡ [] → ⊥
 
 -- Each says: the text t spells this tree.
 abbrev mutual
-  -- bytes, variables, elements with the parts of their index, and scripts in brackets, one behind
+  -- bytes, variables, elements with the parts of their index, and scripts in brackets, one after
   -- the other (Tcl(n), rules 7 and 8)
   pub SpellsParts : Place → Parts → List ℕ → Type 0
   SpellsParts place no_parts t = t ≡ []
@@ -118,7 +117,7 @@ abbrev mutual
       × ((s : List ℕ) × (p ≡ 91 ∷ (s ++ 93 ∷ [])) × SpellsCommands bracketed cs s)
       × SpellsParts place ps q
 
-  -- words, each with the white behind it (Tcl(n), rule 3)
+  -- words, each with the white space after it (Tcl(n), rule 3)
   pub SpellsWords : Context → Words → List ℕ → Type 0
   SpellsWords context no_words t = t ≡ []
   SpellsWords context (word e ps ws) t =
@@ -126,7 +125,7 @@ abbrev mutual
       × SpellsBody context ps (λ place s. SpellsParts place ps s) b
       × IsWhiteText context g × AreParted g ws × SpellsWords context ws r
 
-  -- commands, a gap before each and behind the last; what stands behind a command begins with what
+  -- commands, a gap before each and after the last; what stands after a command begins with what
   -- ends it (Tcl(n), rule 1)
   pub SpellsCommands : Context → Commands → List ℕ → Type 0
   SpellsCommands context no_commands t = IsGapText context t
@@ -134,10 +133,11 @@ abbrev mutual
       (g w r : List ℕ) × (t ≡ g ++ (w ++ r)) × IsGapText context g × SpellsWords context ws w
       × (ends_command context r ≡ true) × SpellsCommands context cs r
 
--- The text x is such a piece, and then z.
+-- The text x is a piece of which Spells holds, and then z.
 abbrev pub Begins : (List ℕ → Type 0) → List ℕ → List ℕ → Type 0
 Begins Spells x z = (s : List ℕ) × (x ≡ s ++ z) × Spells s
 
--- The text x is such a piece, then nothing or a comment up to the text's end, and then z.
+-- The text x is a piece of which Spells holds, then nothing or a comment up to the text's end, and
+-- then z.
 abbrev pub BeginsWhole : (List ℕ → Type 0) → List ℕ → List ℕ → Type 0
 BeginsWhole Spells x z = (s t : List ℕ) × (x ≡ s ++ (t ++ z)) × Spells s × IsTail t z

@@ -1,4 +1,4 @@
--- What a script is, without where it lies in memory.
+-- The tree of a script, regardless of where it lies in memory.
 use Rattle.std.specs.Prelude.{ℕ, List, [], ◌∷◌, Bool}
 
 mutual
@@ -25,7 +25,7 @@ abbrev pub bytes_then : List ℕ → Parts → Parts
 bytes_then [] ps = ps
 bytes_then (b ∷ bs) ps = byte b (bytes_then bs ps)
 
--- commands, and one more
+-- commands, and one more after them
 abbrev pub with_last : Commands → Words → Commands
 with_last no_commands ws = command ws no_commands
 with_last (command vs cs) ws = command vs (with_last cs ws)

@@ -26,17 +26,17 @@ abbrev pub from : ℕ → List ℕ → List ℕ
 from b [] = []
 from b (c ∷ x) = if c == b then (c ∷ x) else from b x
 
--- the mark of a namespace, which has no place here
+-- the text begins with ::, the mark of a namespace, which is not allowed here
 abbrev pub begins_with_colons : List ℕ → Bool
 begins_with_colons [] = false
 begins_with_colons (c ∷ x) = (c == 58) && begins_with 58 x
 
--- the name is one of a namespace
+-- the name holds ::, the mark of a namespace
 abbrev pub holds_colons : List ℕ → Bool
 holds_colons [] = false
 holds_colons (c ∷ x) = begins_with_colons (c ∷ x) || holds_colons x
 
--- the byte that is looked at, if there is one, is b
+-- there is a byte, and it is b
 abbrev pub is_byte : ℕ → Option ℕ → Bool
 is_byte b None = false
 is_byte b (Some c) = c == b
@@ -45,7 +45,7 @@ is_byte b (Some c) = c == b
 abbrev pub ends_with : ℕ → List ℕ → Bool
 ends_with b x = is_byte b (slice_get x (length x - 1))
 
--- what stands behind an open parenthesis, without a last closing one
+-- what stands between an open parenthesis at the front and a closing one at the end
 abbrev pub index_of : List ℕ → Option (List ℕ)
 index_of [] = None
 index_of (c ∷ x) = if ends_with 41 x then Some (take (length x - 1) x) else None

@@ -8,7 +8,7 @@ use Rattle.tclparse.specs.declared.tree.Part.TheFolds.{fold-Word, fold-Command}
 use Rattle.tclparse.specs.declared.tree.Word.{Word}
 use Rattle.tclparse.specs.declared.tree.Command.{Command}
 
--- what several values put before what follows
+-- the parts, words or commands that several values put, in order, before those that follow
 abbrev pub join_parts : List (Parts → Parts) → Parts → Parts
 join_parts [] t = t
 join_parts (f ∷ fs) t = f (join_parts fs t)
@@ -21,8 +21,8 @@ abbrev pub join_commands : List Words → Commands → Commands
 join_commands [] t = t
 join_commands (w ∷ ws) t = command w (join_commands ws t)
 
--- one level, with each value inside already seen as its tree; a part or a word is seen as what it
--- puts before those after it
+-- the tree of one level, where each value inside is already seen as its tree; a part or a word is
+-- seen as what it puts before those after it
 abbrev pub part_step : {A : Type 0} → Part-F A (Parts → Parts) Words (Words → Words) → Parts → Parts
 part_step (Part-F.Literal v) t = bytes_then v t
 part_step (Part-F.Variable v) t = variable v t
@@ -46,7 +46,7 @@ abbrev pub command_view : {A : Type 0} → Command A → Words
 command_view {A} =
     fold-Command A (Parts → Parts) Words (Words → Words) part_step command_step word_step
 
--- several of them, before what follows
+-- several parts, words or commands, before what follows them
 abbrev pub parts_then : {A : Type 0} → List (Part A) → Parts → Parts
 parts_then [] t = t
 parts_then (p ∷ ps) t = part_view p (parts_then ps t)

@@ -7,7 +7,7 @@ use memory::NoMemory;
 use std::alloc::Allocator;
 use tcltext::escape::skip_blanks;
 
-/// The value of a word in braces with this text between them.
+/// The value of a word in braces that has this text between its braces.
 pub(crate) fn fold_lines<A: Allocator>(alloc: A, text: &[u8]) -> Result<Vec<u8, A>, NoMemory>
     ensures { IfOk result (λ v. IsValue v.items text.now) }
 {

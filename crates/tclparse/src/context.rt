@@ -1,10 +1,10 @@
-//! What ends a word, a command and a script, which differs with what the text stands in.
+//! What ends a word, a command and a script: this depends on the context that the text stands in.
 
 ghost use Rattle.std.specs.Prelude.{◌≡◌};
 ghost use Rattle.tclparse.specs.Context.{begins_with, is_white, is_separator, is_closing, ends_script, ends_command, ends_word};
 ghost use Rattle.tclparse.specs.Seen.{context_of};
 
-/// What the words of a text stand in.
+/// The context that the words of a text stand in.
 #[derive(Clone, Copy)]
 pub enum Context {
     /// A whole script.
@@ -25,7 +25,7 @@ pub(crate) fn begins_with(byte: u8, text: &[u8]) -> bool
     }
 }
 
-/// Whether the byte parts words.
+/// Whether the byte separates words.
 pub(crate) fn is_white(context: Context, c: u8) -> bool
     ensures { result ≡ is_white (context_of context) c }
 {
@@ -36,7 +36,7 @@ pub(crate) fn is_white(context: Context, c: u8) -> bool
     }
 }
 
-/// Whether the byte parts commands.
+/// Whether the byte separates commands.
 pub(crate) fn is_separator(context: Context, c: u8) -> bool
     ensures { result ≡ is_separator (context_of context) c }
 {
@@ -55,7 +55,7 @@ fn is_closing(context: Context, c: u8) -> bool
     }
 }
 
-/// Whether the script ends here.
+/// Whether the script ends at the beginning of this text.
 pub(crate) fn ends_script(context: Context, text: &[u8]) -> bool
     ensures { result ≡ ends_script (context_of context) text.now }
 {
@@ -65,7 +65,7 @@ pub(crate) fn ends_script(context: Context, text: &[u8]) -> bool
     }
 }
 
-/// Whether a command ends here.
+/// Whether a command ends at the beginning of this text.
 pub(crate) fn ends_command(context: Context, text: &[u8]) -> bool
     ensures { result ≡ ends_command (context_of context) text.now }
 {
@@ -75,7 +75,7 @@ pub(crate) fn ends_command(context: Context, text: &[u8]) -> bool
     }
 }
 
-/// Whether a word ends here.
+/// Whether a word ends at the beginning of this text.
 pub(crate) fn ends_word(context: Context, text: &[u8]) -> bool
     ensures { result ≡ ends_word (context_of context) text.now }
 {

@@ -1,10 +1,10 @@
-//! Why a reader made no part of the tree.
+//! Why a reader gives no piece of the tree.
 
 use crate::fault::Fault;
 use memory::NoMemory;
 use std::alloc::AllocFailed;
 
-/// Why no part of the tree was made: memory was refused, or the text has a fault.
+/// Why a reader gives no piece of the tree: memory was refused, or the text has a fault.
 #[derive(Clone, Copy, Debug, Drop)]
 pub enum ReadError {
     /// Memory was refused.

@@ -1,4 +1,4 @@
-//! What stands between words and between commands: white, separators, comments.
+//! What stands between words and between commands: white space, separators, comments.
 
 ghost use Rattle.std.specs.Prelude.{◌≡◌, ◌≤◌, length, false, true};
 ghost use Rattle.tclparse.specs.Context.{ends_script, ends_command, ends_word};
@@ -7,7 +7,7 @@ ghost use Rattle.tclparse.specs.Seen.{context_of};
 
 use crate::context::{Context, begins_with, is_separator, is_white};
 
-/// The text behind the white at its beginning.
+/// The text after the white space at its beginning.
 pub(crate) fn skip_white(context: Context, text: &[u8]) -> &[u8]
     ensures rest { result.now ≡ skip_white (context_of context) false text.now }
     ensures begins { ends_word (context_of context) result.now
@@ -31,7 +31,7 @@ pub(crate) fn skip_white(context: Context, text: &[u8]) -> &[u8]
     }
 }
 
-// The text from the end of a comment on.
+// The text after the comment that it begins in, just after the `#`.
 fn skip_comment(context: Context, text: &[u8]) -> &[u8]
     ensures rest { skip_gap (context_of context) between result.now
         ≡ skip_gap (context_of context) comment text.now }

@@ -28,9 +28,9 @@ pub fn no_text_has_two_trees()
         → IsArgument a f text → IsArgument b g text → (a ≡ b) × (f ≡ g) }
 {}
 
-/// What is left of a text behind a piece of a word, behind what stands between words and between
-/// commands, and so behind parts, words and commands, is an end of that text. Of the bytes before
-/// that end `texts_are_spellings` speaks.
+/// The text that is still unread after a piece of a word, after what stands between words and
+/// between commands, and so after parts, words and commands, is an end of the text that was read.
+/// What the bytes before that end are, `texts_are_spellings` says.
 #[tactic(auto, using(crate::proofs::Joined::ends_of_texts))]
 pub fn spellings_join()
     ensures pieces { (place : Place) (depth : ℕ) (text : List ℕ)
@@ -47,13 +47,14 @@ pub fn spellings_join()
         (text : List ℕ) (o : Outcome) → IsCommands context depth commands text o → Leaves text o }
 {}
 
-/// A text that is read as a tree is the spelling of that tree, and then what is left: bytes by
-/// themselves or by escapes, variables, elements and scripts in brackets; words in braces, in
-/// quotes or bare, `{*}` before those that are expanded, white between them; commands, with what
-/// ends a command between them. So a whole script is its commands, and then nothing or a comment up
-/// to the text's end; where it has a fault, its commands, and then what begins with the command
-/// that has the fault; and a braced argument is white and its words. Not each spelling is read as
-/// its tree: an escape and a name take what they can.
+/// A text that is read as a tree is a spelling of that tree, followed by the unread text. A
+/// spelling has bytes as themselves or as escapes, variables, elements and scripts in brackets;
+/// words in braces, in quotes or bare, with `{*}` before those that are expanded and white space
+/// between them; commands, with what ends a command between them. So a whole script is its
+/// commands, followed by nothing or by a comment up to the text's end; a script with a fault is its
+/// commands, followed by a text that begins with the command that has the fault; and a braced
+/// argument is white space and its words. Not every spelling is read as its tree: an escape and a
+/// name take all the bytes that they can.
 #[tactic(auto, using(crate::proofs::SpelledScripts::spelled))]
 pub fn texts_are_spellings()
     ensures white { (context : Context) (text : List ℕ)

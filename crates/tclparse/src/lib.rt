@@ -1,5 +1,5 @@
-//! The grammar of scripts: a text is read into commands of words of parts, up to its end or its
-//! first fault.
+//! The grammar of scripts: a text is read as a tree of commands, which consist of words, which
+//! consist of parts, up to the text's end or its first fault.
 #![tactic(auto)]
 
 mod braces;

@@ -1,4 +1,4 @@
-//! The names of variables as commands are given them, and as they stand between braces.
+//! The names of variables, as commands receive them and as they stand between braces.
 
 ghost use Rattle.std.specs.Prelude.{◌≡◌, ◌≤◌, length, None, Some, IfOk, IfErr};
 ghost use Rattle.tclparse.specs.Variable.{until, from, holds_colons, begins_with_colons, ends_with, element_of, named};
@@ -17,7 +17,7 @@ pub struct Name<'a> {
     pub index: Option<&'a [u8]>,
 }
 
-/// Whether the text begins with the mark of a namespace.
+/// Whether the text begins with `::`, the mark of a namespace.
 pub(crate) fn begins_with_colons(text: &[u8]) -> bool
     ensures { result ≡ begins_with_colons text.now }
 {
@@ -27,7 +27,7 @@ pub(crate) fn begins_with_colons(text: &[u8]) -> bool
     }
 }
 
-/// Whether the name is one of a namespace, as it holds `::`.
+/// Whether the name holds `::`, the mark of a namespace.
 pub fn holds_colons(name: &[u8]) -> bool
     ensures { result ≡ holds_colons name.now }
 {
@@ -50,7 +50,8 @@ fn ends_with(byte: u8, text: &[u8]) -> bool
     }
 }
 
-/// The bytes before the first such byte, and the text from it on.
+/// The bytes before the first occurrence of this byte, and the text from that byte on; all bytes
+/// and the empty text where the byte does not occur.
 pub(crate) fn split_before(byte: u8, text: &[u8]) -> (&[u8], &[u8])
     ensures front { result.0.now ≡ until byte text.now }
     ensures rest { result.1.now ≡ from byte text.now }
@@ -80,12 +81,12 @@ fn split_element(name: &[u8]) -> Option<(&[u8], &[u8])>
     }
 }
 
-/// Reads a name as commands are given it, as in `set a(i) v`; `${a(i)}` names the same (Tcl(n),
-/// rule 8).
+/// Reads a name as commands receive it, as in `set a(i) v`; `${a(i)}` names the same (Tcl(n), rule
+/// 8).
 ///
 /// The word is an element's name where a `(` stands in it, not first, and a `)` last; else it is a
-/// variable's, whatever its bytes, none included. `Err` is `Fault::BadVariable`: the word holds
-/// `::`, or has the form `(i)`. Takes no memory.
+/// variable's, whatever its bytes, and even if it is empty. `Err` is `Fault::BadVariable`: the word
+/// holds `::`, or has the form `(i)`. Takes no memory.
 pub fn variable_name(word: &[u8]) -> Result<Name<'_>, Fault>
     ensures name { IfOk result (λ n. named word.now ≡ Some (name_seen n)) }
     ensures fault { IfErr result (λ f. (f ≡ BadVariable) × (named word.now ≡ None)) }

@@ -1,4 +1,4 @@
-//! What formulas take from the grammar of words (expr(n), operands).
+//! What formulas borrow from the grammar of words (expr(n), operands).
 
 ghost use Rattle.std.specs.Prelude.{◌≡◌, ◌<◌, ◌≤◌, length, IfOk, IfSome};
 ghost use Rattle.tclparse.specs.Tree.{Parts, no_parts, bytes_then};
@@ -17,7 +17,7 @@ use std::alloc::Allocator;
 use std::rc::Rc;
 use tcltext::{Value, braces};
 
-/// The parts that stand for this text alone.
+/// The parts that stand for exactly this text: one literal, or none where it is empty.
 ///
 /// # Errors
 /// `NoMemory` where memory is refused.
@@ -32,11 +32,11 @@ pub fn literal<A: Allocator + Copy>(
     literal_parts(alloc, value)
 }
 
-/// Behind a quote, the parts up to the next quote, and the text behind that. So many brackets and
-/// indexes more may be open.
+/// The parts that the text begins with, its opening quote already read, up to the next quote, and
+/// the text after that quote. At most `depth` more brackets and indexes may be open.
 ///
 /// # Errors
-/// The fault of the parts, or `OpenQuote` where no quote follows; want of memory.
+/// The fault of the parts, or `OpenQuote` where no quote follows; or memory was refused.
 pub fn quoted<A: Allocator + Copy>(
     alloc: A,
     depth: u32,
@@ -52,11 +52,11 @@ pub fn quoted<A: Allocator + Copy>(
     }
 }
 
-/// Behind an open brace, the value of the text up to the brace that pairs up, and the text behind
-/// that.
+/// The parts that stand for the value of the text, its open brace already read, up to the matching
+/// brace, and the text after that brace.
 ///
 /// # Errors
-/// `OpenBrace` where no brace pairs up; want of memory.
+/// `OpenBrace` where no brace matches; or memory was refused.
 pub fn braced<A: Allocator + Copy>(
     alloc: A,
     text: &[u8],
@@ -73,7 +73,7 @@ pub fn braced<A: Allocator + Copy>(
     Ok((parts, rest))
 }
 
-// The parts that are this one alone.
+// The list that holds only this part.
 fn one_part<A: Allocator + Copy>(alloc: A, part: Part<A>) -> Result<Shared<Part<A>, A>, NoMemory>
     ensures { IfOk result (λ ps. parts_then ps.value.items no_parts ≡ part_view part no_parts) }
 {
@@ -82,11 +82,12 @@ fn one_part<A: Allocator + Copy>(alloc: A, part: Part<A>) -> Result<Shared<Part<
     shared(alloc, parts)
 }
 
-/// The variable, element or script that begins at this `$` or `[`, and the text behind it; `None`
-/// where none does. So many brackets and indexes more may be open.
+/// The variable, element or script that the text begins with, at a `$` or `[`, and the text after
+/// it; `None` where the text begins with none of them. At most `depth` more brackets and indexes
+/// may be open.
 ///
 /// # Errors
-/// Its fault; want of memory.
+/// The fault of the variable, element or script; or memory was refused.
 pub fn substitution<A: Allocator + Copy>(
     alloc: A,
     depth: u32,

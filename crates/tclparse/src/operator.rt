@@ -7,7 +7,7 @@ pub enum Unary {
     Negate,
     /// `+`
     Plus,
-    /// `~`: each bit is turned.
+    /// `~`: each bit is inverted.
     Complement,
     /// `!`
     Not,
@@ -61,7 +61,7 @@ pub enum Binary {
 /// What joins two operands (expr(n), operators).
 #[derive(Clone, Copy, Debug, PartialEq, Eq)]
 pub enum Infix {
-    /// An operator that wants both values.
+    /// An operator that needs the values of both operands.
     Both(Binary),
     /// `&&`: the right operand is evaluated only where the left one is true.
     AndAlso,

@@ -9,7 +9,7 @@ use crate::fault::Fault;
 use crate::variable::dollar;
 use tcltext::escape;
 
-/// Where the parts of a word stand, which says where they end.
+/// Where the parts of a word stand, which determines where they end.
 #[derive(Clone, Copy)]
 pub enum Place {
     /// In a bare word.
@@ -20,7 +20,7 @@ pub enum Place {
     Index,
 }
 
-/// What stands next in a word, each with the text behind it.
+/// What stands next in a word; each variant but `End` and `Fault` holds the text after it last.
 pub enum Piece<'a> {
     /// The place ends here.
     End,
@@ -30,11 +30,13 @@ pub enum Piece<'a> {
     Byte(u8, &'a [u8]),
     /// A variable by its name.
     Name(&'a [u8], &'a [u8]),
-    /// An element of the array of that name; its index, up to `)`, stands behind.
+    /// An element of the array of that name; the text after it begins with the index, which ends at
+    /// `)`.
     Index(&'a [u8], &'a [u8]),
-    /// An element of the array of that name, at an index that is written out.
+    /// An element of the array of that name; the index is these bytes themselves, as in
+    /// `${name(index)}`.
     Element(&'a [u8], &'a [u8], &'a [u8]),
-    /// A script, which stands behind, up to `]`.
+    /// A script in brackets; the text after it begins with the script, which ends at `]`.
     Bracket(&'a [u8]),
 }
 
@@ -54,7 +56,7 @@ fn ends_parts(place: Place, text: &[u8]) -> bool
     }
 }
 
-// What stands behind a backslash.
+// The piece that a backslash before this text begins.
 fn escaped(text: &[u8]) -> Piece<'_>
     ensures piece { seen result ≡ next_escape text.now }
     ensures shorter { IsShorter result (length text.now + 1) }
@@ -67,7 +69,7 @@ fn escaped(text: &[u8]) -> Piece<'_>
     }
 }
 
-// What stands at a bracket, with so many more that may be open.
+// The piece that an open bracket before this text begins, where `depth` more may be open.
 fn bracket(depth: u32, text: &[u8]) -> Piece<'_>
     ensures piece { seen result ≡ next_bracket depth text.now }
     ensures shorter { IsShorter result (length text.now + 1) }
@@ -81,8 +83,8 @@ fn bracket(depth: u32, text: &[u8]) -> Piece<'_>
     }
 }
 
-/// The next piece of a text that does not end here, where so many brackets and indexes more may be
-/// open.
+/// The next piece of a text, without asking whether a word ends at its beginning; `depth` more
+/// brackets and indexes may be open.
 pub(crate) fn next_part(depth: u32, text: &[u8]) -> Piece<'_>
     ensures piece { seen result ≡ next_part depth text.now }
     ensures shorter { IsShorter result (length text.now) }
@@ -98,7 +100,7 @@ pub(crate) fn next_part(depth: u32, text: &[u8]) -> Piece<'_>
     }
 }
 
-/// The next piece of a word, where so many brackets and indexes more may be open.
+/// The next piece of a word, where `depth` more brackets and indexes may be open.
 pub(crate) fn next(place: Place, depth: u32, text: &[u8]) -> Piece<'_>
     ensures piece { seen result ≡ next (place_of place) depth text.now }
     ensures shorter { IsShorter result (length text.now) }

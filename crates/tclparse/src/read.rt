@@ -1,4 +1,4 @@
-//! One pass over the text, from left to right.
+//! The readers of words and commands: one pass over the text, from left to right.
 
 ghost use Rattle.std.specs.Prelude.{◌≡◌, ℕ, ◌<◌, ◌≤◌, length, [], false, true, IfOk, OnOk, Ok, Err};
 ghost use Rattle.tclparse.specs.Tree.{Parts, no_parts, element, Words, Commands, no_commands, bytes_then};
@@ -25,7 +25,7 @@ use tcltext::{Value, braces};
 /// How many brackets and variable indexes may be open at one place.
 pub const MAX_OPEN: u32 = 100;
 
-// Makes a part of the bytes so far, if there are any.
+// Turns the literal bytes read so far, if there are any, into one more part.
 fn end_literal<A: Allocator + Copy>(
     alloc: A,
     parts: &mut Vec<Part<A>, A>,
@@ -45,7 +45,7 @@ fn end_literal<A: Allocator + Copy>(
     Ok(())
 }
 
-/// The parts that stand for this value alone.
+/// The parts that stand for exactly this value: one literal, or none where it is empty.
 pub(crate) fn literal_parts<A: Allocator + Copy>(
     alloc: A,
     value: Value<A>,
@@ -62,7 +62,7 @@ pub(crate) fn literal_parts<A: Allocator + Copy>(
     shared(alloc, parts)
 }
 
-/// The element of the array of that name at an index that is written out.
+/// The element of the array of that name whose index is these bytes themselves.
 pub(crate) fn literal_element<A: Allocator + Copy>(
     alloc: A,
     name: &[u8],
@@ -77,7 +77,7 @@ pub(crate) fn literal_element<A: Allocator + Copy>(
     Ok(Part::Element(name, index))
 }
 
-// Behind an open brace, a word up to its end.
+// The parts of a word in braces, its open brace already read, and the text after the word.
 fn read_braces<A: Allocator + Copy>(
     alloc: A,
     context: Context,
@@ -99,7 +99,8 @@ fn read_braces<A: Allocator + Copy>(
     Ok((parts, rest))
 }
 
-/// The parts of a word up to the end of their place.
+/// The parts of a word up to the end of their place, and the text from that end on. At most `depth`
+/// more brackets and indexes may be open.
 #[cycle(read)]
 pub(crate) fn read_parts<A: Allocator + Copy>(
     alloc: A,
@@ -140,8 +141,8 @@ pub(crate) fn read_parts<A: Allocator + Copy>(
     }
 }
 
-/// An element of the array of that name whose index stands behind an open parenthesis, and the text
-/// behind the index's end.
+/// The element of the array of that name whose index the text begins with, its open parenthesis
+/// already read, and the text after the closing parenthesis.
 #[cycle(read)]
 pub(crate) fn read_element<'a, A: Allocator + Copy>(
     alloc: A,
@@ -159,7 +160,8 @@ pub(crate) fn read_element<'a, A: Allocator + Copy>(
     Ok((Part::Element(name, index), rest))
 }
 
-/// The script behind an open bracket, and the text behind its end.
+/// The script that the text begins with, its open bracket already read, and the text after the
+/// closing bracket.
 #[cycle(read)]
 pub(crate) fn read_bracket<A: Allocator + Copy>(
     alloc: A,
@@ -175,7 +177,7 @@ pub(crate) fn read_bracket<A: Allocator + Copy>(
     Ok((Part::Bracket(commands), rest))
 }
 
-// The parts of a word without its prefix.
+// The parts of a word from which the prefix `{*}` was removed, and the text after the word.
 #[cycle(read)]
 fn read_body<A: Allocator + Copy>(
     alloc: A,
@@ -216,7 +218,7 @@ fn read_word<A: Allocator + Copy>(
     Ok((Word { expands, parts }, rest))
 }
 
-/// The words of one command up to its end.
+/// The words of one command up to its end, and the text from that end on.
 #[cycle(read)]
 pub(crate) fn read_words<A: Allocator + Copy>(
     alloc: A,
@@ -246,7 +248,8 @@ pub(crate) fn read_words<A: Allocator + Copy>(
     Ok((words, bytes))
 }
 
-/// The commands of a script up to its end or first fault.
+/// The commands of a script up to its end or first fault, and the text from that end on or that
+/// fault.
 #[cycle(read)]
 pub(crate) fn read_commands<A: Allocator + Copy>(
     alloc: A,

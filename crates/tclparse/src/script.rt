@@ -20,16 +20,16 @@ pub struct Script<A: Allocator> {
     /// The commands before the end or the fault. A frame can keep the list alive by a clone of the
     /// pointer.
     pub commands: Rc<Vec<Command<A>, A>, A>,
-    /// What ends the text early: the first fault from the left, of the command behind the last one
-    /// here.
+    /// What ends the reading early: the first fault from the left, which is in the command after
+    /// the last one of `commands`.
     pub fault: Option<Fault>,
 }
 
 impl<A: Allocator + Copy> Script<A> {
     /// Reads a whole text. Each text has exactly one tree (`laws`).
     ///
-    /// Takes time in the length of the text, and stack in what is open at one place. On `NoMemory`
-    /// nothing is left.
+    /// Takes time linear in the length of the text, and stack for each bracket and index that is
+    /// open at one place. On `NoMemory` nothing stays allocated.
     pub fn read(alloc: A, text: &[u8]) -> Result<Script<A>, NoMemory>
         ensures tree { IfOk result (λ s.
             IsScript (commands_of s.commands) (option_map fault_of s.fault) text.now) }

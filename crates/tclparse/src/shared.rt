@@ -1,4 +1,4 @@
-//! Lists of the tree that whoever stands in them keeps alive.
+//! Lists of the tree, each kept alive by whoever still works on it.
 
 ghost use Rattle.std.specs.Prelude.{◌≡◌, IfOk};
 
@@ -9,7 +9,7 @@ use std::rc::Rc;
 /// A list of the tree behind a counted pointer.
 pub(crate) type Shared<T, A> = Rc<Vec<T, A>, A>;
 
-/// These items, in a list that has room for no more.
+/// A shared list of these items, with no spare capacity.
 pub(crate) fn shared<T: Drop, A: Allocator + Copy>(
     alloc: A,
     items: Vec<T, A>,

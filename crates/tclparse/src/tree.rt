@@ -1,10 +1,10 @@
-//! What a script is once it is read: commands of words of parts.
+//! What a script is once it is read: commands, which consist of words, which consist of parts.
 
 use std::alloc::Allocator;
 use std::rc::Rc;
 use tcltext::Value;
 
-/// One command: its words. There is at least one.
+/// One command: its words, of which there is at least one.
 #[cycle(tree)]
 #[derive(Drop)]
 pub struct Command<A: Allocator> {

@@ -1,4 +1,4 @@
-//! What stands behind a `$`.
+//! What stands after a `$`.
 
 ghost use Rattle.std.specs.Prelude.{◌≡◌, ◌+◌, ◌<◌, ◌≤◌, length};
 ghost use Rattle.tclparse.specs.Variable.{is_name, name_at, after_name};
@@ -15,7 +15,7 @@ fn is_name(c: u8) -> bool
     c.is_ascii_alphanumeric() || c == b'_'
 }
 
-/// The longest name at the front, of letters, digits and underscores, and the text behind it. Takes
+/// The longest name at the front, of letters, digits and underscores, and the text after it. Takes
 /// no memory.
 pub fn split_name(text: &[u8]) -> (&[u8], &[u8])
     ensures name { result.0.now ≡ name_at text.now }
@@ -30,7 +30,7 @@ pub fn split_name(text: &[u8]) -> (&[u8], &[u8])
     text.split_at(len)
 }
 
-// What the name between braces stands for, with that text behind them.
+// What `${name}` stands for, with the text `rest` after its closing brace.
 fn braced<'a>(name: &'a [u8], rest: &'a [u8]) -> Piece<'a>
     ensures piece { seen result ≡ next_braced name.now rest.now }
     ensures shorter { IsShorter result (length rest.now + 1) }
@@ -49,7 +49,7 @@ fn braced<'a>(name: &'a [u8], rest: &'a [u8]) -> Piece<'a>
     }
 }
 
-// What a name stands for, with that text behind it.
+// What `$name` stands for, with the text `rest` after the name.
 fn named<'a>(depth: u32, name: &'a [u8], rest: &'a [u8]) -> Piece<'a>
     ensures piece { seen result ≡ next_name depth name.now rest.now }
     ensures shorter { IsShorter result (length rest.now + 1) }
@@ -71,7 +71,7 @@ fn named<'a>(depth: u32, name: &'a [u8], rest: &'a [u8]) -> Piece<'a>
     }
 }
 
-/// What stands at a `$` with that text behind it, where so many brackets and indexes more may be
+/// The piece that a `$` before this text begins, where `depth` more brackets and indexes may be
 /// open.
 pub(crate) fn dollar(depth: u32, text: &[u8]) -> Piece<'_>
     ensures piece { seen result ≡ next_dollar depth text.now }

@@ -8,7 +8,7 @@ ghost use Rattle.tclparse.specs.Seen.{context_of, opening, OpensShorter, outcome
 use crate::context::{Context, ends_word};
 use crate::fault::Fault;
 
-/// What a word's first byte opens, and the text behind it.
+/// What a word's first byte opens, and the text after it.
 pub(crate) enum Opening<'a> {
     Braces(&'a [u8]),
     Quotes(&'a [u8]),
@@ -47,7 +47,8 @@ pub(crate) fn split_prefix(context: Context, text: &[u8]) -> (bool, &[u8])
     }
 }
 
-/// Where a word is read up to its closing quote: the text behind it.
+/// The text after the closing quote that this text begins with. `Err` where there is no quote, or
+/// the word does not end after it.
 pub(crate) fn close_quotes(context: Context, text: &[u8]) -> Result<&[u8], Fault>
     ensures rest { outcome result ≡ quotes_closed (context_of context) (Ok text.now) }
     ensures shorter { IfOk result (λ z. length z.now ≤ length text.now) }
@@ -64,7 +65,7 @@ pub(crate) fn close_quotes(context: Context, text: &[u8]) -> Result<&[u8], Fault
     }
 }
 
-/// Where a script is read up to its closing bracket: the text behind it.
+/// The text after the closing bracket that this text begins with. `Err` where there is none.
 pub(crate) fn close_bracket(text: &[u8]) -> Result<&[u8], Fault>
     ensures rest { outcome result ≡ bracket_closed (Ok text.now) }
     ensures shorter { IfOk result (λ z. length z.now ≤ length text.now) }
@@ -75,7 +76,7 @@ pub(crate) fn close_bracket(text: &[u8]) -> Result<&[u8], Fault>
     }
 }
 
-/// Where an index is read up to its closing parenthesis: the text behind it.
+/// The text after the closing parenthesis that this text begins with. `Err` where there is none.
 pub(crate) fn close_index(text: &[u8]) -> Result<&[u8], Fault>
     ensures rest { outcome result ≡ index_closed (Ok text.now) }
     ensures shorter { IfOk result (λ z. length z.now ≤ length text.now) }

@@ -17,8 +17,8 @@ use memory::NoMemory;
 use std::alloc::Allocator;
 use std::rc::Rc;
 
-/// The words of one command, in which newlines part words, and `;` and `#` are ordinary (expect(1),
-/// expect).
+/// The words of one command, in which newlines separate words, and `;` and `#` are ordinary
+/// (expect(1), expect).
 #[derive(Drop)]
 pub struct Words<A: Allocator> {
     /// The words, if there is no fault; else none.
@@ -30,8 +30,8 @@ pub struct Words<A: Allocator> {
 impl<A: Allocator + Copy> Words<A> {
     /// Reads a whole argument. Scripts in it have the grammar of any script.
     ///
-    /// Takes time in the length of the text, and stack in what is open at one place. On `NoMemory`
-    /// nothing is left.
+    /// Takes time linear in the length of the text, and stack for each bracket and index that is
+    /// open at one place. On `NoMemory` nothing stays allocated.
     pub fn read(alloc: A, text: &[u8]) -> Result<Words<A>, NoMemory>
         ensures tree { IfOk result (λ w.
             IsArgument (words_of w.words) (option_map fault_of w.fault) text.now) }

@@ -1,5 +1,5 @@
 //! A tree as a text to compare: each word in `<` and `>`, `*` before one that is expanded, `;`
-//! behind each command.
+//! after each command.
 //! A variable is `${name}`, an element `$name(index)`, a script stands in `[` and `]`.
 
 use memory::NoMemory;
@@ -71,7 +71,7 @@ pub fn show_commands<A: Allocator>(
     Ok(())
 }
 
-/// Writes a fault behind what was read before it.
+/// Writes a fault, if there is one, after what was read before it.
 pub fn push_fault<A: Allocator + Copy>(
     answer: &mut Vec<u8, A>,
     fault: Option<Fault>,

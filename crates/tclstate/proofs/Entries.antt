@@ -75,7 +75,7 @@ module _ {A X Y : Type 0} (seen : X → Y) where
           ap (λ y. (e.0.items, y) ∷ pairs_of seen es) now
       by rest false h = ap (λ r. (e.0.items, seen e.1) ∷ r) (rest h)
 
-  -- a removal is one of the pair
+  -- removing an entry removes the pair
   pub without_removed : (es : List (Vec ℕ A × X)) (key : List ℕ) →
       pairs_of seen (remove_entry (λ k. pointwise nat_eq key k.items) es)
       ≡ without (pairs_of seen es) key

@@ -18,7 +18,7 @@ use Rattle.tclstate.specs.declared.local.Local.TheVariants as local
 use Rattle.tclstate.proofs.Entries.{found_lookup, put_set, set_same, without_removed}
 
 module _ {X Y : Type 0} (f : X → Y) where
-  -- a trouble stays where what is asked for is changed
+  -- a trouble stays the same where the value without trouble would be changed
   pub on_ok_trouble : (e : ScopeError) (r : Result X Trouble) → HasTrouble e r →
       HasTrouble e (on_ok f r)
   on_ok_trouble error.NoVariable r h = ap (on_ok f) h
@@ -31,7 +31,7 @@ module _ {X Y : Type 0} (f : X → Y) where
   is_ok_on_ok (Ok x) h = h
   is_ok_on_ok (Err t) h = h
 
-  -- and so does a refusal
+  -- so does a trouble or a refusal of memory
   pub on_ok_refusal : (e : ScopeError) (r : Result X Trouble) → HasTroubleOrRefusal e r →
       HasTroubleOrRefusal e (on_ok f r)
   on_ok_refusal error.NoVariable r h = ap (on_ok f) h
@@ -59,7 +59,7 @@ module _ {A X : Type 0} (seen : X → Variable) (es : List (Vec ℕ A × X)) (f 
         ∙ ap Ok (ap (λ b. put b key (seen w)) (sym view) ∙ sym (put_set seen es key v w (sym at))
         ∙ ap (pairs_of seen) (sym is))
 
-    -- a trouble with what is there
+    -- a trouble with what is there is a trouble of the whole write
     pub trouble_in_place : (v : X) → Some v ≡ lookup (λ k. pointwise nat_eq key k.items) es →
         (e : ScopeError) → HasTrouble e (change (Some (seen v))) →
         HasTrouble e (on_ok (put f key) (change (found f key)))
@@ -85,7 +85,7 @@ module _ {A X : Type 0} (seen : X → Variable) (es : List (Vec ℕ A × X)) (f 
     refusal_absent at e h = on_ok_refusal (put f key) e (change (found f key))
         (rw (found_in None at) h)
 
-  -- what is written back as it was changes nothing
+  -- writing back what was there changes nothing
   pub unchanged_in_place : (es' : List (Vec ℕ A × X)) (v w : X) → Some v
       ≡ lookup (λ k. pointwise nat_eq key k.items) es → es'
       ≡ set_value (λ k. pointwise nat_eq key k.items) es w → seen w ≡ seen v → pairs_of seen es' ≡ f
@@ -99,7 +99,7 @@ module _ {A X : Type 0} (seen : X → Variable) (es : List (Vec ℕ A × X)) (f 
   put_in_place es' v w at is = ap (pairs_of seen) is ∙ put_set seen es key v w (sym at)
       ∙ ap (λ b. put b key (seen w)) view
 
-  -- the pair is gone
+  -- after a removal the pair is gone
   pub removed_from : (es' : List (Vec ℕ A × X)) → es'
       ≡ remove_entry (λ k. pointwise nat_eq key k.items) es → pairs_of seen es' ≡ without f key
   removed_from es' is = ap (pairs_of seen) is ∙ without_removed seen es key

@@ -7,28 +7,28 @@ use Rattle.std.proofs.Math.Seq.{drop-cons}
 use Rattle.tclstate.specs.Pairs.{found}
 use Rattle.tclstate.specs.Scopes.{Frame, Scopes, Trouble, is_link, scopes, variable}
 
--- two things that a failed call leaves
+-- what follows from two things that hold after a failed call holds after it too
 pub on_err_both : {T E P Q R : Type 0} (r : Result T E) → (P → Q → R) → OnErr r P → OnErr r Q →
     OnErr r R
 on_err_both (Ok x) f p q = p
 on_err_both (Err e) f p q = f p q
 
 module _ {X : Type 0} (xs : List X) (n : ℕ) (len : n ≡ length xs) (some : 0 < n) where
-  -- those around it, the innermost first
+  -- the frames around the last one, the innermost first
   abbrev pub around : List X
   around = reverse (take (n - 1) xs)
 
   none_behind : drop (suc (n - 1)) xs ≡ []
   none_behind = drop_of_length-le xs {i = suc (n - 1)} (omega (arith, some, len))
 
-  -- another one in its place
+  -- with another frame in place of the last one
   pub reverse_set : (y : X) → reverse (set xs (n - 1) y) ≡ y ∷ around
   reverse_set y =
       ap reverse (set_split xs (n - 1) y (omega (arith, some, len))
       ∙ ap (λ r. take (n - 1) xs ++ y ∷ r) none_behind)
       ∙ reverse-append (take (n - 1) xs) (y ∷ [])
 
-  -- the one that is there
+  -- with the last frame as it is
   pub reverse_last : (x : X) → x ≡ get_or xs (n - 1) x → reverse xs ≡ x ∷ around
   reverse_last x is =
       ap reverse (sym (take-append-drop (n - 1) xs)
@@ -42,7 +42,7 @@ module _ (xs : List Frame) (n : ℕ) (len : n ≡ length xs) (some : 0 < n) (x :
   pub by_innermost : scopes (x ∷ around xs n len some) g ≡ s
   by_innermost = ap (λ l. scopes l g) (sym (reverse_last xs n len some x is)) ∙ view
 
-  -- a change of the innermost frame, whatever is around it
+  -- a change of the innermost frame, whatever frames are around it
   pub changed_innermost : (op : Scopes → Result Scopes Trouble) (y g' : Frame) →
       ((outer : List Frame) → op (scopes (x ∷ outer) g) ≡ Ok (scopes (y ∷ outer) g'))
       → op s ≡ Ok (scopes (reverse (set xs (n - 1) y)) g')

@@ -17,7 +17,7 @@ use Rattle.tclstate.proofs.Frames.{on_ok_trouble, on_ok_refusal, found_in, remov
 
 module _ (change : Frame → Result Frame Trouble) (f g : Frame) (name : List ℕ) (outer : List Frame)
   where
-    -- the change, where it is known whether the name is linked
+    -- the changed scopes, where it is known whether the name is linked
     linked_frame : (b : Bool) → is_link (found f name) ≡ b →
         in_frame change (scopes (f ∷ outer) g) name
         ≡ on_ok (λ h. if b then scopes (f ∷ outer) h else scopes (h ∷ outer) g)
@@ -26,7 +26,7 @@ module _ (change : Frame → Result Frame Trouble) (f g : Frame) (name : List �
         ap (λ l. on_ok (λ h. if l then scopes (f ∷ outer) h else scopes (h ∷ outer) g)
         (change (if l then g else f))) e
 
-    -- a name of its own
+    -- a change of a name that is not linked is one of the local frame
     pub changed_here : (f' : Frame) → is_link (found f name) ≡ false → change f ≡ Ok f' →
         in_frame change (scopes (f ∷ outer) g) name ≡ Ok (scopes (f' ∷ outer) g)
     changed_here f' own e = linked_frame false own ∙ ap (on_ok (λ h. scopes (h ∷ outer) g)) e
@@ -42,7 +42,7 @@ module _ (change : Frame → Result Frame Trouble) (f g : Frame) (name : List �
     refusal_here e own h = rw (linked_frame false own)
         (on_ok_refusal (λ h. scopes (h ∷ outer) g) e (change f) h)
 
-    -- a linked name
+    -- a change of a linked name is one of the globals
     pub changed_global : (g' : Frame) → is_link (found f name) ≡ true → change g ≡ Ok g' →
         in_frame change (scopes (f ∷ outer) g) name ≡ Ok (scopes (f ∷ outer) g')
     changed_global g' link e = linked_frame true link ∙ ap (on_ok (λ h. scopes (f ∷ outer) h)) e
@@ -124,7 +124,7 @@ link_put_last es f view name dropped is gone key items es' last =
 module _ (own : Option Variable → Result Variable Trouble) (change : Frame → Result Frame Trouble)
     (f g : Frame) (name : List ℕ) (outer : List Frame)
     (is_own : change f ≡ on_ok (put f name) (own (found f name))) where
-  -- the scopes with this at the name, and these globals
+  -- the scopes with this variable at the name, and with these globals
   abbrev rebuilt : Variable × Frame → Scopes
   rebuilt p = scopes (put f name p.0 ∷ outer) p.1
 

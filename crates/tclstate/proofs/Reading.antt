@@ -44,7 +44,7 @@ wrong_count v text list one two x is =
     ap length (one_list text (parts x.name x.default) v is list) in
     count_of x.name x.default (λ e. one (sym same ∙ e)) (λ e. two (sym same ∙ e))
 
--- each text of formals is one
+-- each text in a list of formals is a formal
 formal_at : (fs : List Formal) (ts : List (List ℕ)) (i : ℕ) (t : List ℕ) → AreFormals fs ts →
     i < length ts → t ≡ get_or ts i t → (f : Formal) × IsFormal f t
 formal_at [] [] i t h lt is = absurd (omega arith)
@@ -61,7 +61,7 @@ bad_formal error.BadFormal text ts i t list lt at never =
     (ts, list, λ fs h. let formal = formal_at fs ts i t h lt at in never formal.0 formal.1)
 bad_formal (error.NoMemory r) text ts i t list lt at never = tt
 
--- whatever formals the rest is, those so far stand before them
+-- whatever formals the remaining words are, with those read so far before them they are all
 abbrev pub FormalsSoFar : List (List ℕ) → List (List ℕ) → List Formal → Type 0
 FormalsSoFar words rest so_far = (fs : List Formal) → AreFormals fs rest →
     AreFormals (so_far ++ fs) words
@@ -83,7 +83,7 @@ after_formal words i t so_far now f h lt at is pushed = λ fs more.
     ∙ append_assoc so_far (f ∷ []) fs in
     subst (λ l. AreFormals l words) (sym same) all
 
--- the last formal decides
+-- the last formal decides whether the remaining words are taken
 pub last_decides : (fs : List Formal) (k : ℕ) (d x : Formal) → suc k ≡ length fs → get_or fs k d ≡ x
     → takes_rest fs ≡ bytes_eq x.name args
 last_decides [] k d x e h = absurd (omega arith)
@@ -127,7 +127,7 @@ all_single (f ∷ fs) self b same is out =
     ∙ ap (λ t. if t then take (length (f ∷ fs) - 1) (f ∷ fs) else f ∷ fs) (sym is ∙ out))
     ∙ ap single same
 
--- behind the last word all are read
+-- after the last word all formals are read
 pub formals_end : (words : List (List ℕ)) (i : ℕ) (so_far : List Formal) →
     FormalsSoFar words (drop i words) so_far → length words ≤ i → AreFormals so_far words
 formals_end words i so_far h le =

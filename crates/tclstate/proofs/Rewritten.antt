@@ -104,7 +104,7 @@ module _ (s : Scopes) (name : List ℕ) (index : Option (List ℕ)) (other : Lis
     (own : is_link (Some y) ≡ false)
     (same : frame_written name index other (put (frame_of s name) name y)
     ≡ frame_written name index other (frame_of s name)) where
-  -- the same in the scopes, where it is known which frame it is
+  -- the same in the scopes, where it is known whether the name means a global
   scopes_again : (b : Bool) → means_global s.locals name ≡ b →
       written (with_frame s name (put (frame_of s name) name y)) name index other
       ≡ written s name index other

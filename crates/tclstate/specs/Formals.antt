@@ -37,13 +37,13 @@ HasBadFormal text =
 abbrev pub args : List ℕ
 args = 97 ∷ 114 ∷ 103 ∷ 115 ∷ []
 
--- Whether a last formal `args` takes the words that are left (proc(n)).
+-- Whether a last formal `args` takes the remaining words (proc(n)).
 abbrev pub takes_rest : List Formal → Bool
 takes_rest [] = false
 takes_rest (f ∷ []) = bytes_eq f.name args
 takes_rest (f ∷ (g ∷ fs)) = takes_rest (g ∷ fs)
 
--- The formals that take one word each: all but such an `args` (proc(n)).
+-- The formals that take one word each: all but a last `args` (proc(n)).
 abbrev pub single : List Formal → List Formal
 single [] = []
 single (f ∷ []) = if bytes_eq f.name args then [] else f ∷ []

@@ -7,8 +7,8 @@ use Rattle.tclstate.specs.declared.formals.FormalsError.{FormalsError}
 use Rattle.tclstate.specs.declared.formals.FormalsError.TheVariants as error
 use Rattle.tclstate.specs.Formals.{Formal, IsFormal, HasBadFormal}
 
--- The text has the fault that the error tells; memory is refused whatever the text is (proc(n);
--- this project's own rule).
+-- The text has the fault that the error reports; memory may be refused whatever the text is
+-- (proc(n); this project's own rule).
 abbrev pub HasFault : FormalsError → List ℕ → Type 0
 HasFault (error.NotAList f) text = IfSome (flaw_of f) (λ flaw. HasFlaw flaw text)
 HasFault error.BadFormal text = HasBadFormal text
@@ -20,6 +20,6 @@ IsNoFormal (error.NotAList f) text = ⊥
 IsNoFormal error.BadFormal text = (f : Formal) → IsFormal f text → ⊥
 IsNoFormal (error.NoMemory e) text = Unit {0}
 
--- The error is want of memory, as some refusal says (this project's own rule).
+-- The error is want of memory, for some refusal (this project's own rule).
 abbrev pub WantsMemory : FormalsError → Type 0
 WantsMemory e = (refusal : NoMemory) × (e ≡ error.NoMemory refusal)

@@ -9,12 +9,13 @@ module _ {X : Type 0} where
   found [] key = None
   found (e ∷ es) key = if bytes_eq key e.0 then Some e.1 else found es key
 
-  -- A key that is there keeps its place, and a new one goes last (this project's own rule).
+  -- The list after something is put at a key: a key that is there keeps its place, and a new one
+  -- goes last (this project's own rule).
   abbrev pub put : List (List ℕ × X) → List ℕ → X → List (List ℕ × X)
   put [] key x = (key, x) ∷ []
   put (e ∷ es) key x = if bytes_eq key e.0 then (e.0, x) ∷ es else e ∷ put es key x
 
-  -- A key is taken out and the rest closes up (this project's own rule).
+  -- The list without a key, closed up (this project's own rule).
   abbrev pub without : List (List ℕ × X) → List ℕ → List (List ℕ × X)
   without [] key = []
   without (e ∷ es) key = if bytes_eq key e.0 then es else e ∷ without es key

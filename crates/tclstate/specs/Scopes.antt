@@ -33,7 +33,7 @@ abbrev pub on_ok : {X Y : Type 0} → (X → Y) → Result X Trouble → Result 
 on_ok f (Ok x) = Ok (f x)
 on_ok f (Err t) = Err t
 
--- The bytes of a variable, or of its element at an index; what is absent or links to nothing has
+-- The bytes of a variable, or of its element at an index; what is absent, or is itself a link, has
 -- none (set(n)).
 abbrev pub value_of : Option Variable → Option (List ℕ) → Result (List ℕ) Trouble
 value_of (Some (Text bytes)) None = Ok bytes
@@ -79,7 +79,8 @@ abbrev pub frame_without : List ℕ → Option (List ℕ) → Frame → Result F
 frame_without name None frame = without_name frame name (found frame name)
 frame_without name (Some index) frame = on_ok (put frame name) (reduced (found frame name) index)
 
--- A frame with a name that is made an array, which an array is already (array(n), array set).
+-- A frame after a name that stands for this is made an array; an array stays as it is
+-- (array(n), array set).
 abbrev pub as_array : Frame → List ℕ → Option Variable → Result Frame Trouble
 as_array frame name (Some (Text bytes)) = Err NotArray
 as_array frame name (Some (Array elements)) = Ok frame
@@ -114,7 +115,7 @@ outer (frame ∷ frames) = frames
 abbrev pub frame_of : Scopes → List ℕ → Frame
 frame_of s name = if means_global s.locals name then s.globals else innermost s.locals
 
--- The scopes with another frame in that place (global(n)).
+-- The scopes with this frame in place of the one in which a name is read and written (global(n)).
 abbrev pub with_frame : Scopes → List ℕ → Frame → Scopes
 with_frame s name frame =
     if means_global s.locals name
@@ -129,7 +130,7 @@ variable s name = found (frame_of s name) name
 abbrev pub read : Scopes → List ℕ → Option (List ℕ) → Result (List ℕ) Trouble
 read s name index = value_of (variable s name) index
 
--- What reading it in the global frame gives (this project's own rule).
+-- What reading a name or an element in the global frame gives (this project's own rule).
 abbrev pub read_global : Scopes → List ℕ → Option (List ℕ) → Result (List ℕ) Trouble
 read_global s name index = value_of (found s.globals name) index
 
@@ -145,7 +146,7 @@ written s name index value = in_frame (frame_written name index value) s name
 abbrev pub removed : Scopes → List ℕ → Option (List ℕ) → Result Scopes Trouble
 removed s name index = in_frame (frame_without name index) s name
 
--- The scopes after a name is made an array, which an array is already (array(n), array set).
+-- The scopes after a name is made an array; an array stays as it is (array(n), array set).
 abbrev pub with_array : Scopes → List ℕ → Result Scopes Trouble
 with_array s name = in_frame (frame_with_array name) s name
 
@@ -164,11 +165,12 @@ entered frame s = record { locals = frame ∷ s.locals; globals = s.globals }
 abbrev pub pushed : Scopes → Scopes
 pushed s = entered [] s
 
--- The scopes after the innermost procedure returns (proc(n)); at the top level there is none.
+-- The scopes after the innermost procedure returns (proc(n)); at the top level, where none runs,
+-- nothing changes.
 abbrev pub popped : Scopes → Scopes
 popped s = record { locals = outer s.locals; globals = s.globals }
 
--- The elements of an array; what is none has none (array(n)).
+-- The elements of an array; what is no array has none (array(n)).
 abbrev pub elements_of : Option Variable → List (List ℕ × List ℕ)
 elements_of (Some (Array elements)) = elements
 elements_of _ = []
@@ -181,7 +183,7 @@ names_of s name = keys_of (elements_of (variable s name))
 abbrev pub size_of : Scopes → List ℕ → ℕ
 size_of s name = length (elements_of (variable s name))
 
--- No name and no index (set(n)).
+-- Scopes without any name, at the top level (set(n)).
 abbrev pub empty : Scopes
 empty = record { locals = []; globals = [] }
 

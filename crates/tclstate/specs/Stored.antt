@@ -34,8 +34,8 @@ globals_of es = pairs_of variable_of es
 abbrev pub locals_of : {A : Type 0} → List (Vec ℕ A × Local A) → Frame
 locals_of es = pairs_of local_of es
 
--- A change of what a local name stands for, with the globals after it: of a link the global is
--- changed, and it stays a link (global(n)).
+-- A change of what a local name stands for, with the globals after it: for a link the global is
+-- changed, and the name stays a link (global(n)).
 abbrev pub reached : (Variable → Result Variable Trouble) → (Frame → Result Frame Trouble) →
     Variable → Frame → Result (Variable × Frame) Trouble
 reached own global Link globals = on_ok (λ g. (Link, g)) (global globals)

@@ -93,8 +93,8 @@ impl<A: Allocator> Formals<A> {
         self.list.as_slice()
     }
 
-    /// The formals that take one word each, and whether a last `args` takes the words that are
-    /// left (proc(n)). A default of such an `args` is not looked at.
+    /// The formals that take one word each, and whether a last `args` takes the remaining words
+    /// (proc(n)). A default of such an `args` is ignored.
     pub fn split(&self) -> (&[Formal<A>], bool)
         ensures single { result.0.now ≡ single self.now }
         ensures rest { result.1 ≡ takes_rest self.now }
@@ -111,7 +111,8 @@ impl<A: Allocator> Formals<A> {
 impl<A: Allocator + Copy> Formals<A> {
     /// Reads the formals of a procedure: a list, each element a name or a list of a name and its
     /// default (proc(n)). Any text is a name, also the empty one in `{{} 5}`; whether a variable
-    /// may have it is the caller's to ask. Of one name twice, both stand in the list.
+    /// may have that name is for the caller to check. A name that is given twice stands in the list
+    /// twice.
     ///
     /// # Errors
     /// `NotAList` with the list's fault, `BadFormal` where the text is a list and some element is
@@ -159,7 +160,7 @@ fn read_formal<A: Allocator + Copy>(alloc: A, text: &[u8]) -> Result<Formal<A>, 
     }
 }
 
-/// What a text that is no list is told as.
+/// The error for a formal whose text was not read as a list.
 fn no_formal(fault: ListFault) -> FormalsError
     ensures { (text : List ℕ) → IfSome (flaw_of fault) (λ flaw. HasFlaw flaw text)
         → IsNoFormal result text }

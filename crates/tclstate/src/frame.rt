@@ -52,7 +52,7 @@ impl<A: Allocator> LocalFrame<A> {
         }
     }
 
-    /// Removes a name; of a link, the global, and the link stays.
+    /// Removes a name; for a link, removes the global, and the link stays.
     pub(crate) fn remove(&mut self, globals: &mut Globals<A>, name: &[u8]) -> Result<(), ScopeError>
         ensures ok { OnOk result ((outer : List spec.Frame) →
             spec.removed (spec.scopes (self.old ∷ outer) globals.old) name.now None
@@ -72,7 +72,7 @@ impl<A: Allocator> LocalFrame<A> {
         Ok(())
     }
 
-    /// Removes the element of a name at an index; of a link, the global's.
+    /// Removes the element of a name at an index; for a link, the global's element.
     pub(crate) fn remove_element(
         &mut self,
         globals: &mut Globals<A>,
@@ -107,7 +107,7 @@ impl<A: Allocator + Copy> LocalFrame<A> {
     }
 
     /// Gives a name a text, in place of what it stood for; a name that is not there goes last
-    /// (proc(n)).
+    /// (proc(n)). Where memory is refused nothing changes.
     pub fn bind(&mut self, alloc: A, name: &[u8], value: Value<A>) -> Result<(), NoMemory>
         ensures ok { OnOk result (self.new ≡ put self.old name.now (spec.Text value)) }
         ensures unchanged { OnErr result (self.new ≡ self.old) }
@@ -115,7 +115,7 @@ impl<A: Allocator + Copy> LocalFrame<A> {
         self.put(alloc, name, Local::Own(Content::Text(value)))
     }
 
-    /// Writes a name, or the element at an index; of a link, the global.
+    /// Writes a name, or its element at an index; for a link, writes the global.
     pub(crate) fn set(
         &mut self,
         globals: &mut Globals<A>,
@@ -144,7 +144,7 @@ impl<A: Allocator + Copy> LocalFrame<A> {
         }
     }
 
-    /// Makes a name an array, which an array is already; of a link, the global.
+    /// Makes a name an array, unless it is one already; for a link, this is done to the global.
     pub(crate) fn make_array(
         &mut self,
         globals: &mut Globals<A>,
@@ -188,7 +188,7 @@ impl<A: Allocator + Copy> LocalFrame<A> {
         Ok(())
     }
 
-    /// Puts a name, which goes last where it is not there.
+    /// Sets what a name stands for; a name that is not there goes last.
     fn put(&mut self, alloc: A, name: &[u8], local: Local<A>) -> Result<(), NoMemory>
         ensures ok { OnOk result (self.new ≡ put self.old name.now (local_of local)) }
         ensures unchanged { OnErr result (self.new ≡ self.old) }

@@ -70,7 +70,7 @@ impl<A: Allocator> Globals<A> {
 impl<A: Allocator + Copy> Globals<A> {
     ghost use Rattle.tclstate.specs.Stored.{variable_of};
 
-    /// No names, which takes no memory.
+    /// Globals without any name. Takes no memory.
     pub fn new(alloc: A) -> Globals<A>
         ensures { result ≡ [] }
     {
@@ -103,7 +103,7 @@ impl<A: Allocator + Copy> Globals<A> {
         }
     }
 
-    /// Makes a name an array, which an array is already.
+    /// Makes a name an array, unless it is one already.
     pub fn make_array(&mut self, alloc: A, name: &[u8]) -> Result<(), ScopeError>
         ensures ok { OnOk result (frame_with_array name.now self.old ≡ Ok self.new) }
         ensures trouble { IfErr result
@@ -120,7 +120,7 @@ impl<A: Allocator + Copy> Globals<A> {
         }
     }
 
-    /// Puts a name, which goes last where it is not there.
+    /// Sets what a name stands for; a name that is not there goes last.
     fn put(&mut self, alloc: A, name: &[u8], content: Content<A>) -> Result<(), NoMemory>
         ensures ok { OnOk result (self.new ≡ put self.old name.now (variable_of content)) }
         ensures unchanged { OnErr result (self.new ≡ self.old) }

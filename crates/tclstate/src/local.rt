@@ -18,7 +18,7 @@ pub enum Local<A: Allocator> {
 }
 
 impl<A: Allocator> Local<A> {
-    /// Removes the element at an index; of a link, the global's.
+    /// Removes the element at an index; for a link, the global's element.
     pub fn remove_element(
         &mut self,
         globals: &mut Globals<A>,
@@ -43,7 +43,7 @@ impl<A: Allocator> Local<A> {
 }
 
 impl<A: Allocator + Copy> Local<A> {
-    /// Writes the variable, or the element at an index; of a link, the global.
+    /// Writes the variable, or its element at an index; for a link, writes the global.
     pub fn set(
         &mut self,
         globals: &mut Globals<A>,

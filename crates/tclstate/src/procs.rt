@@ -41,7 +41,7 @@ impl<A: Allocator> Model for Procs<A> {
 }
 
 impl<A: Allocator> Procs<A> {
-    /// What was last defined for a name.
+    /// The procedure that was last defined for a name, if there is one.
     pub fn get(&self, name: &[u8]) -> Option<&Procedure<A>>
         ensures { option_copied result ≡ found self.now name.now }
     {
@@ -50,7 +50,7 @@ impl<A: Allocator> Procs<A> {
 }
 
 impl<A: Allocator + Copy> Procs<A> {
-    /// No procedures, which takes no memory.
+    /// A table without procedures. Takes no memory.
     pub fn new(alloc: A) -> Procs<A>
         ensures { result ≡ [] }
     {
@@ -60,7 +60,7 @@ impl<A: Allocator + Copy> Procs<A> {
     }
 
     /// Defines a procedure, in place of what was defined for its name before; all other names keep
-    /// theirs (proc(n)).
+    /// their procedures (proc(n)). Where memory is refused nothing changes.
     pub fn define(&mut self, alloc: A, name: &[u8], procedure: Procedure<A>) -> Result<(), NoMemory>
         ensures ok { OnOk result (self.new ≡ put self.old name.now procedure) }
         ensures unchanged { OnErr result (self.new ≡ self.old) }

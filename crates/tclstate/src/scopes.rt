@@ -37,7 +37,7 @@ impl<A: Allocator> Model for Scopes<A> {
 impl<A: Allocator> Scopes<A> {
     ghost use Rattle.tclstate.specs.Stored.{variable_of};
 
-    /// What a name means.
+    /// What a name means in the current frame; a link means the global.
     fn variable(&self, name: &[u8]) -> Option<&Content<A>>
         ensures { option_map variable_of (option_copied result) ≡ spec.variable self.now name.now }
     {
@@ -69,7 +69,7 @@ impl<A: Allocator> Scopes<A> {
         }
     }
 
-    /// The same in the global frame.
+    /// The text of a name of the global frame, or of its element at an index.
     ///
     /// # Errors
     /// Those of [`get`](Scopes::get).
@@ -141,7 +141,8 @@ impl<A: Allocator> Scopes<A> {
         }
     }
 
-    /// Begins a procedure with its frame (proc(n)).
+    /// Begins a procedure with its frame, which becomes the current one (proc(n)). Where memory is
+    /// refused nothing changes.
     pub fn enter(&mut self, frame: LocalFrame<A>) -> Result<(), NoMemory>
         ensures ok { OnOk result (self.new ≡ spec.entered frame self.old) }
         ensures unchanged { OnErr result (self.new ≡ self.old) }
@@ -150,7 +151,8 @@ impl<A: Allocator> Scopes<A> {
         Ok(())
     }
 
-    /// Ends the innermost procedure's frame (proc(n)); at the top level there is none.
+    /// Ends the innermost procedure's frame (proc(n)); at the top level, where there is none,
+    /// nothing changes.
     pub fn pop_frame(&mut self)
         ensures { self.new ≡ spec.popped self.old }
     {
@@ -159,7 +161,7 @@ impl<A: Allocator> Scopes<A> {
 }
 
 impl<A: Allocator + Copy> Scopes<A> {
-    /// No names, at the top level. Takes no memory.
+    /// Scopes without any name, at the top level. Takes no memory.
     pub fn new(alloc: A) -> Scopes<A>
         ensures { result ≡ spec.empty }
     {
@@ -219,7 +221,7 @@ impl<A: Allocator + Copy> Scopes<A> {
         Ok(value)
     }
 
-    /// Makes a name an array, which an array is already (array(n), array set).
+    /// Makes a name an array, unless it is one already (array(n), array set).
     ///
     /// # Errors
     /// `NotArray` where the name means a text, and `NoMemory`.
@@ -236,8 +238,8 @@ impl<A: Allocator + Copy> Scopes<A> {
     }
 
     /// Links a name of the innermost procedure to the global of that name (global(n)). A local of
-    /// that name is dropped, and the link goes last; a link that is there stays. At the top level
-    /// nothing changes.
+    /// that name is dropped, and the link goes last; a link that is there stays. At the top level,
+    /// and where memory is refused, nothing changes.
     pub fn link_global(&mut self, alloc: A, name: &[u8]) -> Result<(), NoMemory>
         ensures ok { OnOk result (self.new ≡ spec.linked self.old name.now) }
         ensures unchanged { OnErr result (self.new ≡ self.old) }
@@ -248,8 +250,11 @@ impl<A: Allocator + Copy> Scopes<A> {
         frame.link(alloc, name)
     }
 
-    /// The indexes of an array, in order; none for a name that means no array (array(n), array
-    /// names).
+    /// The indexes of an array, in order; none for a name that means no array
+    /// (array(n), array names).
+    ///
+    /// # Errors
+    /// `NoMemory` where memory is refused.
     pub fn names(&self, alloc: A, name: &[u8]) -> Result<Vec<Value<A>, A>, NoMemory>
         ensures { IfOk result (λ names. names.items ≡ spec.names_of self.now name.now) }
     {
@@ -259,7 +264,8 @@ impl<A: Allocator + Copy> Scopes<A> {
         }
     }
 
-    /// Begins the frame of a procedure, which has no names yet (proc(n)).
+    /// Begins the frame of a procedure, which has no names yet (proc(n)). Where memory is refused
+    /// nothing changes.
     pub fn push_frame(&mut self, alloc: A) -> Result<(), NoMemory>
         ensures ok { OnOk result (self.new ≡ spec.pushed self.old) }
         ensures unchanged { OnErr result (self.new ≡ self.old) }

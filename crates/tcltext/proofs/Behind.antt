@@ -1,4 +1,4 @@
--- What is written behind a list.
+-- What is written after a list.
 use Rattle.std.proofs.Common.{◌≡◌, ℕ, ◌==◌, List, [], ◌∷◌, ◌++◌, length, Bool, true, false, refl, sym, ap, subst, ◌∙◌, append_assoc}
 use Rattle.tcltext.specs.Canonical.{written, joined, canonical, IsCanonical, IsListOf}
 use Rattle.tcltext.specs.Elements.{IsList}
@@ -6,7 +6,7 @@ use Rattle.tcltext.proofs.Elements.{none_left}
 use Rattle.tcltext.proofs.Unique.{one_list}
 use Rattle.tcltext.proofs.Written.{reads_back, reads_back_alone}
 
--- what is written of more elements stands behind what is written of those before them
+-- what is written of more elements stands after what is written of those before them
 joined_behind : (v w : List (List ℕ)) → joined false (v ++ w) ≡ joined false v ++ joined false w
 joined_behind [] w = refl
 joined_behind (e ∷ v) w =
@@ -26,7 +26,7 @@ none_written v is = one_list [] v [] (subst (IsList v) is (reads_back v)) refl
 no_element : (e : List ℕ) (v : List (List ℕ)) → e ∷ v ≡ [] → ⊥
 no_element e v same = cc
 
--- the text of a list, and what is written behind it
+-- the text of a list, and what is written after it
 pub more_behind : (v w : List (List ℕ)) (text : List ℕ) (first : Bool) → text ≡ canonical v →
     first ≡ (length text == 0) → text ++ joined first w ≡ canonical (v ++ w)
 more_behind [] w text first is empty = rw (empty, is) refl
@@ -35,11 +35,11 @@ more_behind (e ∷ v) w text true is empty =
 more_behind (e ∷ v) w text false is empty =
     ap (λ t. t ++ joined false w) is ∙ sym (some_behind e v w)
 
--- a canonical text is that of its list
+-- a canonical text is the canonical text of the list that it reads as
 pub list_of_canonical : (x : List ℕ) → IsCanonical x → IsListOf x x
 list_of_canonical x is = (is.0, subst (IsList is.0) (sym is.1) (reads_back is.0), is.1)
 
--- the text of the list that a text is, is the text of its elements alone
+-- if y is the canonical text both of v and of the list that x is, then x is the list v
 pub one_list_of : (x y : List ℕ) (v : List (List ℕ)) → IsListOf x y → y ≡ canonical v →
     IsList v x
 one_list_of x y v is same =

@@ -28,7 +28,7 @@ elements_skipped (e ∷ v) o x h = (
   h.2,
 )
 
--- Whatever stands in y, the elements stand before it in x.
+-- Whatever elements y has, x has the elements es before them.
 abbrev pub ListSoFar : List ℕ → List ℕ → List (List ℕ) → Type 0
 ListSoFar x y es = (v : List (List ℕ)) (o : Option Flaw) → IsElements v o y →
     IsElements (es ++ v) o x

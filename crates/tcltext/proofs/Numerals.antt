@@ -63,7 +63,7 @@ digits_spelled (c ∷ ds) u base small h some white =
     first_choice (is_digit base c) (digits_behind base 0 (c ∷ (ds ++ u))) None p.0
     ∙ behind_spelled (c ∷ ds) u base 0 small h white
 
--- a byte that is none of the letters behind a 0
+-- a byte that is none of the letters after a 0
 plain_zero : (P : ℕ → Bool) (c : ℕ) (x : List ℕ) → P c ≡ true → P 120 ≡ false → P 111 ≡ false → P 98
     ≡ false → behind_zero (c ∷ x) ≡ digits_behind 8 0 (c ∷ x)
 plain_zero P c x h k m n =
@@ -134,7 +134,7 @@ unsigned_plain c y h =
     let b : (c == 43) ≡ false = not_same (is_digit 10) c 43 h refl in
     rw (a, b) refl
 
--- behind white: the sign, the number and white
+-- after white: the sign, the number and white
 sign_spelled : (n : ℤ) (s d u : List ℕ) (m : ℕ) → IsUnsigned m d → IsWhite u → IsSigned s m n →
     (ends_element (s ++ (d ++ u)) ≡ false) × (signed (s ++ (d ++ u)) ≡ Some n)
 sign_spelled n s d u m h white (inl (p, is)) =
@@ -191,7 +191,7 @@ one_more : (base c : ℕ) (ds : List ℕ) → is_digit base c ≡ true → AreDi
     AreDigits base (c ∷ ds)
 one_more base c ds e h = rw e h
 
--- digits behind n, and white
+-- digits after n, and white
 abbrev Digits : ℕ → ℕ → List ℕ → ℕ → Type 0
 Digits base n x m = (ds u : List ℕ) × (x ≡ ds ++ u) × AreDigits base ds × IsWhite u
     × (m ≡ with_digits base n ds)

@@ -17,7 +17,7 @@ abbrev pub keep_all : List ℕ → Found → Found
 keep_all front None = None
 keep_all front (Some r) = Some (front ++ r.0, r.1)
 
--- With so many braces open: the bytes up to the brace that closes them all, and what follows it.
+-- With k braces open: the bytes up to the brace that closes them all, and what follows it.
 -- hidden: a backslash stands before.
 abbrev pub pairing : ℕ → Bool → List ℕ → Found
 pairing k hidden [] = None
@@ -53,7 +53,7 @@ close_byte k x =
     let back : k + 1 - 1 ≡ k = omega arith in
     rw (more, back) refl
 
--- what is balanced is kept
+-- a balanced text is passed over as a whole
 pub balanced_kept : (e : List ℕ) → IsBalanced e → (k : ℕ) (y : List ℕ) → pairing k false (e ++ y)
     ≡ keep_all e (pairing k false y)
 balanced_kept _ nothing k y = keep_none (pairing k false y)
@@ -71,7 +71,7 @@ balanced_kept _ (a_group x z b d) k y =
     ∙ keep_keep_all 125 z rest)
     ∙ keep_append x (125 ∷ z) rest) ∙ keep_keep_all 123 (x ++ 125 ∷ z) rest
 
--- the bytes of each of so many open groups, and a brace behind each
+-- the rests of k open groups, with a closing brace after each, and then a balanced text
 abbrev pub Closes : ℕ → List ℕ → Type 0
 Closes zero e = IsBalanced e
 Closes (suc k) e = (a b : List ℕ) × (e ≡ a ++ 125 ∷ b) × IsBalanced a × Closes k b
@@ -121,7 +121,7 @@ byte_cases c = elim (eqb_tells c 92) [
   ]
 ]
 
--- What is found is balanced for each brace that was open
+-- The found text closes each of the k open braces, and a closing brace follows it
 abbrev pub IsFound : ℕ → List ℕ → List ℕ → List ℕ → Type 0
 IsFound k x e z = (x ≡ e ++ 125 ∷ z) × Closes k e
 

@@ -30,7 +30,7 @@ next_or k n le = by (up_to k n)
     by (inl low) = inl low
     by (inr high) = inr (omega arith)
 
--- the least and the greatest number that has something
+-- the least and the greatest number that has a property
 module _ (Has : ℕ → Type 0) (each : (k : ℕ) → Decided (Has k)) where
   abbrev NoneUpTo : ℕ → Type 0
   NoneUpTo n = (k : ℕ) → k ≤ n → Has k → ⊥
@@ -68,7 +68,7 @@ module _ (Has : ℕ → Type 0) (each : (k : ℕ) → Decided (Has k)) where
   least-next n (inl has) (inr none) = inl (suc n, has, above n none)
   least-next n (inr not) (inr none) = inr (not_next n none not)
 
-  -- the least number has it, or none up to that one has it
+  -- there is a least number that has the property, or no number up to n has it
   pub least : (n : ℕ) → Least ⊎ NoneUpTo n
   least zero = least-zero (each 0)
   least (suc n) = least-next n (each (suc n)) (least n)
@@ -88,12 +88,12 @@ module _ (Has : ℕ → Type 0) (each : (k : ℕ) → Decided (Has k)) where
       by k has (inr same) = absurd (not (rw same at has))
   greatest-next n (inr not) (inr none) = inr (not_next n none not)
 
-  -- the greatest number up to that one has it, or none of them has it
+  -- there is a greatest number up to n that has the property, or none up to n has it
   pub greatest : (n : ℕ) → Greatest n ⊎ NoneUpTo n
   greatest zero = greatest-zero (each 0)
   greatest (suc n) = greatest-next n (each (suc n)) (greatest n)
 
--- where a tie asks for something
+-- what is asked for only where a tie is set is decided
 asked : {P : Type 0} → (b : Bool) → Decided P → Decided (IsTrue b → P)
 asked false d = inl (λ yes. absurd (cc))
 asked true (inl is) = inl (λ yes. is)
@@ -123,7 +123,7 @@ module _ (p : Reading) (w : List ℕ) where
       (decided p.items (compared p.folds (slice_range w s e)))
       (asked p.at_start (equal s 0)) (asked p.at_end (equal e (length w)))
 
-  -- it sits somewhere from that start
+  -- the pattern sits somewhere with this start
   abbrev Begins : ℕ → Type 0
   Begins s = (e : ℕ) × Sits p w s e
 
@@ -156,11 +156,11 @@ module _ (p : Reading) (w : List ℕ) where
       inl (first.0, end.0, end.1)
   found-by (inr none) = inr (λ s e at. none s (omega (arith, at.ordered, at.within)) (e, at))
 
-  -- it is found somewhere, or it sits nowhere
+  -- the pattern is found somewhere, or it sits nowhere
   pub found_or_nowhere : ((s e : ℕ) × IsFound p w s e) ⊎ SitsNowhere p w
   found_or_nowhere = found-by (least Begins begins (length w))
 
-  -- it is found at no two places
+  -- the pattern is found at no two places
   pub one_place : (s e t f : ℕ) → IsFound p w s e → IsFound p w t f → (s ≡ t) × (e ≡ f)
   one_place s e t f a b =
       let same : s ≡ t = omega (arith, a.least_start t f b.sits, b.least_start s e a.sits) in (

@@ -8,7 +8,7 @@ use Rattle.tcltext.specs.Seen.{seen}
 use Rattle.tcltext.specs.Elements.{Next, no_escape, next, IsSpelled}
 use Rattle.tcltext.specs.Reads.{Halts, MeetsEscape}
 
--- Whatever is spelled in y, the bytes stand before it in x.
+-- Whatever bytes y spells, x spells the bytes bs before them.
 abbrev pub SpelledSoFar : Style → List ℕ → List ℕ → List ℕ → Type 0
 SpelledSoFar s x y bs = (t z : List ℕ) → IsSpelled s t y z → IsSpelled s (bs ++ t) x z
 
@@ -19,7 +19,7 @@ pub meets_escape : (s : Style) (x y bs : List ℕ) → SpelledSoFar s x y bs →
     MeetsEscape s x
 meets_escape s x y bs so_far e = (bs, y, spelled_here s x y bs so_far, sym e)
 
--- what is no byte and no fault halts
+-- a piece that is neither a byte nor a fault halts the reading
 pub halted : (p : Piece) (n : Next) → seen p ≡ n →
     ((b : ℕ) (z : Bor (List ℕ)) → p ≡ piece.Byte b z → ⊥) → (p ≡ piece.NoEscape → ⊥) → Halts n
 halted piece.End n e byte escape = subst Halts e tt

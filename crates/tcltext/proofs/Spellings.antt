@@ -1,4 +1,5 @@
--- A text is a list exactly where it is spellings of the elements with white between them.
+-- A text is a list exactly where it consists of spellings of the elements with white space between
+-- them.
 use Rattle.std.proofs.Common.{◌≡◌, ℕ, ◌+◌, ◌-◌, ◌*◌, ◌<◌, ◌==◌, ◌||◌, List, [], ◌∷◌, ◌++◌, ◌↔◌, inl, inr, length, Bool, true, false, not, cond, Result, Ok, Err, refl, sym, ap, subst, ◌∙◌, append_assoc, arith}
 use Rattle.std.proofs.lemmas.Bool.{eqb-true}
 use Rattle.tcltext.specs.declared.escape.EscapeNotHere.{EscapeNotHere}
@@ -26,7 +27,7 @@ blanks_end [] = ([], refl)
 blanks_end (c ∷ x) = choice (EndsIn (c ∷ x)) (is_blank c) (skip_blanks x) (c ∷ x)
     (longer c x (skip_blanks x) (blanks_end x)) ([], refl)
 
--- the text behind a number is the end of it
+-- the text after a number is the end of it
 abbrev NumberEnds : List ℕ → ℕ × List ℕ → Type 0
 NumberEnds x r = EndsIn x r.1
 
@@ -109,7 +110,7 @@ pieces_spelled (b ∷ e) s t z h =
     let at : t ++ z ≡ h.0 ++ (h.1 ++ z) = ap (λ y. y ++ z) h.2 ∙ append_assoc h.0 h.1 z in
     (h.1 ++ z, ap (next s) at ∙ h.3, pieces_spelled e s h.1 z h.4)
 
--- the text of an opening
+-- the opening is that of y, and its text is what follows
 abbrev Opens : List ℕ → Opening → Type 0
 Opens y (in_braces x) = y ≡ 123 ∷ x
 Opens y (in_quotes x) = y ≡ 34 ∷ x
@@ -134,7 +135,7 @@ closed_ok : (f : Flaw) (e z d y : List ℕ) → Same (Ok (e, z)) (closed f d y) 
     × (ends_element y ≡ true)
 closed_ok f e z d y h = closed_at f e z d y (ends_element y) refl h
 
--- What an element's text is
+-- y is a spelling of the element e, and then z
 abbrev Spelt : List ℕ → List ℕ → List ℕ → Type 0
 Spelt e y z = (t : List ℕ) × (y ≡ t ++ z) × IsSpelling e t z × (ends_element z ≡ true)
 
@@ -283,7 +284,7 @@ opened_bare c x h =
     let b = not_true (c == 34) p.1 in
     rw (a, b) refl
 
--- behind an element white follows, or nothing
+-- after an element white follows, or nothing
 pub bare_ends : (e z : List ℕ) → ends_element z ≡ true → 0 < length e →
     BareEnds e z (next up_to_white z) (Ok (e, z))
 bare_ends e [] h some = (some, refl)

@@ -7,7 +7,7 @@ use Rattle.std.proofs.lemmas.Map.Views.{list_any-from_Contains, Contains-from_an
 use Rattle.tcltext.specs.Pattern.Item.{Item, literal, any_byte, one_of, any_run}
 use Rattle.tcltext.specs.Pattern.Match.{IsPiece, Whole}
 
--- it is so, or it is not
+-- the statement holds, or it does not
 abbrev pub Decided : Type 0 → Type 0
 Decided P = P ⊎ (P → ⊥)
 
@@ -106,7 +106,7 @@ decided (one_of bytes ∷ items) t =
     (λ b. set_byte b bytes (among_at b bytes (list_any (nat_eq b) bytes) refl)) (decided items) t
 decided (any_run ∷ items) t = some_run items (decided items) t
 
--- a test comes out as it is decided
+-- a decided statement has a boolean test
 test : {P : Type 0} → Decided P → (takes : Bool) × (IsTrue takes ↔ P)
 test (inl is) = (true, ((λ yes. is), (λ yes. refl)))
 test (inr not) = (false, ((λ yes. absurd (cc)), (λ is. absurd (not is))))

@@ -29,7 +29,7 @@ number_within (c ∷ x) base most n =
 abbrev Escaped : Type 0
 Escaped = Result (ℕ × List ℕ) EscapeNotHere
 
--- the text behind an escape has at most so many bytes
+-- the text after an escape has at most n bytes
 abbrev Within : ℕ → Result (ℕ × List ℕ) EscapeNotHere → Type 0
 Within n (Ok p) = length p.1 ≤ n
 Within n (Err e) = Unit {0}
@@ -59,7 +59,7 @@ escape_within (c ∷ x) =
     (choice (Within n) ((c == 117) || (c == 85)) (Err (record {})) digits tt
     (choice (Within n) (is_digit 8 c) number named (number_within (c ∷ x) 8 3 0) other)))
 
--- the text behind what stands next has fewer bytes than that
+-- the text after what stands next has fewer than n bytes
 abbrev pub Fewer : ℕ → Next → Type 0
 Fewer n at_end = Unit {0}
 Fewer n (a_stop z) = length z < n
@@ -81,7 +81,7 @@ next_fewer s (c ∷ x) =
     (choice (Fewer n) (c == 92) (escaped (escape x)) (a_byte c x)
     (escaped_fewer (length x) (escape x) (escape_within x)) one)
 
--- some bytes stand at the front, and then no byte
+-- x spells some bytes at its front, and then no further byte
 abbrev pub Spells : Style → List ℕ → Type 0
 Spells s x = (e z : List ℕ) × IsSpelled s e x z × NoByte (next s z)
     × (length e + length z ≤ length x)
@@ -102,7 +102,7 @@ spells_within zero s (c ∷ x) h = absurd (omega arith)
 spells_within (suc n) s x h = spells_next n s x (next s x) refl (next_fewer s x) h
     (λ y k. spells_within n s y k)
 
--- the text behind an element has fewer bytes than that
+-- the text after an element has fewer than n bytes
 abbrev pub Shorter : ℕ → Outcome → Type 0
 Shorter n (Ok p) = length p.1 < n
 Shorter n (Err f) = Unit {0}
@@ -151,7 +151,7 @@ quoted_reads n x e z no_escape is h b spelled within = (
   tt,
 )
 
--- a bare element goes on
+-- a bare element does not end here
 abbrev GoesOn : Next → Type 0
 GoesOn at_end = ⊥
 GoesOn (a_stop z) = ⊥

@@ -83,7 +83,7 @@ nothing_bare [] [] r h k = absurd (omega arith)
 nothing_bare [] (c ∷ z) r h k = absurd (cc)
 nothing_bare (b ∷ e) z r h k = absurd (cc)
 
--- where nothing is left no element stands
+-- no element stands in an empty text
 pub no_element : (y : List ℕ) (r : Outcome) → y ≡ [] → IsElement y r → ⊥
 no_element y r none h = let k : IsElement [] r = subst (λ x. IsElement x r) none h in
     nothing_bare k.0 k.1 r k.2 k.3

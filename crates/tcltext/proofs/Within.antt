@@ -34,7 +34,7 @@ none_counts x false is none = refl
 none_counts x true is none = let number = number_spelled x (numeral x) refl is in
     absurd (none number.0 number.1 number.2)
 
--- what reading a text says of it
+-- reading finds a number exactly where the text is one
 pub read_says : (x : List ℕ) (r : Option ℤ) →
     MatchOption r ((n : ℤ) → IsNumeral n x → IsInRange n → ⊥) (λ n. IsNumeral n x) →
     IfSome r IsInRange → is_some r ≡ is_number x

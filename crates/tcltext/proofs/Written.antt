@@ -15,7 +15,7 @@ use Rattle.tcltext.proofs.Pairing.{Closes, closes_byte, closes_open, closes_clos
 use Rattle.tcltext.proofs.Spellings.{bare_ends}
 use Rattle.tcltext.proofs.Unique.{one_list, no_list_with_flaw}
 
--- What a byte is not, where it is not special
+-- The byte is not white space and none of the other special bytes
 abbrev IsPlain : ℕ → Type 0
 IsPlain c = (is_white c ≡ false) × ((c == 34) ≡ false) × ((c == 123) ≡ false) × ((c == 125) ≡ false)
     × ((c == 92) ≡ false)
@@ -39,7 +39,7 @@ next_plain c x h = rw (h.0, h.4) refl
 opening_plain : (c : ℕ) (x : List ℕ) → IsPlain c → opening (c ∷ x) ≡ bare (c ∷ x)
 opening_plain c x h = rw (h.2, h.1) refl
 
--- a byte behind a backslash under its name
+-- a backslash and the name of the byte c stand for c
 abbrev Escapes : ℕ → List ℕ → Type 0
 Escapes c x = escape (escape_name c ∷ x) ≡ Ok (c, x)
 
@@ -49,7 +49,7 @@ no_white c a b d e f = grind (arith, nat_tests)
 special_apart : (c : ℕ) → is_special c ≡ true → is_special c ≡ false → ⊥
 special_apart c h k = cc
 
--- the other bytes
+-- each special byte is escaped by its name
 special_cases : (c : ℕ) → is_special c ≡ true → (x : List ℕ) → Escapes c x
 special_cases c h x =
     elim (eqb_tells c 32) [
@@ -139,7 +139,7 @@ spelled_escaped (c ∷ e) z = spelled_escaped_at c e z (is_special c) refl (spel
 abbrev pub ReadsAs : List ℕ → List ℕ → List ℕ → Type 0
 ReadsAs e t z = (skip_white (t ++ z) ≡ t ++ z) × IsElement (t ++ z) (Ok (e, z))
 
--- a bare text that begins with no white
+-- a bare text that does not begin with white space reads as its element
 bare_reads : (e z : List ℕ) (c : ℕ) (x : List ℕ) → opening (c ∷ x) ≡ bare (c ∷ x) → is_white c
     ≡ false → IsSpelled up_to_white e (c ∷ x) z → ends_element z ≡ true → 0 < length e
     → (skip_white (c ∷ x) ≡ c ∷ x) × IsElement (c ∷ x) (Ok (e, z))
@@ -247,7 +247,7 @@ not_empty : (e : List ℕ) → is_braceable e ≡ false → is_empty e ≡ false
 not_empty [] h = absurd (cc)
 not_empty (c ∷ e) h = refl
 
--- each way of writing an element
+-- an element reads back, whichever way it is written
 written_by : (first : Bool) (e z : List ℕ) (a b d : Bool) → is_bare first e ≡ a → is_braceable e ≡ b
     → is_comment first e ≡ d → ends_element z ≡ true
     → ReadsAs e (cond a e (cond b (123 ∷ (e ++ 125 ∷ []))

@@ -16,7 +16,7 @@ abbrev pub is_comment : Bool → List ℕ → Bool
 is_comment first [] = false
 is_comment first (c ∷ x) = first && (c == 35)
 
--- No byte stands in the element.
+-- The element is empty.
 abbrev pub is_empty : List ℕ → Bool
 is_empty [] = true
 is_empty (c ∷ x) = false
@@ -26,7 +26,8 @@ is_empty (c ∷ x) = false
 abbrev pub is_bare : Bool → List ℕ → Bool
 is_bare first e = not (is_empty e) && (not (is_comment first e) && not (list_any is_special e))
 
--- With so many braces open, the rest closes each one and each that it opens (Tcl(n), rule 6).
+-- With k braces open, the text closes each of them and each brace that it opens itself (Tcl(n),
+-- rule 6).
 abbrev pub pairs_up : ℕ → List ℕ → Bool
 pairs_up k [] = k == 0
 pairs_up k (c ∷ x) =
@@ -38,13 +39,13 @@ pairs_up k (c ∷ x) =
 abbrev pub is_braceable : List ℕ → Bool
 is_braceable e = not (list_any (λ c. c == 92) e) && pairs_up 0 e
 
--- The name of a byte behind a backslash (Tcl(n), rule 9).
+-- The name of a byte after a backslash (Tcl(n), rule 9).
 abbrev pub escape_name : ℕ → ℕ
 escape_name c =
     if c == 9 then 116 else (if c == 10 then 110 else (if c == 11 then 118 else
     (if c == 12 then 102 else (if c == 13 then 114 else c))))
 
--- Each special byte behind a backslash, under its name (this project's own rule).
+-- Each special byte after a backslash, under its name (this project's own rule).
 abbrev pub escaped_bytes : List ℕ → List ℕ
 escaped_bytes [] = []
 escaped_bytes (c ∷ x) =

@@ -1,7 +1,7 @@
 -- Digits of the bases from 2 to 16.
 use Rattle.std.specs.Prelude.{ℕ, ◌-◌, nat_le, nat_lt, ◌&&◌, Bool, if◌then◌else◌}
 
--- The value of a digit, in either case; no digit has the value 16 (expr(n), operands).
+-- The value of a digit, in either case; 16 for a byte that is no digit (expr(n), operands).
 abbrev pub digit_value : ℕ → ℕ
 digit_value c =
     if nat_le 48 c && nat_le c 57 then c - 48 else

@@ -7,8 +7,9 @@ use Rattle.tcltext.specs.White.{skip_white, ends_element}
 use Rattle.tcltext.specs.Escape.{escape}
 use Rattle.tcltext.specs.Balanced.{IsPaired}
 
--- What stands next in a bare or quoted element: the text's end, a byte that ends it with the text
--- behind, a byte of it with the text behind, or an escape that is left out (Tcl_SplitList(3)).
+-- What stands next in a bare or quoted element: the text's end, the byte that ends the element and
+-- the text after it, a byte of the element and the text after it, or an escape that is left out
+-- (Tcl_SplitList(3)).
 pub data Next : Type 0 where
   at_end : Next
   a_stop : List ℕ → Next
@@ -26,18 +27,18 @@ next s [] = at_end
 next s (c ∷ x) =
     if stops s c then a_stop x else (if c == 92 then escaped (escape x) else a_byte c x)
 
--- The bytes e stand at the front of x, each as itself or as an escape, and z is the text behind
+-- The bytes e stand at the front of x, each as itself or as an escape, and z is the text after
 -- them (Tcl_SplitList(3)).
 abbrev pub IsSpelled : Style → List ℕ → List ℕ → List ℕ → Type 0
 IsSpelled s [] x z = x ≡ z
 IsSpelled s (b ∷ e) x z = (y : List ℕ) × (next s x ≡ a_byte b y) × IsSpelled s e y z
 
--- What is read in an element's place: its bytes and the text behind it, or a flaw
+-- What is read in an element's place: its bytes and the text after it, or a flaw
 -- (Tcl_SplitList(3)).
 abbrev pub Outcome : Type 0
 Outcome = Result (List ℕ × List ℕ) Flaw
 
--- Behind a closing brace or quote the element ends, else there is a flaw (Tcl_SplitList(3)).
+-- After a closing brace or quote the element ends, else there is a flaw (Tcl_SplitList(3)).
 abbrev pub closed : Flaw → List ℕ → List ℕ → Outcome
 closed f e z = if ends_element z then Ok (e, z) else Err f
 
@@ -68,12 +69,13 @@ pub data Opening : Type 0 where
   in_quotes : List ℕ → Opening
   bare : List ℕ → Opening
 
--- An open brace or a quote stands before its text, a bare element is its text (Tcl_SplitList(3)).
+-- After an open brace or a quote the element's text begins; of a bare element all is text
+-- (Tcl_SplitList(3)).
 abbrev pub opening : List ℕ → Opening
 opening [] = bare []
 opening (c ∷ x) = if c == 123 then in_braces x else (if c == 34 then in_quotes x else bare (c ∷ x))
 
--- What is read behind an opening (Tcl_SplitList(3)).
+-- What is read after an opening (Tcl_SplitList(3)).
 abbrev pub IsOpened : Opening → Outcome → Type 0
 IsOpened (in_braces x) o = IsBraced x o
 IsOpened (in_quotes x) o =

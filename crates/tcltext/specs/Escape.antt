@@ -1,14 +1,14 @@
--- What a backslash and the bytes behind it stand for (Tcl(n), rule 9).
+-- What a backslash and the bytes after it stand for (Tcl(n), rule 9).
 use Rattle.std.specs.Prelude.{ℕ, ◌+◌, ◌-◌, ◌*◌, ◌==◌, nat_le, nat_lt, ◌&&◌, ◌||◌, List, [], ◌∷◌, Bool, Result, Ok, Err, if◌then◌else◌}
 use Rattle.tcltext.specs.declared.escape.EscapeNotHere.{EscapeNotHere}
 use Rattle.tcltext.specs.Digit.{digit_value, is_digit}
 
--- A blank or a tab, which a newline behind a backslash takes with it (Tcl(n), rule 9,
+-- A blank or a tab, which a newline after a backslash takes with it (Tcl(n), rule 9,
 -- \<newline>whiteSpace).
 abbrev pub is_blank : ℕ → Bool
 is_blank c = (c == 32) || (c == 9)
 
--- The text behind its first blanks and tabs (Tcl(n), rule 9, \<newline>whiteSpace).
+-- The text after its leading blanks and tabs (Tcl(n), rule 9, \<newline>whiteSpace).
 abbrev pub skip_blanks : List ℕ → List ℕ
 skip_blanks [] = []
 skip_blanks (c ∷ x) = if is_blank c then skip_blanks x else (c ∷ x)
@@ -20,8 +20,8 @@ named_byte c =
     (if c == 110 then 10 else (if c == 114 then 13 else (if c == 116 then 9 else
     (if c == 118 then 11 else c))))))
 
--- The number n with at most so many more digits behind it, each taken while the number fits a byte;
--- and the text behind them (Tcl(n), rule 9, \ooo and \xhh).
+-- The number n with at most `most` more digits after it, each taken while the number fits a byte;
+-- and the text after them (Tcl(n), rule 9, \ooo and \xhh).
 abbrev pub byte_number : ℕ → ℕ → ℕ → List ℕ → ℕ × List ℕ
 byte_number base most n [] = (n, [])
 byte_number base most n (c ∷ x) =
@@ -34,9 +34,9 @@ abbrev pub hexadecimal_byte : List ℕ → ℕ × List ℕ
 hexadecimal_byte [] = (120, [])
 hexadecimal_byte (c ∷ x) = if is_digit 16 c then byte_number 16 2 0 (c ∷ x) else (120, c ∷ x)
 
--- What a backslash with this text behind it stands for: one byte, and the text that is left; or
--- there is no such escape here (Tcl(n), rule 9; \u and \U are left out; at the text's end a
--- backslash is itself).
+-- What a backslash with this text after it stands for: one byte, and the text after the escape; or
+-- an error, for \u and \U, which are left out (Tcl(n), rule 9; at the text's end a backslash is
+-- itself).
 abbrev pub escape : List ℕ → Result (ℕ × List ℕ) EscapeNotHere
 escape [] = Ok (92, [])
 escape (c ∷ x) =

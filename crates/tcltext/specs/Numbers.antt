@@ -1,4 +1,4 @@
--- How a numeral is read from its front: the number without limit, or none (Tcl_GetInt(3)). What a
+-- How a numeral is read from its front: a number of any size, or none (Tcl_GetInt(3)). What a
 -- numeral is stands in Numeral.
 use Rattle.std.specs.Prelude.{ℕ, ◌+◌, ◌-◌, ◌*◌, ◌^◌, ◌==◌, nat_lt, nat_le, ◌||◌, List, [], ◌∷◌, Bool, false, Option, Some, None, option_map, ℤ, pos, negsuc, neg_ℤ, if◌then◌else◌}
 use Rattle.tcltext.specs.Digit.{digit_value, is_digit}
@@ -38,7 +38,7 @@ abbrev pub is_minus : List ℕ → Bool
 is_minus [] = false
 is_minus (c ∷ x) = c == 45
 
--- The text behind a sign, or the whole text (expr(n), operands).
+-- The text after a sign, or the whole text (expr(n), operands).
 abbrev pub behind_sign : List ℕ → List ℕ
 behind_sign [] = []
 behind_sign (c ∷ x) = if (c == 45) || (c == 43) then x else (c ∷ x)

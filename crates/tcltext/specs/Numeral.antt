@@ -4,7 +4,7 @@ use Rattle.std.specs.List.{list_all}
 use Rattle.tcltext.specs.Digit.{digit_value, is_digit}
 use Rattle.tcltext.specs.White.{skip_white}
 
--- The number n with these digits of a base behind it (expr(n), operands).
+-- The number n with these digits of a base after it (expr(n), operands).
 abbrev pub with_digits : ℕ → ℕ → List ℕ → ℕ
 with_digits base n [] = n
 with_digits base n (c ∷ x) = with_digits base (base * n + digit_value c) x
@@ -23,7 +23,7 @@ begins_zero [] = false
 begins_zero (c ∷ x) = c == 48
 
 -- How a number without a sign is spelled: in decimal digits that begin with no 0; as a 0 with octal
--- digits behind it, or with none; in digits behind 0x, 0o or 0b (expr(n), operands).
+-- digits after it, or with none; in digits after 0x, 0o or 0b (expr(n), operands).
 pub data IsUnsigned : ℕ → List ℕ → Type 0 where
   decimal : (ds : List ℕ) → AreDigits 10 ds → 0 < length ds → begins_zero ds ≡ false
       → IsUnsigned (number_of 10 ds) ds
@@ -35,7 +35,7 @@ pub data IsUnsigned : ℕ → List ℕ → Type 0 where
   marked_binary : (ds : List ℕ) → AreDigits 2 ds → 0 < length ds
       → IsUnsigned (number_of 2 ds) (48 ∷ 98 ∷ ds)
 
--- The sign s makes of m the number n: no sign or + keeps it, - turns it (expr(n), operands).
+-- With the sign s the number m becomes n: no sign or + keeps m, - negates it (expr(n), operands).
 abbrev pub IsSigned : List ℕ → ℕ → ℤ → Type 0
 IsSigned s m n = (((s ≡ []) ⊎ (s ≡ 43 ∷ [])) × (n ≡ pos m)) ⊎ ((s ≡ 45 ∷ []) × (n ≡ neg_ℤ (pos m)))
 

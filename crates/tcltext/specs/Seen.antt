@@ -1,4 +1,4 @@
--- What the values of the code stand for.
+-- What values of the code stand for in these definitions.
 use Rattle.std.specs.Prelude.{◌≡◌, ℕ, List, map, Option, Some, None, Vec}
 use Rattle.memory.specs.declared.NoMemory.{NoMemory}
 use Rattle.tcltext.specs.Flaw.{Flaw, open_brace, open_quote, after_brace, after_quote, escape_not_here}
@@ -17,7 +17,8 @@ use Rattle.tcltext.specs.declared.list.element.Opening.TheVariants as opens
 abbrev pub texts : {A : Type 0} → List (Vec ℕ A) → List (List ℕ)
 texts {A} v = map (λ (e : Vec ℕ A). e.items) v
 
--- The flaw that a fault of the code names; want of memory names none (this project's own rule).
+-- The flaw that a fault of the code names; a refusal of memory names none (this project's own
+-- rule).
 abbrev pub flaw_of : ListFault → Option Flaw
 flaw_of fault.OpenBrace = Some open_brace
 flaw_of fault.OpenQuote = Some open_quote
@@ -26,7 +27,7 @@ flaw_of fault.AfterQuote = Some after_quote
 flaw_of (fault.NoMemory refused) = None
 flaw_of fault.EscapeNotHere = Some escape_not_here
 
--- The fault is want of memory, as some refusal says (this project's own rule).
+-- The fault is a refusal of memory (this project's own rule).
 abbrev pub WantsMemory : ListFault → Type 0
 WantsMemory f = (refused : NoMemory) × (f ≡ fault.NoMemory refused)
 
@@ -35,7 +36,7 @@ abbrev pub style_of : Style → styles.Style
 style_of style.Bare = styles.up_to_white
 style_of style.Quoted = styles.up_to_quote
 
--- What stands next, as a piece says it (this project's own rule).
+-- What stands next in an element, as a `Piece` of the code says it (this project's own rule).
 abbrev pub seen : Piece → Next
 seen piece.End = at_end
 seen (piece.Stop z) = a_stop z.now

@@ -5,7 +5,7 @@ use Rattle.tcltext.specs.Numeral.{IsNumeral}
 use Rattle.tcltext.specs.declared.value.Form.{Form}
 use Rattle.tcltext.specs.declared.value.Form.TheVariants.{Number, Short, Long}
 
--- Those in place, or those behind the pointer (this project's own rule).
+-- The bytes in place, or those behind the pointer (this project's own rule).
 abbrev pub bytes_of : {A : Type 0} → Form A → List ℕ
 bytes_of (Number digits n) = digits
 bytes_of (Short bytes) = bytes

@@ -3,11 +3,11 @@
 ghost use Rattle.std.specs.Prelude.{◌<◌, List, ℕ, length, MatchOption, IfSome};
 ghost use Rattle.tcltext.specs.Balanced.{IsPaired};
 
-/// Behind an open brace: the text up to the brace that pairs up with it, and the text behind that
-/// one (Tcl(n), rule 6).
+/// Splits the text after an open brace into the text up to the brace that pairs up with it, and the
+/// text after that closing brace (Tcl(n), rule 6).
 ///
-/// `None` where no brace does. Takes no memory, and time in the length of the text up to that
-/// brace.
+/// `None` where no brace pairs up. Takes no memory, and time linear in the length of the text up to
+/// the closing brace.
 pub fn split(text: &[u8]) -> Option<(&[u8], &[u8])>
     ensures pair { MatchOption result
         ((content rest : List ℕ) → IsPaired text.now content rest → ⊥)

@@ -3,7 +3,7 @@
 ghost use Rattle.std.specs.Prelude.{◌≡◌, ◌≤◌};
 ghost use Rattle.tcltext.specs.Digit.{digit_value};
 
-/// What is no digit has this value.
+/// The value of a byte that is no digit.
 pub(crate) const NO_DIGIT: u8 = 16;
 
 /// The value of a digit, in either case, or [`NO_DIGIT`].

@@ -1,4 +1,4 @@
-//! Escapes: what a backslash and the bytes behind it stand for (Tcl(n), rule 9).
+//! Escapes: what a backslash and the bytes after it stand for (Tcl(n), rule 9).
 
 ghost use Rattle.std.specs.Prelude.{◌≡◌, ◌≤◌, length, MatchResult, IfOk};
 ghost use Rattle.tcltext.specs.Escape.{escape, byte_number, hexadecimal_byte, skip_blanks, named_byte};
@@ -6,15 +6,15 @@ ghost use Rattle.tcltext.specs.Escape.{escape, byte_number, hexadecimal_byte, sk
 use crate::digit;
 use thiserror::Error;
 
-/// Behind the backslash stands `u` or `U`: these escapes are left out.
+/// The fault of an escape `\u` or `\U`, which this profile leaves out.
 #[derive(Clone, Copy, Debug, PartialEq, Eq, Error)]
 #[error("\\u and \\U are not in this profile")]
 pub struct EscapeNotHere;
 
 /// Reads an escape whose backslash stands right before `text`: the one byte that it stands for, and
-/// the text behind it.
+/// the text after it.
 ///
-/// Takes no memory, and time in the length of what it reads.
+/// Takes no memory, and time linear in the length of what it reads.
 pub fn read(text: &[u8]) -> Result<(u8, &[u8]), EscapeNotHere>
     ensures value { MatchResult result
         (λ r. escape text.now ≡ Ok (r.0, r.1.now))
@@ -31,7 +31,7 @@ pub fn read(text: &[u8]) -> Result<(u8, &[u8]), EscapeNotHere>
     }
 }
 
-// A byte by its name, or any other byte itself.
+// The byte that `c` names after a backslash; where it names none, `c` itself.
 fn named(c: u8) -> u8
     ensures { result ≡ named_byte c }
 {
@@ -47,7 +47,7 @@ fn named(c: u8) -> u8
     }
 }
 
-// What `\x` stands for with that text behind it.
+// What `\x` stands for with this text after it.
 fn hexadecimal(text: &[u8]) -> (u8, &[u8])
     ensures value { hexadecimal_byte text.now ≡ (result.0, result.1.now) }
     ensures shorter { length result.1.now ≤ length text.now }
@@ -58,8 +58,8 @@ fn hexadecimal(text: &[u8]) -> (u8, &[u8])
     }
 }
 
-// The number that at most so many digits at the front of a text make, as long as it fits a byte,
-// and the text behind them.
+// The number that at most `most` digits at the front of a text make, each taken only while the
+// number fits a byte, and the text after them.
 fn number(base: u8, most: u8, text: &[u8]) -> (u8, &[u8])
     requires { base ≤ 16 }
     ensures value { byte_number base most 0 text.now ≡ (result.0, result.1.now) }
@@ -81,10 +81,10 @@ fn number(base: u8, most: u8, text: &[u8]) -> (u8, &[u8])
     (value, rest)
 }
 
-/// The text behind its first blanks and tabs, which a newline behind a backslash takes with it
+/// The text after its leading blanks and tabs, which a newline after a backslash takes with it
 /// (Tcl(n), rule 9).
 ///
-/// Takes no memory, and time in the length of what it skips.
+/// Takes no memory, and time linear in the length of what it skips.
 pub fn skip_blanks(text: &[u8]) -> &[u8]
     ensures rest { result.now ≡ skip_blanks text.now }
     ensures shorter { length result.now ≤ length text.now }

@@ -12,8 +12,8 @@ use memory::NoMemory;
 use std::alloc::Allocator;
 
 impl<A: Allocator> Value<A> {
-    /// The text of a whole number in decimal, where it is short enough to lie in place. Takes no
-    /// memory.
+    /// The text of a whole number in decimal, where it is short enough to lie in place, that is,
+    /// inside the value itself. Takes no memory.
     pub fn int_in_place(n: i64) -> Option<Value<A>>
         ensures text { IfSome result (λ value. value ≡ signed_decimal n) }
         ensures room { IfNone result (14 < length (signed_decimal n)) }
@@ -27,7 +27,8 @@ impl<A: Allocator> Value<A> {
         }
     }
 
-    /// A text that is a number, and that number, where they are small enough to lie in place.
+    /// A value of this text together with its number. `None` where the text is no number, or where
+    /// the two are too large to lie in place.
     pub fn read_number(text: &[u8]) -> Option<Value<A>>
         ensures { IfSome result (λ value. value ≡ text.now) }
     {
@@ -61,7 +62,7 @@ impl<A: Allocator + Copy> Value<A> {
         Value::from_slice(alloc, buffer.format(n).as_bytes())
     }
 
-    /// A copy of these bytes, and their number where they are a small one.
+    /// A copy of these bytes, together with their number where they are a small number.
     pub fn word(alloc: A, bytes: &[u8]) -> Result<Value<A>, NoMemory>
         ensures { IfOk result (λ value. value ≡ bytes.now) }
     {

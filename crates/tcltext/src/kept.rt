@@ -1,4 +1,4 @@
-//! The place beside a text where the elements of its list are kept from when they were first read.
+//! The place beside a text that keeps the elements of its list once they have been read.
 
 ghost use Rattle.std.specs.Prelude.{◌≡◌, ℕ, List, length, take, drop, IfOk, IfErr, IfSome, slice_get};
 ghost use Rattle.tcltext.specs.Elements.{IsList, HasFlaw};
@@ -12,7 +12,7 @@ use counted_slot::{Counted, FREE, ONE_READER, PRESENT, TAKEN};
 use memory::NoMemory;
 use std::alloc::Allocator;
 
-/// Keeps elements, where none are kept yet.
+/// Keeps these elements, unless elements are kept already.
 pub(crate) fn keep<A: Allocator>(kept: &Counted<Option<Elements<A>>>, elements: Elements<A>)
     requires { IsList elements kept.now.items }
 {
@@ -24,7 +24,7 @@ pub(crate) fn keep<A: Allocator>(kept: &Counted<Option<Elements<A>>>, elements: 
     claim.put(Some(elements), PRESENT);
 }
 
-/// How many elements are kept, where they are.
+/// The number of elements, or `None` where they are not kept.
 pub(crate) fn len<A: Allocator>(kept: &Counted<Option<Elements<A>>>) -> Option<usize>
     ensures { IfSome result
         (λ n. (v : List (List ℕ)) × IsList v kept.now.items × (n ≡ length v)) }
@@ -39,7 +39,7 @@ pub(crate) fn len<A: Allocator>(kept: &Counted<Option<Elements<A>>>) -> Option<u
     len
 }
 
-/// How many there are of the elements that are kept.
+/// The number of elements in the slot, or `None` where it is empty.
 fn len_of<A: Allocator>(elements: &Option<Elements<A>>) -> Option<usize>
     ensures { Both result elements.now (λ n v. n ≡ length v) }
 {
@@ -49,7 +49,8 @@ fn len_of<A: Allocator>(elements: &Option<Elements<A>>) -> Option<usize>
     }
 }
 
-/// The element at a place, where elements are kept; none where the place is beyond them.
+/// The element at a place. The outer `None` says that no elements are kept, the inner one that the
+/// place is beyond the last of them.
 pub(crate) fn at<A: Allocator + Copy>(
     alloc: A,
     kept: &Counted<Option<Elements<A>>>,
@@ -68,7 +69,7 @@ pub(crate) fn at<A: Allocator + Copy>(
     told
 }
 
-/// The element at a place of those that are kept.
+/// The element at a place among those in the slot, with the two `None` of [`at`].
 fn at_of<A: Allocator + Copy>(
     alloc: A,
     elements: &Option<Elements<A>>,
@@ -82,7 +83,7 @@ fn at_of<A: Allocator + Copy>(
     }
 }
 
-/// The elements from a place on, so many at most, where elements are kept.
+/// At most `most` elements from the place `from` on, or `None` where no elements are kept.
 pub(crate) fn part<A: Allocator + Copy>(
     alloc: A,
     kept: &Counted<Option<Elements<A>>>,
@@ -102,7 +103,8 @@ pub(crate) fn part<A: Allocator + Copy>(
     told
 }
 
-/// Those from a place on, so many at most, of the elements that are kept.
+/// At most `most` of the elements in the slot from the place `from` on, or `None` where it is
+/// empty.
 fn part_of<A: Allocator + Copy>(
     alloc: A,
     elements: &Option<Elements<A>>,
@@ -118,7 +120,7 @@ fn part_of<A: Allocator + Copy>(
     }
 }
 
-/// How many elements the list has that a text is, which are kept from then on.
+/// The number of elements of the list that a text is. The elements are kept from then on.
 pub(crate) fn read_len<A: Allocator + Copy>(
     alloc: A,
     text: &[u8],
@@ -138,7 +140,8 @@ pub(crate) fn read_len<A: Allocator + Copy>(
     Ok(len)
 }
 
-/// The element at a place of the list that a text is, whose elements are kept from then on.
+/// The element at a place of the list that a text is, or `None` where the place is beyond the last
+/// one. All its elements are kept from then on.
 pub(crate) fn read_at<A: Allocator + Copy>(
     alloc: A,
     text: &[u8],
@@ -159,7 +162,8 @@ pub(crate) fn read_at<A: Allocator + Copy>(
     Ok(element)
 }
 
-/// Elements of the list that a text is from a place on, which are all kept from then on.
+/// At most `most` elements, from the place `from` on, of the list that a text is. All its elements
+/// are kept from then on.
 pub(crate) fn read_part<A: Allocator + Copy>(
     alloc: A,
     text: &[u8],

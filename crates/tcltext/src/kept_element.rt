@@ -1,4 +1,4 @@
-//! Elements as they are kept.
+//! One element of a list, as it is kept beside the list's text.
 
 ghost use Rattle.std.specs.Prelude.{◌≡◌, IfOk};
 
@@ -18,9 +18,9 @@ pub struct Element<A: Allocator> {
 /// Where the bytes lie.
 #[derive(Drop)]
 pub enum Form<A: Allocator> {
-    /// A few bytes.
+    /// A few bytes, in place.
     Short(Short<IN_PLACE>),
-    /// More bytes.
+    /// More bytes, behind the pointer.
     Long(Rc<Vec<u8, A>, A>),
 }
 
@@ -62,7 +62,7 @@ impl<A: Allocator + Copy> Element<A> {
         })
     }
 
-    /// These bytes.
+    /// An element with these bytes.
     pub(crate) fn new(alloc: A, bytes: Vec<u8, A>) -> Result<Element<A>, NoMemory>
         ensures { IfOk result (λ element. element ≡ bytes.items) }
     {

@@ -33,7 +33,7 @@ impl<A: Allocator> Fits for Elements<A> {
 }
 
 impl<A: Allocator> Elements<A> {
-    /// How many there are.
+    /// How many elements there are.
     pub(crate) fn len(&self) -> usize
         ensures { result ≡ length self.now }
     {
@@ -42,7 +42,7 @@ impl<A: Allocator> Elements<A> {
 }
 
 impl<A: Allocator + Copy> Elements<A> {
-    /// Those of the list that a text is (Tcl_SplitList(3)).
+    /// Reads the elements of the list that a text is (Tcl_SplitList(3)).
     pub(crate) fn read(alloc: A, text: &[u8]) -> Result<Elements<A>, ListFault>
         ensures list { IfOk result (λ elements. IsList elements text.now) }
         ensures fault { IfErr result (λ f. IfSome (flaw_of f) (λ flaw. HasFlaw flaw text.now)) }
@@ -51,7 +51,7 @@ impl<A: Allocator + Copy> Elements<A> {
         Ok(Elements::kept(alloc, list)?)
     }
 
-    /// These elements.
+    /// Elements with these bytes.
     fn kept(alloc: A, list: Vec<Vec<u8, A>, A>) -> Result<Elements<A>, NoMemory>
         ensures { IfOk result (λ elements. elements ≡ texts list.items) }
     {
@@ -62,7 +62,7 @@ impl<A: Allocator + Copy> Elements<A> {
         Ok(Elements { items })
     }
 
-    /// The element at a place; none where it is beyond them.
+    /// The element at a place, or `None` where the place is beyond the last one.
     pub(crate) fn at(&self, alloc: A, place: usize) -> Result<Option<Value<A>>, NoMemory>
         ensures { IfOk result (λ element. element ≡ slice_get self.now place) }
     {
@@ -72,14 +72,14 @@ impl<A: Allocator + Copy> Elements<A> {
         }
     }
 
-    /// All of them.
+    /// All elements, each as a value.
     pub(crate) fn values(&self, alloc: A) -> Result<Vec<Value<A>, A>, NoMemory>
         ensures { IfOk result (λ values. values.items ≡ self.now) }
     {
         values_of(alloc, &self.items)
     }
 
-    /// The elements from a place on, so many at most.
+    /// At most `most` elements from the place `from` on.
     pub(crate) fn part(
         &self,
         alloc: A,
@@ -93,7 +93,7 @@ impl<A: Allocator + Copy> Elements<A> {
         values_of(alloc, &self.items[from..to])
     }
 
-    /// Puts more behind them. On `Err` some of them may stand there.
+    /// Puts more elements at the end. On `Err` some of the new ones may stand there.
     pub(crate) fn push_all(&mut self, alloc: A, more: &[Value<A>]) -> Result<(), NoMemory>
         ensures { OnOk result (self.new ≡ self.old ++ more.now) }
     {
@@ -101,7 +101,7 @@ impl<A: Allocator + Copy> Elements<A> {
     }
 }
 
-/// Values of elements.
+/// The elements, each as a value.
 fn values_of<A: Allocator + Copy>(
     alloc: A,
     elements: &[Element<A>],
@@ -115,7 +115,7 @@ fn values_of<A: Allocator + Copy>(
     Ok(values)
 }
 
-/// Puts more elements behind those that there are. On `Err` some of them may stand there.
+/// Puts more elements after those in `items`. On `Err` some of the new ones may stand there.
 fn push_all<A: Allocator + Copy>(
     alloc: A,
     items: &mut Vec<Element<A>, A>,

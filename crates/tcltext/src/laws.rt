@@ -36,8 +36,8 @@ pub fn reads_back()
     ensures sound { (v : List (List ℕ)) (f : Flaw) → HasFlaw f (canonical v) → ⊥ }
 {}
 
-/// A text is a list exactly where it is spellings of the elements with white before, between and
-/// behind them.
+/// A text is a list exactly where it consists of spellings of the elements with white space before,
+/// between and after them.
 pub fn list_is_spellings()
     ensures { (x : List ℕ) (v : List (List ℕ)) → IsList v x ↔ AreSpellings v x }
 {}

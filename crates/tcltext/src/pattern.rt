@@ -59,7 +59,7 @@ pub struct Pattern<A: Allocator> {
     runs: Runs<A>,
     ties: Ties,
     folds: bool,
-    /// A text that stands wherever the pattern sits.
+    /// A text that stands in every window in which the pattern is found.
     needs: Value<A>,
 }
 
@@ -125,10 +125,11 @@ impl<A: Allocator + Copy> Pattern<A> {
 }
 
 impl<A: Allocator> Pattern<A> {
-    /// The pattern, for which an upper case ASCII letter of a window compares as its lower case one
-    /// (expect(1), `-nocase`).
+    /// The same pattern, for which an upper case ASCII letter of a window compares as its lower
+    /// case one (expect(1), `-nocase`).
     ///
-    /// Its items stay: an upper case letter of the pattern is found nowhere. Takes no memory.
+    /// The pattern's own items stay as they are, so an upper case letter of the pattern is found
+    /// nowhere. Takes no memory.
     pub fn fold(self) -> Pattern<A>
         ensures { result ≡ folded self }
     {
@@ -140,16 +141,19 @@ impl<A: Allocator> Pattern<A> {
         }
     }
 
-    /// A text that stands wherever the pattern sits; the empty one where none is known.
+    /// A text that stands in every window in which the pattern is found, or the empty text where
+    /// none is known.
     pub fn needs(&self) -> &Value<A>
         ensures { Needs self.now result.now }
     {
         &self.needs
     }
 
-    /// Whether the pattern's items take the whole text, whatever it is tied to. Takes no memory.
+    /// Whether the pattern's items take the whole text, whatever the pattern is tied to. Takes no
+    /// memory.
     ///
-    /// The bytes compare as they stand, also where the pattern folds the letters of windows.
+    /// The bytes of the text compare as they stand, even if the pattern folds the letters of
+    /// windows.
     pub fn whole(&self, text: &[u8]) -> bool
         ensures { IsTrue result ↔ Whole self.now.items text.now }
     {

@@ -4,11 +4,10 @@ ghost use Rattle.std.specs.Prelude.{◌≡◌, ◌<◌, [], length, min, IfSome,
 
 use std::marker::Model;
 
-/// How many bytes a text has at most that lies in place where it is no number.
+/// The most bytes that a text may have to lie in place where no number is kept with it.
 pub(crate) const IN_PLACE: usize = 14;
 
-/// A text of at most so many bytes, which contracts see as a list of bytes. It takes no memory
-/// beside its own.
+/// A text of at most `MOST` bytes, which contracts see as a list of bytes. It asks for no memory.
 #[derive(Drop)]
 pub struct Short<const MOST: usize> {
     len: u8,
@@ -26,7 +25,7 @@ impl<const MOST: usize> Model for Short<MOST> {
 }
 
 impl<const MOST: usize> Short<MOST> {
-    /// No byte.
+    /// The empty text.
     pub(crate) fn empty() -> Short<MOST>
         ensures { result ≡ [] }
     {
@@ -36,7 +35,7 @@ impl<const MOST: usize> Short<MOST> {
         }
     }
 
-    /// These bytes, where they are few enough, which more than 255 never are.
+    /// A text of these bytes, or `None` where they are more than `MOST` or more than 255.
     pub(crate) fn new(text: &[u8]) -> Option<Short<MOST>>
         ensures bytes { IfSome result (λ short. short ≡ text.now) }
         ensures room { IfNone result (min MOST 255 < length text.now) }

@@ -14,7 +14,7 @@ use std::alloc::Allocator;
 use std::marker::Model;
 use std::rc::Rc;
 
-/// How many bytes the text of a number that is kept has at most.
+/// The most bytes that the text of a number may have for the number to be kept.
 const DIGITS: usize = 10;
 
 /// The text of a literal, a variable or a command's value, which contracts see as a list of bytes:
@@ -35,14 +35,14 @@ pub enum Form<A: Allocator> {
     Long(Rc<Text<A>, A>),
 }
 
-/// What stands behind the pointer.
+/// The bytes behind the pointer, and what is known of them.
 #[derive(Drop)]
 pub struct Text<A: Allocator> {
     pub(crate) bytes: Vec<u8, A>,
     /// Whether the bytes are known to be the canonical text of a list, so that they need not be
-    /// read to put elements behind them.
+    /// read to put elements after them.
     is_list: bool,
-    /// The elements of the list that the bytes are, from when they were first read.
+    /// The elements of the list that the bytes are, once they have been read.
     pub(crate) kept: Counted<Option<Elements<A>>>,
 }
 
@@ -68,7 +68,7 @@ impl<A: Allocator> Value<A> {
         }
     }
 
-    /// These bytes, where they are few enough to lie in place.
+    /// A value of these bytes, or `None` where they are too many to lie in place.
     pub fn in_place(bytes: &[u8]) -> Option<Value<A>>
         ensures bytes { IfSome result (λ value. value ≡ bytes.now) }
         ensures room { IfNone result (14 < length bytes.now) }
@@ -79,7 +79,8 @@ impl<A: Allocator> Value<A> {
         })
     }
 
-    /// The text of a number, and that number, where they are small enough to lie in place.
+    /// A value of the text of a number together with that number, or `None` where the two are too
+    /// large to lie in place.
     pub(crate) fn with_number(text: &[u8], n: i64) -> Option<Value<A>>
         requires { IsNumeral n text.now }
         ensures { IfSome result (λ value. value ≡ text.now) }
@@ -123,7 +124,8 @@ impl<A: Allocator> Value<A> {
         self.as_slice().len() <= IN_PLACE
     }
 
-    /// The same text once more; its bytes are not copied. Memory is asked for the count alone.
+    /// Another handle to the same text; bytes behind a pointer are not copied. Memory is asked for
+    /// only to count the handles.
     pub fn share(&self) -> Result<Value<A>, NoMemory>
         ensures { IfOk result (λ same. same ≡ self.now) }
     {
@@ -135,7 +137,8 @@ impl<A: Allocator> Value<A> {
         Ok(Value { form })
     }
 
-    /// Whether the text is known to be the canonical text of a list. Takes no time in its length.
+    /// Whether the text is known to be the canonical text of a list. The time does not depend on
+    /// the text's length.
     pub(crate) fn is_list(&self) -> bool
         ensures { IsTrue result → IsCanonical self.now }
     {
@@ -148,7 +151,7 @@ impl<A: Allocator> Value<A> {
 }
 
 impl<A: Allocator + Copy> Value<A> {
-    /// These bytes.
+    /// A value of these bytes.
     pub fn new(alloc: A, bytes: Vec<u8, A>) -> Result<Value<A>, NoMemory>
         ensures { IfOk result (λ value. value ≡ bytes.items) }
     {
@@ -165,7 +168,8 @@ impl<A: Allocator + Copy> Value<A> {
         }
     }
 
-    /// These bytes, which are known to be the canonical text of a list where they are marked so.
+    /// A value of these bytes. `is_list` says that they are known to be the canonical text of a
+    /// list.
     pub(crate) fn marked(alloc: A, bytes: Vec<u8, A>, is_list: bool) -> Result<Value<A>, NoMemory>
         requires { IsTrue is_list → IsCanonical bytes.items }
         ensures { IfOk result (λ value. value ≡ bytes.items) }
@@ -187,7 +191,8 @@ impl<A: Allocator + Copy> Value<A> {
         })
     }
 
-    /// The canonical text of a list, with its elements.
+    /// A value of the canonical text of a list. Where the text is too long to lie in place, the
+    /// list's elements are kept beside it.
     pub(crate) fn with_elements(
         alloc: A,
         bytes: Vec<u8, A>,
@@ -230,7 +235,8 @@ impl<A: Allocator + Copy> Value<A> {
         }
     }
 
-    /// The text with bytes behind it, which are written in place where no one else shares it.
+    /// The text with more bytes after it. They are written into the text's own memory where no
+    /// other value shares it.
     pub fn append(self, alloc: A, more: &[u8]) -> Result<Value<A>, NoMemory>
         ensures { IfOk result (λ whole. whole ≡ self ++ more.now) }
     {

@@ -1,4 +1,4 @@
-//! White in lists and numerals.
+//! White space in lists and numerals.
 
 ghost use Rattle.std.specs.Prelude.{◌≡◌, ◌<◌, ◌≤◌, length, false};
 ghost use Rattle.tcltext.specs.White.{is_white, skip_white, ends_element};
@@ -10,7 +10,7 @@ pub(crate) fn is_white(c: u8) -> bool
     c == b' ' || (9 <= c && c <= 13)
 }
 
-/// The text behind its first white.
+/// The text after the white space at its front.
 pub(crate) fn skip_white(text: &[u8]) -> &[u8]
     ensures rest { result.now ≡ skip_white text.now }
     ensures begins { 0 < length result.now → ends_element result.now ≡ false }

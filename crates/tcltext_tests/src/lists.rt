@@ -57,7 +57,8 @@ fn write_values<A: Allocator + Copy>(
     Ok(())
 }
 
-/// Writes an element where it stands first, and behind it where it does not.
+/// Writes the spelling of an element that stands first in a list, a blank, and the spelling of one
+/// that does not.
 fn write_element<A: Allocator>(element: &[u8], answer: &mut Vec<u8, A>) -> Result<(), ListFault> {
     push_element(answer, true, element)?;
     answer.push(b' ')?;
@@ -65,7 +66,7 @@ fn write_element<A: Allocator>(element: &[u8], answer: &mut Vec<u8, A>) -> Resul
     Ok(())
 }
 
-/// Writes a list, and tells where it is read as another one.
+/// Writes a list, and says so where it reads back as another one.
 fn write_list<A: Allocator + Copy>(
     elements: &[Vec<u8>],
     answer: &mut Vec<u8, A>,

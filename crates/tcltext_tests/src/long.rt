@@ -35,7 +35,7 @@ impl Answers for Long {
     }
 }
 
-/// Writes what a long text is.
+/// Writes what a long text is: a list, a number, or a pattern that takes itself or does not.
 fn tell<A: Allocator + Copy>(
     kind: &[u8],
     text: &[u8],
@@ -69,7 +69,7 @@ fn measure<A: Allocator + Copy>(text: &[u8], answer: &mut Vec<u8, A>) -> Result<
     push_shown(answer, measures)
 }
 
-/// Writes whether a text as a pattern takes itself.
+/// Writes whether a text, read as a pattern, takes the whole text.
 fn take_itself<A: Allocator + Copy>(
     kind: &[u8],
     text: &[u8],

@@ -1,5 +1,5 @@
-//! Texts through the public calls of `tcltext`: tables of what tclsh 8.6 makes of them and of the
-//! rules of this project's own, long texts, and patterns beside two slow searches.
+//! Tests of the public calls of `tcltext`: tables of what tclsh 8.6 makes of texts and of this
+//! project's own rules, long texts, and patterns compared with two slow searches.
 #![tactic(auto)]
 
 mod escapes;

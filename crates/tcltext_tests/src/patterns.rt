@@ -25,7 +25,7 @@ impl Answers for Patterns {
     }
 }
 
-/// Writes the fault of a pattern, if it has one.
+/// Writes why a text is no pattern, if that is the outcome.
 pub fn told<A: Allocator + Copy>(
     answer: &mut Vec<u8, A>,
     outcome: Result<(), PatternError>,
@@ -37,7 +37,7 @@ pub fn told<A: Allocator + Copy>(
     }
 }
 
-/// Writes what a pattern takes or where it is found.
+/// Writes whether a pattern takes a whole text, or where it is found in a window.
 fn tell<A: Allocator + Copy>(
     kind: &[u8],
     text: &[u8],
@@ -52,8 +52,8 @@ fn tell<A: Allocator + Copy>(
     }
 }
 
-/// Reads a pattern of a kind: `exact`, `plain` or another word for a glob, behind `folded` with
-/// letters folded.
+/// Reads a pattern of a kind: `exact`, `plain`, or another word for a glob; `folded` before it
+/// folds letters.
 pub fn read<A: Allocator + Copy>(
     alloc: A,
     kind: &[u8],
@@ -113,8 +113,8 @@ pub fn find<A: Allocator + Copy>(
     Ok(push_place(answer, search.found)?)
 }
 
-/// Writes where a glob is found in a window that stands so many times, and how many steps that took
-/// if they are none or more than so many.
+/// Writes where a glob is found in a window repeated `times` times, and how many steps that took if
+/// they are 0 or more than `most`.
 fn count<A: Allocator + Copy>(
     glob: &[u8],
     window: &[u8],

@@ -1,4 +1,4 @@
-//! What needs no memory.
+//! Tests of what needs no memory.
 
 use memory::NoMemory;
 use refusal::Refusing;
@@ -6,7 +6,7 @@ use std::alloc::Global;
 use std::io;
 use tcltext::{Found, Pattern, PatternError, Scratch};
 
-/// Tells whether texts are searched and taken without memory.
+/// Prints whether texts are searched and taken without memory.
 pub fn run_starved<R: Print + AllocGlobal>(rt: &R) -> io::Result<bool> {
     let is_well = matches!(search_starved(rt.alloc()), Ok(true));
     let word = if is_well { "well" } else { "FAILED" };
@@ -14,8 +14,8 @@ pub fn run_starved<R: Print + AllocGlobal>(rt: &R) -> io::Result<bool> {
     Ok(is_well)
 }
 
-/// Whether a pattern is found and not found, takes a text, and folds letters, while no memory is to
-/// be had.
+/// Whether a pattern is found and not found, takes a text, and folds letters, while every request
+/// for memory is refused.
 fn search_starved(alloc: Global) -> Result<bool, PatternError> {
     let heap = Refusing::new(alloc);
     let pattern = Pattern::glob(&heap, b"a[b-d]*c")?;

@@ -35,7 +35,7 @@ impl<W: Write> World<Global> for Echo<'_, W> {
 }
 
 impl<W: Write> Echo<'_, W> {
-    /// Keeps what was sent.
+    /// Keeps a text that was sent, and the id that it was sent to.
     fn hear(&mut self, id: Id, text: &[u8]) -> Answer<Global> {
         match Vec::from_slice(self.alloc, text) {
             Ok(text) => {
@@ -46,7 +46,7 @@ impl<W: Write> Echo<'_, W> {
         }
     }
 
-    /// Says what was kept; where nothing was, the time runs out.
+    /// Answers with the text that was kept; where none was, the timer runs out.
     fn say(&mut self) -> Answer<Global> {
         match self.heard.take() {
             Some((id, text)) => Answer::Arrive(id, text),

@@ -48,7 +48,7 @@ fn asking(alloc: Global, turn: u32) -> Result<Option<Answer<Global>>, NoMemory> 
     })
 }
 
-/// The answer that the program of a dialogue says something.
+/// The answer by which the program of a dialogue says this text.
 fn says(alloc: Global, text: &[u8]) -> Result<Answer<Global>, NoMemory> {
     Ok(Answer::Arrive(Id(4), Vec::from_slice(alloc, text)?))
 }

@@ -56,7 +56,7 @@ fn named(alloc: Global, id: Id, what: &[u8]) -> Result<Vec<u8, Global>, NoMemory
     Ok(text)
 }
 
-/// Writes a wait: how full the one buffer is, and how the time runs.
+/// Writes a wait: how full the one buffer is, and how the timer runs.
 fn tell_wait<W: Write>(
     alloc: Global,
     out: &mut W,
@@ -71,7 +71,7 @@ fn tell_wait<W: Write>(
     tell_of(alloc, out, who, b"waits for", row.id, held.as_slice())
 }
 
-/// How full a buffer is, and how the time runs.
+/// How full a buffer is, and how the timer runs.
 fn held_of(alloc: Global, row: Row, timer: Timer) -> Result<Vec<u8, Global>, NoMemory> {
     let mut text = Vec::new(alloc);
     push_decimal(&mut text, u64::from(row.held))?;
@@ -82,7 +82,7 @@ fn held_of(alloc: Global, row: Row, timer: Timer) -> Result<Vec<u8, Global>, NoM
     Ok(text)
 }
 
-/// Appends how the time runs.
+/// Appends how the timer runs.
 fn push_timer(text: &mut Vec<u8, Global>, timer: Timer) -> Result<(), NoMemory> {
     match timer {
         Timer::Start(seconds) => {

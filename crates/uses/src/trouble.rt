@@ -1,4 +1,4 @@
-//! What keeps a use from going on.
+//! Why a use cannot continue.
 
 use acts::NoMemory;
 use std::io;

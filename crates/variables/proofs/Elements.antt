@@ -6,7 +6,7 @@ use Rattle.tclstate.specs.Scopes.{Scopes}
 use Rattle.variables.specs.Array.Set.{writes_all}
 use Rattle.variables.specs.Unset.{onward}
 
--- the first two are an index and a value
+-- the first two elements are an index and a value, which are written first
 pub writes_first : (name : List ℕ) (elements : List (List ℕ)) (s : Scopes)
     (i v first second : List ℕ) → 2 ≤ length elements → i ≡ get_or elements 0 i →
     v ≡ get_or elements 1 v → first ≡ i → second ≡ v →
@@ -22,7 +22,7 @@ writes_first name (x ∷ y ∷ zs) s i v f g two is also same alike =
     ∙ ap (λ w. onward (put name (Some f) w s) s (writes_all name zs)) (sym (alike ∙ also))
     ∙ ap (λ ws. onward (put name (Some f) g s) s (writes_all name ws)) (sym rest)
 
--- where none or one is left, all are written
+-- where no element or one is left, nothing more is written
 pub writes_none : (name : List ℕ) (elements : List (List ℕ)) (s : Scopes) → length elements < 2 →
     writes_all name elements s ≡ (s, Ok [])
 writes_none name [] s few = refl

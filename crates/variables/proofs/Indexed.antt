@@ -1,4 +1,4 @@
--- What the values of an array's indexes come to, where one more is read.
+-- The values of an array's indexes, where one more is read.
 use Rattle.std.proofs.Common.{◌≡◌, ◌∙◌, ℕ, List, [], ◌∷◌, ◌++◌, Some, Result, Ok, Err, refl, sym, ap, append_assoc}
 use Rattle.acts.specs.Flaw.{Flaw}
 use Rattle.acts.specs.Raise.{bind}
@@ -6,7 +6,7 @@ use Rattle.kinds.specs.Variables.{value_of}
 use Rattle.tclstate.specs.Scopes.{Scopes}
 use Rattle.variables.specs.Array.Get.{values}
 
--- the index and its value stand behind those that were read
+-- the index and its value stand after those that were read
 pub one_more : (name : List ℕ) (v : Scopes) (t value : List ℕ) (rest had now : List (List ℕ)) →
     value_of name (Some t) v ≡ Ok value → now ≡ had ++ t ∷ value ∷ [] →
     (let before : List (List ℕ) → Result (List (List ℕ)) Flaw = λ more. Ok (had ++ more) in

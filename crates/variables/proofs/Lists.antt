@@ -48,13 +48,13 @@ module _ (name : List ℕ) (index : Option (List ℕ)) (v : Scopes) where
       by_held (Ok None) (Ok es) holds
       (list_comes [] es (one_list_of [] list es ([], reads_back [], empty) same))
 
-  -- a variable that can't be read has none
+  -- a variable that can't be read has no list
   pub unheld : {A : Type 0} (why : Raise A) → Fails (held name index v) why →
       HoldsList {A = A} (Err why) name index v
   unheld (raise.Fault why) fails = by_held (Err (flaw_of why)) (Err (flaw_of why)) fails refl
   unheld (raise.NoMemory refusal) fails = tt
 
--- the error is that of the reading
+-- the error of the code is that of the reading
 pub unlisted : {A : Type 0} (name : List ℕ) (index : Option (List ℕ)) (v : Scopes)
     (why : Raise A) → HoldsList {A = A} (Err why) name index v →
     Finds {Y = List (List ℕ)} (λ es. es) (elements_in name index v) (Err why)

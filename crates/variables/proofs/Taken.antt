@@ -9,7 +9,7 @@ use Rattle.tclstate.specs.Scopes.{read, written}
 use Rattle.variables.specs.Taken.{Rewrites}
 use Rattle.variables.specs.Values.{puts}
 
--- what is written in the place of what was taken is all that counts
+-- once a text was taken, a write in its place gives what it would have given before
 pub rewrites : (old new : Scopes) (name : List ℕ) (index : Option (List ℕ)) (text : List ℕ) →
     read old name index ≡ Ok text → written old name index [] ≡ Ok new →
     Rewrites name index old new
@@ -32,8 +32,8 @@ unchanged old new name index same = record {
   stays = λ value flaw fails. same;
 }
 
--- what is written in the place of what was taken is written where that stood; where it can't be,
--- nothing was taken
+-- a text is written in the place of one that was taken, as it would have been before; where it
+-- can't be written, nothing was taken
 module _ (old mid : Scopes) (name : List ℕ) (index : Option (List ℕ)) (value : List ℕ)
     (back : Rewrites name index old mid) where
   same_puts : puts name index value mid ≡ puts name index value old

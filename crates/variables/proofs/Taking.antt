@@ -10,7 +10,7 @@ use Rattle.tcltext.specs.Pattern.Item.{Item}
 use Rattle.tcltext.specs.Pattern.Match.{Whole}
 use Rattle.variables.specs.Array.Indexes.{indexes, indexes_of, matched, taken}
 
--- those that were found so far come before those of the rest
+-- the texts that were found so far come before those that are found among the rest
 pub record TakenSoFar (pattern : List Item) (texts rest found : List (List ℕ)) : Type 0 where
   pub comes : (more : List (List ℕ)) → ComesTo (taken pattern rest) more →
       ComesTo (taken pattern texts) (found ++ more)
@@ -37,7 +37,7 @@ module _ (pattern : List Item) (texts : List (List ℕ)) where
         (takes, is_taken, then_comes (taken pattern more) next others all comes refl) in
         so_far.comes all (subst (λ ts. ComesTo (taken pattern ts) all) (sym is) one)
 
-    -- it is found
+    -- the pattern takes the next text
     pub one_taken : (now : List (List ℕ)) → IsTrue true ↔ Whole pattern t →
         now ≡ found ++ t ∷ [] → TakenSoFar pattern texts more now
     one_taken now takes pushed = record {
@@ -49,11 +49,11 @@ module _ (pattern : List Item) (texts : List (List ℕ)) where
         joined others =
             sym (ap (λ l. l ++ others) pushed ∙ append_assoc found (t ∷ []) others)
 
-    -- it is not
+    -- the pattern does not take the next text
     pub one_passed : IsTrue false ↔ Whole pattern t → TakenSoFar pattern texts more found
     one_passed passes = record { comes = λ others comes. tried false passes others comes }
 
-  -- where none is left, those that were found are all
+  -- where no text is left, those that were found are all
   pub all_taken : (rest found : List (List ℕ)) → rest ≡ [] → TakenSoFar pattern texts rest found →
       ComesTo (taken pattern texts) found
   all_taken rest found none so_far =

@@ -33,7 +33,7 @@ named name =
     else if bytes_eq name (codes "unset") then Some subcommand.Unset
     else None
 
--- what a subcommand does with the words behind its name (array(n))
+-- what a subcommand does with the words after its name (array(n))
 abbrev pub does : Subcommand → List (List ℕ) → Scopes → Reading (Done Scopes)
 does subcommand.Exists words v = Found (v, exists words v)
 does subcommand.Get words v = get words v
@@ -47,7 +47,8 @@ abbrev pub called : Option Subcommand → List ℕ → List (List ℕ) → Scope
 called (Some found) name words v = does found words v
 called None name words v = Found (v, Err (flaw.BadArgument name (codes "array")))
 
--- array subcommand ..: the name comes before the number of the words behind it (array(n))
+-- array subcommand ..: the name of the subcommand is examined before the number of the words after
+-- it (array(n))
 abbrev pub array : List (List ℕ) → Scopes → Reading (Done Scopes)
 array [] v = wrong_words v
 array (name ∷ words) v = called (named name) name words v

@@ -5,7 +5,7 @@ use Rattle.state.specs.Prelude.{Flaw, bind, Scopes}
 use Rattle.kinds.specs.Variables.{name_in}
 use Rattle.tclstate.specs.Scopes.{linked}
 
--- no index stands behind the name that a word says, or there is the error (global(n))
+-- no index stands after the name that a word says, or there is the error (global(n))
 abbrev pub without_index : List ℕ → Option (List ℕ) → Result (Unit {0}) Flaw
 without_index word None = Ok tt
 without_index word (Some index) = Err (flaw.BadArgument word (codes "global"))

@@ -13,7 +13,7 @@ abbrev pub step_of : Option (List ℕ) → Result ℤ Flaw
 step_of (Some word) = number word
 step_of None = Ok (pos 1)
 
--- the number of a text; a missing one counts as 0 (incr(n); expr(n), operands)
+-- the number of a text; a missing text counts as 0 (incr(n); expr(n), operands)
 abbrev pub number_of : Option (List ℕ) → Result ℤ Flaw
 number_of (Some text) = number text
 number_of None = Ok (pos 0)

@@ -18,7 +18,7 @@ abbrev pub exists : List (List ℕ) → Scopes → Result (List ℕ) Flaw
 exists (w ∷ []) v = bind (name_in w) (λ n. Ok (truth (is_there (read v n.0 n.1))))
 exists _ v = Err (flaw.WrongArgs (codes "info"))
 
--- info exists n; another word behind info is the first error (info(n))
+-- info exists n; another word after info is the first error (info(n))
 abbrev pub info : List (List ℕ) → Scopes → Result (List ℕ) Flaw
 info [] v = Err (flaw.WrongArgs (codes "info"))
 info (w ∷ ws) v =

@@ -7,12 +7,12 @@ use Rattle.kinds.specs.Variables.{name_in}
 use Rattle.tcltext.specs.Canonical.{canonical}
 use Rattle.variables.specs.Values.{puts, text_in}
 
--- the elements of a variable's list; a missing one has none (lappend(n))
+-- the elements of a variable's list; a missing variable has none (lappend(n))
 abbrev pub elements_in : List ℕ → Option (List ℕ) → Scopes →
     Reading (Result (List (List ℕ)) Flaw)
 elements_in name index v = carried (text_in name index v) elements
 
--- elements are put behind those of a variable, and the whole list is given in its canonical text
+-- elements are appended to those of a variable, and the whole list is given in its canonical text
 -- (lappend(n))
 abbrev pub extends : List ℕ → Option (List ℕ) → List (List ℕ) → Scopes → Reading (Done Scopes)
 extends name index more v = once (elements_in name index v) v (λ had.

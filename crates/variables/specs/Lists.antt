@@ -1,4 +1,4 @@
--- What a read of a variable's list comes to in the code.
+-- What a read of a variable's list gives in the code.
 use Rattle.std.specs.Prelude.{◌≡◌, ℕ, List, Option, Result, Ok, Err}
 use Rattle.state.specs.Prelude.{flaw_of, Raise, Scopes}
 use Rattle.acts.specs.declared.raise.Raise.TheVariants as raise
@@ -6,7 +6,7 @@ use Rattle.kinds.specs.Readings.{ComesTo}
 use Rattle.tcltext.specs.Canonical.{canonical}
 use Rattle.variables.specs.Lappend.{elements_in}
 
--- the text of the variable's list is at hand, or the error that it can't be read or is none
+-- the text of the variable's list, or the error that the variable can't be read or holds no list
 abbrev pub HoldsList : {A : Type 0} → Result (List ℕ) (Raise A) → List ℕ →
     Option (List ℕ) → Scopes → Type 0
 HoldsList (Ok list) name index v =

@@ -10,8 +10,8 @@ use Rattle.state.specs.Variables.{flaw_of_trouble, spelled}
 use Rattle.tclparse.specs.Variable.{named}
 use Rattle.tclstate.specs.Scopes.{Trouble, NoVariable, NoElement, removed}
 
--- what is left where a name is removed; a missing one is passed over quietly, or is the script's
--- error (unset(n))
+-- the variables that are left where a name is removed; a missing name is passed over quietly, or is
+-- the script's error (unset(n))
 abbrev pub cleared : Result Scopes Trouble → Bool → List ℕ → Scopes → Result Scopes Flaw
 cleared (Ok new) quiet name v = Ok new
 cleared (Err NoVariable) true name v = Ok v
@@ -26,7 +26,7 @@ clears quiet name index v = cleared (removed v name index) quiet (spelled name i
 abbrev pub clears_word : Bool → List ℕ → Scopes → Result Scopes Flaw
 clears_word quiet w v = bind (name_in w) (λ n. clears quiet n.0 n.1 v)
 
--- on with what is left, or with an error nothing more is done (unset(n))
+-- continues with the variables that are left; with an error nothing more is done (unset(n))
 abbrev pub onward : Result Scopes Flaw → Scopes → (Scopes → Done Scopes) → Done Scopes
 onward (Ok new) v next = next new
 onward (Err flaw) v next = (v, Err flaw)
@@ -47,7 +47,7 @@ removes_named quiet words v =
 abbrev pub wrong_words : Scopes → Done Scopes
 wrong_words v = (v, Err (flaw.WrongArgs (codes "unset")))
 
--- at least one word stands behind the flags (unset(n))
+-- at least one word stands after the flags (unset(n))
 abbrev pub some_words : Bool → List (List ℕ) → Scopes → Done Scopes
 some_words quiet [] v = wrong_words v
 some_words quiet (w ∷ ws) v = removes_named quiet (w ∷ ws) v

@@ -1,4 +1,4 @@
--- What variables hold: it may be missing, and what is written is given.
+-- The values of variables: reading one that may be missing, and writing one, which gives the value.
 use Rattle.std.specs.Prelude.{ℕ, List, [], Option, Some, None, Result, Ok, Err}
 use Rattle.state.specs.Prelude.{Flaw, bind, Scopes}
 use Rattle.kinds.specs.Variables.{put}

@@ -14,11 +14,11 @@ use tclparse::Name;
 use tclstate::Scopes;
 use tcltext::Value;
 
-/// Puts texts behind that of a variable, and gives the whole.
+/// Appends texts to that of a variable, and gives the whole.
 ///
 /// # Errors
-/// Another number of words; no name; or a variable that can't be read: nothing changes. Or memory
-/// is refused.
+/// The wrong number of words; a word that is no variable name; or a variable that can't be read:
+/// nothing changes. Or memory is refused.
 pub fn begin<A: Allocator + Copy>(
     alloc: A,
     scopes: &mut Scopes<A>,
@@ -33,7 +33,7 @@ pub fn begin<A: Allocator + Copy>(
     }
 }
 
-/// Puts texts behind what a word names.
+/// Appends texts to that of the variable or the element that a word names.
 fn append<A: Allocator + Copy>(
     alloc: A,
     scopes: &mut Scopes<A>,
@@ -47,7 +47,7 @@ fn append<A: Allocator + Copy>(
     Ok(extend(alloc, scopes, name, index, texts)?)
 }
 
-/// Puts texts behind that of a variable or an element.
+/// Appends texts to that of a variable or an element.
 fn extend<A: Allocator + Copy>(
     alloc: A,
     scopes: &mut Scopes<A>,
@@ -63,7 +63,7 @@ fn extend<A: Allocator + Copy>(
     Ok(put_back(alloc, scopes, name, index, whole)?)
 }
 
-/// A text with others behind it. The text grows in place where no one else shares it.
+/// A text with others after it. The text grows in place where no one else shares it.
 fn joined<A: Allocator + Copy>(
     alloc: A,
     text: Value<A>,
@@ -76,7 +76,7 @@ fn joined<A: Allocator + Copy>(
     Ok(Value::new(alloc, whole)?)
 }
 
-/// Puts texts behind a text. On `Err` some of them may stand there.
+/// Appends texts to a text. On `Err` some of them may have been appended.
 fn push_all<A: Allocator>(whole: &mut Vec<u8, A>, texts: &[Value<A>]) -> Result<(), NoMemory>
     ensures { OnOk result (whole.new.items ≡ whole.old.items ++ concat texts.now) }
 {

@@ -20,7 +20,7 @@ use std::alloc::Allocator;
 use tclstate::Scopes;
 use tcltext::Value;
 
-/// What `array` does.
+/// The subcommands of `array`.
 #[derive(Clone, Copy, Debug, PartialEq, Eq)]
 pub enum Subcommand {
     Exists,
@@ -53,7 +53,7 @@ impl Subcommand {
         }
     }
 
-    /// Does the subcommand with the words behind its name.
+    /// Does the subcommand with the words after its name.
     fn apply<A: Allocator + Copy>(
         self,
         alloc: A,
@@ -76,7 +76,8 @@ impl Subcommand {
 /// Reads, writes or removes the elements of an array, by the subcommand that comes first.
 ///
 /// # Errors
-/// No subcommand; the words or the variables that it does not take; or memory is refused.
+/// There is no such subcommand, or it does not take these words or this variable; or memory is
+/// refused.
 pub fn begin<A: Allocator + Copy>(
     alloc: A,
     scopes: &mut Scopes<A>,
@@ -93,7 +94,7 @@ pub fn begin<A: Allocator + Copy>(
     }
 }
 
-/// The word of an array that stands alone.
+/// The word that names an array, where it stands alone.
 fn one_word<A: Allocator + Copy>(alloc: A, words: &[Value<A>]) -> Result<&[u8], Raise<A>>
     ensures { Answers (λ word. word.now) (asked.one_word words.now) result }
 {

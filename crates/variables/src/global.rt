@@ -12,11 +12,12 @@ use std::alloc::Allocator;
 use tclstate::Scopes;
 use tcltext::Value;
 
-/// Makes names of the procedure that runs mean the globals of these names; at the top level nothing
-/// changes.
+/// In the procedure that runs, makes names mean the global variables of the same names; at the top
+/// level nothing changes.
 ///
 /// # Errors
-/// No word; or one that names no variable as a whole: none is linked. Or memory is refused.
+/// There is no word, or one that names no variable as a whole, and then no name is linked; or
+/// memory is refused.
 pub fn begin<A: Allocator + Copy>(
     alloc: A,
     scopes: &mut Scopes<A>,

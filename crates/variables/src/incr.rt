@@ -18,8 +18,9 @@ use tcltext::Value;
 /// Adds one, or the number that is given, to that of a variable, and gives the sum.
 ///
 /// # Errors
-/// Another number of words; no name; no number, in a word or in the variable; a variable that can't
-/// be read; a sum beyond 64 bits; or memory is refused. Nothing changes.
+/// The wrong number of words; a word that is no variable name; no number, in a word or in the
+/// variable; a variable that can't be read; a sum beyond 64 bits; or memory is refused. Nothing
+/// changes.
 pub fn begin<A: Allocator + Copy>(
     alloc: A,
     scopes: &mut Scopes<A>,
@@ -34,7 +35,7 @@ pub fn begin<A: Allocator + Copy>(
     }
 }
 
-/// Adds a number to that of what a word names.
+/// Adds a number to that of the variable or the element that a word names.
 fn add<'a, A: Allocator + Copy>(
     alloc: A,
     scopes: &mut Scopes<A>,

@@ -17,7 +17,8 @@ use tcltext::Value;
 /// Gives 1 where a word names a variable or an element that is there, else 0.
 ///
 /// # Errors
-/// Another number of words; another word than `exists`; no name; or memory is refused.
+/// The wrong number of words; another word than `exists`; a word that is no variable name; or
+/// memory is refused.
 pub fn begin<A: Allocator + Copy>(
     alloc: A,
     scopes: &Scopes<A>,

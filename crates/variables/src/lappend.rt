@@ -18,11 +18,11 @@ use tclparse::Name;
 use tclstate::Scopes;
 use tcltext::Value;
 
-/// Puts elements behind those of a variable's list, and gives the whole in its canonical text.
+/// Appends elements to a variable's list, and gives the whole list in its canonical text.
 ///
 /// # Errors
-/// No word; no name; a variable that can't be read or is no list: nothing changes. Or memory is
-/// refused.
+/// There is no word; a word that is no variable name; a variable that can't be read or is no list:
+/// nothing changes. Or memory is refused.
 pub fn begin<A: Allocator + Copy>(
     alloc: A,
     scopes: &mut Scopes<A>,
@@ -36,7 +36,7 @@ pub fn begin<A: Allocator + Copy>(
     }
 }
 
-/// Puts elements behind those of the list of what a word names.
+/// Appends elements to the list of the variable or the element that a word names.
 fn append<A: Allocator + Copy>(
     alloc: A,
     scopes: &mut Scopes<A>,
@@ -49,7 +49,7 @@ fn append<A: Allocator + Copy>(
     Ok(extend(alloc, scopes, name, index, elements)?)
 }
 
-/// Puts elements behind those of the list of a variable or an element.
+/// Appends elements to the list of a variable or an element.
 fn extend<A: Allocator + Copy>(
     alloc: A,
     scopes: &mut Scopes<A>,
@@ -84,8 +84,8 @@ fn list_in<A: Allocator + Copy>(
     }
 }
 
-/// Writes a list with more elements behind it in its canonical text, and gives that. What the
-/// variable holds is let go of first, so that the list grows in place where no one else shares it.
+/// Appends elements to a list, writes its canonical text, and gives that. The variable lets go of
+/// its text first, so that the list grows in place where no one else shares it.
 fn put<A: Allocator + Copy>(
     alloc: A,
     scopes: &mut Scopes<A>,

@@ -13,11 +13,11 @@ use tclparse::Name;
 use tclstate::Scopes;
 use tcltext::Value;
 
-/// Gives the value of a variable, after it is written where a value stands behind its name.
+/// Gives the value of a variable; where a value stands after the name, writes the variable first.
 ///
 /// # Errors
-/// Another number of words; no name; a variable that can't be read or written; or memory is
-/// refused. Nothing changes.
+/// The wrong number of words; a word that is no variable name; a variable that can't be read or
+/// written; or memory is refused. Nothing changes.
 pub fn begin<A: Allocator + Copy>(
     alloc: A,
     scopes: &mut Scopes<A>,

@@ -19,8 +19,8 @@ use tcltext::Value;
 /// Removes variables and elements in turn, up to the first error; those before it stay removed.
 ///
 /// # Errors
-/// No word; one that names no variable, and then nothing is removed; a variable that can't be
-/// removed; or memory is refused for the error.
+/// There is no word, or one that is no variable name, and then nothing is removed; a variable that
+/// can't be removed; or memory is refused for the error.
 pub fn begin<A: Allocator + Copy>(
     alloc: A,
     scopes: &mut Scopes<A>,
@@ -33,7 +33,7 @@ pub fn begin<A: Allocator + Copy>(
     some_words(alloc, scopes, quiet, words)
 }
 
-/// Removes what the words name, where there is one.
+/// Removes what the words name, where there is a word.
 fn some_words<A: Allocator + Copy>(
     alloc: A,
     scopes: &mut Scopes<A>,
@@ -99,8 +99,8 @@ fn remove_word<A: Allocator + Copy>(
 
 /// Removes a variable or an element. On `Err` nothing changes.
 ///
-/// # Errors
-/// It can't be removed, unless it is missing and that is passed over; or memory is refused for the
+/// What is to be removed can't be, unless it is missing and `quiet` passes that over; or memory is
+/// refused for the error.
 /// error.
 pub(crate) fn remove<A: Allocator + Copy>(
     alloc: A,

@@ -1,4 +1,5 @@
-//! What variables hold: it may be missing, and what is written is given.
+//! The values of variables: reading one that may be missing, and writing one, which gives the
+//! value.
 
 ghost use Rattle.std.specs.Prelude.{OnOk, option_copied};
 ghost use Rattle.acts.specs.Raise.{Answers};

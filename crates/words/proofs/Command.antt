@@ -18,7 +18,7 @@ module _ {A : Type 0} (ws : List (Word A)) where
   abbrev pub left : ℕ → Words
   left i = words_then (drop i ws) no_words
 
-  -- they are the one there and those behind it
+  -- the words from a place on are the one there and those after it
   pub next_word : (i : ℕ) (w : Word A) → i < length ws → w ≡ get_or ws i w →
       left i ≡ word (out-Word A w).expands (parts_of (out-Word A w).parts) (left (i + 1))
   next_word i w lt is =
@@ -36,7 +36,8 @@ module _ {A : Type 0} (ws : List (Word A)) where
   at_word i w lt is levels values s call =
       ap (λ x. words levels x values s call) (next_word i w lt is)
 
--- what the words that a value stands for come to that were put behind the values, or were not
+-- what follows where the words that a value stands for were put after the values, and where they
+-- were not
 pub added : {A : Type 0} (told : Option (Fault A)) (expands : Bool) (value : List ℕ)
     (old new : List (List ℕ)) → told ≡ None → Adds told expands value old new →
     (s : Status) (next : List (List ℕ) → Course) →

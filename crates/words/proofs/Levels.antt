@@ -19,24 +19,24 @@ none_left (x ∷ xs) ys same rest = absurd (omega (arith, ap length same, ap len
 abbrev pub Next : Type 0
 Next = Status → List ℕ → Course
 
--- an element is read by its index, and on with what is left around it
+-- an element is read by its index, and then follows what is left around it
 abbrev pub around : {A : Type 0} → ℕ → Outer A → Next → Next
 around levels o next s index =
     reads o.array (Some index) s (λ value.
     parts levels (rest_of o.rest) (o.rest.bytes ++ value) s next)
 
--- what is left of a word behind a value, and on
+-- the rest of a word after a value, and what follows the word
 abbrev pub behind : {A : Type 0} → ℕ → Rest A → Next → Next
 behind levels r next s value = parts levels (rest_of r) (r.bytes ++ value) s next
 
--- those further out follow
+-- the indexes further out follow after those further in
 pub after_more : {A : Type 0} (levels : ℕ) (os more : List (Outer A)) (k : Next) →
     after levels (os ++ more) k ≡ after levels os (after levels more k)
 after_more levels [] more k = refl
 after_more levels (o ∷ os) more k =
     let on : Next → Next = λ next. around levels o next in ap on (after_more levels os more k)
 
--- what is left of a word goes on with more indexes around it as without them, and then with them
+-- with more indexes around it the rest of a word goes on as without them, and then in them
 pub more_around : {A : Type 0} (levels : ℕ) (r : Rest A) (os more all : List (Outer A)) (k : Next) →
     all ≡ os ++ more →
     behind levels r (after levels all k) ≡ behind levels r (after levels os (after levels more k))
@@ -45,7 +45,7 @@ more_around {A = A} levels r os more all k is =
     let by_next : Next → Next = λ next. behind levels r next in
     ap by_all is ∙ ap by_next (after_more levels os more k)
 
--- the value of an index was met, and on with the element around it
+-- the value of an index was met, and the element around it follows
 pub one_out : {A : Type 0} (levels : ℕ) (whole : Course) (it on : Met A) (index : List ℕ)
     (all os : List (Outer A)) (o : Outer A) (s : Status) (k : Next) →
     whole ≡ course_of_met levels it (after levels all k) s → it ≡ met.Value index → all ≡ o ∷ os →
@@ -57,7 +57,7 @@ one_out {A = A} levels whole it on index all os o s k same is outer goes_on =
     let by_met : Met A → Course = λ x. course_of_met levels x (after levels (o ∷ os) k) s in
     same ∙ ap by_outer outer ∙ ap by_met is ∙ goes_on
 
--- on with the value of an index, where the element and what is left around it are these
+-- what follows the value of an index, where the element and what is left around it are these
 abbrev pub reading : ℕ → List ℕ → Parts → List ℕ → Next → Next
 reading levels array rest bytes k s index =
     reads array (Some index) s (λ value. parts levels rest (bytes ++ value) s k)
@@ -70,7 +70,7 @@ same_reading levels name array qs ps b c k named left same =
     let by_bytes : List ℕ → Next = λ x. reading levels array ps x k in
     ap by_name named ∙ ap by_parts left ∙ ap by_bytes same
 
--- a script in a word, and what is left behind it
+-- a script in a word, and what is left after it
 pub same_script : {A : Type 0} (levels : ℕ) (cs ds : Commands) (qs ps : Parts) (b c : List ℕ)
     (os : List (Outer A)) (s : Status) (k : Next) → cs ≡ ds → qs ≡ ps → b ≡ c → os ≡ [] →
     nested levels ds s (λ t value. parts levels ps (c ++ value) t k)

@@ -1,4 +1,4 @@
--- Scripts that are left, where others are left around them.
+-- How many scripts are left where others are left around them.
 use Rattle.std.proofs.Common.{◌≡◌, ◌∙◌, ℕ, ◌+◌, ◌≤◌, List, [], ◌∷◌, ◌++◌, Option, Some, None, IfSome, refl, ap, arith}
 use Rattle.std.specs.Prelude.{MatchOption}
 use Rattle.std.proofs.lemmas.List.Sums.{sum_by-append}
@@ -11,12 +11,12 @@ use Rattle.words.specs.declared.gathering.Gathered.TheVariants as gathered
 use Rattle.words.specs.Scripts.{scripts_in, scripts_around, MeetsFewer, HasFewer}
 use Rattle.words.specs.View.{rest_of}
 
--- bytes are none
+-- bytes add no scripts
 pub in_bytes : (v : List ℕ) (ps : Parts) → scripts_in (bytes_then v ps) ≡ scripts_in ps
 in_bytes [] ps = refl
 in_bytes (b ∷ v) ps = in_bytes v ps
 
--- further indexes
+-- further indexes add their scripts
 pub around_more : {A : Type 0} (os more all : List (Outer A)) → all ≡ os ++ more →
     scripts_around all ≡ scripts_around os + scripts_around more
 around_more os more all is =
@@ -37,14 +37,14 @@ has_more (gathered.Values values) m n fewer le = tt
 has_more (gathered.Script commands gathering) m n fewer le = omega arith
 has_more (gathered.Fault fault) m n fewer le = tt
 
--- a part has so many scripts in its index and behind it
+-- a part has m scripts in its index, and n stand after it
 pub part_more : {A : Type 0} (stop : Option (Met A)) (m n all : ℕ) → all ≡ m + n →
     IfSome stop (λ it. MeetsFewer it (m + n)) →
     MatchOption stop (n ≤ all) (λ it. MeetsFewer it all)
 part_more None m n all is fewer = omega arith
 part_more (Some it) m n all is fewer = meets_more it (m + n) all fewer (omega arith)
 
--- what was met within these indexes leaves fewer than so many, all in all
+-- what was met within these indexes leaves fewer than n scripts, those around it included
 pub record Remains {A : Type 0} (it : Met A) (os : List (Outer A)) (n : ℕ) : Type 0 where
   pub most : ℕ
   pub fewer : MeetsFewer it most

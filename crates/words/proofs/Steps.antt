@@ -32,7 +32,7 @@ reads_trouble s scopes name index trouble flaw next same is told =
     ap (λ r. found r (spelled name index) s next) (ap (λ x. read x name index) same ∙ is)
     ∙ ap (λ f. raises f s) (sym told)
 
--- a variable that is not read raises the error that is told
+-- a variable that is not read raises the error that is reported
 pub reads_err : {A : Type 0} (s : Status) (scopes : Scopes) (name : List ℕ)
     (index : Option (List ℕ)) (why : ScopeError) (fault : Fault A) (next : List ℕ → Course) →
     s.scopes ≡ scopes → HasTrouble why (read scopes name index) → IsTold fault why name index →
@@ -47,7 +47,7 @@ reads_err s scopes name index error.NoElement fault next same is told =
     reads_trouble s scopes name index _ (flaw_of fault) next same is told
 reads_err s scopes name index (error.NoMemory e) fault next same is told = absurd told
 
--- what a variable comes to that was put behind the bytes, or was not
+-- what follows where a variable's value was put after the bytes, and where it was not
 pub appended : {A : Type 0} (told : Option (Fault A)) (old new name : List ℕ)
     (index : Option (List ℕ)) (s : Status) → told ≡ None → Appends told old new name index s →
     (next : List ℕ → Course) → reads name index s (λ value. next (old ++ value)) ≡ next new
@@ -61,7 +61,7 @@ pub not_appended : {A : Type 0} (told : Option (Fault A)) (fault : Fault A)
 not_appended told fault old new name index s is appends =
     subst (λ f. Appends f old new name index s) is appends
 
--- bytes of a word go behind those before them
+-- bytes of a word go after those before them
 pub literal : (levels : ℕ) (v : List ℕ) (ps : Parts) (bytes : List ℕ) (s : Status)
     (k : Status → List ℕ → Course) →
     parts levels (bytes_then v ps) bytes s k ≡ parts levels ps (bytes ++ v) s k
@@ -74,7 +74,7 @@ literal levels (b ∷ v) ps bytes s k =
 abbrev pub left : {A : Type 0} → List (Part A) → ℕ → Parts
 left ps i = parts_then (drop i ps) no_parts
 
--- they are the one there and those behind it
+-- the parts from a place on are the one there and those after it
 pub next_part : {A : Type 0} (ps : List (Part A)) (i : ℕ) (p : Part A) → i < length ps →
     p ≡ get_or ps i p → left ps i ≡ part_view p (left ps (i + 1))
 next_part ps i p lt is =
@@ -82,7 +82,7 @@ next_part ps i p lt is =
     ∙ ap (λ q. part_view q (left ps (suc i))) (sym is)
     ∙ ap (λ j. part_view p (left ps j)) (sym (add-one i))
 
--- a part of each kind, before those behind it
+-- a part of each kind, before those after it
 module _ {A : Type 0} (p : Part A) (rest : Parts) where
   pub as_literal : (v : List ℕ) → p ≡ Literal v → part_view p rest ≡ bytes_then v rest
   as_literal v same = ap (λ q. part_view q rest) same ∙ view_Literal A v rest

@@ -15,20 +15,21 @@ use Rattle.words.specs.View.{resumed}
 abbrev pub words_from : {A : Type 0} → Rc (Vec (Word A) A) A → ℕ → Words
 words_from ws i = words_then (drop i ws.value.items) no_words
 
--- on with the value of a word, and with the words behind it
+-- what follows the value of a word: the words after it, with its own words added to the values
 abbrev pub taken : ℕ → Bool → Words → List (List ℕ) → (Status → List (List ℕ) → Course) →
     Status → List ℕ → Course
 taken levels expands ws values call = λ s value.
     expanded expands value s (λ more. words levels ws (values ++ more) s call)
 
--- on with the value of the script that was met in a word of a command
+-- what follows the value of the script that was met in a word of a command
 abbrev pub gathering_on : {A : Type 0} → ℕ → Gathering A → (Status → List (List ℕ) → Course) →
     Status → List ℕ → Course
 gathering_on levels g call =
     resumed levels g.word
     (taken levels g.expands (words_from g.words g.next) g.values.items call)
 
--- what the words of a command come to: their values, a script in one of them, or the script's error
+-- the course of what a command's words gave: their values, a script in one of them, or the script's
+-- error
 abbrev pub course_of_gathered : {A : Type 0} → ℕ → Gathered A →
     (Status → List (List ℕ) → Course) → Status → Course
 course_of_gathered levels (gathered.Values values) call s = call s values.items
@@ -36,7 +37,7 @@ course_of_gathered levels (gathered.Script commands gathering) call s =
     nested levels (commands_of commands) s (gathering_on levels gathering call)
 course_of_gathered levels (gathered.Fault fault) call s = raises (flaw_of fault) s
 
--- the words that a word's value stands for are put behind the values, or the script has this error
+-- the words that a word's value stands for are put after the values, or the script has this error
 abbrev pub Adds : {A : Type 0} → Option (Fault A) → Bool → List ℕ → List (List ℕ) →
     List (List ℕ) → Type 0
 Adds None expands value old new =

@@ -29,22 +29,22 @@ scripts_of (word expands ps ws) = scripts_in ps + scripts_of ws
 abbrev pub scripts_around : {A : Type 0} → List (Outer A) → ℕ
 scripts_around os = sum_by (λ o. scripts_in (rest_of o.rest)) os
 
--- the scripts that are left of a word behind the one that was met (Tcl(n), rule 7)
+-- the scripts that are left of a word after the one that was met (Tcl(n), rule 7)
 abbrev pub scripts_behind : {A : Type 0} → OpenWord A → ℕ
 scripts_behind w = scripts_in (rest_of w.inner) + scripts_around w.outer.items
 
--- the scripts that are left of a command's words behind the one that was met (Tcl(n), rule 2)
+-- the scripts that are left of a command's words after the one that was met (Tcl(n), rule 2)
 abbrev pub scripts_left : {A : Type 0} → Gathering A → ℕ
 scripts_left g = scripts_behind g.word + scripts_of (words_from g.words g.next)
 
--- where a script is met in a word, fewer than so many are left behind it (this project's own rule)
+-- where a script is met in a word, fewer than n scripts are left after it (this project's own rule)
 abbrev pub MeetsFewer : {A : Type 0} → Met A → ℕ → Type 0
 MeetsFewer (met.Value value) n = Unit {0}
 MeetsFewer (met.Script _ rest) n = scripts_behind rest < n
 MeetsFewer (met.Fault fault) n = Unit {0}
 
--- where a script is met in a command's words, fewer than so many are left behind it (this
--- project's own rule)
+-- where a script is met in a command's words, fewer than n scripts are left after it
+-- (this project's own rule)
 abbrev pub HasFewer : {A : Type 0} → Gathered A → ℕ → Type 0
 HasFewer (gathered.Values values) n = Unit {0}
 HasFewer (gathered.Script _ gathering) n = scripts_left gathering < n

@@ -21,8 +21,8 @@ parts_from ps i = parts_then (drop i ps.value.items) no_parts
 abbrev pub rest_of : {A : Type 0} → Rest A → Parts
 rest_of r = parts_from r.parts r.next
 
--- on with the value of an index: the element is read, and then come the indexes and the word around
--- it, the innermost first (Tcl(n), rule 8)
+-- what follows the value of an index: the element is read, and then come the indexes and the word
+-- around it, the innermost first (Tcl(n), rule 8)
 abbrev pub after : {A : Type 0} →
     ℕ → List (Outer A) → (Status → List ℕ → Course) → Status → List ℕ → Course
 after levels [] next = next
@@ -30,14 +30,14 @@ after levels (o ∷ os) next = λ s index.
     reads o.array (Some index) s (λ value.
     parts levels (rest_of o.rest) (o.rest.bytes ++ value) s (after levels os next))
 
--- on with the value of the script that was met in a word
+-- what follows the value of the script that was met in a word
 abbrev pub resumed : {A : Type 0} →
     ℕ → OpenWord A → (Status → List ℕ → Course) → Status → List ℕ → Course
 resumed levels word next = λ s value.
     parts levels (rest_of word.inner) (word.inner.bytes ++ value) s
     (after levels word.outer.items next)
 
--- what a word comes to: its value, a script in it, or the script's error
+-- the course of what a word gave: its value, a script in it, or the script's error
 abbrev pub course_of_met : {A : Type 0} →
     ℕ → Met A → (Status → List ℕ → Course) → Status → Course
 course_of_met levels (met.Value value) next s = next s value
@@ -45,13 +45,13 @@ course_of_met levels (met.Script commands word) next s =
     nested levels (commands_of commands) s (resumed levels word next)
 course_of_met levels (met.Fault fault) next s = raises (flaw_of fault) s
 
--- what a part of a word comes to: those behind it follow, or this is met in it
+-- the course of a part of a word: the parts after it follow, or this is met in it
 abbrev pub course_of_part : {A : Type 0} →
     ℕ → Option (Met A) → Course → (Status → List ℕ → Course) → Status → Course
 course_of_part levels None behind next s = behind
 course_of_part levels (Some met) behind next s = course_of_met levels met next s
 
--- the value that a variable has is put behind the bytes, or the script has this error
+-- the value that a variable has is put after the bytes, or the script has this error
 abbrev pub Appends : {A : Type 0} →
     Option (Fault A) → List ℕ → List ℕ → List ℕ → Option (List ℕ) → Status → Type 0
 Appends None old new name index s =

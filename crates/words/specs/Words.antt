@@ -5,13 +5,13 @@ use Rattle.tclparse.specs.Tree.{Parts, no_parts, byte, variable, element, script
 use Rattle.state.specs.Listed.{with_list}
 use Rattle.state.specs.Variables.{reads}
 
--- a script in a word is one level deeper, and its value counts (Tcl(n), rule 7)
+-- a script in a word runs one level deeper, and its value is what counts (Tcl(n), rule 7)
 abbrev pub nested : ℕ → Commands → Status → (Status → List ℕ → Course) → Course
 nested levels commands s next =
     inside levels (record { commands = commands; fault = None }) s (on_value next)
 
--- the rest of a word's parts after the bytes so far, and on with the word's value: variables and
--- scripts are substituted from left to right, each once (Tcl(n), rules 7, 8 and 11)
+-- the rest of a word's parts after the bytes so far, and what follows the word's value: variables
+-- and scripts are substituted from left to right, each once (Tcl(n), rules 7, 8 and 11)
 abbrev pub parts : ℕ → Parts → List ℕ → Status → (Status → List ℕ → Course) → Course
 parts levels no_parts bytes s next = next s bytes
 parts levels (byte b ps) bytes s next = parts levels ps (bytes ++ b ∷ []) s next
@@ -23,12 +23,13 @@ parts levels (element name is ps) bytes s next =
 parts levels (script commands ps) bytes s next =
     nested levels commands s (λ t value. parts levels ps (bytes ++ value) t next)
 
--- on with the words that one word stands for: itself, or behind {*} its elements (Tcl(n), rule 5)
+-- what follows the words that a word stands for: itself, or after {*} its elements (Tcl(n), rule 5)
 abbrev pub expanded : Bool → List ℕ → Status → (List (List ℕ) → Course) → Course
 expanded false value s next = next (value ∷ [])
 expanded true value s next = with_list value s next
 
--- the rest of a command's words after the values so far, and on with all of them (Tcl(n), rule 2)
+-- the rest of a command's words after the values so far, and what follows all the values
+-- (Tcl(n), rule 2)
 abbrev pub words : ℕ → Words → List (List ℕ) → Status → (Status → List (List ℕ) → Course) → Course
 words levels no_words values s next = next s values
 words levels (word expands ps ws) values s next =

@@ -20,7 +20,7 @@ use tclstate::Scopes;
 use tcltext::Value;
 
 /// A command whose words are substituted up to a script in one of them: the values so far, that
-/// word, and the words behind it.
+/// word, and the words after it.
 #[derive(Drop)]
 pub struct Gathering<A: Allocator> {
     words: Rc<Vec<Word<A>, A>, A>,
@@ -30,19 +30,19 @@ pub struct Gathering<A: Allocator> {
     word: OpenWord<A>,
 }
 
-/// What the words of a command come to.
+/// What the substitution of a command's words gives.
 #[derive(Drop)]
 pub enum Gathered<A: Allocator> {
     /// The values of all words.
     Values(Vec<Value<A>, A>),
     /// A script, whose value goes into a word.
     Script(Rc<Vec<Command<A>, A>, A>, Gathering<A>),
-    /// A variable is not read, or the value behind `{*}` is no list.
+    /// The error that a variable cannot be read, or that the value after `{*}` is no list.
     Fault(Fault<A>),
 }
 
-/// Adds the words that a word's value stands for: itself, or behind `{*}` its elements. Answers the
-/// script's error where these are to be had from no list.
+/// Adds the words that a word's value stands for: itself, or after `{*}` its elements. Answers the
+/// script's error where the value after `{*}` is no list.
 fn add_words<A: Allocator + Copy>(
     alloc: A,
     expands: bool,
@@ -106,8 +106,8 @@ fn gather<A: Allocator + Copy>(
     Ok(Gathered::Values(values))
 }
 
-/// Substitutes the words of a command, up to a script in one of them. Where there is none, memory
-/// is asked for the list of values, and for words of several parts.
+/// Substitutes the words of a command, up to a script in one of them. Where no word has a script,
+/// memory is asked for the list of values, and for words of several parts.
 ///
 /// # Errors
 /// `NoMemory` where memory is refused.
@@ -124,7 +124,7 @@ pub fn begin<A: Allocator + Copy>(
     gather(words, 0, values, alloc, scopes)
 }
 
-/// Goes on with the value of the script that was met, up to the next one.
+/// Continues with the value of the script that was met, up to the next script.
 ///
 /// # Errors
 /// `NoMemory` where memory is refused.

@@ -20,7 +20,7 @@ use tclparse::{Command, Part};
 use tclstate::Scopes;
 use tcltext::Value;
 
-/// What is left of a word, or of an index: its parts from the next one on, and the bytes so far.
+/// The rest of a word, or of an index: its parts from the next one on, and the bytes so far.
 #[derive(Drop)]
 pub struct Rest<A: Allocator> {
     pub parts: Rc<Vec<Part<A>, A>, A>,
@@ -28,14 +28,14 @@ pub struct Rest<A: Allocator> {
     pub bytes: Joined<A>,
 }
 
-/// An array whose index is evaluated, and what is left around that element.
+/// An array whose index is being evaluated, and the rest of the word or index around that element.
 #[derive(Drop)]
 pub struct Outer<A: Allocator> {
     pub array: Value<A>,
     pub rest: Rest<A>,
 }
 
-/// A word that is evaluated up to a script in it: what is left behind the script, and around that
+/// A word that is evaluated up to a script in it: what is left after the script, and around that
 /// the indexes and the word in which it stands, the innermost first.
 #[derive(Drop)]
 pub struct OpenWord<A: Allocator> {
@@ -43,18 +43,18 @@ pub struct OpenWord<A: Allocator> {
     pub outer: VecDeque<Outer<A>, A>,
 }
 
-/// What the evaluation of a word comes to.
+/// What the evaluation of a word gives.
 #[derive(Drop)]
 pub enum Met<A: Allocator> {
     /// The word's value.
     Value(Value<A>),
     /// A script, whose value goes into the word.
     Script(Rc<Vec<Command<A>, A>, A>, OpenWord<A>),
-    /// A variable is not read.
+    /// The error that a variable cannot be read.
     Fault(Fault<A>),
 }
 
-/// Puts the value of a variable behind the bytes, or answers the script's error.
+/// Puts the value of a variable after the bytes, or answers the script's error.
 fn append_variable<A: Allocator + Copy>(
     alloc: A,
     scopes: &Scopes<A>,
@@ -74,7 +74,7 @@ fn append_variable<A: Allocator + Copy>(
     }
 }
 
-/// What is left of a word behind a part, with the bytes so far, which are taken.
+/// The rest of a word after a part, with the bytes so far, which are moved out of `bytes`.
 fn rest_behind<A: Allocator + Copy>(
     parts: &Rc<Vec<Part<A>, A>, A>,
     next: usize,
@@ -89,7 +89,7 @@ fn rest_behind<A: Allocator + Copy>(
     Ok(Rest { parts, next, bytes })
 }
 
-/// A word in which a script was met, inside an element's index.
+/// Puts a word in which a script was met inside the index of an element.
 fn enclosed<A: Allocator + Copy>(
     mut word: OpenWord<A>,
     outer: Outer<A>,
@@ -103,7 +103,7 @@ fn enclosed<A: Allocator + Copy>(
     Ok(word)
 }
 
-/// Goes on with what an element's index comes to: puts the element's value behind the bytes, or
+/// Continues with the result of an element's index: puts the element's value after the bytes, or
 /// answers what is met: a script in the index, or the script's error.
 fn append_element<A: Allocator + Copy>(
     index: Met<A>,
@@ -140,7 +140,7 @@ fn append_element<A: Allocator + Copy>(
     }
 }
 
-/// Puts the value of a part behind the bytes, or answers what is met in it: a script, or the
+/// Puts the value of a part after the bytes, or answers what is met in it: a script, or the
 /// script's error.
 #[cycle(substitute)]
 fn append_part<A: Allocator + Copy>(
@@ -209,8 +209,8 @@ fn run<A: Allocator + Copy>(
     Ok(Met::Value(bytes.finish(alloc)?))
 }
 
-/// The value of a word of one part that is a literal, or a variable that is read, as most words
-/// are; none of every other word. No word in progress is made for it, nor moved.
+/// The value of a word whose one part is a literal, or a variable that can be read, as in most
+/// words; `None` for every other word. This makes and moves no word in progress.
 fn alone<A: Allocator>(part: &Part<A>, scopes: &Scopes<A>) -> Result<Option<Value<A>>, NoMemory>
     ensures { (levels : ℕ) (s : Status) (k : Status → List ℕ → Course) →
         s.scopes ≡ scopes.now → IfOk result (λ found. IfSome found (λ value.
@@ -227,6 +227,9 @@ fn alone<A: Allocator>(part: &Part<A>, scopes: &Scopes<A>) -> Result<Option<Valu
 }
 
 /// Substitutes the parts of a word, up to a script in it.
+///
+/// # Errors
+/// `NoMemory` where memory is refused.
 pub fn begin<A: Allocator + Copy>(
     parts: &Rc<Vec<Part<A>, A>, A>,
     alloc: A,
@@ -246,7 +249,7 @@ pub fn begin<A: Allocator + Copy>(
     run(parts, 0, Joined::new(alloc), alloc, scopes)
 }
 
-/// Goes on with the value of an index: reads the element, and substitutes what is left around it.
+/// Continues with the value of an index: reads the element, and substitutes what is left around it.
 fn leave_index<A: Allocator + Copy>(
     outer: Outer<A>,
     alloc: A,
@@ -271,7 +274,7 @@ fn leave_index<A: Allocator + Copy>(
     run(&parts, next, bytes, alloc, scopes)
 }
 
-/// A word in which a script was met, inside these further indexes.
+/// Puts a word in which a script was met inside these further indexes.
 fn enclosed_by_all<A: Allocator + Copy>(
     mut word: OpenWord<A>,
     mut outer: VecDeque<Outer<A>, A>,
@@ -286,7 +289,10 @@ fn enclosed_by_all<A: Allocator + Copy>(
 }
 
 impl<A: Allocator + Copy> OpenWord<A> {
-    /// Goes on with the value of the script that was met, up to the next one.
+    /// Continues with the value of the script that was met, up to the next script.
+    ///
+    /// # Errors
+    /// `NoMemory` where memory is refused.
     pub fn resume(self, alloc: A, scopes: &Scopes<A>, value: &Value<A>) -> Result<Met<A>, NoMemory>
         ensures goes_on { (levels : ℕ) (s : Status) (k : Status → List ℕ → Course) →
             s.scopes ≡ scopes.now →

@@ -1,4 +1,4 @@
-//! What the words of a command come to.
+//! The values of the words of a command.
 
 use memory::NoMemory;
 use std::alloc::Allocator;

@@ -9,7 +9,7 @@ module _ {O E S A : Type 0} (out : O → List ℕ → O → Type 0) (out_failed 
     (err : E → List ℕ → E → Type 0) (err_failed : E → Bool)
     (adds : S → List ℕ → S → Type 0) (failed : S → Bool)
     (script : List ℕ) (args : List (Vec ℕ A)) (ticks : ℕ) where
-  -- it is a live run
+  -- a live run of which a record may be made is a live run
   pub lives : (after : E) (empty kept : Option S) (status : ℕ) →
       LivedRecorded out out_failed err err_failed script args ticks adds failed empty after kept
       status →
@@ -21,7 +21,7 @@ module _ {O E S A : Type 0} (out : O → List ℕ → O → Type 0) (out_failed 
     finishes,
   )
 
-  -- where none is made, none is lost
+  -- where no record is made, none is lost
   pub lives_alone : (after : E) (kept : Option S) (status : ℕ) →
       LivedRecorded out out_failed err err_failed script args ticks adds failed None after kept
       status →
@@ -33,7 +33,7 @@ module _ {O E S A : Type 0} (out : O → List ℕ → O → Type 0) (out_failed 
       (ap (is_lost failed) none)
       (lives after None kept status (told, ended, (begun, begins, runs), finishes))
 
-  -- and whether a record is made or not, it is a live run
+  -- whether a record is made or not, the run is a live run
   pub lives_so : (made : Option (List ℕ)) (after : E) (empty kept : Option S) (status : ℕ) →
       (made ≡ None → empty ≡ None) →
       LivedRecorded out out_failed err err_failed script args ticks adds failed empty after kept

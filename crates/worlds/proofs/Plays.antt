@@ -19,7 +19,7 @@ header_bad : (text : List ℕ) (n : ℕ) → (¬ HasHeader text) × (¬ HasSecon
 header_bad text n none (inl (count, lines, number, whole, bad)) = none.0 (lines, whole)
 header_bad text n none (inr (count, lines, number, whole, bad)) = none.1 (lines, whole)
 
--- and is no record
+-- a text without a header is no record
 pub header_read : (text : List ℕ) (entries : List Note) →
     (¬ HasHeader text) × (¬ HasSecondHeader text) → AreEntries entries text → ⊥
 header_read text entries none (inl (replies, (lines, whole, are), same)) = none.0 (lines, whole)
@@ -72,7 +72,7 @@ module _ {O E S A : Type 0} (out : O → List ℕ → O → Type 0) (out_failed 
     finishes,
   )
 
-  -- where none is made, none is lost
+  -- where no record is made, none is lost
   pub none_lost : (entries : List Note) (before after : O × E) (kept : Option S) (status : ℕ) →
       PlaysRecorded out out_failed err err_failed script args ticks adds failed entries before None
       after kept status →
@@ -90,7 +90,7 @@ module _ {O E S A : Type 0} (out : O → List ℕ → O → Type 0) (out_failed 
       status) (none_lost entries before after kept status all)
       (plays entries before after None kept status all)
 
-  -- and whether a record is made or not, it is a run under the entries
+  -- whether a record is made or not, the run is one under the entries
   pub plays_so : (made : Option (List ℕ)) (entries : List Note) (before after : O × E)
       (empty kept : Option S) (status : ℕ) → (made ≡ None → empty ≡ None) →
       PlaysRecorded out out_failed err err_failed script args ticks adds failed entries before

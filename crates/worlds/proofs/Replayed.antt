@@ -19,7 +19,7 @@ use Rattle.state.specs.Cut.{CutsOff}
 use Rattle.state.specs.Dialogue.{is_no_more}
 use Rattle.worlds.specs.Laws.{AreReplayed}
 
--- where an answer that cuts a run off is the last one, that there are no more answers is
+-- where each answer that cuts a run off is the last one, the answer that there are no more is too
 ends_at : (h : History) → ClosesAt CutsOff h → EndsAtNoMore h
 ends_at [] closes = tt
 ends_at (pair ∷ h) closes = (λ none. closes.0 (inl (ap is_no_more none)), ends_at h closes.1)
@@ -40,7 +40,7 @@ front_acts zero h e = refl
 front_acts (suc n) [] e = none_taken n
 front_acts (suc n) (pair ∷ h) e = ap (λ acts. pair.0 ∷ acts) (front_acts n h e)
 
--- histories that go alike are led alike
+-- histories that go alike are led alike by their answers
 led_alike : (h k : History) (e f : Ending) → GoAlike h e k f → AreLedAlike h k
 led_alike h k e f alike = λ n same.
     sym (front_acts (suc n) h e) ∙ ap (flat_map act_in) (alike n same) ∙ front_acts (suc n) k f

@@ -23,12 +23,12 @@ pub some_first : {A : Type 0} (words : List (Vec ℕ A)) (name : Vec ℕ A) (sai
 some_first [] name said first is none = cc first
 some_first (word ∷ words) name said first is none = cc (is ∙ none)
 
--- without a script the name is the program's
+-- without a script file, the name is the program's
 pub argv_own : {A : Type 0} (script : List (Vec ℕ A)) (said args : List (List ℕ)) →
     (length script == 0) ≡ true → texts script ≡ said → args ≡ argv_of [] → args ≡ argv_of said
 argv_own script said args none is own = rw (sym is ∙ no_words script none) own
 
--- what the words hold is what is asked for
+-- what the words of a call hold is what the call asks for
 module _ {O E A : Type 0} (out : O → List ℕ → O → Type 0) (out_failed : O → Bool)
     (err : E → List ℕ → E → Type 0) (err_failed : E → Bool)
     (text : List ℕ) (args : List (Vec ℕ A)) (before after : O × E) (status : ℕ) where

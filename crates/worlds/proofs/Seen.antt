@@ -1,4 +1,4 @@
--- Runs in a world, as runs in what is seen of it.
+-- Runs in a world, seen as runs in a part of it.
 use Rattle.std.proofs.Common.{◌≡◌, ℕ, Bool, List, [], ◌∷◌, Option, Some, None, Result, Ok, Err, IfOk, IfErr, Vec, refl, sym, ap, ◌∙◌}
 use Rattle.memory.specs.declared.NoMemory.{NoMemory as Refusal}
 use Rattle.acts.specs.Deed.{Deed, Reply}
@@ -10,7 +10,7 @@ use Rattle.runs.specs.Ending.{Ending}
 use Rattle.runs.specs.Run.{Began, Ran}
 use Rattle.worlds.specs.Runs.{Runs}
 
--- `see` takes each step of a world to a step of what is seen
+-- `see` takes each step of a world to a step of the part of it that is seen
 module _ {W V : Type 0} (S : W → Deed → Reply → W → Type 0) (T : V → Deed → Reply → V → Type 0)
     (see : W → V)
     (steps : (before : W) (act : Deed) (reply : Reply) (after : W) → S before act reply after →
@@ -54,7 +54,7 @@ module _ {W N : Type 0} (S : W → Deed → Reply → W → Type 0) (name : W �
   runs_kept script args ticks first now (Err refusal) began =
       past_kept first now began.history began.past
 
--- what a run answered, as one fact
+-- what is known of the result of a run, as one fact
 pub runs_of : {W A : Type 0} (S : W → Deed → Reply → W → Type 0) (script : List ℕ)
     (args : List (Vec ℕ A)) (ticks : ℕ) (first now : W) (ended : Result (End A) Refusal) →
     IfOk ended (λ end. Ran S first now script (words_of args) ticks (ending_of end)) →
@@ -74,7 +74,7 @@ module _ {V S : Type 0} (Step : V → Deed → Reply → V → Type 0) (adds : S
       runs_seen (MayRecord Step adds failed) Step (λ pair. pair.0)
       (λ before act reply after step. step.0) script args ticks first now ended runs
 
-  -- where none was begun, none was made
+  -- where no record was begun, none was made
   still_none : (before after : Option S) (act : Deed) (reply : Reply) → before ≡ None →
       Notes adds failed before act reply after → after ≡ None
   still_none before after act reply none noted = rw none at noted

@@ -9,16 +9,16 @@ use Rattle.replays.specs.Replay.{Replays}
 use Rattle.runs.specs.Ending.{Ending}
 use Rattle.runs.specs.Run.{Ran}
 
--- `step` says how a world goes on by an act that is answered so, `adds`, `out` and `err` whether a
--- put may lead from one state of a sink to another and add these bytes, `failed`, `out_failed` and
--- `err_failed` whether it has failed.
+-- `step` says how a world changes by an act with an answer, `adds`, `out` and `err` whether a write
+-- may lead from one state of a sink to another and add these bytes, `failed`, `out_failed` and
+-- `err_failed` whether the sink has failed.
 module _ {W S O E : Type 0} (step : W → Deed → Reply → W → Type 0)
     (adds : S → List ℕ → S → Type 0) (failed : S → Bool)
     (out : O → List ℕ → O → Type 0) (out_failed : O → Bool)
     (err : E → List ℕ → E → Type 0) (err_failed : E → Bool)
     (script : List ℕ) (args : List (List ℕ)) (ticks : ℕ) where
-  -- under these entries each run of the script makes these acts, gets these answers and ends so,
-  -- and no wait differs
+  -- under these entries each run of the script makes these acts, gets these answers and has this
+  -- end, and no wait differs
   abbrev pub Repeats : {first now : W × S} {end : Ending} →
       Ran (Records step adds failed) first now script args ticks end → List Note → Type 0
   Repeats {end = end} ran entries =

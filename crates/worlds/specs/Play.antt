@@ -1,4 +1,4 @@
--- What a call of the program comes to under replay (this project's own).
+-- What a call of the program does under replay (this project's own).
 use Rattle.std.specs.Prelude.{◌≡◌, ◌||◌, ◌⊎◌, if◌then◌else◌, ℕ, Bool, false, List, Option, Result, Vec}
 use Rattle.std.specs.Borrow.{Bor}
 use Rattle.memory.specs.declared.NoMemory.{NoMemory as Refusal}
@@ -15,11 +15,11 @@ use Rattle.worlds.specs.declared.status.Outcome.TheVariants.{NoMemory}
 use Rattle.worlds.specs.Runs.{Runs, RunsRecorded}
 use Rattle.worlds.specs.Status.{end_outcome, fault_outcome, line_of, status_of}
 
--- `out` and `err` say whether a put may lead from one state of a writer to another and add these
--- bytes, `out_failed` and `err_failed` whether it has failed.
+-- `out` and `err` say whether a write may lead from one state of a writer to another and add these
+-- bytes, `out_failed` and `err_failed` whether the writer has failed.
 module _ {O E : Type 0} (out : O → List ℕ → O → Type 0) (out_failed : O → Bool)
     (err : E → List ℕ → E → Type 0) (err_failed : E → Bool) where
-  -- the line of an outcome goes to standard error; the status is the outcome's, or 4 where it fails
+  -- the line of an outcome goes to standard error; the status is the outcome's, or 4 if that fails
   abbrev pub Finishes : Outcome → E → E → ℕ → Type 0
   Finishes outcome before after status =
       Takes err err_failed before (line_of outcome) after
@@ -42,8 +42,8 @@ module _ {O E : Type 0} (out : O → List ℕ → O → Type 0) (out_failed : O 
       × Declines (fault_outcome name fault) before after status
 
   module _ {A : Type 0} (script : List ℕ) (args : List (Vec ℕ A)) (ticks : ℕ) where
-    -- the script runs under these entries, and then the line of its end goes to standard error; a
-    -- record of that which was lost, where one was made, counts as a writer that failed
+    -- the script runs under these entries, and then the line of its end goes to standard error;
+    -- losing the record of the run, where one was made, counts as a writer that failed
     abbrev pub Plays : Bool → List Note → O × E → O × E → ℕ → Type 0
     Plays lost entries before after status =
         (left : Recorded) × (told : E) × (ended : Result (End A) Refusal)
@@ -60,7 +60,7 @@ module _ {O E : Type 0} (out : O → List ℕ → O → Type 0) (out_failed : O 
         × Plays false entries before after status)
 
     module _ {S : Type 0} (adds : S → List ℕ → S → Type 0) (failed : S → Bool) where
-      -- the same, of which a record is made where there is a sink for it
+      -- the same, where a record of the run is made if there is a sink for it
       abbrev pub PlaysRecorded :
           List Note → O × E → Option S → O × E → Option S → ℕ → Type 0
       PlaysRecorded entries before empty after kept status =

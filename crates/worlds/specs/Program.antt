@@ -1,4 +1,4 @@
--- What a call of the program comes to (this project's own).
+-- What a call of the program does (this project's own).
 use Rattle.std.specs.Prelude.{◌≡◌, ◌⊎◌, ◌++◌, ℕ, Bool, false, List, [], ◌∷◌, Option, Some, None, Vec, codes}
 use Rattle.std.specs.Borrow.{Bor}
 use Rattle.memory.specs.declared.NoMemory.{NoMemory as Refusal}
@@ -11,19 +11,19 @@ use Rattle.worlds.specs.Lived.{Lived}
 use Rattle.worlds.specs.Play.{Declines, Plays, Refuses}
 use Rattle.worlds.specs.Status.{file_outcome}
 
--- how a call ends that is refused memory, or does not get the file that is named first
+-- how a call ends that gets no memory, or that does not get the file whose name comes first
 abbrev pub IsLack : List (List ℕ) → Outcome → Type 0
 IsLack [] outcome = (refusal : Refusal) × (outcome ≡ NoMemory refusal)
 IsLack (name ∷ others) outcome =
     (lent : Bor (List ℕ)) × (lent.now ≡ name) × (fault : Unread)
     × (outcome ≡ file_outcome lent fault)
 
--- the name that a script is told, and its arguments: without a file the name is the program's
+-- the name of a script and its arguments: without a file the name is the program's
 abbrev pub argv_of : List (List ℕ) → List (List ℕ)
 argv_of [] = codes "rx" ∷ []
 argv_of (name ∷ args) = name ∷ args
 
--- the text that a call runs: that of `-c`, and behind it that of the script's file, if there is one
+-- the text that a call runs: that of `-c`, and after it that of the script's file, if there is one
 abbrev pub IsText : Call → List ℕ → Type 0
 IsText call text =
     (file : List ℕ) × (call.script ≡ [] → file ≡ []) × (text ≡ lines call.commands ++ file)
@@ -38,17 +38,17 @@ abbrev pub MayBeLost : Option (List ℕ) → Bool → Type 0
 MayBeLost None lost = lost ≡ false
 MayBeLost (Some name) lost = Unit {0}
 
--- `out` and `err` say whether a put may lead from one state of a writer to another and add these
--- bytes, `out_failed` and `err_failed` whether it has failed.
+-- `out` and `err` say whether a write may lead from one state of a writer to another and add these
+-- bytes, `out_failed` and `err_failed` whether the writer has failed.
 module _ {O E : Type 0} (out : O → List ℕ → O → Type 0) (out_failed : O → Bool)
     (err : E → List ℕ → E → Type 0) (err_failed : E → Bool) where
-  -- nothing runs, for want of memory or of the file that is named first
+  -- nothing runs, since memory or the file whose name comes first is lacking
   abbrev pub Lacks : List (List ℕ) → O × E → O × E → ℕ → Type 0
   Lacks names before after status =
       (outcome : Outcome) × IsLack names outcome
       × Declines out out_failed err err_failed outcome before after status
 
-  -- nothing runs, since the file of the record that is to be made is not there
+  -- nothing runs, since the file of the record that is to be made can't be had
   abbrev pub LacksRecord : Option (List ℕ) → O × E → O × E → ℕ → Type 0
   LacksRecord made before after status =
       (outcome : Outcome) × LacksFile made outcome
@@ -84,7 +84,7 @@ module _ {O E : Type 0} (out : O → List ℕ → O → Type 0) (out_failed : O 
         ⊎ ((lent : Bor (List ℕ)) × (lent.now ≡ name) × (text : List ℕ)
         × RunsRecord lent made text before after status)
 
-  -- the script's text is not there, or it runs with its name and arguments
+  -- the text of the script can't be had, or it runs with its name and arguments
   abbrev pub Performs : Type 0 → Call → O × E → O × E → ℕ → Type 0
   Performs A call before after status =
       Lacks call.script before after status

@@ -1,4 +1,4 @@
--- A run in a world, as it ends or as memory was refused to it.
+-- A run in a world, up to its end or up to where memory was refused.
 use Rattle.std.specs.Prelude.{ℕ, Bool, List, Option, Result, MatchResult, Vec}
 use Rattle.memory.specs.declared.NoMemory.{NoMemory as Refusal}
 use Rattle.acts.specs.Deed.{Deed, Reply}
@@ -7,22 +7,22 @@ use Rattle.machine.specs.View.{ending_of, words_of}
 use Rattle.recorders.specs.Recorder.{Begins, MayRecord}
 use Rattle.runs.specs.Run.{Began, Ran}
 
--- `Step` says how a world goes on by an act that is answered so.
+-- `Step` says how a world changes by an act with an answer.
 module _ {V : Type 0} (Step : V → Deed → Reply → V → Type 0) {A : Type 0}
     (script : List ℕ) (args : List (Vec ℕ A)) (ticks : ℕ) where
-  -- the acts and the end are the definition's for the answers of the world, or a beginning of them
-  -- where memory was refused
+  -- the acts and the end are those of the definition for the answers of the world, or, where memory
+  -- was refused, the acts are a beginning of those
   abbrev pub Runs : V → V → Result (End A) Refusal → Type 0
   Runs first last ended =
       MatchResult ended
       (λ end. Ran Step first last script (words_of args) ticks (ending_of end))
       (λ _. Began Step first last script (words_of args) ticks)
 
--- `adds` says whether a put may lead from one state of a sink to another and add these bytes,
--- `failed` whether it has failed.
+-- `adds` says whether a write may lead from one state of a sink to another and add these bytes,
+-- `failed` whether the sink has failed.
 module _ {V S : Type 0} (Step : V → Deed → Reply → V → Type 0) (adds : S → List ℕ → S → Type 0)
     (failed : S → Bool) {A : Type 0} (script : List ℕ) (args : List (Vec ℕ A)) (ticks : ℕ) where
-  -- the same, of which a record is made where there is a sink for it
+  -- the same, where a record of the run is made if there is a sink for it
   abbrev pub RunsRecorded : V → Option S → V → Option S → Result (End A) Refusal → Type 0
   RunsRecorded first empty last kept ended =
       (begun : Option S) × Begins adds failed empty begun

@@ -22,8 +22,8 @@ run_outcome (Ok (end.BadAnswer number)) = UnfitAnswer number
 run_outcome (Ok end.NoMore) = NoMoreAnswers
 run_outcome (Err refusal) = NoMemory refusal
 
--- the end of a run: a writer that has failed is the outcome whatever else ended it, and else the
--- act of this number is, which differed from the wait of its record
+-- how a run ended: a writer that has failed decides, whatever else ended the run, and else the act
+-- of this number, if there is one, which differed from the wait of its record
 abbrev pub end_outcome : {A : Type 0} → Bool → Option ℕ → Result (End A) Refusal → Outcome
 end_outcome true differs ended = OutputFailed
 end_outcome false (Some number) ended = WaitDiffers number
@@ -45,7 +45,7 @@ fault_outcome name fault.Header = BadRecord name 1
 fault_outcome name (fault.Line line) = BadRecord name line
 fault_outcome name (fault.NoMemory refusal) = NoMemory refusal
 
--- a script's number modulo 256, and else the number of the kind of its end
+-- the number of `exit` modulo 256, and for each other end the number of its kind
 abbrev pub status_of : Outcome → ℕ
 status_of (Exit number) = unsigned_abs (int_rem_euclid number (pos 256))
 status_of ScriptError = 1
@@ -59,7 +59,7 @@ status_of (WaitDiffers number) = 5
 status_of (BadRecord name line) = 5
 status_of (NoMemory refusal) = 6
 
--- the line with its newline, and nothing where there is none
+-- the line of an end with its newline, and nothing where the end has no line
 abbrev pub line_of : Outcome → List ℕ
 line_of (Exit number) = []
 line_of ScriptError = []

@@ -15,7 +15,7 @@ use thiserror::Error;
 /// The room that is first made for a word, in bytes.
 const FIRST_ROOM: usize = 256;
 
-/// How often that room is doubled at most: to 2^62 bytes.
+/// How often the room for a word is doubled at most: to 2^62 bytes.
 const MOST_DOUBLINGS: u32 = 54;
 
 /// How many bytes of a file are read at a time.
@@ -24,7 +24,7 @@ const CHUNK: usize = 65_536;
 /// Why bytes from outside were not read.
 #[derive(Clone, Copy, Debug, PartialEq, Eq, Error)]
 pub enum Unread {
-    /// The system does not give them.
+    /// The system refuses to give them.
     #[error("not to be read")]
     Refused,
     /// Memory was refused.
@@ -117,7 +117,7 @@ pub fn read_file<R: Files, A: Allocator + Copy>(
     }
 }
 
-/// All bytes that a reader has left.
+/// All remaining bytes of a reader.
 pub fn read_all<A: Allocator + Copy, R: Read>(
     alloc: A,
     reader: &mut R,

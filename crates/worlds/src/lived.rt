@@ -20,8 +20,9 @@ use std::net::{Net, TcpStream};
 use std::process::{Processes, SystemProcess};
 use std::rt::{Clock, Files};
 
-/// Runs a script in the live world, makes a record of that where there is a sink for it, and gives
-/// the status of the program. What goes out and the line of the end are written to two writers.
+/// Runs a script in the live world, makes a record of this run where there is a sink for it, and
+/// gives the status of the program. The output of the script and the line of its end are written
+/// to two writers.
 pub fn lived<R, O: Sink, E: Sink, S: Sink>(
     rt: &R,
     script: &[u8],
@@ -44,7 +45,7 @@ where
     finish(Outcome::of_end(is_lost(made), None, &ended), err)
 }
 
-/// Runs a script in the live world. Where the system gives none, there are no answers.
+/// Runs a script in the live world. Where the system gives no such world, there are no answers.
 fn run_live<R, O: Sink, E: Sink, S: Sink>(
     rt: &R,
     script: &[u8],
@@ -87,7 +88,7 @@ impl<S: Sink> Write for Lent<'_, S> {
     }
 }
 
-/// The live world where the system gives none: it has no answer to any act.
+/// What stands for the live world where the system gives none: it has no answer to any act.
 #[derive(Drop)]
 struct Silent;
 

@@ -21,7 +21,7 @@ use records::{Entry, Sink, read_entries};
 use replays::{LentReplay, Recording};
 use std::alloc::Allocator;
 
-/// The sink of a record that is not made.
+/// The type of the sink where no record is made.
 #[derive(Drop)]
 struct Nowhere;
 
@@ -40,7 +40,7 @@ impl Sink for Nowhere {
 }
 
 /// Runs a script against the record of the file `name`, and gives the status of the program, as
-/// `replayed` does. The writers are given away.
+/// `replayed` does, but takes the two writers over.
 pub fn play<A: Allocator + Copy, O: Sink + Drop, E: Sink + Drop>(
     alloc: A,
     script: &[u8],
@@ -61,8 +61,8 @@ pub fn play<A: Allocator + Copy, O: Sink + Drop, E: Sink + Drop>(
     )
 }
 
-/// Runs a script against the record of the file `name`, and gives the status of the program. What
-/// goes out and the line of the end are written to two writers that have not failed.
+/// Runs a script against the record of the file `name`, and gives the status of the program. The
+/// output of the script and the line of its end are written to two writers that have not failed.
 pub fn replayed<A: Allocator + Copy, O: Sink, E: Sink>(
     alloc: A,
     script: &[u8],
@@ -80,7 +80,7 @@ pub fn replayed<A: Allocator + Copy, O: Sink, E: Sink>(
         script.now args.now limits.ticks name.entry «record».now
         (out.old, err.old) (out.new, err.new) result }
 
-    // The other way round: what each text of a record leads to.
+    // And conversely, by the text of the record: what each kind of text leads to.
     ensures no_header { ¬ HasHeader «record».now → ¬ HasSecondHeader «record».now
         → Declines O.adds O.has_failed E.adds E.has_failed
         (BadRecord name.entry 1) (out.old, err.old) (out.new, err.new) result }
@@ -110,9 +110,9 @@ pub fn replayed<A: Allocator + Copy, O: Sink, E: Sink>(
     }
 }
 
-/// Runs a script under the entries of a record, makes a record of that where there is a sink for
-/// it, and gives the status of the program. What goes out and the line of the end are written to
-/// two writers. None of the three has failed.
+/// Runs a script under the entries of a record, makes a record of this run where there is a sink
+/// for it, and gives the status of the program. The output of the script and the line of its end
+/// are written to two writers. None of the three has failed.
 pub fn rerun<A: Allocator + Copy, O: Sink, E: Sink, S: Sink>(
     alloc: A,
     script: &[u8],
@@ -149,7 +149,7 @@ fn either_failed<O: Sink, E: Sink>(out: &O, err: &E) -> bool
     out.failed() || err.failed()
 }
 
-/// Runs a script under what is left of a record, and writes what goes out to two writers.
+/// Runs a script under the rest of a record, and writes its output to two writers.
 fn run_entries<A: Allocator + Copy, O: Sink, E: Sink, S: Sink>(
     alloc: A,
     script: &[u8],
@@ -173,7 +173,7 @@ fn run_entries<A: Allocator + Copy, O: Sink, E: Sink, S: Sink>(
     run_replay(alloc, script, args, limits, &mut world, made)
 }
 
-/// Runs a script in a replay, to which the same places are lent afterwards.
+/// Runs a script in a replay, which still borrows the same recording and writers afterwards.
 fn run_replay<A: Allocator + Copy, O: Sink, E: Sink, S: Sink>(
     alloc: A,
     script: &[u8],
@@ -194,8 +194,8 @@ fn run_replay<A: Allocator + Copy, O: Sink, E: Sink, S: Sink>(
     run_recorded(alloc, script, args, limits, world, made)
 }
 
-/// Writes the line of an end, and gives the status. A line that does not go out is a fault of a
-/// writer.
+/// Writes the line of an end to standard error, and gives the status. Where the line is not
+/// written, the status is that of a writer that failed.
 pub fn finish<E: Sink>(outcome: Outcome<'_>, err: &mut E) -> u8
     ensures line { Takes E.adds E.has_failed err.old (line_of outcome.entry) err.new }
     ensures status { result ≡ (if E.has_failed err.new then 4 else status_of outcome.entry) }

@@ -62,7 +62,7 @@ where
     E: Sink,
     requires out { O.has_failed out.old ≡ false }
     requires err { E.has_failed err.old ≡ false }
-    // Words that are no call are told as such, and nothing else is done.
+    // Words that are no call are reported as such, and nothing else is done.
     ensures usage { ((call : Call) → ¬ IsCall (texts words.now) call)
         → Declines O.adds O.has_failed E.adds E.has_failed Usage
         (out.old, err.old) (out.new, err.new) result }
@@ -129,7 +129,7 @@ fn text_of<'a, R: Files + Input, A: Allocator + Copy>(
     }
 }
 
-/// The text of `-c`, and behind it that of the file of this name.
+/// The text of `-c`, and after it that of the file of this name.
 fn text_with<R: Files + Input, A: Allocator + Copy>(
     rt: &R,
     alloc: A,
@@ -145,7 +145,7 @@ fn text_with<R: Files + Input, A: Allocator + Copy>(
     Ok(text)
 }
 
-/// What a script without a file is told as its name: that of the program.
+/// The name that a script without a file has as its `argv0`: that of the program.
 fn own_name<A: Allocator + Copy>(alloc: A) -> Result<Vec<Vec<u8, A>, A>, NoMemory>
     ensures { IfOk result (λ args. texts args.items ≡ codes "rx" ∷ []) }
 {
@@ -242,8 +242,8 @@ fn made_of<'a, R: Files<File = File> + AllocGlobal>(
     }
 }
 
-/// The file of a record of this name. One that the call reads is refused before anything of it is
-/// lost.
+/// The file of a record of this name. A file that the call also reads is refused before any of it
+/// is lost.
 fn made_file<R: Files<File = File> + AllocGlobal>(
     rt: &R,
     call: &Arguments<'_, Global>,

@@ -6,7 +6,7 @@ use std::fs::{self, File};
 use std::io::{self, ErrorKind, Write};
 use std::rt::Files;
 
-/// How many bytes are gathered at most.
+/// How many bytes are gathered at most before they are written.
 const ROOM: usize = 65_536;
 
 /// A record's file. What is written is gathered until an entry is whole, and then goes out at once,
@@ -47,13 +47,14 @@ impl<W: Write> Write for RecordFile<W> {
     }
 }
 
-/// Whether an entry ends here: a line does, and it is not that of a wait, whose answer follows.
+/// Whether an entry ends here: at the end of a line, unless it is that of a wait, whose answer
+/// follows.
 fn is_whole(text: &[u8]) -> bool {
     text.ends_with(b"\n") && !is_wait(text)
 }
 
-/// Whether a text is one line, that of a wait. The line of its answer, which may be long, is not
-/// looked at.
+/// Whether a text is a single line, that of a wait. The line of the wait's answer, which may be
+/// long, is not examined.
 fn is_wait(text: &[u8]) -> bool {
     match text.iter().position(|b| *b == b'\n') {
         Some(end) => end + 1 == text.len() && text.starts_with(b"wait"),

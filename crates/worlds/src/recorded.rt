@@ -10,8 +10,8 @@ use recorders::{LentRecorder, begin};
 use records::Sink;
 use std::alloc::Allocator;
 
-/// Runs a script in a world that is lent, and makes a record of that where there is a sink for it,
-/// which has got nothing yet.
+/// Runs a script in a world that is lent, and makes a record of this run where there is a sink for
+/// it, to which nothing has been written yet.
 pub fn run_recorded<A: Allocator + Copy, W: World<A>, S: Sink>(
     alloc: A,
     script: &[u8],
@@ -28,7 +28,7 @@ pub fn run_recorded<A: Allocator + Copy, W: World<A>, S: Sink>(
     run_lent(alloc, script, args, limits, &mut recorder)
 }
 
-/// Runs a script in a recorder, to which the same world and sink are lent afterwards.
+/// Runs a script in a recorder, which still borrows the same world and sink afterwards.
 fn run_lent<A: Allocator + Copy, W: World<A>, S: Sink>(
     alloc: A,
     script: &[u8],

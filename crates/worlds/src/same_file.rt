@@ -10,8 +10,8 @@ struct Place {
     number: u64,
 }
 
-/// Whether these are names of one file that is there and keeps what is written to it: by links,
-/// too, but it is no device, pipe or terminal.
+/// Whether these are names of one existing file that keeps what is written to it: links count,
+/// too, but a device, pipe or terminal does not.
 pub fn is_same_file<R: Files>(rt: &R, first: &[u8], second: &[u8]) -> bool {
     match (place_of(rt, first), place_of(rt, second)) {
         (Some(first), Some(second)) => first == second,

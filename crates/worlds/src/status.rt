@@ -11,7 +11,7 @@ use engine::End;
 use records::{RecordFault, Sink, put_all, put_number};
 use std::alloc::Allocator;
 
-/// The line of a call with other arguments.
+/// The line that is written where the arguments are not those of a call.
 const USAGE: &[u8] =
     b"usage: rx [-c cmds]... [--replay F] [--record G] [--limit N] [[-f] file [args]]\n";
 
@@ -24,9 +24,9 @@ pub enum Outcome<'a> {
     ScriptError,
     /// The arguments are not those of a call.
     Usage,
-    /// The file of this name is not to be read.
+    /// The file of this name can't be read.
     CannotOpen(&'a [u8]),
-    /// The run came to its limit.
+    /// The run used all its ticks.
     Limit,
     /// A writer failed.
     OutputFailed,
@@ -34,9 +34,9 @@ pub enum Outcome<'a> {
     UnfitAnswer(u64),
     /// The world had no more answers.
     NoMoreAnswers,
-    /// The act of this number, counted from 1, is not the wait that its record tells.
+    /// The act of this number, counted from 1, is not the wait that the record says.
     WaitDiffers(u64),
-    /// The record of this name is none, by its line of this number.
+    /// The file of this name is not a record, because of its line of this number.
     BadRecord { name: &'a [u8], line: u64 },
     /// Memory was refused.
     NoMemory(NoMemory),
@@ -131,7 +131,7 @@ impl<'a> Outcome<'a> {
         }
     }
 
-    /// Writes the line on standard error, where there is one.
+    /// Writes the line of this end to standard error, where it has one.
     pub fn write_line<E: Sink>(&self, err: &mut E)
         ensures { Takes E.adds E.has_failed err.old (line_of self.now) err.new }
     {

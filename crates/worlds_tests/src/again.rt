@@ -1,4 +1,4 @@
-//! Scripts that run again, and what that asks for.
+//! Scripts that run again, and how much memory they ask for.
 
 use acts::Limits;
 use refusal::Refusing;

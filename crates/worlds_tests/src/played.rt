@@ -61,8 +61,8 @@ fn tells_a_writer_of_errors_that_fails(rt: HostRuntime) -> Result<(), Fail> {
     Ok(())
 }
 
-/// The status of the first dialogue, played with memory from `alloc`, what it prints and what it
-/// tells.
+/// The status of the first dialogue, played with memory from `alloc`, and what it writes to
+/// standard output and to standard error.
 fn first_played<A: Allocator + Copy>(
     rt: &impl AllocGlobal,
     alloc: A,
@@ -84,13 +84,13 @@ fn first_played<A: Allocator + Copy>(
     (status, printed, told)
 }
 
-/// Tests what a run printed and told that went on to its end.
+/// Tests what a run that went on to its end wrote to standard output and to standard error.
 fn prints_all(rt: &impl Abort, printed: &[u8], told: &[u8], n: u64) {
     assert_eq!(rt; printed, b"hiok\n".as_slice(), "{n}");
     assert!(rt; told.is_empty(), "{n}");
 }
 
-/// Tests what a run printed and told that was refused memory.
+/// Tests what a run that was refused memory wrote to standard output and to standard error.
 fn prints_a_beginning(rt: &impl Abort, status: u8, printed: &[u8], told: &[u8], n: u64) {
     assert_eq!(rt; status, 6, "{n}");
     assert!(rt; b"hiok\n".starts_with(printed), "{n}");
@@ -106,7 +106,7 @@ fn tells_that_memory_was_refused(rt: HostRuntime) -> Result<(), Fail> {
         heap.refuse_nth(n);
         let (ended, printed, told) = first_played(&rt, &heap, limits);
         let is_over = heap.refused() == refused;
-        // A refusal that concerns the keeping of a body alone is no error.
+        // A refusal that only keeps a body from being kept is no error.
         if is_over || ended == 0 {
             assert_eq!(rt; ended, 0);
             prints_all(&rt, &printed, &told, n);

@@ -1,4 +1,4 @@
-//! Records of version 2: what a run leaves, and what it comes to when it is replayed.
+//! Records of version 2: the record that a run leaves, and the result of replaying it.
 
 use acts::Limits;
 use std::alloc::Global;
@@ -10,14 +10,15 @@ use worlds::{Counted, read_entries};
 /// A dialogue with `cat`.
 const SCRIPT: &[u8] = b"spawn -noecho cat; send \"hi\\n\"; expect hi";
 
-/// The answers to its acts.
+/// The answers to the acts of the dialogue.
 const FIRST: &[u8] = b"rx-record 1\nstarted 100\ndone\narrive exp4 68690a\ndone\ndone\n";
 
-/// The record that it leaves under these answers.
+/// The record that the dialogue leaves with these answers.
 const SECOND: &[u8] =
     b"rx-record 2\nstarted 100\ndone\nwait exp4:0:2000\narrive exp4 68690a\ndone\ndone\n";
 
-/// The status, what was printed and what was told, where a script is played against a record.
+/// The status, the standard output and the standard error of a script that is played against a
+/// record.
 fn played(alloc: Global, script: &[u8], record: &[u8]) -> Result<(u8, Vec<u8>, Vec<u8>), Fail> {
     let mut printed = Vec::new(alloc);
     let mut told = Vec::new(alloc);
@@ -34,8 +35,8 @@ fn played(alloc: Global, script: &[u8], record: &[u8]) -> Result<(u8, Vec<u8>, V
     Ok((status, printed, told))
 }
 
-/// The status, what was printed and what was told, where the script runs again against a record,
-/// and the record that is made takes so many bytes.
+/// The status, the standard output and the standard error of the script, run again against a
+/// record, while `taken` is the room for the record that is made.
 fn reran(alloc: Global, record: &[u8], taken: &mut [u8]) -> Result<(u8, Vec<u8>, Vec<u8>), Fail> {
     let limits = Limits::new(100).ok_or("ticks")?;
     let entries = read_entries(alloc, record)?;
@@ -54,7 +55,7 @@ fn reran(alloc: Global, record: &[u8], taken: &mut [u8]) -> Result<(u8, Vec<u8>,
     Ok((status, printed, told))
 }
 
-/// Tests what is made of a record where the writer has this room.
+/// Tests the record that is made where the writer has this room.
 fn leaves_rows(
     rt: &(impl Abort + AllocGlobal),
     record: &[u8],
@@ -115,11 +116,11 @@ fn tells_the_wait_that_differs(rt: HostRuntime) -> Result<(), Fail> {
         told.as_slice(),
         b"rx: wait differs at answer 3\n".as_slice()
     );
-    // A record of version 1 tells no rows.
+    // A record of version 1 states no rows.
     plays_to_its_end(&rt, &script, FIRST)
 }
 
-/// What is told where a record ends behind so many lines, a good one or one that is cut.
+/// What is reported where a record ends after `lines` lines, the last of them good or cut.
 fn line_of(alloc: Global, is_good: bool, lines: usize) -> Result<String, Fail> {
     if is_good {
         return Ok(String::from_str(alloc, "rx: no more answers\n")?);

@@ -13,7 +13,7 @@ abbrev pub equal : List (List ℕ) → Meaning
 equal (a ∷ b ∷ []) = Gives (truth (bytes_eq a b))
 equal _ = Raises (flaw.WrongArgs (codes "string"))
 
--- how an order is told (string(n), compare)
+-- the text of an order (string(n), compare)
 abbrev pub sign_of : Ordering → List ℕ
 sign_of Less = codes "-1"
 sign_of Equal = codes "0"

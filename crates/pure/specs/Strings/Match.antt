@@ -4,7 +4,7 @@ use Rattle.acts.specs.Flaw as flaw
 use Rattle.meanings.specs.Meaning.{Meaning, Gives, Raises, Matches, truth}
 use Rattle.tcltext.specs.Pattern.Glob.{plain}
 
--- whether a pattern takes a whole text; a pattern has at most 1,000,000 bytes (string(n), match;
+-- whether a pattern matches a whole text; a pattern has at most 1,000,000 bytes (string(n), match;
 -- the limit is this project's own rule)
 abbrev pub takes : List ℕ → List ℕ → Meaning
 takes pattern text =

@@ -4,7 +4,7 @@ use Rattle.acts.specs.Flaw as flaw
 use Rattle.meanings.specs.Meaning.{Meaning, Gives, Raises}
 use Rattle.pure.specs.Place.{on_place, items_from}
 
--- the bytes from one place up to another (string(n), range)
+-- the bytes from one place up to and including another (string(n), range)
 abbrev pub part : List ℕ → List ℕ → List ℕ → Meaning
 part s first last =
     on_place (codes "string") first (length s) (λ from.

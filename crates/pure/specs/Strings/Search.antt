@@ -24,7 +24,7 @@ abbrev pub last_place : List ℕ → List ℕ → Option ℕ
 last_place [] text = None
 last_place (c ∷ needle) text = find (stands_at (c ∷ needle) text) (places_down (length text))
 
--- a place, or -1 for none (string(n), first)
+-- the text of a place, or of -1 where there is none (string(n), first)
 abbrev pub told : Option ℕ → List ℕ
 told None = codes "-1"
 told (Some place) = decimal place

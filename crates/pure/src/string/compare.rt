@@ -34,7 +34,7 @@ pub fn compare<A: Allocator + Copy>(alloc: A, words: &[Value<A>]) -> Result<Valu
     }
 }
 
-/// How an order is told.
+/// The text of an order.
 fn sign_of(order: Ordering) -> &'static [u8]
     ensures { result.now ≡ meant.sign_of order }
 {

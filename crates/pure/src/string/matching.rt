@@ -9,7 +9,7 @@ use meanings::truth;
 use std::alloc::Allocator;
 use tcltext::{Pattern, PatternError, Value};
 
-/// Whether a pattern takes a whole string.
+/// Whether a pattern matches a whole string.
 pub fn matches<A: Allocator + Copy>(alloc: A, words: &[Value<A>]) -> Result<Value<A>, Raise<A>>
     ensures { Answers (meant.matches words.now) result }
 {
@@ -19,7 +19,7 @@ pub fn matches<A: Allocator + Copy>(alloc: A, words: &[Value<A>]) -> Result<Valu
     }
 }
 
-/// Whether the pattern with this text takes a whole string.
+/// Whether the pattern with this text matches a whole string.
 fn takes<A: Allocator + Copy>(alloc: A, pattern: &[u8], string: &[u8]) -> Result<Value<A>, Raise<A>>
     ensures { Answers (meant.takes pattern.now string.now) result }
 {

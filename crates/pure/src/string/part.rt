@@ -56,7 +56,7 @@ pub fn range<A: Allocator + Copy>(alloc: A, words: &[Value<A>]) -> Result<Value<
     }
 }
 
-/// The bytes from one place up to another.
+/// The bytes from one place up to and including another.
 fn part<A: Allocator + Copy>(
     alloc: A,
     string: &[u8],

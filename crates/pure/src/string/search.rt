@@ -37,7 +37,7 @@ pub fn last<A: Allocator + Copy>(alloc: A, words: &[Value<A>]) -> Result<Value<A
     }
 }
 
-/// A place, or -1 for none.
+/// The text of a place, or of -1 where there is none.
 fn told<A: Allocator + Copy>(alloc: A, place: Option<usize>) -> Result<Value<A>, NoMemory>
     ensures { IfOk result (λ text. text ≡ meant.told place) }
 {
@@ -58,7 +58,8 @@ fn first_place(needle: &[u8], text: &[u8]) -> Option<usize>
     memmem::find(text, needle)
 }
 
-/// The greatest place, in the same time.
+/// The greatest place at which a needle stands in a text, in time that is linear in both; the empty
+/// needle stands nowhere.
 fn last_place(needle: &[u8], text: &[u8]) -> Option<usize>
     ensures { result ≡ meant.last_place needle.now text.now }
 {

@@ -10,10 +10,11 @@ use acts::Raise;
 use std::alloc::Allocator;
 use tcltext::Value;
 
-/// What is trimmed where no bytes are named: the null byte and white.
+/// What is trimmed where no bytes are named: the null byte and white space.
 const BYTES: &[u8] = b"\0\t\n\x0b\x0c\r ";
 
-/// A string without white, or the named bytes, at both its ends.
+/// A string without the named bytes at both its ends, or without the bytes of `BYTES` there where
+/// none are named.
 pub fn at_both_ends<A: Allocator + Copy>(alloc: A, words: &[Value<A>]) -> Result<Value<A>, Raise<A>>
     ensures { Answers (meant.trimmed side.trim words.now) result }
 {
@@ -25,7 +26,8 @@ pub fn at_both_ends<A: Allocator + Copy>(alloc: A, words: &[Value<A>]) -> Result
     Ok(Value::from_slice(alloc, part)?)
 }
 
-/// A string without white, or the named bytes, in front.
+/// A string without the named bytes in front, or without the bytes of `BYTES` there where none are
+/// named.
 pub fn in_front<A: Allocator + Copy>(alloc: A, words: &[Value<A>]) -> Result<Value<A>, Raise<A>>
     ensures { Answers (meant.trimmed side.trim_left words.now) result }
 {
@@ -37,7 +39,8 @@ pub fn in_front<A: Allocator + Copy>(alloc: A, words: &[Value<A>]) -> Result<Val
     Ok(Value::from_slice(alloc, part)?)
 }
 
-/// A string without white, or the named bytes, at the end.
+/// A string without the named bytes at the end, or without the bytes of `BYTES` there where none
+/// are named.
 pub fn at_the_end<A: Allocator + Copy>(alloc: A, words: &[Value<A>]) -> Result<Value<A>, Raise<A>>
     ensures { Answers (meant.trimmed side.trim_right words.now) result }
 {

@@ -28,7 +28,7 @@ none_furthest all run w place from n tied fixed size inside to none e is_end lea
     let last = last_place_of run w from e inside is_end.0 fixed (to (drop e w) leaves) in
     none last.0 (last.1, λ t. omega (arith, is_end.1 t, last.3, size)) last.2
 
--- its last place gives the greatest end
+-- the last place of the last run gives the greatest end
 pub last_is_furthest : (all run : List Item) (w : List ℕ) (place from n k : ℕ) (tied : Bool) →
     IsFixed run → n ≡ length run → from ≤ length w →
     ((u : List ℕ) → Leaves (any_run ∷ all) (drop place w) u →
@@ -136,7 +136,7 @@ only_found items run at_start at_end w n k same fixed size here ties least =
           omega (arith, there.1, size);
     }
 
--- where a pattern with a `*` sits, its first run has its place, and the rest ends behind it
+-- where a pattern with a `*` sits, its first run has its place, and the rest ends after it
 starred_sits : (run more : List Item) (at_start at_end : Bool) (w : List ℕ) (s e : ℕ) →
     IsFixed run →
     Sits (with_ties (run ++ any_run ∷ more) at_start at_end) w s e →
@@ -166,7 +166,7 @@ start_nowhere items run more at_start at_end w same fixed none =
     subst (λ (x : List Item). SitsNowhere (with_ties x at_start at_end) w) (sym same)
     (λ s e sits. none s sits.at_start (starred_sits run more at_start at_end w s e fixed sits).0)
 
--- behind the first run's first place there is no end: the pattern sits nowhere
+-- after the first run's first place there is no end: the pattern sits nowhere
 pub end_nowhere : (items run more : List Item) (at_start at_end : Bool) (w : List ℕ) (n k : ℕ) →
     items ≡ run ++ any_run ∷ more → IsFixed run → n ≡ length run →
     ((j : ℕ) → (IsTrue at_start → j ≡ 0) → IsPlace run w j → k ≤ j) →
@@ -181,7 +181,7 @@ end_nowhere items run more at_start at_end w n k same fixed size least none =
     parts.0.room parts.1 in
     none e (sits.within, sits.at_end) leaves)
 
--- the first run's first place and the greatest end behind it
+-- the first run's first place and the greatest end after it
 pub starred_found : (items run more : List Item) (at_start at_end : Bool) (w : List ℕ) (n k e : ℕ) →
     items ≡ run ++ any_run ∷ more → IsFixed run → n ≡ length run →
     IsPlace run w k → (IsTrue at_start → k ≡ 0) →
@@ -246,7 +246,7 @@ whole_iff_found items w (Some f) found =
 untied : (n m : ℕ) → IsTrue false → n ≡ m
 untied n m tied = absurd (false≢true tied)
 
--- a text that begins nowhere before a place has its place behind that
+-- a text that begins nowhere before `from` has its places at or after it
 low_place : (text w : List ℕ) (from k : ℕ) → ((s e : ℕ) → Sits (exact text) w s e → from ≤ s) →
     IsPlace (map literal text) w k → from ≤ k
 low_place text w from k low here =
@@ -254,7 +254,7 @@ low_place text w from k low here =
     (only_sits_there (map literal text) false false w k (k + length (map literal text))
     (IsFixed-text text) here refl (untied k 0) (untied (k + length (map literal text)) (length w)))
 
--- a text whose first place behind another is known, where it stands nowhere before that
+-- a text that stands nowhere before `from`, and whose first place from there on is known
 pub text_found : (text w : List ℕ) (from : ℕ) (r : Option ℕ) →
     ((s e : ℕ) → Sits (exact text) w s e → from ≤ s) →
     MatchOption r (FitsNowhere (map literal text) w from) (IsFirstPlace (map literal text) w from) →

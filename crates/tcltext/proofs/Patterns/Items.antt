@@ -29,7 +29,7 @@ pub starred_items-none : {A : Type 0} (runs : List (Run A)) (items : List Item) 
 starred_items-none [] items none = refl
 starred_items-none (run ∷ runs) items none = absurd (omega arith)
 
--- one item more behind the last run
+-- one item more after the last run
 pub starred_items-append : {A : Type 0} (runs : List (Run A)) (items more : List Item) →
     starred_items runs (items ++ more) ≡ starred_items runs items ++ more
 starred_items-append [] items more = refl
@@ -45,14 +45,14 @@ starred_items-push [] run items = refl
 starred_items-push (r ∷ runs) run items =
     ap (λ (x : List Item). items_of_run r ++ any_run ∷ x) (starred_items-push runs run items)
 
--- the items of the last run behind those before it
+-- the items of the last run after those before it
 pub starred_items-last : {A : Type 0} (runs : List (Run A)) (items : List Item) →
     starred_items runs items ≡ starred_items runs [] ++ (items ++ [])
 starred_items-last runs items =
     starred_items-append runs [] items
     ∙ ap (λ (x : List Item). starred_items runs [] ++ x) (sym (append-nil items))
 
--- the items of the last run with a `*` behind it, and those around it
+-- the items of the last run with a `*` after it, and those around it
 pub starred_items-before : {A : Type 0} (all runs : List (Run A)) (run : Run A)
     (items : List Item) → all ≡ runs ++ run ∷ [] →
     starred_items all items ≡ starred_items runs [] ++ (items_of_run run ++ any_run ∷ items)
@@ -61,7 +61,7 @@ starred_items-before all runs run items split =
     ∙ starred_items-push runs run items
     ∙ starred_items-append runs [] (items_of_run run ++ any_run ∷ items)
 
--- a sign was read, and its item stands behind the last run
+-- a sign was read, and its item stands after the last run
 pub read_item : {A : Type 0} (runs : List (Run A)) (old new : List Item) (s : Sign)
     (before after : List Sign) (whole : List Item) → before ≡ s ∷ after → new ≡ old ++ item_of s
     ∷ [] →
@@ -91,7 +91,7 @@ read_star runs longer run new s before after whole sign star pushed empty so_far
     ∙ ap (λ (x : List Sign). starred_items runs old ++ map item_of x) (sym sign)
     ∙ so_far
 
--- the steps of a run, of the `*` behind it and of the items behind that
+-- the steps of a run, of the `*` after it and of the items after that
 pub steps_of_parts : (run more : List Item) (s0 s1 s2 w : ℕ) → 1 ≤ w → s1 ≤ s0 + 1 + length run * w
     → s2 ≤ s1 + length more * w → s2 ≤ s0 + length (run ++ any_run ∷ more) * w
 steps_of_parts run more s0 s1 s2 w positive one two =

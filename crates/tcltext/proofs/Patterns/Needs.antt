@@ -10,7 +10,7 @@ use Rattle.tcltext.specs.Pattern.Runs.{Holds}
 use Rattle.tcltext.proofs.Patterns.Spans.{slice_range-joined}
 use Rattle.tcltext.proofs.Patterns.Stars.{drop_behind}
 
--- the parts of a text that the items in front and those behind them take
+-- the parts of a text that the items in front and those after them take
 whole_parts : (items more : List Item) (t : List ℕ) → Whole (items ++ more) t →
     (front rest : List ℕ) × (t ≡ front ++ rest) × Whole items front × Whole more rest
 whole_parts [] more t whole = ([], t, refl, refl, whole)
@@ -75,7 +75,7 @@ Holds-needs p text plain (before, after, items) = λ w nowhere s e sits.
       at_end = no_tie (s + length front + length part) (length w);
     }
 
--- bytes among items that stand among others
+-- bytes among items that are themselves part of a longer list of items
 pub Holds-within : (items : List Item) (text : List ℕ) (before after all : List Item) →
     all ≡ before ++ (items ++ after) → Holds items text → Holds all text
 Holds-within items text before after all is (front, behind, split) = (
@@ -88,11 +88,11 @@ Holds-within items text before after all is (front, behind, split) = (
       ∙ sym (append_assoc before front (map literal text ++ (behind ++ after))),
 )
 
--- no bytes
+-- the empty text stands among any items
 pub Holds-nothing : (items : List Item) → Holds items []
 Holds-nothing items = ([], items, refl)
 
--- nothing but the bytes
+-- items that are just the bytes hold them
 pub Holds-all : (items : List Item) (text : List ℕ) → items ≡ map literal text → Holds items text
 Holds-all items text is = ([], [], is ∙ sym (append-nil (map literal text)))
 

@@ -21,7 +21,7 @@ place_here items w p inside fits = record {
   fits = fits;
 }
 
--- the items fit what stands behind a place exactly where they have their place there
+-- the items fit what stands after a place exactly where they have their place there
 pub fits_iff_place : (items : List Item) (w behind : List ℕ) (p : ℕ) (fits : Bool) → p ≤ length w →
     behind ≡ drop p w → (IsTrue fits → Fits items behind) × (Fits items behind → IsTrue fits) →
     (IsTrue fits → IsPlace items w p) × (IsPlace items w p → IsTrue fits)
@@ -46,7 +46,7 @@ at_part : (w : List ℕ) (from n j k : ℕ) → from + j ≡ k → j < n →
 at_part w from n j k sum below = get_or-take n (drop from w) j 0 below ∙ get_or-drop from w j 0
     ∙ ap (slice_index w) sum
 
--- a byte that passes no test for the one byte that the first item may take is no place
+-- where a byte is not the only one that the first item may take, the items have no place
 pub not_there : (items : List Item) (b : ℕ) (w : List ℕ) (from n j k : ℕ) → 1 ≤ length items →
     ((x : ℕ) → TakesFirst items x → x ≡ b) → from + j ≡ k → j < n →
     ¬ Passes (is_byte b) (take n (drop from w)) j → ¬ IsPlace items w k
@@ -78,7 +78,7 @@ skipped_first items b w part place end skipped some ordered within is only found
           (found.before (k - place) (omega arith) (omega arith))),
     )
 
--- the places behind the last one that has the byte
+-- the places after the last one that has the byte
 pub skipped_last : (items : List Item) (b : ℕ) (w part : List ℕ) (from end last : ℕ) →
     1 ≤ length items → from ≤ end → end ≤ length w → part ≡ slice_range w from end →
     ((x : ℕ) → TakesFirst items x → x ≡ b) →
@@ -106,7 +106,8 @@ skipped_all items b w part from end some ordered within is only none k low below
     (subst (λ (x : List ℕ). ¬ Passes (is_byte b) x (k - from)) is
     (none (k - from) (omega arith) (omega arith)))
 
--- no places from one on, and none from there on
+-- none from one place up to a second, and none from there up to a third: none from the first up to
+-- the third
 pub none_joined : (P : ℕ → Type 0) (from place end : ℕ) →
     ((k : ℕ) → from ≤ k → k < place → ¬ P k) → ((k : ℕ) → place ≤ k → k < end → ¬ P k) →
     (k : ℕ) → from ≤ k → k < end → ¬ P k
@@ -115,7 +116,7 @@ none_joined P from place end before behind k low below =
     (λ (later : place ≤ k). behind k later below)
     (cases_lt k place)
 
--- no place at one, and none behind it
+-- no place at one, and none after it
 pub none_from : (P : ℕ → Type 0) (p : ℕ) → ¬ P p → ((k : ℕ) → p < k → ¬ P k) →
     (k : ℕ) → p ≤ k → ¬ P k
 none_from P p here behind k low =
@@ -123,7 +124,7 @@ none_from P p here behind k low =
     (λ (earlier : k ≤ p). λ at. here (subst P (let same : k ≡ p = omega arith in same) at))
     (cases_lt p k)
 
--- none from one place up to another, and none from there on
+-- none from one place up to another, and none from there on: none from the first on
 pub none_behind : (P : ℕ → Type 0) (place end : ℕ) → ((k : ℕ) → place ≤ k → k < end → ¬ P k) →
     ((k : ℕ) → end ≤ k → ¬ P k) → (k : ℕ) → place ≤ k → ¬ P k
 none_behind P place end before behind k low =

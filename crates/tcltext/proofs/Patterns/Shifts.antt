@@ -1,4 +1,5 @@
--- What a search in vain says of the window without its first bytes, or with more behind it.
+-- What a search that found nothing says of the window without its first bytes, or with more after
+-- it.
 use Rattle.std.proofs.Common.{◌≡◌, ℕ, ◌+◌, ◌-◌, ◌≤◌, false, List, [], ◌∷◌, ◌++◌, IsTrue, length, map, take, drop, refl, sym, ◌∙◌, ap, subst, inl, inr, arith, append_assoc}
 use Rattle.std.specs.Prelude.{slice_range}
 use Rattle.std.proofs.lemmas.Bool.{cases_lt, false≢true}
@@ -8,7 +9,7 @@ use Rattle.tcltext.specs.Pattern.Item.{Reading, literal}
 use Rattle.tcltext.specs.Pattern.Match.{Whole, Sits, SitsNowhere, compared}
 use Rattle.tcltext.specs.Pattern.Passed.{Passed}
 
--- the bytes from s up to e behind the first k
+-- the bytes from s up to e after the first k
 range_on : (w : List ℕ) (k s e : ℕ) →
     slice_range (drop k w) s e ≡ slice_range w (s + k) (e + k)
 range_on w k s e =
@@ -20,7 +21,8 @@ range_on w k s e =
 untied : (p : Reading) (n : ℕ) → p.at_start ≡ false → IsTrue p.at_start → n ≡ 0
 untied p n is tied = absurd (false≢true (sym is ∙ tied))
 
--- it sits behind the first bytes
+-- where the pattern sits in the window without its first k bytes, it sits k later in the whole
+-- window
 pub Sits-on : (p : Reading) (w : List ℕ) (k s e : ℕ) → p.at_start ≡ false → k ≤ length w →
     Sits p (drop k w) s e → Sits p w (s + k) (e + k)
 Sits-on p w k s e is inside sits = record {
@@ -31,7 +33,7 @@ Sits-on p w k s e is inside sits = record {
   at_end = λ tied. omega (arith, sits.at_end tied, length-drop k w);
 }
 
--- bytes that are gone at the front
+-- without the window's first k bytes, what is known moves by k
 pub Passed-drop : (p : Reading) (w : List ℕ) (k from : ℕ) → p.at_start ≡ false → k ≤ length w →
     Passed p w from → Passed p (drop k w) (from - k)
 Passed-drop p w k from is inside passed = λ rest s e sits.
@@ -41,7 +43,7 @@ Passed-drop p w k from is inside passed = λ rest s e sits.
     (Sits-on p (w ++ rest) k s e is room (subst (λ (x : List ℕ). Sits p x s e) joined sits)) in
     omega arith
 
--- bytes that came behind it
+-- with more bytes after the window, what is known stays
 pub Passed-more : (p : Reading) (w more : List ℕ) (from : ℕ) → Passed p w from →
     Passed p (w ++ more) from
 Passed-more p w more from passed = λ rest s e sits.
@@ -96,6 +98,6 @@ pub Passed-here : (p : Reading) (w : List ℕ) (from s e : ℕ) → Passed p w f
 Passed-here p w from s e passed sits =
     passed [] s e (subst (λ (x : List ℕ). Sits p x s e) (sym (append-nil w)) sits)
 
--- nothing is known
+-- no match begins before place 0, which needs no search
 pub Passed-nothing : (p : Reading) (w : List ℕ) → Passed p w 0
 Passed-nothing p w rest s e sits = omega arith

@@ -60,7 +60,7 @@ dollar_last so_far s before after all sign none h =
     dollar_after-false all ∙ sym h ∙ ap (dollar_after so_far) sign
     ∙ ap (dollar_after (is_dollar s)) none
 
--- the last sign that was read says so
+-- where all signs are read, the last one says whether they end in a bare `$`
 pub dollar_read : (so_far : Bool) (before all : List Sign) → before ≡ [] →
     dollar_after so_far before ≡ dollar_after false all → ends_in_dollar all ≡ so_far
 dollar_read so_far before all none h = dollar_after-false all ∙ sym h

@@ -142,6 +142,6 @@ Leaves-range items w s e in_s in_e leaves =
     ∙ take_at parts.0 (drop e w) (e - s) size in
     (omega arith, subst (λ (x : List ℕ). Whole items x) (sym front) parts.2)
 
--- where a list of bytes is left, there is one place for its beginning
+-- where the same bytes are left after two places, the places are the same
 pub drop_once : (w : List ℕ) (a b : ℕ) → a ≤ length w → b ≤ length w → drop a w ≡ drop b w → a ≡ b
 drop_once w a b in_a in_b same = omega (arith, ap length same, length-drop a w, length-drop b w)

@@ -1,4 +1,4 @@
--- Runs behind a `*`: the first place of a run serves each later one, and the last run ends last at
+-- Runs after a `*`: the first place of a run serves each later one, and the last run ends last at
 -- its last place.
 use Rattle.std.proofs.Common.{◌≡◌, ℕ, ◌+◌, ◌-◌, ◌<◌, ◌≤◌, List, [], ◌∷◌, ◌++◌, length, drop, refl, sym, ◌∙◌, ap, subst, ⊎_elim, arith}
 use Rattle.std.proofs.lemmas.List.{append-nil, length-drop, drop-drop}
@@ -7,11 +7,11 @@ use Rattle.tcltext.specs.Pattern.Item.{Item, any_run}
 use Rattle.tcltext.specs.Pattern.Runs.{IsFixed, Leaves, IsPlace, IsFirstPlace}
 use Rattle.tcltext.proofs.Patterns.Spans.{Fits-length, Leaves-behind_run, Leaves-join_run, drop_once}
 
--- a place in the window behind a place
+-- the place n bytes after the place `from`
 pub drop_behind : (w : List ℕ) (from n k : ℕ) → from + n ≡ k → drop n (drop from w) ≡ drop k w
 drop_behind w from n k sum = drop-drop n from w ∙ ap (λ (m : ℕ). drop m w) sum
 
--- a `*` and a run behind it: the run's place, and what is left there
+-- a `*` and a run after it: the run has a place, and the items after it leave u from there
 pub Leaves-star_run : (run items : List Item) (w u : List ℕ) (from : ℕ) → from ≤ length w →
     IsFixed run → Leaves (any_run ∷ (run ++ items)) (drop from w) u →
     (k : ℕ) × (from ≤ k) × IsPlace run w k × Leaves items (drop (k + length run) w) u
@@ -34,7 +34,7 @@ Leaves-star_run run items w u from inside fixed (n, within, leaves) =
           (drop_behind w (from + n) (length run) (from + n + length run) refl) parts.1,
     )
 
--- the other way round
+-- the converse: a run at its place, and the items after it, may follow a `*`
 pub Leaves-join_star : (run items : List Item) (w u : List ℕ) (from k : ℕ) → from ≤ k → IsFixed run
     → IsPlace run w k → Leaves items (drop (k + length run) w) u →
     Leaves (any_run ∷ (run ++ items)) (drop from w) u
@@ -62,7 +62,7 @@ Leaves-earlier items w u from k low inside (n, within, leaves) =
       subst (λ (x : List ℕ). Leaves items x u) same leaves,
     )
 
--- the first place of a run behind a `*` serves whatever comes behind the next `*`
+-- the first place of a run after a `*` serves whatever comes after the next `*`
 pub first_serves : (run more : List Item) (w u : List ℕ) (from q : ℕ) → IsFixed run →
     IsFirstPlace run w from q →
     Leaves (any_run ∷ (run ++ any_run ∷ more)) (drop from w) u →
@@ -82,7 +82,7 @@ pub first_joins : (run more : List Item) (w u : List ℕ) (from q : ℕ) → IsF
 first_joins run more w u from q fixed first leaves =
     Leaves-join_star run (any_run ∷ more) w u from q first.low fixed first.here leaves
 
--- a `*` and a last run: the run's place, which the end follows
+-- a `*` and a last run: the run has a place, and ends at e
 pub last_place_of : (run : List Item) (w : List ℕ) (from e : ℕ) → from ≤ length w → e ≤ length w →
     IsFixed run → Leaves (any_run ∷ run) (drop from w) (drop e w) →
     (k : ℕ) × (from ≤ k) × IsPlace run w k × (k + length run ≡ e)

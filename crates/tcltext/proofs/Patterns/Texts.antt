@@ -48,7 +48,7 @@ behind-index : (w : List ℕ) (from k : ℕ) → slice_index (behind w from) k �
 behind-index w from k = ap (λ (x : List ℕ). slice_index x k) (take_rest w from)
     ∙ get_or-drop from w k 0
 
--- bytes that occur behind a place have a place in the window
+-- bytes that occur after a place have a place in the window
 pub occurs_place : (bytes w : List ℕ) (from k : ℕ) → from ≤ length w →
     OccursAt (behind w from) bytes k → IsPlace (map literal bytes) w (from + k)
 occurs_place bytes w from k inside occurs =
@@ -76,7 +76,7 @@ place_occurs bytes w from k p sum here =
           ∙ read_fits bytes (drop p w) here.fits j below;
     }
 
--- a search that finds nothing behind a place
+-- a search that finds nothing after a place
 pub text_nowhere : (bytes w : List ℕ) (from : ℕ) → FindsNeedle (behind w from) bytes 0 None →
     FitsNowhere (map literal bytes) w from
 text_nowhere bytes w from none k low here =

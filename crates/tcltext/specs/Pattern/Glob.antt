@@ -3,7 +3,7 @@ use Rattle.std.specs.Prelude.{ℕ, ◌-◌, ◌==◌, ◌&&◌, nat_le, min, max
 use Rattle.std.specs.List.{list_any, range_with_len}
 use Rattle.tcltext.specs.Pattern.Item.{Item, literal, any_byte, one_of, any_run, Reading}
 
--- The ranges of a set's text, from left to right; a `-` in no range is a byte as any other
+-- The ranges of a set's text, from left to right; a `-` in no range is a byte like any other
 -- (string(n), match; in detail this project's own rule).
 abbrev pub ranges : List ℕ → List (ℕ × ℕ)
 ranges [] = []
@@ -28,7 +28,7 @@ all_bytes = range_with_len 0 256
 abbrev pub set_bytes : List ℕ → List ℕ
 set_bytes text = filter (is_in_ranges (ranges text)) all_bytes
 
--- What stands next in a text: a byte, a byte behind a backslash, or the text of a set
+-- What stands next in a text: a byte, a byte after a backslash, or the text of a set
 -- (string(n), match).
 pub data Sign : Type 0 where
   bare : ℕ → Sign
@@ -101,7 +101,7 @@ glob text =
 abbrev pub tied_nowhere : List Item → Reading
 tied_nowhere items = record { items = items; at_start = false; at_end = false; folds = false }
 
--- A glob of string match: it is tied nowhere, and `^` and `$` are bytes as any other (string(n),
+-- A glob of string match: it is tied nowhere, and `^` and `$` are bytes like any other (string(n),
 -- match).
 abbrev pub plain : List ℕ → Reading
 plain text = tied_nowhere (map item_of (signs text))

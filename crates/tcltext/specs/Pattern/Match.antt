@@ -10,7 +10,7 @@ IsPiece any_byte t = (b : ℕ) × (t ≡ b ∷ [])
 IsPiece (one_of bytes) t = (b : ℕ) × (t ≡ b ∷ []) × Contains bytes b
 IsPiece any_run t = Unit {0}
 
--- t is a joining of pieces, one an item in order (string(n), match).
+-- t consists of pieces, one for each item in order (string(n), match).
 abbrev pub Whole : List Item → List ℕ → Type 0
 Whole [] t = t ≡ []
 Whole (item ∷ items) t =

@@ -1,4 +1,4 @@
--- What is known of a window in which a text was sought in vain.
+-- What is known of a window in which a text was sought and not found.
 use Rattle.std.specs.Prelude.{ℕ, ◌≤◌, List, ◌++◌}
 use Rattle.tcltext.specs.Pattern.Item.{Reading}
 use Rattle.tcltext.specs.Pattern.Glob.{exact}

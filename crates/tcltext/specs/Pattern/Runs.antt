@@ -1,4 +1,5 @@
--- The words of the private functions: runs of items without `*`, and where they sit.
+-- Definitions for the contracts of private functions: runs of items without `*`, and where they
+-- fit.
 use Rattle.std.specs.Prelude.{◌≡◌, ℕ, ◌+◌, ◌<◌, ◌≤◌, Bool, List, [], ◌∷◌, ◌++◌, length, map, drop, filter, Contains, slice_index_or, false, IsTrue}
 use Rattle.tcltext.specs.Pattern.Item.{Item, literal, any_byte, one_of, any_run, Reading}
 use Rattle.tcltext.specs.Pattern.Glob.{all_bytes}
@@ -28,7 +29,7 @@ abbrev pub items_of_run : {A : Type 0} → Run A → List Item
 items_of_run (Text bytes) = map literal bytes.items
 items_of_run (Items tokens) = items_of tokens.items
 
--- The items of runs, each with a `*` behind it, before these (this project's own rule).
+-- The items of runs, each run with a `*` after it, and then these items (this project's own rule).
 abbrev pub starred_items : {A : Type 0} → List (Run A) → List Item → List Item
 starred_items [] items = items
 starred_items (run ∷ runs) items = items_of_run run ++ any_run ∷ starred_items runs items
@@ -37,7 +38,8 @@ starred_items (run ∷ runs) items = items_of_run run ++ any_run ∷ starred_ite
 abbrev pub items_of_runs : {A : Type 0} → Runs A → List Item
 items_of_runs runs = starred_items runs.starred.items (items_of_run runs.last)
 
--- Somewhere among the items are the bytes of the text (this project's own rule).
+-- Somewhere among the items stand the bytes of the text, one after the other (this project's own
+-- rule).
 abbrev pub Holds : List Item → List ℕ → Type 0
 Holds items text = (before after : List Item) × (items ≡ before ++ (map literal text ++ after))
 
@@ -62,7 +64,7 @@ abbrev pub TakesFirst : List Item → ℕ → Type 0
 TakesFirst [] b = Unit {0}
 TakesFirst (item ∷ items) b = Takes item b
 
--- The items take a front of t, each of them one byte (string(n), match).
+-- The items take the front of t, one byte each (string(n), match).
 abbrev pub Fits : List Item → List ℕ → Type 0
 Fits [] t = Unit {0}
 Fits (item ∷ items) [] = ⊥
@@ -76,7 +78,7 @@ IsFixed (any_byte ∷ items) = IsFixed items
 IsFixed (one_of bytes ∷ items) = IsFixed items
 IsFixed (any_run ∷ items) = ⊥
 
--- The items take a front of t and leave u (string(n), match).
+-- The items take the front of t and leave u as the rest of it (string(n), match).
 abbrev pub Leaves : List Item → List ℕ → List ℕ → Type 0
 Leaves [] t u = t ≡ u
 Leaves (any_run ∷ items) t u = (n : ℕ) × (n ≤ length t) × Leaves items (drop n t) u
@@ -92,19 +94,19 @@ pub record IsPlace (run : List Item) (window : List ℕ) (place : ℕ) : Type 0 
   pub room : place + length run ≤ length window
   pub fits : Fits run (drop place window)
 
--- The run's first place, at or behind `from` (this project's own rule).
+-- The run's first place, at or after `from` (this project's own rule).
 pub record IsFirstPlace (run : List Item) (window : List ℕ) (from place : ℕ) : Type 0 where
   pub low : from ≤ place
   pub here : IsPlace run window place
   pub before : (k : ℕ) → from ≤ k → k < place → ¬ IsPlace run window k
 
--- The run's last place, at or behind `from` (this project's own rule).
+-- The run's last place, at or after `from` (this project's own rule).
 pub record IsLastPlace (run : List Item) (window : List ℕ) (from place : ℕ) : Type 0 where
   pub low : from ≤ place
   pub here : IsPlace run window place
   pub after : (k : ℕ) → place < k → ¬ IsPlace run window k
 
--- The run fits at no place at or behind `from` (this project's own rule).
+-- The run fits at no place at or after `from` (this project's own rule).
 abbrev pub FitsNowhere : List Item → List ℕ → ℕ → Type 0
 FitsNowhere run window from = (k : ℕ) → from ≤ k → ¬ IsPlace run window k
 

@@ -15,26 +15,26 @@ use std::alloc::Allocator;
 /// How the bytes of an element outside braces are spelled.
 #[derive(Clone, Copy)]
 pub(crate) enum Style {
-    /// Up to white.
+    /// A bare element, which goes up to white space.
     Bare,
-    /// Up to a quote.
+    /// An element in quotes, which goes up to the next quote.
     Quoted,
 }
 
-/// What stands next in such an element.
+/// What stands next in an element that is bare or in quotes.
 #[derive(Drop)]
 pub(crate) enum Piece<'a> {
     /// The text's end.
     End,
-    /// The byte that ends the element, and the text behind it.
+    /// The byte that ends the element, and the text after it.
     Stop(&'a [u8]),
-    /// A byte of the element, and the text behind its spelling.
+    /// A byte of the element, and the text after its spelling.
     Byte(u8, &'a [u8]),
-    /// An escape that is left out.
+    /// An escape that this profile leaves out.
     NoEscape,
 }
 
-/// How an element begins, and the text behind that.
+/// How an element begins, and the text after that.
 pub(crate) enum Opening<'a> {
     Braces(&'a [u8]),
     Quotes(&'a [u8]),
@@ -77,7 +77,7 @@ fn open(text: &[u8]) -> Opening<'_>
 }
 
 /// Reads one element at the front of a text that begins with no white: its bytes, and the text
-/// behind it.
+/// after it.
 pub(crate) fn read<A: Allocator>(alloc: A, text: &[u8]) -> Result<(Vec<u8, A>, &[u8]), ListFault>
     requires { ends_element text.now ≡ false }
     ensures element { ReadsElement (opening text.now) result }

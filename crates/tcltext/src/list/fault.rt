@@ -13,10 +13,10 @@ pub enum ListFault {
     /// A quote is open at the text's end.
     #[error("unmatched open quote in list")]
     OpenQuote,
-    /// A closing brace is followed by another byte than white.
+    /// A closing brace is followed by a byte other than white space.
     #[error("list element in braces followed by other characters")]
     AfterBrace,
-    /// A closing quote is followed by another byte than white.
+    /// A closing quote is followed by a byte other than white space.
     #[error("list element in quotes followed by other characters")]
     AfterQuote,
     /// Memory was refused, as this refusal says.

@@ -14,7 +14,7 @@ use std::alloc::Allocator;
 /// The canonical text of a list: its elements with a blank between them, each bare where it can be,
 /// else in braces where it can be, else with backslashes (list(n)).
 ///
-/// Takes time and memory in the length of the text.
+/// Takes time and memory linear in the length of the text.
 pub fn join_list<A: Allocator>(alloc: A, list: &[Vec<u8, A>]) -> Result<Vec<u8, A>, NoMemory>
     ensures canonical { IfOk result (λ t. t.items ≡ canonical (texts list.now)) }
     ensures reads_back { IfOk result (λ t. IsList (texts list.now) t.items) }
@@ -38,7 +38,7 @@ pub fn join_values<A: Allocator>(alloc: A, list: &[Value<A>]) -> Result<Vec<u8, 
     Ok(text)
 }
 
-/// Writes elements behind a text, each with a blank before it but the very first of the list.
+/// Writes elements after a text, each with a blank before it but the very first of the list.
 pub(crate) fn push_values<A: Allocator>(
     text: &mut Vec<u8, A>,
     mut first: bool,
@@ -53,7 +53,7 @@ pub(crate) fn push_values<A: Allocator>(
     Ok(())
 }
 
-// Writes an element behind a text, and a blank before it where it is not the first.
+// Writes an element after a text, and a blank before it where it is not the first.
 fn push_next<A: Allocator>(
     text: &mut Vec<u8, A>,
     first: bool,
@@ -68,7 +68,8 @@ fn push_next<A: Allocator>(
     push_element(text, first, element)
 }
 
-/// Writes the spelling of an element behind a text; a blank before it is the caller's (list(n)).
+/// Writes the spelling of an element after a text; the blank before it is left to the caller
+/// (list(n)).
 ///
 /// `first` says that the element is the list's first, where a `#` may not stand bare. After an
 /// `Err` the text may have a part of the spelling.
@@ -157,7 +158,7 @@ fn pairs_up(element: &[u8]) -> bool
     open == 0
 }
 
-// The name of a byte behind a backslash.
+// The name of a byte after a backslash.
 fn escape_name(c: u8) -> u8
     ensures { result ≡ escape_name c }
 {

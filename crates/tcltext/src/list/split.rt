@@ -11,8 +11,9 @@ use std::alloc::Allocator;
 
 /// Reads a text as a list: its elements, in order (Tcl_SplitList(3)).
 ///
-/// Takes time and memory in the length of the text. An `Err` other than [`ListFault::NoMemory`] is
-/// the fault that comes first from the left, where an open brace or quote stands at the text's end.
+/// Takes time and memory linear in the length of the text. An `Err` other than
+/// [`ListFault::NoMemory`] is the fault that comes first from the left; a brace or quote that is
+/// never closed counts as a fault at the text's end.
 pub fn split_list<A: Allocator + Copy>(
     alloc: A,
     text: &[u8],

@@ -23,8 +23,8 @@ impl<A: Allocator + Copy> Value<A> {
         Value::marked(alloc, text, true)
     }
 
-    /// The canonical text of the list that a text is, which is read and written anew, but where it
-    /// is known to be canonical (Tcl_SplitList(3); list(n)).
+    /// The canonical text of the list that the text is. The text is read and written anew, unless
+    /// it is known to be canonical (Tcl_SplitList(3); list(n)).
     pub fn as_list(&self, alloc: A) -> Result<Value<A>, ListFault>
         ensures list { IfOk result (IsListOf self.now) }
         ensures fault { IfErr result (λ f. IfSome (flaw_of f) (λ flaw. HasFlaw flaw self.now)) }
@@ -37,9 +37,9 @@ impl<A: Allocator + Copy> Value<A> {
         Ok(Value::list(alloc, &values)?)
     }
 
-    /// The canonical text of a list with more elements behind it (lappend(n)). They are written
-    /// behind the text in place, which is copied first where others share it; elements that are
-    /// kept stay so.
+    /// The canonical text of a list with more elements after it (lappend(n)). They are written into
+    /// the text's own memory, which is copied first where others share it. Kept elements of a text
+    /// that no one else shares stay kept.
     pub fn push_elements(self, alloc: A, more: &[Value<A>]) -> Result<Value<A>, NoMemory>
         requires { IsCanonical self }
         ensures { (v : List (List ℕ)) → self ≡ canonical v →
@@ -57,7 +57,7 @@ impl<A: Allocator + Copy> Value<A> {
         }
     }
 
-    /// How many elements the list has that the text is.
+    /// The number of elements of the list that the text is.
     pub fn list_len(&self, alloc: A) -> Result<usize, ListFault>
         ensures len { IfOk result
             (λ n. (v : List (List ℕ)) × IsList v self.now × (n ≡ length v)) }
@@ -69,7 +69,8 @@ impl<A: Allocator + Copy> Value<A> {
         }
     }
 
-    /// The element at a place of the list that the text is; none where the place is beyond them.
+    /// The element at a place of the list that the text is, or `None` where the place is beyond the
+    /// last one.
     pub fn element_at(&self, alloc: A, place: usize) -> Result<Option<Value<A>>, ListFault>
         ensures element { IfOk result (λ e. (v : List (List ℕ))
             × IsList v self.now × (e ≡ slice_get v place)) }
@@ -81,7 +82,7 @@ impl<A: Allocator + Copy> Value<A> {
         }
     }
 
-    /// Elements of the list that the text is from a place on, so many at most.
+    /// At most `most` elements, from the place `from` on, of the list that the text is.
     pub fn part(&self, alloc: A, from: usize, most: usize) -> Result<Vec<Value<A>, A>, ListFault>
         ensures part { IfOk result (λ part. (v : List (List ℕ))
             × IsList v self.now × (part.items ≡ take most (drop from v))) }
@@ -93,7 +94,7 @@ impl<A: Allocator + Copy> Value<A> {
         }
     }
 
-    /// The canonical text of such elements.
+    /// The canonical text of the elements that [`Value::part`] gives.
     pub fn range(&self, alloc: A, from: usize, most: usize) -> Result<Value<A>, ListFault>
         ensures list { IfOk result (λ list. (v : List (List ℕ))
             × IsList v self.now × (list ≡ canonical (take most (drop from v)))) }

@@ -12,7 +12,7 @@ use crate::white::skip_white;
 /// `0` with digits, white (expr(n), operands). `None` where the text is no numeral, or its number
 /// isn't within 64 bits.
 ///
-/// Takes no memory, and time in the length of the text.
+/// Takes no memory, and time linear in the length of the text.
 pub fn read_int(text: &[u8]) -> Option<i64>
     ensures value { MatchOption result
         ((n : ℤ) → IsNumeral n text.now → IsInRange n → ⊥)
@@ -28,7 +28,7 @@ pub fn read_int(text: &[u8]) -> Option<i64>
     }
 }
 
-// Whether a minus stands at the front, and the text behind the sign, if there is one.
+// Whether a minus stands at the front, and the text after the sign, if there is one.
 fn split_sign(text: &[u8]) -> (bool, &[u8])
     ensures minus { result.0 ≡ is_minus text.now }
     ensures rest { result.1.now ≡ behind_sign text.now }
@@ -40,7 +40,8 @@ fn split_sign(text: &[u8]) -> (bool, &[u8])
     }
 }
 
-// A numeral without a sign, and white behind it; `None` also where its number is past 64 bits.
+// The number of a numeral without a sign and with only white space after it; `None` also where the
+// number is past 64 bits.
 fn read_unsigned(text: &[u8]) -> Option<u64>
     ensures { result ≡ small (unsigned text.now) }
 {
@@ -71,7 +72,7 @@ fn read_digits(base: u8, text: &[u8]) -> Option<u64>
     }
 }
 
-// The digits at the front, if any, and white behind them.
+// The number that the digits at the front make, if any, with only white space after them.
 fn read_more_digits(base: u8, text: &[u8]) -> Option<u64>
     requires { 2 ≤ base }
     ensures { result ≡ small (digits_behind base 0 text.now) }

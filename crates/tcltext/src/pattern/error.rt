@@ -5,10 +5,10 @@ use thiserror::Error;
 /// Why a text was not made a pattern.
 #[derive(Clone, Copy, Debug, PartialEq, Eq, Error)]
 pub enum PatternError {
-    /// Memory was refused, as this refusal says (5).
+    /// Memory was refused, as this refusal says.
     #[error("no memory")]
     NoMemory(NoMemory),
-    /// The text has more than 1,000,000 bytes (7).
+    /// The text has more than 1,000,000 bytes.
     #[error("pattern too long")]
     TooLong,
 }

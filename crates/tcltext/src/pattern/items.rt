@@ -1,4 +1,4 @@
-//! Whether items that each take one byte fit.
+//! Whether items that take one byte each fit the front of a text.
 ghost use Rattle.std.specs.Prelude.{◌+◌, ◌≤◌, ◌↔◌, IsTrue, length};
 ghost use Rattle.tcltext.specs.Pattern.Runs.{items_of, Fits};
 
@@ -6,7 +6,8 @@ use crate::pattern::token::Token;
 use crate::pattern::window::Window;
 use std::alloc::Allocator;
 
-/// Whether the items take a front of the text. Each item that is tested is one step.
+/// Whether the items fit the front of the text, one byte each. Each item that is tested counts as
+/// one step.
 pub fn fits<A: Allocator>(run: &[Token<A>], text: Window<'_>, steps: &mut u64) -> bool
     ensures fits { IsTrue result ↔ Fits (items_of run.now) text.entry }
     ensures steps { steps.new ≤ steps.old + length run.now }

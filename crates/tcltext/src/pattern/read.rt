@@ -16,16 +16,16 @@ use std::boxed::Box;
 /// What stands next in the text of a glob.
 #[derive(Drop)]
 pub enum Sign<'a> {
-    /// A byte.
+    /// A byte with no backslash before it.
     Bare(u8),
-    /// A byte behind a backslash.
+    /// A byte after a backslash.
     Quoted(u8),
-    /// The text of a set.
+    /// The text of a set, without its brackets.
     Set(&'a [u8]),
 }
 
-/// The runs of a glob's text, and whether its last sign is a bare `$`, which is left out of them
-/// where it may tie.
+/// The runs of a glob's text, and whether its last sign is a bare `$`, which is left out of the
+/// runs if `may_tie`.
 pub fn read_runs<A: Allocator + Copy>(
     alloc: A,
     text: &[u8],
@@ -56,7 +56,7 @@ pub fn read_runs<A: Allocator + Copy>(
     Ok((Runs { starred, last }, dollar))
 }
 
-/// The sign at the beginning of the text, and what stands behind it.
+/// The sign at the beginning of the text, and what stands after it.
 fn next_sign(text: &[u8]) -> Option<(Sign<'_>, &[u8])>
     ensures sign { MatchOption result
         (text.now ≡ [])
@@ -73,7 +73,7 @@ fn next_sign(text: &[u8]) -> Option<(Sign<'_>, &[u8])>
     }
 }
 
-/// The token of a sign; none of a `*`.
+/// The token of a sign, or `None` for a `*`.
 fn token_of<A: Allocator>(alloc: A, sign: Sign<'_>) -> Result<Option<Token<A>>, NoMemory>
     ensures { IfOk result (λ read. MatchOption read
         (item_of (sign_of sign.entry) ≡ any_run)
@@ -87,7 +87,7 @@ fn token_of<A: Allocator>(alloc: A, sign: Sign<'_>) -> Result<Option<Token<A>>, 
     }
 }
 
-/// Whether the text begins with `^`, and what stands behind it, or the whole text.
+/// Whether the text begins with `^`, and the text without that `^`.
 pub fn split_caret(text: &[u8]) -> (bool, &[u8])
     ensures tied { result.0 ≡ begins_in_caret text.now }
     ensures body { result.1.now ≡ after_caret text.now }
@@ -98,7 +98,7 @@ pub fn split_caret(text: &[u8]) -> (bool, &[u8])
     }
 }
 
-/// The set behind a `[`, and what stands behind the set.
+/// The set after a `[`, and what stands after the set.
 fn next_set(text: &[u8]) -> (Sign<'_>, &[u8])
     ensures sign { signs_in_set [] text.now ≡ sign_of result.0 ∷ signs result.1.now }
     ensures shorter { length result.1.now ≤ length text.now }

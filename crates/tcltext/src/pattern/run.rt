@@ -12,23 +12,23 @@ use std::alloc::Allocator;
 /// Items, each of which takes one byte.
 #[derive(Drop)]
 pub enum Run<A: Allocator> {
-    /// Bytes that stand for themselves, which a search for a text finds.
+    /// Bytes that stand for themselves, so that a search for a text can find the run.
     Text(Vec<u8, A>),
-    /// Items of which some take several bytes.
+    /// Items of which not all are literal bytes.
     Items(Vec<Token<A>, A>),
 }
 
 /// All runs of a pattern.
 #[derive(Drop)]
 pub struct Runs<A: Allocator> {
-    /// Each run that has a `*` behind it.
+    /// Each run that has a `*` after it.
     pub starred: Vec<Run<A>, A>,
     /// The last run.
     pub last: Run<A>,
 }
 
 impl<A: Allocator> Run<A> {
-    /// How many items the run has, and bytes it takes.
+    /// How many items the run has, which is also how many bytes it takes.
     pub fn len(&self) -> usize
         ensures { result ≡ length (items_of_run self.now) }
     {
@@ -38,7 +38,7 @@ impl<A: Allocator> Run<A> {
         }
     }
 
-    /// The bytes, where all its items are bytes; else none.
+    /// The bytes of a run whose items are all literal bytes; of another run no bytes.
     fn text(&self) -> &[u8]
         ensures { Holds (items_of_run self.now) result.now }
     {
@@ -75,7 +75,7 @@ impl<A: Allocator> Run<A> {
         }
     }
 
-    /// The first place of the window, at or behind `from`, at which the run fits.
+    /// The first place of the window, at or after `from`, at which the run fits.
     pub fn first_place(&self, window: &Window<'_>, from: usize, steps: &mut u64) -> Option<usize>
         requires { from ≤ length window.now }
         ensures place { let items = items_of_run self.now in MatchOption result
@@ -90,7 +90,7 @@ impl<A: Allocator> Run<A> {
         }
     }
 
-    /// The last place of the window, at or behind `from`, at which the run fits.
+    /// The last place of the window, at or after `from`, at which the run fits.
     pub fn last_place(&self, window: &Window<'_>, from: usize, steps: &mut u64) -> Option<usize>
         requires { from ≤ length window.now }
         ensures place { let items = items_of_run self.now in MatchOption result
@@ -107,7 +107,7 @@ impl<A: Allocator> Run<A> {
 }
 
 impl<A: Allocator> Runs<A> {
-    /// The bytes of the last run that has some, of the last two.
+    /// The bytes of the last run or, where that has none, of the run before it.
     pub fn text(&self) -> &[u8]
         ensures { Holds (items_of_runs self.now) result.now }
     {
@@ -120,7 +120,7 @@ impl<A: Allocator> Runs<A> {
 }
 
 impl<A: Allocator + Copy> Run<A> {
-    /// The run with one item more behind the others.
+    /// The run with one more item at its end.
     pub fn with(self, alloc: A, token: Token<A>) -> Result<Run<A>, NoMemory>
         ensures { IfOk result (λ run.
             items_of_run run ≡ items_of_run self ++ item_of_token token ∷ []) }

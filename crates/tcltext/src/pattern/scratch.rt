@@ -1,4 +1,4 @@
-//! What a search is lent for the time of its run.
+//! What a caller lends to a search while it runs.
 ghost use Rattle.std.specs.Prelude.{◌≡◌, ℕ, IsOkAnd};
 
 use memory::NoMemory;
@@ -8,8 +8,8 @@ use std::marker::{Model, PhantomData};
 /// The room of a search: how many bytes a window may have.
 ///
 /// Callers name the room that their windows may need before they search. A search needs no memory
-/// of its own, so the room is a number alone, which [`Pattern::find`] holds its callers to: with
-/// it, the steps of each search fit 64 bits.
+/// of its own, so the room is only a number. [`Pattern::find`] requires that the window is no
+/// longer than that, so that the steps of each search fit 64 bits.
 ///
 /// [`Pattern::find`]: crate::Pattern::find
 #[derive(Drop)]

@@ -16,23 +16,23 @@ pub struct Found {
     pub end: usize,
 }
 
-/// What a search gave.
+/// The result of a search.
 #[derive(Clone, Copy, Debug, PartialEq, Eq)]
 pub struct Search {
     /// The place with the least start and, at that start, the greatest end.
     pub found: Option<Found>,
     /// How many entries of a table of items and places the search took: one for each item that was
-    /// tested at a place or known not to take its byte there, one for each `*` that was passed, and
-    /// one for the end of the items.
+    /// tested at a place or known not to take its byte there, one for each run of items between two
+    /// `*`, and one for the end of the items.
     pub steps: u64,
 }
 
-/// Where a pattern is tied to the window.
+/// The ends of the window that a pattern is tied to.
 #[derive(Clone, Copy)]
 pub struct Ties {
-    /// To its beginning.
+    /// The pattern begins at the window's beginning.
     pub start: bool,
-    /// To its end.
+    /// The pattern ends at the window's end.
     pub end: bool,
 }
 
@@ -53,9 +53,9 @@ impl Ties {
 /// Finds the pattern in the window, whose bytes compare as the window says.
 ///
 /// Between its `*` a pattern is runs of items of fixed length. The first run is taken at its first
-/// place: where the pattern sits at a later start, it sits at this one too, since the `*` behind
+/// place: where the pattern sits at a later start, it sits at this one too, since the `*` after
 /// the run takes what lies between. For the same reason each further run is taken at its first
-/// place behind the one before, and the last one at its last place.
+/// place after the one before, and the last one at its last place.
 pub fn locate<A: Allocator>(
     runs: &Runs<A>,
     ties: Ties,
@@ -140,8 +140,8 @@ fn only_place<A: Allocator>(
     }
 }
 
-/// The greatest end of `*`, these runs and the last run behind the place. Each `*` counts as one
-/// step.
+/// The greatest end, from `place` on, of a `*`, the inner runs with a `*` after each, and the last
+/// run. Each inner run counts as one step, beside those of the search for it.
 fn furthest_end<A: Allocator>(
     inner: &[Run<A>],
     last: &Run<A>,
@@ -170,7 +170,7 @@ fn furthest_end<A: Allocator>(
     Some(end + last.len())
 }
 
-/// The last place of a pattern's last run behind a `*`.
+/// The last place, at or after `from`, of a pattern's last run that stands after a `*`.
 fn end_place<A: Allocator>(
     run: &Run<A>,
     tied: bool,

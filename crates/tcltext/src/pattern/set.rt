@@ -22,7 +22,7 @@ fn no_bytes() -> [bool; 256]
     [false; 256]
 }
 
-/// The ends of the range at the beginning of a set's text, and what stands behind it.
+/// The ends of the range at the beginning of a set's text, and what stands after it.
 fn next_range(text: &[u8]) -> Option<(u8, u8, &[u8])>
     ensures range { MatchOption result
         (text.now ≡ [])
@@ -38,7 +38,7 @@ fn next_range(text: &[u8]) -> Option<(u8, u8, &[u8])>
     }
 }
 
-/// Marks the bytes from one end of a range to the other, which stand in either order.
+/// Marks the bytes from one end of a range to the other. The ends may stand in either order.
 fn mark(table: &mut [bool; 256], one: u8, other: u8)
     ensures { (b : ℕ) → b < 256 → slice_index_or table.new b false ≡
         (slice_index_or table.old b false || is_within b (one, other)) }

@@ -8,7 +8,7 @@ ghost use Rattle.tcltext.specs.Pattern.Runs.{Fits, IsFirstPlace, IsLastPlace, Fi
 use crate::pattern::window::Window;
 use memchr::memmem;
 
-/// Whether the bytes are a front of the text. Each of them counts as one step.
+/// Whether the text begins with the bytes. Each of the bytes counts as one step.
 pub fn fits(bytes: &[u8], text: Window<'_>, steps: &mut u64) -> bool
     ensures fits { IsTrue result ↔ Fits (map literal bytes.now) text.entry }
     ensures steps { steps.new ≤ steps.old + length bytes.now }
@@ -39,10 +39,10 @@ fn begins(text: Window<'_>, bytes: &[u8]) -> bool
     true
 }
 
-/// The first place of the window, at or behind `from`, at which the bytes stand.
+/// The first place of the window, at or after `from`, at which the bytes stand.
 ///
-/// Takes time in the length of the window and the bytes. A byte that is passed is one step, and so
-/// is each of the bytes that are found.
+/// Takes time linear in the length of the window and the bytes. Each byte of the window that is
+/// passed counts as one step, and so does each of the bytes that are found.
 pub fn first_place(bytes: &[u8], window: &[u8], from: usize, steps: &mut u64) -> Option<usize>
     requires { from ≤ length window.now }
     ensures place { let items = map literal bytes.now in MatchOption result
@@ -62,8 +62,8 @@ pub fn first_place(bytes: &[u8], window: &[u8], from: usize, steps: &mut u64) ->
     Some(from + passed)
 }
 
-/// The first place of the window at which a text stands, where it is known to stand at none before
-/// `from`. Takes no memory, and time in the length of what is behind that.
+/// The first place of the window at which a text stands, if the text is known to stand at no place
+/// before `from`. Takes no memory, and time linear in the length of the window from `from` on.
 pub fn find_text(text: &[u8], window: &[u8], from: usize) -> Option<usize>
     requires inside { from ≤ length window.now }
     requires low { (s e : ℕ) → Sits (exact text.now) window.now s e → from ≤ s }
@@ -75,7 +75,7 @@ pub fn find_text(text: &[u8], window: &[u8], from: usize) -> Option<usize>
     first_place(text, window, from, &mut steps)
 }
 
-/// The last place of the window, at or behind `from`, at which the bytes stand. Time and steps are
+/// The last place of the window, at or after `from`, at which the bytes stand. Time and steps are
 /// those of [`first_place`].
 pub fn last_place(bytes: &[u8], window: &[u8], from: usize, steps: &mut u64) -> Option<usize>
     requires { from ≤ length window.now }

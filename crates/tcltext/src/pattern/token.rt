@@ -7,7 +7,7 @@ use std::boxed::Box;
 /// Which byte an item takes.
 #[derive(Drop)]
 pub enum Token<A: Allocator> {
-    /// That byte.
+    /// This byte alone.
     Literal(u8),
     /// Any one byte.
     AnyByte,

@@ -6,7 +6,7 @@ use crate::pattern::run::Run;
 use crate::pattern::window::Window;
 use std::alloc::Allocator;
 
-/// The first place of the window, at or behind `from`, at which the run fits.
+/// The first place of the window, at or after `from`, at which the run fits.
 ///
 /// A byte that the first item is known not to take counts as one step.
 pub fn first_place<A: Allocator>(
@@ -46,7 +46,7 @@ pub fn first_place<A: Allocator>(
     None
 }
 
-/// The last place of the window, at or behind `from`, at which the run fits.
+/// The last place of the window, at or after `from`, at which the run fits.
 ///
 /// Steps are counted as by [`first_place`].
 pub fn last_place<A: Allocator>(

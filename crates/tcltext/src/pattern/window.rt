@@ -40,7 +40,7 @@ impl<'a> Window<'a> {
         self.bytes.len()
     }
 
-    /// The bytes, where they compare as they came.
+    /// The bytes, unless their letters are folded.
     pub fn as_bytes(&self) -> Option<&'a [u8]>
         ensures { IfSome result (λ bytes. bytes.now ≡ self.now) }
     {
@@ -70,7 +70,7 @@ impl<'a> Window<'a> {
         }
     }
 
-    /// The first byte, and those behind it.
+    /// The first byte, and those after it.
     pub fn split_first(&self) -> Option<(u8, Window<'a>)>
         ensures { MatchOption result
             (self.now ≡ [])

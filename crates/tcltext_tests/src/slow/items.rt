@@ -9,7 +9,7 @@ use std::alloc::Global;
 #[derive(Clone, Copy)]
 pub enum Item<'a> {
     Byte(u8),
-    /// A byte behind a backslash.
+    /// A byte after a backslash.
     Quoted(u8),
     AnyByte,
     /// The text between the brackets.
@@ -25,7 +25,7 @@ pub struct Glob<'a> {
     pub at_end: bool,
 }
 
-/// A set's text, and what stands behind its bracket.
+/// A set's text, and what stands after its bracket.
 fn split_set(text: &[u8]) -> (&[u8], &[u8])
     ensures { length result.1.now ≤ length text.now }
 {
@@ -37,7 +37,7 @@ fn split_set(text: &[u8]) -> (&[u8], &[u8])
     (text, &[])
 }
 
-/// The first item of a glob, and what stands behind it.
+/// The first item of a glob, and what stands after it.
 fn next_item(glob: &[u8]) -> Option<(Item<'_>, &[u8])> {
     let (first, rest) = glob.split_first()?;
     Some(match (*first, rest) {

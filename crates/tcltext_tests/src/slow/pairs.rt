@@ -14,7 +14,7 @@ pub fn takes(items: &[Item<'_>], text: &[u8]) -> bool {
     }
 }
 
-/// The least start and there the greatest end, by trying each pair.
+/// The match with the least start and, at that start, the greatest end, by trying each pair.
 pub fn over_all_pairs(glob: &Glob<'_>, window: &[u8]) -> Option<Found> {
     let starts = if glob.at_start { 1 } else { window.len() + 1 };
     for start in 0..starts {

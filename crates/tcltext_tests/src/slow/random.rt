@@ -1,4 +1,4 @@
-//! The search beside the slow ones, over generated patterns and windows.
+//! The search compared with the slow ones, over generated patterns and windows.
 
 use super::items::{read_glob, read_items};
 use super::pairs::{over_all_pairs, takes};
@@ -22,7 +22,7 @@ const MOST_LETTERS: usize = 8;
 struct Random(u64);
 
 impl Random {
-    /// A number below this one, or 0.
+    /// A number below `end`, or 0 where `end` is 0.
     fn below(&mut self, end: usize) -> usize {
         self.0 = self
             .0
@@ -45,7 +45,7 @@ impl Random {
     }
 }
 
-/// Tells in how many windows the search finds what the slow ones find, and in which it does not.
+/// Prints in how many windows the search finds what the slow ones find, and in which it does not.
 pub fn run_random<R: Print + AllocGlobal>(rt: &R) -> io::Result<bool> {
     let mut random = Random(2024);
     let mut agreeing = 0u64;
@@ -65,7 +65,7 @@ pub fn run_random<R: Print + AllocGlobal>(rt: &R) -> io::Result<bool> {
     Ok(agreeing == 4 * PATTERNS * WINDOWS)
 }
 
-/// In how many windows of such letters a glob is found as by the slow searches.
+/// In how many windows of these letters a glob is found as by the slow searches.
 fn run_glob<R: Print + AllocGlobal>(
     rt: &R,
     random: &mut Random,
@@ -85,7 +85,8 @@ fn run_glob<R: Print + AllocGlobal>(
 }
 
 /// Whether the search finds what the slow ones find, and with letters folded what they find in the
-/// window in lower case, and takes a whole text where trying each piece does.
+/// window in lower case, and whether the pattern takes the whole window where trying each piece
+/// does.
 fn agrees(alloc: Global, text: &[u8], window: &[u8]) -> Result<bool, PatternError> {
     let pattern = Pattern::glob(alloc, text)?;
     let is_found = finds(alloc, &pattern, text, window, window)?;

@@ -6,12 +6,13 @@ use memory::NoMemory;
 use std::alloc::Global;
 use tcltext::Found;
 
-/// An entry of a row: the greatest end of the items behind, if they have one.
+/// An entry of a row: the greatest end, from this place on, of the row's item and the items after
+/// it, if they have one.
 fn entry(row: &[Option<usize>], place: usize) -> Option<usize> {
     row.get(place).copied().unwrap_or(None)
 }
 
-/// The row of the table for one item, from that of the items behind it.
+/// The row of the table for one item, made from the row of the items after it.
 fn row_of(
     alloc: Global,
     item: Item<'_>,
@@ -32,7 +33,7 @@ fn row_of(
     Ok(row)
 }
 
-/// The least start and there the greatest end, if there is one.
+/// The match with the least start and, at that start, the greatest end, if there is one.
 pub fn by_table(alloc: Global, glob: &Glob<'_>, window: &[u8]) -> Result<Option<Found>, NoMemory> {
     let mut row = Vec::new(alloc);
     for place in 0..window.len() + 1 {

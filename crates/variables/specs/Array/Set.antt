@@ -15,7 +15,7 @@ writes_all name (i ∷ []) v = (v, Ok [])
 writes_all name (i ∷ value ∷ rest) v =
     onward (put name (Some i) value v) v (writes_all name rest)
 
--- a name is made an array, which an array is already (array(n), array set)
+-- a name is made an array; what is an array already stays as it is (array(n), array set)
 abbrev pub made : List ℕ → Scopes → Result Scopes Flaw
 made name v = untroubled (with_array v name) name
 
@@ -29,8 +29,8 @@ fills_evenly name list elements v =
     if length elements % 2 == 0 then fills name elements v
     else (v, Err (flaw.BadArgument list (codes "array")))
 
--- the name of an array: an element is none, and no array has the empty name (array(n), array set;
--- the empty name is this project's own rule)
+-- the name of an array: an element is no array, and no array has the empty name (array(n), array
+-- set; the empty name is this project's own rule)
 abbrev pub array_said : List ℕ → List ℕ → Option (List ℕ) → Result (List ℕ) Flaw
 array_said word [] index = Err flaw.BadVariable
 array_said word (b ∷ name) (Some index) = Err (flaw.NotArray word)

@@ -5,7 +5,7 @@ use Rattle.kinds.specs.Variables.{name_in}
 use Rattle.tclstate.specs.Scopes.{size_of}
 use Rattle.variables.specs.Array.Words.{one_word}
 
--- the number of an array's elements, 0 for what is none, as an element (array(n), array size)
+-- the number of an array's elements, 0 for what is no array, as an element (array(n), array size)
 abbrev pub count_of : Scopes → List ℕ → Option (List ℕ) → ℕ
 count_of v name None = size_of v name
 count_of v name (Some index) = 0

@@ -12,7 +12,7 @@ abbrev pub removes : List ℕ → List (List ℕ) → Scopes → Done Scopes
 removes name [] v = (v, Ok [])
 removes name (i ∷ is) v = onward (clears false name (Some i) v) v (removes name is)
 
--- an array is removed, and what is none stays (array(n), array unset)
+-- an array is removed, and what is no array stays (array(n), array unset)
 abbrev pub drops : List ℕ → Option (List ℕ) → Scopes → Done Scopes
 drops name index v =
     if is_array (read v name index) then onward (clears false name None v) v (removes name [])

@@ -9,12 +9,13 @@ use Rattle.tclstate.specs.Scopes.{Scopes, Trouble, IsArray}
 abbrev pub wrong_words : Scopes → Reading (Done Scopes)
 wrong_words v = Found (v, Err (flaw.WrongArgs (codes "array")))
 
--- the word of an array alone (array(n), array exists and array size)
+-- the word that names an array, where it stands alone (array(n), array exists and array size)
 abbrev pub one_word : List (List ℕ) → Result (List ℕ) Flaw
 one_word (n ∷ []) = Ok n
 one_word _ = Err (flaw.WrongArgs (codes "array"))
 
--- on with the word of an array, and a pattern where one stands behind it (array(n), array names)
+-- continues with the word of an array, and a pattern where one stands after the word (array(n),
+-- array names)
 abbrev pub with_pattern : List (List ℕ) → Scopes →
     (List ℕ → Option (List ℕ) → Reading (Done Scopes)) → Reading (Done Scopes)
 with_pattern (n ∷ []) v next = next n None

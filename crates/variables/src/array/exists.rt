@@ -16,6 +16,9 @@ use tclstate::{ScopeError, Scopes};
 use tcltext::Value;
 
 /// Gives 1 where a word names an array, else 0.
+///
+/// # Errors
+/// There is not one word, or it is no variable name; or memory is refused.
 pub fn exists<A: Allocator + Copy>(
     alloc: A,
     scopes: &Scopes<A>,

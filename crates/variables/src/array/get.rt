@@ -15,6 +15,10 @@ use tclstate::Scopes;
 use tcltext::Value;
 
 /// Gives the list of an array's indexes with their values, or of those that a pattern takes.
+///
+/// # Errors
+/// There are neither one nor two words, the first is no variable name, the pattern is too long, or
+/// a value can't be read; or memory is refused.
 pub fn get<A: Allocator + Copy>(
     alloc: A,
     scopes: &Scopes<A>,
@@ -76,7 +80,7 @@ fn list_values<A: Allocator + Copy>(
     Ok(Value::list(alloc, &elements)?)
 }
 
-/// These indexes, each with the value of its element behind it.
+/// These indexes, each with the value of its element after it.
 fn values<A: Allocator + Copy>(
     alloc: A,
     scopes: &Scopes<A>,
@@ -94,7 +98,7 @@ fn values<A: Allocator + Copy>(
     Ok(elements)
 }
 
-/// Puts an index and its value behind others. On `Err` the index may stand there.
+/// Appends an index and its value to others. On `Err` the index may have been appended.
 fn push_element<A: Allocator + Copy>(
     elements: &mut Vec<Value<A>, A>,
     index: &Value<A>,

@@ -32,8 +32,8 @@ pub fn indexes<A: Allocator + Copy>(
     }
 }
 
-/// All indexes of the array that a name means, in order; none where it means no array, as the name
-/// of an element.
+/// All indexes of the array that a name means, in order; none where the name means no array, as
+/// that of an element does.
 fn all<A: Allocator + Copy>(
     alloc: A,
     scopes: &Scopes<A>,

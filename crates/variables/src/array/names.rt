@@ -14,6 +14,10 @@ use tclstate::Scopes;
 use tcltext::Value;
 
 /// Gives the list of an array's indexes, or of those that a pattern takes.
+///
+/// # Errors
+/// There are neither one nor two words, the first is no variable name, or the pattern is too long;
+/// or memory is refused.
 pub fn names<A: Allocator + Copy>(
     alloc: A,
     scopes: &Scopes<A>,

@@ -15,6 +15,10 @@ use tclstate::Scopes;
 use tcltext::Value;
 
 /// Sets elements of an array by a list, which pairs each index with its value.
+///
+/// # Errors
+/// There are not two words, the first names no array and can't be made one, the second is no list
+/// or leaves an index without a value, or an element can't be written; or memory is refused.
 pub fn set<A: Allocator + Copy>(
     alloc: A,
     scopes: &mut Scopes<A>,
@@ -54,7 +58,7 @@ fn array_in<A: Allocator + Copy>(alloc: A, word: &[u8]) -> Result<&[u8], Raise<A
     }
 }
 
-/// Sets the elements of a list in an array, where it is a list.
+/// Sets the elements of a list in an array, where its text is a list.
 fn set_list<A: Allocator + Copy>(
     alloc: A,
     scopes: &mut Scopes<A>,

@@ -13,6 +13,9 @@ use tclstate::Scopes;
 use tcltext::{Value, print_nat};
 
 /// Gives the number of an array's elements, 0 where a word names no array.
+///
+/// # Errors
+/// There is not one word, or it is no variable name; or memory is refused.
 pub fn size<A: Allocator + Copy>(
     alloc: A,
     scopes: &Scopes<A>,
@@ -26,7 +29,7 @@ pub fn size<A: Allocator + Copy>(
     Ok(Value::new(alloc, count)?)
 }
 
-/// The number of an array's elements, 0 for a name that means no array, as that of an element.
+/// The number of an array's elements, 0 for a name that means no array, as that of an element does.
 fn count_of<A: Allocator + Copy>(scopes: &Scopes<A>, name: &[u8], index: Option<&[u8]>) -> usize
     ensures { result ≡ definition.count_of scopes.now name.now (option_copied index.entry) }
 {

@@ -16,6 +16,10 @@ use tclstate::Scopes;
 use tcltext::Value;
 
 /// Removes an array, or those of its elements whose indexes a pattern takes.
+///
+/// # Errors
+/// There are neither one nor two words, the first is no variable name, the pattern is too long, or
+/// an element can't be removed; or memory is refused.
 pub fn unset<A: Allocator + Copy>(
     alloc: A,
     scopes: &mut Scopes<A>,

@@ -3,7 +3,7 @@ use Rattle.arguments.specs.Arguments.{Setting, spelled, texts}
 use Rattle.arguments.specs.Options.{AreOptions}
 use Rattle.arguments.proofs.arguments.options_of.Given as goal
 
--- what was read so far are options, and the rest is behind them
+-- the words that were read so far are options, and the rest of the words is after them
 abbrev pub invariant-options : goal.invariant-options
 invariant-options g l =
     (settings : List Setting)

@@ -2,7 +2,7 @@ use Rattle.std.proofs.Common.{◌≡◌, ◌++◌, drop}
 use Rattle.dialog.specs.Standing.{first_mentions, ids_of}
 use Rattle.dialog.proofs.effective.mention_all.Given as goal
 
--- what is there and what is left to come
+-- the ids so far, and those still to be added
 abbrev pub invariant-loop-pair : goal.invariant-loop-pair
 invariant-loop-pair g l =
     l.ids.items ++ first_mentions l.ids.items (ids_of (drop l.pair-index l.pairs))

@@ -2,7 +2,7 @@ use Rattle.std.proofs.Common.{◌≡◌, ◌++◌, drop}
 use Rattle.dialog.specs.Standing.{first_mentions}
 use Rattle.dialog.proofs.effective.mention_ids.Given as goal
 
--- what is there and what is left to come
+-- the ids so far, and those still to be added
 abbrev pub invariant-loop-id : goal.invariant-loop-id
 invariant-loop-id g l =
     l.ids.items ++ first_mentions l.ids.items (drop l.id-index l.more)

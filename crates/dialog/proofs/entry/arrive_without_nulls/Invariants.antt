@@ -3,7 +3,7 @@ use Rattle.circular_buffer.specs.Buffer.{keep_last}
 use Rattle.dialog.specs.Lines.{without_nulls}
 use Rattle.dialog.proofs.entry.arrive_without_nulls.Given as goal
 
--- what is there and what is left to come
+-- the bytes held so far, and those still to arrive
 abbrev pub invariant-loop-null : goal.invariant-loop-null
 invariant-loop-null g l = record {
   max : l.buffer.max ≡ l.fn.buffer.max;

@@ -4,7 +4,7 @@ use Rattle.dialog.specs.Reads.{AreSmall}
 use Rattle.dialog.proofs.IdLists.{texts_of}
 use Rattle.dialog.proofs.id_list.spelled_ids.Given as goal
 
--- the texts of the ids so far and those that are left
+-- the texts of the ids so far, and the words still to be read
 abbrev pub invariant-loop-word : goal.invariant-loop-word
 invariant-loop-word g l = record {
   texts : texts_of l.ids.items ++ texts (drop l.word-index l.words) ≡ texts l.words;

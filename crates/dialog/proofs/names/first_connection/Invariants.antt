@@ -2,6 +2,6 @@ use Rattle.std.proofs.Common.{◌≡◌, drop}
 use Rattle.dialog.specs.Channels.{connection}
 use Rattle.dialog.proofs.names.first_connection.Given as goal
 
--- none so far is it
+-- none of the entries so far is the connection
 abbrev pub invariant-loop-entry : goal.invariant-loop-entry
 invariant-loop-entry g l = connection (drop l.entry-index l.entries) l.text ≡ connection l.entries l.text

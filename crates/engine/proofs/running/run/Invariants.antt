@@ -12,6 +12,6 @@ invariant-acts g l = record {
       l.session;
 }
 
--- a run has so many acts at most
+-- how many acts a run may still make at most
 abbrev pub decreases-acts : goal.decreases-acts
 decreases-acts g l = most_acts l.fn.limits.ticks - l.session.answers

@@ -6,7 +6,7 @@ use Rattle.evaluation.specs.Scripts.{scripts_in_all, scripts_in_links}
 use Rattle.evaluation.specs.View.{formulas_from, links_from}
 use Rattle.evaluation.proofs.formula.+evaluate.Given as goal
 
--- the arguments that are left are reached from all, and have no more scripts
+-- evaluating all arguments reaches evaluating the remaining ones, which have no more scripts
 abbrev pub invariant-call_on-arguments : goal.invariant-call_on-arguments
 invariant-call_on-arguments g l = record {
   reaches : (levels : ℕ) (s : Status) (k : Status → List (List ℕ) → Course) →
@@ -20,7 +20,7 @@ invariant-call_on-arguments g l = record {
 abbrev pub decreases-call_on-arguments : goal.decreases-call_on-arguments
 decreases-call_on-arguments g l = length l.list.items - l.next
 
--- the operators that are left are reached from all, and have no more scripts
+-- evaluating all operators reaches evaluating the remaining ones, which have no more scripts
 abbrev pub invariant-row_on-links : goal.invariant-row_on-links
 invariant-row_on-links g l = record {
   reaches : (levels : ℕ) (s : Status) (k : Status → List ℕ → Course) → s.scopes ≡ l.scopes →

@@ -2,7 +2,7 @@ use Rattle.std.proofs.Common.{◌≡◌, length}
 use Rattle.expects.specs.Words.{is_braced}
 use Rattle.expects.proofs.form.is_braced.Given as goal
 
--- what is left decides it
+-- the remaining bytes decide whether the text is one in braces
 abbrev pub invariant-loop-byte : goal.invariant-loop-byte
 invariant-loop-byte l = is_braced l.rest ≡ is_braced l.fn.text
 

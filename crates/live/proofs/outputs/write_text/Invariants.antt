@@ -2,7 +2,7 @@ use Rattle.std.proofs.Common.{◌≡◌, ℕ, List, ◌++◌}
 use Rattle.std.specs.Io.KnownBytes.{Appends}
 use Rattle.live.proofs.outputs.write_text.Given as goal
 
--- what went out so far, which is what stands before the rest
+-- what went out so far is the part of the text before the rest
 abbrev pub invariant-loop : goal.invariant-loop
 invariant-loop g l =
     (sent : List ℕ) × (l.text ≡ sent ++ l.rest)

@@ -12,6 +12,6 @@ invariant-commands g l =
     (onward_of (stack l.fn.frames) s (outcome_of l.fn.outcome))
 
 -- each tick begins a command by its tree; its words may wait, it may be called, and it may end by
--- exp_continue, behind which a turn begins
+-- exp_continue, after which a turn begins
 abbrev pub decreases-commands : goal.decreases-commands
 decreases-commands g l = again_of (outcome_of l.outcome) + load (stack l.frames) l.state

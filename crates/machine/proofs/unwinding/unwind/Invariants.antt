@@ -17,6 +17,6 @@ invariant-frames g l = record {
   left : l.state.left ≤ l.fn.state.left;
 }
 
--- each frame that is taken off leaves less that may be put on
+-- each frame that is taken off leaves less that may be put on the stack
 abbrev pub decreases-frames : goal.decreases-frames
 decreases-frames g l = weight (stack l.frames)

@@ -3,7 +3,7 @@ use Rattle.circular_buffer.specs.Buffer.{buffer}
 use Rattle.matchbuf.proofs.Windows.{turned}
 use Rattle.matchbuf.proofs.buffer.bring_round.Given as goal
 
--- those that were moved stand behind those that are left
+-- the bytes that were moved stand after those still to be moved
 abbrev pub invariant-pieces : goal.invariant-pieces
 invariant-pieces g l = record {
   turned : let old = l.fn.ring in

@@ -4,7 +4,7 @@ use Rattle.operators.specs.Function.{among, chosen}
 use Rattle.operators.specs.Number.{with_all, told}
 use Rattle.operators.proofs.functions.among.Given as goal
 
--- what is left to look at, with the best so far
+-- what the operands still unread give, with the best number so far
 abbrev pub invariant-loop-operand : goal.invariant-loop-operand
 invariant-loop-operand g l =
     with_all (l.first ∷ l.rest) (among l.which)

@@ -1,4 +1,4 @@
--- A refused request is answered `Err`, and another one as the inner allocator answers it.
+-- A refused request is answered `Err`, and any other one as the inner allocator answers it.
 use Rattle.std.proofs.Common.{◌≡◌, ℕ, ◌+◌, ◌^◌, ◌<◌, Bool, true, false, List, [], ◌∷◌, Ok, Err, refl, w64, Bor}
 use seplogic.Ra.Ura.{Ura}
 use mir.Syntax.{Ty, Args, Fn, a_type, dnil, dcons}

@@ -30,7 +30,7 @@ decreases-read_commands g l = 7 * l.depth + 5
 abbrev pub decreases-read_bracket : goal.decreases-read_bracket
 decreases-read_bracket g l = 7 * l.depth + 6
 
--- Whatever comes of the rest of the text, what was read stands before it.
+-- Whatever the rest of the text is read as, what was read so far stands before it.
 abbrev pub invariant-read_parts-loop-alloc : goal.invariant-read_parts-loop-alloc
 invariant-read_parts-loop-alloc g l = record {
   tree : (t : Parts) (o : Outcome) → IsParts (place_of l.place) l.depth t l.bytes o →

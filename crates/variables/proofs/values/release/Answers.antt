@@ -2,7 +2,7 @@ use Rattle.std.proofs.Common.{Result, Ok, Err, OnOk, option_copied}
 use Rattle.variables.proofs.Taken.{let_go_if}
 use Rattle.variables.proofs.values.release.Goals as goal
 
--- what holds anyway holds of an answer
+-- what holds anyway holds where there is an answer, too
 anyway : {X E P : Type 0} (r : Result X E) → P → OnOk r P
 anyway (Ok x) holds = holds
 anyway (Err e) holds = tt

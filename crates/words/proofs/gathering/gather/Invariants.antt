@@ -5,7 +5,7 @@ use Rattle.words.specs.Words.{words}
 use Rattle.words.proofs.Command.{left}
 use Rattle.words.proofs.gathering.gather.Given as goal
 
--- the words that are left are reached from all, and have no more scripts
+-- substituting all words reaches substituting the remaining ones, which have no more scripts
 abbrev pub invariant-words : goal.invariant-words
 invariant-words g l = record {
   reaches : (levels : ℕ) (s : Status) (call : Status → List (List ℕ) → Course) →

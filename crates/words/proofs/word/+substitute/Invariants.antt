@@ -5,7 +5,7 @@ use Rattle.words.specs.Scripts.{scripts_in}
 use Rattle.words.proofs.Steps.{left}
 use Rattle.words.proofs.word.+substitute.Given as goal
 
--- what is left of the word goes on as the whole, and has no more scripts
+-- the remaining parts of the word go on as all of them do, and have no more scripts
 abbrev pub invariant-run-parts : goal.invariant-run-parts
 invariant-run-parts g l = record {
   goes_on : (levels : ℕ) (s : Status) (k : Status → List ℕ → Course) → s.scopes ≡ l.fn.scopes →

@@ -2,7 +2,7 @@ use Rattle.std.proofs.Common.{◌≡◌, ◌++◌, List, length, flat_map}
 use Rattle.arguments.specs.Arguments.{Command, Setting, lines, spelled, texts, values}
 use Rattle.arguments.proofs.arguments.Arguments.commands.Given as goal
 
--- the texts of the options that were looked at are put down, and the rest is behind them
+-- the lines of the options that were read are written, and the rest of the words is after them
 abbrev pub invariant-options : goal.invariant-options
 invariant-options g l =
     (settings : List Setting)

@@ -2,7 +2,8 @@ use Rattle.std.proofs.Common.{◌≡◌, ◌≤◌, ◌++◌, drop, length, vec_
 use Rattle.dialog.specs.Lines.{rows_of}
 use Rattle.dialog.proofs.table.Table.fill.Given as goal
 
--- the rows so far and those of the ids that are left; not more than the ids so far, in no less room
+-- the rows so far, and those of the remaining ids; no more rows than ids so far, and no less room
+-- than there was
 abbrev pub invariant-loop-id : goal.invariant-loop-id
 invariant-loop-id g l =
     (l.rows.items ++ rows_of l.self.lines (drop l.id-index l.ids) ≡ rows_of l.self.lines l.ids)

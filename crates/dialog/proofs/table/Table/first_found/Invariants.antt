@@ -3,7 +3,7 @@ use Rattle.dialog.specs.Choice.{IsFoundFor}
 use Rattle.dialog.proofs.Firsts.{Leads}
 use Rattle.dialog.proofs.table.Table.first_found.Given as goal
 
--- the table is as it was, and none of the pairs that are passed has it
+-- the table is as it was, and no pattern of the pairs so far is found
 abbrev pub invariant-loop-pair : goal.invariant-loop-pair
 invariant-loop-pair g l = record {
   same : l.self ≡ l.initial.self;

@@ -3,7 +3,7 @@ use Rattle.dialog.specs.Choice.{IsMet}
 use Rattle.dialog.proofs.Firsts.{Leads}
 use Rattle.dialog.proofs.table.Table.first_met.Given as goal
 
--- none of the pairs that are passed has it
+-- no keyword of the pairs so far has come
 abbrev pub invariant-loop-pair : goal.invariant-loop-pair
 invariant-loop-pair g l = Leads (IsMet l.self.lines l.trigger) l.rest l.pairs
 

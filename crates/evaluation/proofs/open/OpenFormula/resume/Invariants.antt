@@ -5,7 +5,8 @@ use Rattle.evaluation.specs.View.{after, course_of, resumed}
 use Rattle.evaluation.proofs.Outer.{Remains}
 use Rattle.evaluation.proofs.open.OpenFormula.resume.Given as goal
 
--- what was met goes on, in what is left around it, as the whole formula, and leaves fewer scripts
+-- the result so far, in what is left around it, goes on as the whole formula does, and leaves fewer
+-- scripts
 abbrev pub invariant-levels : goal.invariant-levels
 invariant-levels g l = record {
   reaches : (levels : ℕ) (s : Status) (next : Status → List ℕ → Course) → s.scopes ≡ l.scopes →

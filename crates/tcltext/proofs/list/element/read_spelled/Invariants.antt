@@ -3,7 +3,7 @@ use Rattle.tcltext.specs.Elements.{IsSpelled}
 use Rattle.tcltext.specs.Seen.{style_of}
 use Rattle.tcltext.proofs.list.element.read_spelled.Given as goal
 
--- Whatever is spelled from here on, what was read stands before it.
+-- Whatever bytes the unread text spells, the whole text spells the bytes read so far before them.
 abbrev pub invariant-loop-byte : goal.invariant-loop-byte
 invariant-loop-byte g l = record {
   spelled : (t z : List ℕ) → IsSpelled (style_of l.style) t l.rest z →

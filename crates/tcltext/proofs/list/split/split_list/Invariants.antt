@@ -5,7 +5,7 @@ use Rattle.tcltext.specs.Elements.{IsElements}
 use Rattle.tcltext.specs.Seen.{texts}
 use Rattle.tcltext.proofs.list.split.split_list.Given as goal
 
--- Whatever stands from here on, the elements that were read stand before it.
+-- Whatever elements the unread text has, the whole text has the elements read so far before them.
 abbrev pub invariant-loop-rest : goal.invariant-loop-rest
 invariant-loop-rest g l = record {
   list : (v : List (List ℕ)) (o : Option Flaw) → IsElements v o l.rest →

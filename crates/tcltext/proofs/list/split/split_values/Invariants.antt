@@ -4,7 +4,7 @@ use Rattle.tcltext.specs.White.{skip_white, ends_element}
 use Rattle.tcltext.specs.Elements.{IsElements}
 use Rattle.tcltext.proofs.list.split.split_values.Given as goal
 
--- Whatever stands from here on, the elements that were read stand before it.
+-- Whatever elements the unread text has, the whole text has the elements read so far before them.
 abbrev pub invariant-loop-rest : goal.invariant-loop-rest
 invariant-loop-rest g l = record {
   list : (v : List (List ℕ)) (o : Option Flaw) → IsElements v o l.rest →

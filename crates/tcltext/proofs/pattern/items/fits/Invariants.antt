@@ -2,7 +2,7 @@ use Rattle.std.proofs.Common.{◌+◌, ◌≤◌, length}
 use Rattle.tcltext.specs.Pattern.Runs.{Fits, items_of}
 use Rattle.tcltext.proofs.pattern.items.fits.Given as goal
 
--- what is left of the run fits what is left of the text where the whole run fits the whole text
+-- the remaining items fit the rest of the text exactly where the whole run fits the whole text
 abbrev pub invariant-loop-tokens : goal.invariant-loop-tokens
 invariant-loop-tokens g l = record {
   to : Fits (items_of l.run) l.fn.text → Fits (items_of l.tokens) l.rest;

@@ -4,7 +4,8 @@ use Rattle.tcltext.specs.Pattern.Runs.{items_of_run, starred_items}
 use Rattle.tcltext.proofs.Patterns.Signs.{dollar_after}
 use Rattle.tcltext.proofs.pattern.read.read_runs.Given as goal
 
--- What was read and what is left are the whole text; where a `$` may tie, none was read last.
+-- The items read so far and those of the unread text are the items of the whole text; where a `$`
+-- may tie and all is read, the last sign was no bare `$`.
 abbrev pub invariant-loop-sign : goal.invariant-loop-sign
 invariant-loop-sign g l = record {
   items : starred_items l.starred.items (items_of_run l.last) ++ map item_of (signs l.rest)

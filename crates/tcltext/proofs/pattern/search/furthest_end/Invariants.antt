@@ -3,7 +3,7 @@ use Rattle.tcltext.specs.Pattern.Item.{any_run}
 use Rattle.tcltext.specs.Pattern.Runs.{items_of_run, starred_items, Leaves}
 use Rattle.tcltext.proofs.pattern.search.furthest_end.Given as goal
 
--- what the runs left leave behind this place, all the runs leave behind the first one
+-- the remaining runs leave, from this place on, what all the runs leave from the first place on
 abbrev pub invariant-loop-run : goal.invariant-loop-run
 invariant-loop-run g l = record {
   inside : l.from ≤ length l.window;

@@ -3,7 +3,8 @@ use Rattle.tcltext.specs.Pattern.Item.{literal}
 use Rattle.tcltext.specs.Pattern.Runs.{Fits}
 use Rattle.tcltext.proofs.pattern.text.begins.Given as goal
 
--- what is left of the bytes is in front of what is left of the text where all of them are in front
+-- the rest of the text begins with the remaining bytes exactly where the text begins with all of
+-- them
 abbrev pub invariant-loop-wanted : goal.invariant-loop-wanted
 invariant-loop-wanted l = record {
   to : Fits (map literal l.bytes) l.fn.text → Fits (map literal l.wanted) l.rest;

@@ -2,7 +2,7 @@ use Rattle.std.proofs.Common.{ℕ, ◌+◌, ◌-◌, ◌*◌, ◌<◌, ◌≤◌
 use Rattle.tcltext.specs.Pattern.Runs.{items_of_run, IsPlace}
 use Rattle.tcltext.proofs.pattern.walk.first_place.Given as goal
 
--- the run fits at no place before this one, and each place cost a step an item at most
+-- the run fits at no place before this one, and each place so far cost at most one step per item
 abbrev pub invariant-loop-place : goal.invariant-loop-place
 invariant-loop-place g l = record {
   low : l.from ≤ l.place;

@@ -2,7 +2,7 @@ use Rattle.std.proofs.Common.{ℕ, ◌+◌, ◌-◌, ◌*◌, ◌≤◌, length}
 use Rattle.tcltext.specs.Pattern.Runs.{items_of_run, IsPlace}
 use Rattle.tcltext.proofs.pattern.walk.last_place.Given as goal
 
--- the run fits at no place from this one on, and each place cost a step an item at most
+-- the run fits at no place from this one on, and each place so far cost at most one step per item
 abbrev pub invariant-loop-end : goal.invariant-loop-end
 invariant-loop-end g l = record {
   low : l.from ≤ l.end;

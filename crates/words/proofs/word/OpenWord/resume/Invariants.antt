@@ -5,7 +5,8 @@ use Rattle.words.specs.View.{after, course_of_met, resumed}
 use Rattle.words.proofs.Scripts.{Remains}
 use Rattle.words.proofs.word.OpenWord.resume.Given as goal
 
--- what was met goes on with the indexes around it as the whole word, and leaves fewer scripts
+-- the result so far, with the indexes around it, goes on as the whole word does, and leaves fewer
+-- scripts
 abbrev pub invariant-levels : goal.invariant-levels
 invariant-levels g l = record {
   goes_on : (levels : ℕ) (s : Status) (k : Status → List ℕ → Course) → s.scopes ≡ l.scopes →
