@@ -1,0 +1,135 @@
+-- The code of words and of commands.
+use Rattle.std.proofs.Common.{◌≡◌, ◌∙◌, ℕ, ◌+◌, Bool, true, false, List, [], ◌∷◌, ◌++◌, length, refl, sym, ap, subst}
+use Rattle.code.specs.Blocks.{Block, CommandBlock, CommandsBlock, Extends, PartsBlock, WordBlock}
+use Rattle.code.specs.Code.{At, WordsAt, CommandsAt, begins, begins_counted, one, counts, spread, next, done}
+use Rattle.code.specs.declared.instruction.Instruction.{Instruction}
+use Rattle.code.specs.declared.instruction.Instruction.TheVariants as i
+use Rattle.code.proofs.Built.{extended, longer, onward, same, stands}
+use Rattle.tclparse.specs.Tree.{Parts, Words, no_words, word, Commands, no_commands, command}
+
+module _ {A : Type 0} where
+  -- a word that is no list of words
+  pub plain_block : (counted : Bool) (count : ℕ) (old new : List (Instruction A)) (ps : Parts)
+      (front : Words → Words) → PartsBlock old new ps →
+      ((t : Words) → front t ≡ word false ps t) → WordBlock counted counted count old new front
+  plain_block counted count old new ps front block is = record {
+    extends = block.extends;
+    lies = λ later kept t end rest.
+        subst (λ w. WordsAt later counted count (length old) w end) (sym (is t))
+        (one (block.lies later kept) rest);
+  }
+
+  -- a word whose elements are words, where words are counted already
+  pub spread_block : (count : ℕ) (old between new : List (Instruction A)) (ps : Parts)
+      (front : Words → Words) → PartsBlock old between ps → new ≡ between ++ i.Spread ∷ [] →
+      ((t : Words) → front t ≡ word true ps t) → WordBlock true true count old new front
+  spread_block count old between new ps front block put is = record {
+    extends = onward block.extends (extended between new i.Spread put);
+    lies = λ later kept t end rest.
+        subst (λ w. WordsAt later true count (length old) w end) (sym (is t))
+        (spread (block.lies later (onward (extended between new i.Spread put) kept)) (stands between new later i.Spread put kept)
+        (subst (λ n. WordsAt later true (count + 1) n t end) (longer between new i.Spread put) rest));
+  }
+
+  -- the first such word of a command
+  pub counting_block : (count : ℕ) (old counting new : List (Instruction A))
+      (front : Words → Words) → counting ≡ old ++ i.Count count ∷ [] →
+      WordBlock true true count counting new front → WordBlock false true count old new front
+  counting_block count old counting new front put block = record {
+    extends = onward (extended old counting (i.Count count) put) block.extends;
+    lies = λ later kept t end rest.
+        counts (stands old counting later (i.Count count) put (onward block.extends kept))
+        (subst (λ n. WordsAt later true count n (front t) end) (longer old counting (i.Count count) put)
+        (block.lies later kept t end rest));
+  }
+
+  -- The words of a command that are left: where they lie, all of them lie.
+  abbrev pub WordsLeft : Bool → ℕ → List (Instruction A) → List (Instruction A) → Words → Words →
+      Type 0
+  WordsLeft counted count old new rest whole = Block old new (λ later.
+      (end : ℕ) → WordsAt later counted count (length new) rest end →
+      WordsAt later false 0 (length old) whole end)
+
+  -- all words are left
+  pub all_left : (code : List (Instruction A)) (ws : Words) → WordsLeft false 0 code code ws ws
+  all_left code ws = record { extends = same code; lies = λ later kept end lies. lies }
+
+  -- after one more word
+  pub word_left : (counted counting : Bool) (count : ℕ) (old before new : List (Instruction A))
+      (front : Words → Words) (some rest whole : Words) →
+      WordsLeft counted count old before some whole →
+      WordBlock counted counting count before new front → some ≡ front rest →
+      WordsLeft counting (count + 1) old new rest whole
+  word_left counted counting count old before new front some rest whole left block is = record {
+    extends = onward left.extends block.extends;
+    lies = λ later kept end lies.
+        left.lies later (onward block.extends kept) end
+        (subst (λ w. WordsAt later counted count (length before) w end) (sym is)
+        (block.lies later kept rest end lies));
+  }
+
+  -- the beginning of a command whose words are counted, or are not
+  abbrev pub begins_by : Bool → ℕ → Instruction A
+  begins_by false count = i.Command count
+  begins_by true count = i.Counted
+
+  begins_at : (counted : Bool) (count place : ℕ) (code : List (Instruction A)) →
+      At code place (begins_by counted count) → WordsAt code counted count place no_words (place + 1)
+  begins_at false count place code at = begins at
+  begins_at true count place code at = begins_counted at
+
+  -- a command, once no word is left
+  pub command_block : (counted : Bool) (count : ℕ) (old first between new : List (Instruction A))
+      (rest whole : Words) → first ≡ old ++ i.Next ∷ [] →
+      WordsLeft counted count first between rest whole → rest ≡ no_words →
+      new ≡ between ++ begins_by counted count ∷ [] → CommandBlock old new whole
+  command_block counted count old first between new rest whole put left is ends =
+      let last = begins_by counted count in record {
+        extends = onward (extended old first i.Next put)
+            (onward left.extends (extended between new last ends));
+        lies = λ later kept.
+            let on = onward (extended between new last ends) kept in (
+              stands old first later i.Next put (onward left.extends on),
+              subst (λ n. WordsAt later false 0 n whole (length new))
+                  (longer old first i.Next put) (left.lies later on (length new)
+                  (subst (λ w. WordsAt later counted count (length between) w (length new))
+                  (sym is)
+                  (subst (λ n. WordsAt later counted count (length between) no_words n)
+                  (sym (longer between new last ends))
+                  (begins_at counted count (length between) later
+                  (stands between new later last ends kept))))),
+            );
+      }
+
+  -- The commands that are left: where they lie, all of them lie.
+  abbrev pub CommandsLeft : List (Instruction A) → List (Instruction A) → Commands → Commands →
+      Type 0
+  CommandsLeft old new rest whole = Block old new (λ later.
+      (end : ℕ) → CommandsAt later (length new) rest end →
+      CommandsAt later (length old) whole end)
+
+  -- all commands are left
+  pub no_command : (code : List (Instruction A)) (cs : Commands) → CommandsLeft code code cs cs
+  no_command code cs = record { extends = same code; lies = λ later kept end lies. lies }
+
+  -- after one more command
+  pub command_left : (old before new : List (Instruction A)) (ws : Words)
+      (some rest whole : Commands) → CommandsLeft old before some whole →
+      CommandBlock before new ws → some ≡ command ws rest → CommandsLeft old new rest whole
+  command_left old before new ws some rest whole left block is = record {
+    extends = onward left.extends block.extends;
+    lies = λ later kept end lies.
+        let lain = block.lies later kept in
+        left.lies later (onward block.extends kept) end
+        (subst (λ c. CommandsAt later (length before) c end) (sym is)
+        (next lain.0 lain.1 lies));
+  }
+
+  -- no command is left
+  pub commands_block : (old new : List (Instruction A)) (rest whole : Commands) →
+      CommandsLeft old new rest whole → rest ≡ no_commands → CommandsBlock old new whole
+  commands_block old new rest whole left is = record {
+    extends = left.extends;
+    lies = λ later kept. left.lies later kept (length new)
+        (subst (λ c. CommandsAt later (length new) c (length new)) (sym is) done);
+  }

@@ -1,0 +1,5 @@
+pub mod Built
+pub mod Places
+pub mod Parts
+pub mod Commands
+pub mod Scripts

@@ -1,0 +1,153 @@
+use Rattle.std.proofs.Common.{false, true, rules, arith, ◌≡◌, ◌∙◌, ◌+◌, ◌++◌, ◌∷◌, [], drop, refl, sym, ap, subst}
+use Rattle.std.proofs.Math.ListN.{drop_of_length-le}
+use Rattle.std.proofs.lemmas.List.{nil_from_length}
+use Rattle.code.proofs.Commands.{all_left, begins_by, command_block, command_left, commands_block, counting_block, no_command, plain_block, spread_block, word_left}
+use Rattle.code.proofs.Parts.{bracket_block, element_block, empty_block, first_left, next_left, text_block, variable_block, word_block}
+use Rattle.code.proofs.Places.{command_at, part_at, word_at}
+use Rattle.code.specs.Blocks.{PartsBlock, WordBlock}
+use Rattle.code.specs.declared.instruction.Instruction.TheVariants as i
+use Rattle.tclparse.proofs.Trees.{view_Bracket, view_Command, view_Element, view_Literal, view_Variable, view_Word}
+use Rattle.tclparse.specs.Tree.{Words, no_commands, no_parts, no_words, command, word}
+use Rattle.tclparse.specs.declared.tree.Command.{out-Command}
+use Rattle.tclparse.specs.View.{commands_of, commands_then, part_view, parts_of, parts_then, word_view, words_then}
+use Rattle.code.proofs.emit.+emit.Goals as goal
+use Rattle.code.proofs.emit.+emit.Goals.{emit_word-then-not-counted+in_ok-push, emit_word-else-not-counted}
+
+pub emit_value-returns-in_ok-push-in-Literal : goal.emit_value-returns-in_ok-push-in-Literal
+emit_value-returns-in_ok-push-in-Literal g t c =
+    let bytes = c.in-Literal.text in
+    text_block c.args.code.now.items c.push.new.self.items bytes (part_view c.args.part.now)
+    (search rules)
+    (λ u. ap (λ p. part_view p u) c.in-Literal.is ∙ view_Literal g.row.A.Denot bytes u)
+
+pub emit_value-returns-in_ok-push-in-Variable : goal.emit_value-returns-in_ok-push-in-Variable
+emit_value-returns-in_ok-push-in-Variable g t c =
+    let name = c.in-Variable.name in
+    variable_block c.args.code.now.items c.push-in-Variable.new.self.items name
+    (part_view c.args.part.now) (search rules)
+    (λ u. ap (λ p. part_view p u) c.in-Variable.is ∙ view_Variable g.row.A.Denot name u)
+
+pub emit_value-returns-in_ok-push-in-Element : goal.emit_value-returns-in_ok-push-in-Element
+emit_value-returns-in_ok-push-in-Element g t c =
+    let name = c.in-Element.name in
+    let index = c.in-Element.index in
+    element_block c.args.code.now.items c.emit_parts.new.code.items
+    c.push-in-Element.new.self.items name (parts_of index) (part_view c.args.part.now)
+    (search rules) (search rules)
+    (λ u. ap (λ p. part_view p u) c.in-Element.is ∙ view_Element name index u)
+
+pub emit_value-returns-in_ok-push-in-Bracket-2 : goal.emit_value-returns-in_ok-push-in-Bracket-2
+emit_value-returns-in_ok-push-in-Bracket-2 g t c =
+    let commands = c.in-Bracket.commands in
+    bracket_block c.args.code.now.items c.push-in-Bracket.new.self.items
+    c.emit_commands.new.code.items c.push-in-Bracket-2.new.self.items (commands_of commands)
+    (part_view c.args.part.now) (search rules) (search rules) (search rules)
+    (λ u. ap (λ p. part_view p u) c.in-Bracket.is ∙ view_Bracket commands u)
+
+pub emit_word-returns-then-not-word : goal.emit_word-returns-then-not-word
+emit_word-returns-then-not-word g t c =
+    let w = c.args.word.now in
+    plain_block c.args.counted c.args.count c.args.code.now.items c.emit_parts.new.code.items
+    (parts_of w.parts) (word_view w) (search rules)
+    (λ u. view_Word w u ∙ ap (λ e. word e (parts_of w.parts) u) (search rules))
+
+pub emit_commands-loop-command-preserved : goal.emit_commands-loop-command-preserved
+emit_commands-loop-command-preserved g t c =
+    let commands = c.args.commands.now in
+    let n = c.loop-command.command-index in
+    let it = c.command-item.result in
+    command_left c.args.code.now.items c.loop-command.code.items c.emit_command.new.code.items
+    (words_then (out-Command g.row.A.Denot it).words.value.items no_words)
+    (commands_then (drop n commands) no_commands)
+    (commands_then (drop (n + 1) commands) no_commands) (commands_then commands no_commands)
+    c.loop-command.invariant (search rules)
+    (command_at commands n it c.loop-command-test.true c.command-item.is
+    ∙ ap (λ ws. command ws (commands_then (drop (n + 1) commands) no_commands))
+    (view_Command it))
+
+pub emit_commands-returns : goal.emit_commands-returns
+emit_commands-returns g t c =
+    let commands = c.args.commands.now in
+    let n = c.loop-command.command-index in
+    commands_block c.args.code.now.items c.loop-command.code.items
+    (commands_then (drop n commands) no_commands) (commands_then commands no_commands)
+    c.loop-command.invariant
+    (ap (λ cs. commands_then cs no_commands)
+    (drop_of_length-le commands {i = n} (omega (arith, c.loop-command-test.false))))
+
+pub emit_command-loop-count-preserved : goal.emit_command-loop-count-preserved
+emit_command-loop-count-preserved g t c =
+    let words = c.args.words.now in
+    let n = c.loop-count.count in
+    let it = c.index-words-count.result in
+    word_left c.loop-count.counted c.in_ok-counted.counted n
+    (c.args.code.now.items ++ i.Next ∷ []) c.loop-count.code.items c.emit_word.new.code.items
+    (word_view it) (words_then (drop n words) no_words)
+    (words_then (drop (n + 1) words) no_words) (words_then words no_words)
+    c.loop-count.invariant c.in_ok-counted.ensures
+    (word_at words n it c.loop-count-test.true c.index-words-count.is)
+
+pub emit_command-returns : goal.emit_command-returns
+emit_command-returns g t c =
+    let words = c.args.words.now in
+    let n = c.loop-count.count in
+    command_block c.loop-count.counted n c.args.code.now.items
+    (c.args.code.now.items ++ i.Next ∷ []) c.loop-count.code.items c.push-2.new.self.items
+    (words_then (drop n words) no_words) (words_then words no_words) refl
+    c.loop-count.invariant
+    (ap (λ ws. words_then ws no_words)
+    (drop_of_length-le words {i = n} (omega (arith, c.loop-count-test.false))))
+    (search rules)
+
+pub emit_parts-returns-in_default : goal.emit_parts-returns-in_default
+emit_parts-returns-in_default g t c =
+    subst (λ ps. PartsBlock c.args.code.now.items c.push.new.self.items (parts_then ps no_parts))
+    (sym (nil_from_length c.args.parts.now c.in_default.ensures.cases))
+    (empty_block c.args.code.now.items c.push.new.self.items (search rules))
+
+pub emit_parts-loop-part-init : goal.emit_parts-loop-part-init
+emit_parts-loop-part-init g t c =
+    first_left c.args.code.now.items c.emit_value.new.code.items (part_view c.in-Some.first.now)
+    (parts_then c.in-Some.rest.now no_parts) (parts_then c.args.parts.now no_parts)
+    c.in_ok-emit_value.ensures
+    (ap (λ ps. parts_then ps no_parts)
+    c.in-Some.ensures.cases.0)
+
+pub emit_parts-loop-part-preserved : goal.emit_parts-loop-part-preserved
+emit_parts-loop-part-preserved g t c =
+    let rest = c.in-Some.rest.now in
+    let n = c.loop-part.part-index in
+    let part = c.part-item.result in
+    next_left c.args.code.now.items c.loop-part.code.items
+    c.emit_value-in-loop-part.new.code.items c.push-in-loop-part.new.self.items (part_view part)
+    (parts_then (drop n rest) no_parts) (parts_then (drop (n + 1) rest) no_parts)
+    (parts_then c.args.parts.now no_parts) c.loop-part.invariant c.in_ok-emit_value-2.ensures
+    (part_at rest n part c.loop-part-test.true c.part-item.is) (search rules)
+
+pub emit_parts-returns : goal.emit_parts-returns
+emit_parts-returns g t c =
+    let rest = c.in-Some.rest.now in
+    let n = c.loop-part.part-index in
+    word_block c.args.code.now.items c.loop-part.code.items (parts_then (drop n rest) no_parts)
+    (parts_then c.args.parts.now no_parts) c.loop-part.invariant
+    (ap (λ ps. parts_then ps no_parts)
+    (drop_of_length-le rest {i = n} (omega (arith, c.loop-part-test.false))))
+
+pub emit_word-returns : goal.emit_word-returns
+emit_word-returns g t c =
+    let w = c.args.word.now in
+    let n = c.args.count in
+    let old = c.args.code.now.items in
+    let new = c.push-2.new.self.items in
+    let seen : (u : Words) → word_view w u ≡ word true (parts_of w.parts) u =
+    λ u. view_Word w u ∙ ap (λ e. word e (parts_of w.parts) u) (search rules) in
+    let block = spread_block n c.if-not-counted.code.items c.emit_parts-2.new.code.items new
+    (parts_of w.parts) (word_view w) (search rules) (search rules) seen in
+    elim c.if-not-counted.branch [
+      | emit_word-then-not-counted+in_ok-push v ↦
+          subst (λ b. WordBlock b true n old new (word_view w)) (search rules)
+          (counting_block n old c.if-not-counted.code.items new (word_view w) (search rules) block)
+      | emit_word-else-not-counted v ↦
+          subst (λ b. WordBlock b true n old new (word_view w)) (search rules)
+          (subst (λ code. WordBlock true true n code new (word_view w)) (search rules) block)
+    ]

@@ -1,0 +1,146 @@
+//! Code is put after the code that stands there already: that of parts, of words, and of commands.
+
+ghost use Rattle.std.specs.Prelude.{◌≡◌, length, option_map, IfOk, OnOk};
+ghost use Rattle.code.specs.Blocks.{CommandBlock, CommandsBlock, PartsBlock, ValueBlock, WordBlock};
+ghost use Rattle.code.specs.Code.{ScriptAt};
+ghost use Rattle.tclparse.specs.Seen.{fault_of};
+ghost use Rattle.tclparse.specs.Tree.{no_commands, no_parts, no_words};
+ghost use Rattle.tclparse.specs.View.{commands_of, commands_then, part_view, parts_then, word_view, words_then};
+
+use crate::instruction::Instruction;
+use memory::NoMemory;
+use std::alloc::Allocator;
+use tclparse::{Command, Part, Script, Word};
+use tcltext::Value;
+
+/// Puts code that puts the value of a part on top.
+#[cycle(emit)]
+fn emit_value<A: Allocator + Copy>(
+    code: &mut Vec<Instruction<A>, A>,
+    part: &Part<A>,
+) -> Result<(), NoMemory>
+    ensures { OnOk result (ValueBlock code.old.items code.new.items (part_view part.now)) }
+{
+    match part {
+        Part::Literal(text) => {
+            let text = text.share()?;
+            code.push(Instruction::Text(text))?;
+        }
+        Part::Variable(name) => {
+            let name = name.share()?;
+            code.push(Instruction::Variable(name))?;
+        }
+        Part::Element(name, index) => {
+            emit_parts(code, index)?;
+            let name = name.share()?;
+            code.push(Instruction::Element(name))?;
+        }
+        Part::Bracket(commands) => {
+            code.push(Instruction::Enter)?;
+            emit_commands(code, commands)?;
+            code.push(Instruction::Leave)?;
+        }
+    }
+    Ok(())
+}
+
+/// Puts code that puts the value of a word on top.
+#[cycle(emit)]
+fn emit_parts<A: Allocator + Copy>(
+    code: &mut Vec<Instruction<A>, A>,
+    parts: &[Part<A>],
+) -> Result<(), NoMemory>
+    ensures { OnOk result (PartsBlock code.old.items code.new.items
+        (parts_then parts.now no_parts)) }
+{
+    let Some((first, rest)) = parts.split_first() else {
+        code.push(Instruction::Text(Value::empty()))?;
+        return Ok(());
+    };
+    emit_value(code, first)?;
+    for part in rest {
+        emit_value(code, part)?;
+        code.push(Instruction::Join)?;
+    }
+    Ok(())
+}
+
+/// Puts the code of a word of a command, before which this many words stand, and says whether the
+/// words of the command are counted from now on.
+#[cycle(emit)]
+fn emit_word<A: Allocator + Copy>(
+    code: &mut Vec<Instruction<A>, A>,
+    word: &Word<A>,
+    count: usize,
+    counted: bool,
+) -> Result<bool, NoMemory>
+    ensures { IfOk result (λ counts. WordBlock counted counts count code.old.items code.new.items
+        (word_view word.now)) }
+{
+    if !word.expands {
+        emit_parts(code, &word.parts)?;
+        return Ok(counted);
+    }
+    if !counted {
+        code.push(Instruction::Count(count))?;
+    }
+    emit_parts(code, &word.parts)?;
+    code.push(Instruction::Spread)?;
+    Ok(true)
+}
+
+/// Puts the code of a command.
+#[cycle(emit)]
+fn emit_command<A: Allocator + Copy>(
+    code: &mut Vec<Instruction<A>, A>,
+    words: &[Word<A>],
+) -> Result<(), NoMemory>
+    ensures { OnOk result (CommandBlock code.old.items code.new.items
+        (words_then words.now no_words)) }
+{
+    code.push(Instruction::Next)?;
+    let mut counted = false;
+    for (count, word) in words.iter().enumerate() {
+        counted = emit_word(code, word, count, counted)?;
+    }
+    code.push(if counted {
+        Instruction::Counted
+    } else {
+        Instruction::Command(words.len())
+    })?;
+    Ok(())
+}
+
+/// Puts the code of commands.
+#[cycle(emit)]
+fn emit_commands<A: Allocator + Copy>(
+    code: &mut Vec<Instruction<A>, A>,
+    commands: &[Command<A>],
+) -> Result<(), NoMemory>
+    ensures { OnOk result (CommandsBlock code.old.items code.new.items
+        (commands_then commands.now no_commands)) }
+{
+    for command in commands {
+        emit_command(code, &command.words)?;
+    }
+    Ok(())
+}
+
+/// The code of a script: its commands one after the other, and its fault, if it has one.
+///
+/// # Errors
+/// `NoMemory`, after which nothing stays allocated.
+pub fn code_of<A: Allocator + Copy>(
+    alloc: A,
+    script: &Script<A>,
+) -> Result<Vec<Instruction<A>, A>, NoMemory>
+    ensures { IfOk result (λ code. ScriptAt code.items 0 (commands_of script.now.commands)
+        (option_map fault_of script.now.fault) (length code.items)) }
+{
+    let mut code = Vec::new(alloc);
+    emit_commands(&mut code, &script.commands)?;
+    if let Some(fault) = script.fault {
+        code.push(Instruction::Fault(fault))?;
+    }
+    Ok(code)
+}

@@ -1,0 +1,38 @@
+//! What is done at one place of the code.
+
+use std::alloc::Allocator;
+use tclparse::Fault;
+use tcltext::Value;
+
+/// What is done at one place of the code. The operands are a stack of texts.
+#[derive(Drop)]
+pub enum Instruction<A: Allocator> {
+    /// A command begins: the value of the command before it, which is on top, is dropped, and a
+    /// tick is taken (Tcl(n), rule 1).
+    Next,
+    /// Puts a text on top.
+    Text(Value<A>),
+    /// Puts the value of the variable of this name on top (Tcl(n), rule 8).
+    Variable(Value<A>),
+    /// Replaces the index on top by the value of the element at it of the array of this name
+    /// (Tcl(n), rule 8).
+    Element(Value<A>),
+    /// Puts the text on top after the text below it, so that both are one (Tcl(n), rule 11).
+    Join,
+    /// A script in brackets begins, one level deeper; the empty text, its value so far, is put on
+    /// top (Tcl(n), rule 7).
+    Enter,
+    /// That script is over; its value is on top (Tcl(n), rule 7).
+    Leave,
+    /// From here on the words of a command are counted, since one is after `{*}`; this many of them
+    /// are operands already (Tcl(n), rule 5).
+    Count(usize),
+    /// Replaces the list on top by its elements, each a word (Tcl(n), rule 5).
+    Spread,
+    /// Begins a command whose words are this many operands, the last word on top (Tcl(n), rule 2).
+    Command(usize),
+    /// Begins a command whose words were counted (Tcl(n), rule 2).
+    Counted,
+    /// The text has this fault, which ends its script (Tcl(n)).
+    Fault(Fault),
+}

@@ -1,0 +1,11 @@
+//! Scripts as flat code: instructions that stand one after the other, made once from a script's
+//! tree.
+#![tactic(auto)]
+
+mod emit;
+mod instruction;
+#[cfg(test)]
+mod tests;
+
+pub use emit::code_of;
+pub use instruction::Instruction;
