@@ -1,10 +1,10 @@
 -- The code of words and of commands.
 use Rattle.std.proofs.Common.{◌≡◌, ◌∙◌, ℕ, ◌+◌, Bool, true, false, List, [], ◌∷◌, ◌++◌, length, refl, sym, ap, subst}
-use Rattle.code.specs.Blocks.{Block, CommandBlock, CommandsBlock, Extends, PartsBlock, WordBlock}
+use Rattle.code.specs.Blocks.{Block, CommandBlock, CommandsBlock, IsReal, Keeps, PartsBlock, WordBlock}
 use Rattle.code.specs.Code.{At, WordsAt, CommandsAt, begins, begins_counted, one, counts, spread, next, done}
 use Rattle.code.specs.declared.instruction.Instruction.{Instruction}
 use Rattle.code.specs.declared.instruction.Instruction.TheVariants as i
-use Rattle.code.proofs.Built.{extended, longer, onward, same, stands}
+use Rattle.code.proofs.Built.{extended, kept_on, longer, onward, same, stands}
 use Rattle.tclparse.specs.Tree.{Parts, Words, no_words, word, Commands, no_commands, command}
 
 module _ {A : Type 0} where
@@ -27,7 +27,7 @@ module _ {A : Type 0} where
     extends = onward block.extends (extended between new i.Spread put);
     lies = λ later kept t end rest.
         subst (λ w. WordsAt later true count (length old) w end) (sym (is t))
-        (spread (block.lies later (onward (extended between new i.Spread put) kept)) (stands between new later i.Spread put kept)
+        (spread (block.lies later (kept_on (extended between new i.Spread put) kept)) (stands between new later i.Spread tt put kept)
         (subst (λ n. WordsAt later true (count + 1) n t end) (longer between new i.Spread put) rest));
   }
 
@@ -38,7 +38,7 @@ module _ {A : Type 0} where
   counting_block count old counting new front put block = record {
     extends = onward (extended old counting (i.Count count) put) block.extends;
     lies = λ later kept t end rest.
-        counts (stands old counting later (i.Count count) put (onward block.extends kept))
+        counts (stands old counting later (i.Count count) tt put (kept_on block.extends kept))
         (subst (λ n. WordsAt later true count n (front t) end) (longer old counting (i.Count count) put)
         (block.lies later kept t end rest));
   }
@@ -63,7 +63,7 @@ module _ {A : Type 0} where
   word_left counted counting count old before new front some rest whole left block is = record {
     extends = onward left.extends block.extends;
     lies = λ later kept end lies.
-        left.lies later (onward block.extends kept) end
+        left.lies later (kept_on block.extends kept) end
         (subst (λ w. WordsAt later counted count (length before) w end) (sym is)
         (block.lies later kept rest end lies));
   }
@@ -72,6 +72,11 @@ module _ {A : Type 0} where
   abbrev pub begins_by : Bool → ℕ → Instruction A
   begins_by false count = i.Command count
   begins_by true count = i.Counted
+
+  begins_really : (counted : Bool) (count : ℕ) (it : Instruction A) → it ≡ begins_by counted count →
+      IsReal it
+  begins_really false count it is = subst IsReal (sym is) tt
+  begins_really true count it is = subst IsReal (sym is) tt
 
   begins_at : (counted : Bool) (count place : ℕ) (code : List (Instruction A)) →
       At code place (begins_by counted count) → WordsAt code counted count place no_words (place + 1)
@@ -88,8 +93,8 @@ module _ {A : Type 0} where
         extends = onward (extended old first i.Next put)
             (onward left.extends (extended between new last ends));
         lies = λ later kept.
-            let on = onward (extended between new last ends) kept in (
-              stands old first later i.Next put (onward left.extends on),
+            let on = kept_on (extended between new last ends) kept in (
+              stands old first later i.Next tt put (kept_on left.extends on),
               subst (λ n. WordsAt later false 0 n whole (length new))
                   (longer old first i.Next put) (left.lies later on (length new)
                   (subst (λ w. WordsAt later counted count (length between) w (length new))
@@ -97,7 +102,7 @@ module _ {A : Type 0} where
                   (subst (λ n. WordsAt later counted count (length between) no_words n)
                   (sym (longer between new last ends))
                   (begins_at counted count (length between) later
-                  (stands between new later last ends kept))))),
+                  (stands between new later last (begins_really counted count last refl) ends kept))))),
             );
       }
 
@@ -120,7 +125,7 @@ module _ {A : Type 0} where
     extends = onward left.extends block.extends;
     lies = λ later kept end lies.
         let lain = block.lies later kept in
-        left.lies later (onward block.extends kept) end
+        left.lies later (kept_on block.extends kept) end
         (subst (λ c. CommandsAt later (length before) c end) (sym is)
         (next lain.0 lain.1 lies));
   }

@@ -3,3 +3,4 @@ pub mod Places
 pub mod Parts
 pub mod Commands
 pub mod Scripts
+pub mod Formulas

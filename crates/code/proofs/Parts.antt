@@ -1,10 +1,10 @@
 -- The code of the parts of a word.
 use Rattle.std.proofs.Common.{◌≡◌, ◌∙◌, ℕ, ◌+◌, Bool, true, false, List, [], ◌∷◌, ◌++◌, length, refl, sym, ap, subst}
-use Rattle.code.specs.Blocks.{Block, CommandsBlock, Extends, PartsBlock, ValueBlock}
+use Rattle.code.specs.Blocks.{Block, CommandsBlock, Keeps, PartsBlock, ValueBlock}
 use Rattle.code.specs.Code.{At, JoinsAt, PartsAt, CommandsAt, first, joined, over, empty, text, value, item, bracket}
 use Rattle.code.specs.declared.instruction.Instruction.{Instruction}
 use Rattle.code.specs.declared.instruction.Instruction.TheVariants as i
-use Rattle.code.proofs.Built.{extended, longer, onward, stands}
+use Rattle.code.proofs.Built.{extended, kept_on, longer, onward, stands}
 use Rattle.tclparse.specs.Tree.{Parts, no_parts, variable, element, script, Commands, bytes_then}
 
 module _ {A : Type 0} where
@@ -16,7 +16,7 @@ module _ {A : Type 0} where
     extends = extended old new (i.Text bytes) put;
     lies = λ later kept more mid t end joins rest.
         subst (λ p. PartsAt later more (length old) p end) (sym (is t))
-        (text bytes (stands old new later (i.Text bytes) put kept) (subst (λ n. JoinsAt later more n mid) (longer old new (i.Text bytes) put) joins)
+        (text bytes (stands old new later (i.Text bytes) tt put kept) (subst (λ n. JoinsAt later more n mid) (longer old new (i.Text bytes) put) joins)
         rest);
   }
 
@@ -28,7 +28,7 @@ module _ {A : Type 0} where
     extends = extended old new (i.Variable name) put;
     lies = λ later kept more mid t end joins rest.
         subst (λ p. PartsAt later more (length old) p end) (sym (is t))
-        (value (stands old new later (i.Variable name) put kept) (subst (λ n. JoinsAt later more n mid) (longer old new (i.Variable name) put) joins) rest);
+        (value (stands old new later (i.Variable name) tt put kept) (subst (λ n. JoinsAt later more n mid) (longer old new (i.Variable name) put) joins) rest);
   }
 
   -- an element of an array, after the parts of its index
@@ -40,7 +40,7 @@ module _ {A : Type 0} where
     extends = onward inside.extends (extended between new (i.Element name) put);
     lies = λ later kept more mid t end joins rest.
         subst (λ p. PartsAt later more (length old) p end) (sym (is t))
-        (item (inside.lies later (onward (extended between new (i.Element name) put) kept)) (stands between new later (i.Element name) put kept)
+        (item (inside.lies later (kept_on (extended between new (i.Element name) put) kept)) (stands between new later (i.Element name) tt put kept)
         (subst (λ n. JoinsAt later more n mid) (longer between new (i.Element name) put) joins) rest);
   }
 
@@ -53,12 +53,12 @@ module _ {A : Type 0} where
     extends = onward (extended old entered i.Enter enters)
         (onward inside.extends (extended between new i.Leave put));
     lies = λ later kept more mid t end joins rest.
-        let on = onward (extended between new i.Leave put) kept in
+        let on = kept_on (extended between new i.Leave put) kept in
         subst (λ p. PartsAt later more (length old) p end) (sym (is t))
-        (bracket (stands old entered later i.Enter enters (onward inside.extends on))
+        (bracket (stands old entered later i.Enter tt enters (kept_on inside.extends on))
         (subst (λ n. CommandsAt later n commands (length between))
         (longer old entered i.Enter enters) (inside.lies later on))
-        (stands between new later i.Leave put kept)
+        (stands between new later i.Leave tt put kept)
         (subst (λ n. JoinsAt later more n mid) (longer between new i.Leave put) joins) rest);
   }
 
@@ -68,7 +68,7 @@ module _ {A : Type 0} where
   empty_block old new put = record {
     extends = extended old new (i.Text []) put;
     lies = λ later kept. subst (λ n. PartsAt later false (length old) no_parts n) (sym (longer old new (i.Text []) put))
-        (empty (stands old new later (i.Text []) put kept));
+        (empty (stands old new later (i.Text []) tt put kept));
   }
 
   -- The parts of a word that are left: where they lie, the whole word lies.
@@ -95,13 +95,13 @@ module _ {A : Type 0} where
   next_left old before between new front some rest whole left block is put = record {
     extends = onward left.extends (onward block.extends (extended between new i.Join put));
     lies = λ later kept end lies.
-        let on = onward (extended between new i.Join put) kept in
-        left.lies later (onward block.extends on) end
+        let on = kept_on (extended between new i.Join put) kept in
+        left.lies later (kept_on block.extends on) end
         (subst (λ p. PartsAt later true (length before) p end) (sym is)
         (block.lies later on true (length new) rest end
         (subst (λ n. JoinsAt later true (length between) n)
         (sym (longer between new i.Join put))
-        (joined (stands between new later i.Join put kept))) lies));
+        (joined (stands between new later i.Join tt put kept))) lies));
   }
 
   -- no part is left

@@ -1,5 +1,9 @@
 -- What is left of a list from a place on.
-use Rattle.std.proofs.Common.{◌≡◌, ◌∙◌, ℕ, suc, ◌+◌, ◌<◌, List, ◌∷◌, length, drop, get_or, sym, ap, add-one, drop-cons}
+use Rattle.std.proofs.Common.{rules, ◌≡◌, ◌∙◌, ℕ, suc, ◌+◌, ◌<◌, List, ◌∷◌, length, drop, get_or, sym, ap, add-one, drop-cons}
+use Rattle.formulas.specs.View.{formula_of, formulas_then, link_view, links_then}
+use Rattle.formulas.specs.declared.tree.Formula.{Formula, Numeral, the_lemmas}
+use Rattle.formulas.specs.declared.tree.Link.{Link}
+use Rattle.tclparse.specs.Formula.{no_formulas, no_links, formula, numeral}
 use Rattle.tclparse.specs.Tree.{Parts, no_parts, Words, no_words, Commands, no_commands, command}
 use Rattle.tclparse.specs.View.{part_view, parts_then, word_view, words_then, command_view, commands_then}
 use Rattle.tclparse.specs.declared.tree.Part.{Part}
@@ -26,3 +30,17 @@ module _ {A : Type 0} where
       c ≡ get_or cs i c → commands_then (drop i cs) no_commands
       ≡ command (command_view c) (commands_then (drop (i + 1) cs) no_commands)
   command_at cs i c below is = ap (λ l. commands_then l no_commands) (item_at cs i c below is)
+
+  pub link_at : (ls : List (Link A)) (i : ℕ) (l : Link A) → i < length ls → l ≡ get_or ls i l →
+      links_then (drop i ls) no_links ≡ link_view l (links_then (drop (i + 1) ls) no_links)
+  link_at ls i l below is = ap (λ xs. links_then xs no_links) (item_at ls i l below is)
+
+  pub formula_at : (fs : List (Formula A)) (i : ℕ) (f : Formula A) → i < length fs →
+      f ≡ get_or fs i f → formulas_then (drop i fs) no_formulas
+      ≡ formula (formula_of f) (formulas_then (drop (i + 1) fs) no_formulas)
+  formula_at fs i f below is = ap (λ xs. formulas_then xs no_formulas) (item_at fs i f below is)
+
+-- the tree of a numeral
+pub view_Numeral : (A : Type 0) (digits : List ℕ) →
+    formula_of {A = A} (Numeral digits) ≡ numeral digits
+view_Numeral A digits = search (rules, the_lemmas)

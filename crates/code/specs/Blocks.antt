@@ -1,19 +1,30 @@
 -- What a call puts after the code that stands there already.
-use Rattle.std.specs.Prelude.{ℕ, ◌+◌, Bool, true, false, List, length}
+use Rattle.std.specs.Prelude.{⊤, ◌≡◌, ℕ, ◌+◌, Bool, true, false, List, length}
 use Rattle.code.specs.Code.{At, JoinsAt, PartsAt, WordsAt, CommandsAt}
 use Rattle.code.specs.declared.instruction.Instruction.{Instruction}
 use Rattle.code.specs.declared.instruction.Instruction.TheVariants as i
+use Rattle.code.specs.Formula.{FormulaAt, LinksAt, ArgumentsAt}
+use Rattle.tclparse.specs.Formula.{Formula, Formulas, Links}
 use Rattle.tclparse.specs.Tree.{Parts, Words, Commands}
 
 -- what stood there stands there still
 pub record Extends {A : Type 0} (old new : List (Instruction A)) : Type 0 where
   pub kept : (place : ℕ) (it : Instruction A) → At old place it → At new place it
 
+-- an instruction that stands for good, and not for one that is still to be put there
+abbrev pub IsReal : {A : Type 0} → Instruction A → Type 0
+IsReal i.Hole = ⊥
+IsReal _ = ⊤
+
+-- what stood there stands there still, but for places that were not filled yet
+pub record Keeps {A : Type 0} (old new : List (Instruction A)) : Type 0 where
+  pub kept : (place : ℕ) (it : Instruction A) → IsReal it → At old place it → At new place it
+
 -- a block of code was put, which is the code of a tree in all code that comes of this
 pub record Block {A : Type 0} (old new : List (Instruction A))
     (Lies : List (Instruction A) → Type 0) : Type 0 where
   pub extends : Extends old new
-  pub lies : (later : List (Instruction A)) → Extends new later → Lies later
+  pub lies : (later : List (Instruction A)) → Keeps new later → Lies later
 
 -- the value of a part that stands before other parts
 abbrev pub ValueBlock : {A : Type 0} → List (Instruction A) → List (Instruction A) →
@@ -44,3 +55,34 @@ CommandBlock old new ws = Block old new (λ later.
 abbrev pub CommandsBlock : {A : Type 0} → List (Instruction A) → List (Instruction A) → Commands →
     Type 0
 CommandsBlock old new cs = Block old new (λ later. CommandsAt later (length old) cs (length new))
+
+-- a formula
+abbrev pub FormulaBlock : {A : Type 0} → List (Instruction A) → List (Instruction A) → Formula →
+    Type 0
+FormulaBlock old new f = Block old new (λ later. FormulaAt later (length old) f (length new))
+
+-- arguments of a function, this many
+abbrev pub ArgumentsBlock : {A : Type 0} → List (Instruction A) → List (Instruction A) → Formulas →
+    ℕ → Type 0
+ArgumentsBlock old new fs count = Block old new (λ later.
+    ArgumentsAt later (length old) fs count (length new))
+
+-- operators in a row
+abbrev pub LinksBlock : {A : Type 0} → List (Instruction A) → List (Instruction A) → Links →
+    Type 0
+LinksBlock old new ls = Block old new (λ later. LinksAt later (length old) ls (length new))
+
+-- one operator before others
+abbrev pub LinkBlock : {A : Type 0} → List (Instruction A) → List (Instruction A) →
+    (Links → Links) → Type 0
+LinkBlock old new front = Block old new (λ later.
+    (t : Links) (end : ℕ) → LinksAt later (length new) t end →
+    LinksAt later (length old) (front t) end)
+
+-- a hole, and after it the truth value of a formula
+pub record RightBlock {A : Type 0} (old new : List (Instruction A)) (f : Formula) : Type 0 where
+  pub hole : At new (length old) i.Hole
+  pub mid : ℕ
+  pub ends : length new ≡ mid + 1
+  pub block : Block old new (λ later.
+      FormulaAt later (length old + 1) f mid × At later mid i.Truth)

@@ -46,7 +46,7 @@ fn emit_value<A: Allocator + Copy>(
 
 /// Puts code that puts the value of a word on top.
 #[cycle(emit)]
-fn emit_parts<A: Allocator + Copy>(
+pub(crate) fn emit_parts<A: Allocator + Copy>(
     code: &mut Vec<Instruction<A>, A>,
     parts: &[Part<A>],
 ) -> Result<(), NoMemory>

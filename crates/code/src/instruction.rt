@@ -1,7 +1,7 @@
 //! What is done at one place of the code.
 
 use std::alloc::Allocator;
-use tclparse::Fault;
+use tclparse::{Binary, Fault, Function, Unary};
 use tcltext::Value;
 
 /// What is done at one place of the code. The operands are a stack of texts.
@@ -35,4 +35,26 @@ pub enum Instruction<A: Allocator> {
     Counted,
     /// The text has this fault, which ends its script (Tcl(n)).
     Fault(Fault),
+    /// Puts the value of a numeral on top (expr(n), operands).
+    Numeral(Value<A>),
+    /// Replaces the operand on top by the value of a prefix operator (expr(n), operators).
+    Prefix(Unary),
+    /// Replaces the two upper operands by the value of an operator (expr(n), operators).
+    Binary(Binary),
+    /// Replaces this many upper operands by the value of a function (mathfunc(n)).
+    Call(Function, usize),
+    /// `&&` after its left operand: where that is false, its value is 0, and this place is next;
+    /// where it is true it is dropped (expr(n), operators).
+    AndAlso(usize),
+    /// `||` after its left operand: where that is true, its value is 1, and this place is next;
+    /// where it is false it is dropped (expr(n), operators).
+    OrElse(usize),
+    /// Replaces the operand on top by its truth value, 0 or 1 (expr(n), operators).
+    Truth,
+    /// Drops the truth value on top; where it is false, this place is next (expr(n), operators).
+    Unless(usize),
+    /// This place is next.
+    Jump(usize),
+    /// Nothing yet: a jump will stand here. No code that is whole has it.
+    Hole,
 }

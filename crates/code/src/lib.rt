@@ -3,9 +3,11 @@
 #![tactic(auto)]
 
 mod emit;
+mod formula;
 mod instruction;
 #[cfg(test)]
 mod tests;
 
 pub use emit::code_of;
+pub use formula::formula_code;
 pub use instruction::Instruction;
