@@ -262,8 +262,11 @@ module _ {A : Type 0} where
 
   pub all_arguments : (code : List (Instruction A)) (fs : Formulas) →
       ArgumentsLeft 0 code code fs fs
-  all_arguments code fs = record { extends = same code; lies = λ later kept count end lies.
-      subst (λ n. ArgumentsAt later (length code) fs n end) (omega arith) lies }
+  all_arguments code fs = record {
+    extends = same code;
+    lies = λ later kept count end lies.
+        subst (λ n. ArgumentsAt later (length code) fs n end) (omega arith) lies;
+  }
 
   pub argument_left : (done : ℕ) (old before new : List (Instruction A)) (f : Formula)
       (some rest whole : Formulas) → ArgumentsLeft done old before some whole →

@@ -1,9 +1,10 @@
-//! The code of one script, instruction by instruction.
+//! The code of a script and of a formula, instruction by instruction.
 
-use crate::{Instruction, code_of};
+use crate::{Instruction, code_of, formula_code};
+use formulas::Formula;
 use std::alloc::Allocator;
 use std::test::Fail;
-use tclparse::Script;
+use tclparse::{Binary, Function, Script, Unary};
 
 /// Puts the name of an instruction, with what it holds, after a text.
 fn show<A: Allocator>(shown: &mut Vec<u8, A>, it: &Instruction<A>) -> Result<(), Fail> {
@@ -21,6 +22,15 @@ fn show<A: Allocator>(shown: &mut Vec<u8, A>, it: &Instruction<A>) -> Result<(),
         Instruction::Command(2) => (b"command 2", b""),
         Instruction::Counted => (b"counted", b""),
         Instruction::Fault(_) => (b"fault", b""),
+        Instruction::Numeral(digits) => (b"numeral ", digits.as_slice()),
+        Instruction::Prefix(Unary::Not) => (b"not", b""),
+        Instruction::Binary(Binary::Add) => (b"add", b""),
+        Instruction::Call(Function::Max, 2) => (b"max 2", b""),
+        Instruction::AndAlso(9) => (b"and also 9", b""),
+        Instruction::OrElse(10) => (b"or else 10", b""),
+        Instruction::Truth => (b"truth", b""),
+        Instruction::Unless(15) => (b"unless 15", b""),
+        Instruction::Jump(16) => (b"jump 16", b""),
         _ => (b"another", b""),
     };
     shown.extend_from_slice(name)?;
@@ -41,6 +51,22 @@ fn the_instructions_of_words_follow_one_another(rt: HostRuntime) -> Result<(), F
     let wanted: &[u8] = b"next\ntext puts\nvariable a\ntext  b\njoin\ncommand 2\n\
         next\ntext f\ncount 1\nvariable i\nelement l\nspread\nenter\nnext\ntext g\ncommand 1\n\
         leave\ncounted\nfault\n";
+    assert_eq!(&rt; shown.as_slice(), wanted);
+    Ok(())
+}
+
+#[test]
+fn the_operators_of_a_formula_follow_their_operands(rt: HostRuntime) -> Result<(), Fail> {
+    let text = b"$a || !1 && 2 + 3 ? max(4, 5) : $b";
+    let formula = Formula::read(rt.alloc(), text).ok().ok_or("a formula")?;
+    let code = formula_code(rt.alloc(), &formula)?;
+    let mut shown = Vec::new(rt.alloc());
+    for it in &code {
+        show(&mut shown, it)?;
+    }
+    let wanted: &[u8] = b"variable a\nor else 10\nnumeral 1\nnot\nand also 9\n\
+        numeral 2\nnumeral 3\nadd\ntruth\ntruth\nunless 15\nnumeral 4\nnumeral 5\nmax 2\n\
+        jump 16\nvariable b\n";
     assert_eq!(&rt; shown.as_slice(), wanted);
     Ok(())
 }
