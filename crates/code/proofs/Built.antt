@@ -112,7 +112,8 @@ module _ {A : Type 0} where
       length old ≤ n → Extends old code → Extends old (slice_set code n it)
   filled_after old code n it far e = record {
     kept = λ place other at. kept_set code n place it other
-        (λ same. let within = slice_get_within old place other at in absurd (omega (arith, same, far, within)))
+        (λ same. let within = slice_get_within old place other at in
+        absurd (omega (arith, same, far, within)))
         (e.kept place other at);
   }
 

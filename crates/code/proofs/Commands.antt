@@ -27,7 +27,8 @@ module _ {A : Type 0} where
     extends = onward block.extends (extended between new i.Spread put);
     lies = λ later kept t end rest.
         subst (λ w. WordsAt later true count (length old) w end) (sym (is t))
-        (spread (block.lies later (kept_on (extended between new i.Spread put) kept)) (stands between new later i.Spread tt put kept)
+        (spread (block.lies later (kept_on (extended between new i.Spread put) kept))
+        (stands between new later i.Spread tt put kept)
         (subst (λ n. WordsAt later true (count + 1) n t end) (longer between new i.Spread put) rest));
   }
 

@@ -16,8 +16,8 @@ module _ {A : Type 0} where
     extends = extended old new (i.Text bytes) put;
     lies = λ later kept more mid t end joins rest.
         subst (λ p. PartsAt later more (length old) p end) (sym (is t))
-        (text bytes (stands old new later (i.Text bytes) tt put kept) (subst (λ n. JoinsAt later more n mid) (longer old new (i.Text bytes) put) joins)
-        rest);
+        (text bytes (stands old new later (i.Text bytes) tt put kept)
+        (subst (λ n. JoinsAt later more n mid) (longer old new (i.Text bytes) put) joins) rest);
   }
 
   -- a variable
@@ -28,7 +28,9 @@ module _ {A : Type 0} where
     extends = extended old new (i.Variable name) put;
     lies = λ later kept more mid t end joins rest.
         subst (λ p. PartsAt later more (length old) p end) (sym (is t))
-        (value (stands old new later (i.Variable name) tt put kept) (subst (λ n. JoinsAt later more n mid) (longer old new (i.Variable name) put) joins) rest);
+        (value (stands old new later (i.Variable name) tt put kept)
+        (subst (λ n. JoinsAt later more n mid) (longer old new (i.Variable name) put) joins)
+        rest);
   }
 
   -- an element of an array, after the parts of its index
@@ -40,7 +42,8 @@ module _ {A : Type 0} where
     extends = onward inside.extends (extended between new (i.Element name) put);
     lies = λ later kept more mid t end joins rest.
         subst (λ p. PartsAt later more (length old) p end) (sym (is t))
-        (item (inside.lies later (kept_on (extended between new (i.Element name) put) kept)) (stands between new later (i.Element name) tt put kept)
+        (item (inside.lies later (kept_on (extended between new (i.Element name) put) kept))
+        (stands between new later (i.Element name) tt put kept)
         (subst (λ n. JoinsAt later more n mid) (longer between new (i.Element name) put) joins) rest);
   }
 
@@ -67,7 +70,8 @@ module _ {A : Type 0} where
       PartsBlock old new no_parts
   empty_block old new put = record {
     extends = extended old new (i.Text []) put;
-    lies = λ later kept. subst (λ n. PartsAt later false (length old) no_parts n) (sym (longer old new (i.Text []) put))
+    lies = λ later kept. subst (λ n. PartsAt later false (length old) no_parts n)
+        (sym (longer old new (i.Text []) put))
         (empty (stands old new later (i.Text []) tt put kept));
   }
 

@@ -27,5 +27,6 @@ module _ {A : Type 0} where
     mid = length code;
     commands = block.lies new (keeps (extended code new (i.Fault f) put));
     ends = subst (λ n. FaultAt new (Some (fault_of f)) (length code) n)
-        (sym (longer code new (i.Fault f) put)) (fault (stands code new new (i.Fault f) tt put (all_kept new)));
+        (sym (longer code new (i.Fault f) put))
+        (fault (stands code new new (i.Fault f) tt put (all_kept new)));
   }

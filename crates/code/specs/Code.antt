@@ -11,8 +11,8 @@ use Rattle.tclparse.specs.declared.fault.Fault as read
 abbrev pub At : {A : Type 0} → List (Instruction A) → ℕ → Instruction A → Type 0
 At code place it = slice_get code place ≡ Some it
 
--- a value that has just been put on top is the word so far, or is joined to the word so far below it
--- (Tcl(n), rule 11)
+-- a value that has just been put on top is the word so far, or is joined to the word so far, which
+-- stands below it (Tcl(n), rule 11)
 pub data JoinsAt {A : Type 0} (code : List (Instruction A)) : Bool → ℕ → ℕ → Type 0 where
   first : {place : ℕ} → JoinsAt code false place place
   joined : {place : ℕ} → At code place i.Join → JoinsAt code true place (place + 1)
