@@ -1,0 +1,110 @@
+-- The results of taking operands off, of reading variables and of reading lists.
+use Rattle.std.proofs.Common.{◌≡◌, ◌∙◌, ℕ, List, [], ◌∷◌, ◌++◌, Option, Some, Result, Ok, Err, MatchResult, refl, sym, ap, subst, option_to_list}
+use Rattle.std.specs.Prelude.{reverse}
+use Rattle.std.proofs.lemmas.List.{reverse-append}
+use Rattle.acts.specs.Flaw as acts
+use Rattle.code.specs.declared.instruction.Instruction.{Instruction}
+use Rattle.code.specs.declared.instruction.Instruction.TheVariants as i
+use Rattle.acts.specs.declared.raise.Raise.TheVariants as raise
+use Rattle.meanings.specs.Meaning.{Answer, Comes, Gives, IsSplit, flaw_of_list}
+use Rattle.meanings.specs.View.{IsNoList}
+use Rattle.state.specs.Prelude.{Fault, flaw_of, Scopes, Status}
+use Rattle.state.specs.Stores.{IsTold}
+use Rattle.state.specs.Variables.{flaw_of_trouble, spelled}
+use Rattle.steps.specs.Does.{Does, same, splits}
+use Rattle.steps.specs.Machine.{does, fails, reading, with_value}
+use Rattle.steps.specs.Spot.{Spot, Did, Splits, Stuck, Went, with_top}
+use Rattle.tclparse.specs.declared.fault.Fault as faults
+use Rattle.tclstate.specs.Scopes.{Trouble, read}
+use Rattle.tclstate.specs.ScopeError.{HasTrouble}
+use Rattle.tclstate.specs.declared.error.ScopeError.{ScopeError}
+use Rattle.tclstate.specs.declared.error.ScopeError.TheVariants as error
+use Rattle.tcltext.specs.Flaw.{Flaw}
+
+-- results that are the same
+pub same_does : {a b : Did} → b ≡ a → Does a b
+same_does {a = a} is = subst (λ d. Does a d) (sym is) same
+
+-- an instruction does what its kind does
+pub does_so : {A : Type 0} (it known : Instruction A) (spot : Spot) (s : Status) {did : Did} →
+    it ≡ known → Does (does known spot s) did → Does (does it spot s) did
+does_so it known spot s {did = did} is d = subst (λ i. Does (does i spot s) did) (sym is) d
+
+-- an operand was taken off
+pub one_on_top : {V : Type 0} (old new : List V) (taken : Option V) (v : V) →
+    old ≡ new ++ option_to_list taken → taken ≡ Some v → reverse old ≡ v ∷ reverse new
+one_on_top old new taken v is some =
+    ap reverse (is ∙ ap (λ o. new ++ option_to_list o) some) ∙ reverse-append new (v ∷ [])
+
+troubled : (s : Status) (scopes : Scopes) (name : List ℕ) (index : Option (List ℕ))
+    (trouble : Trouble) (flaw : acts.Flaw) (spot : Spot) → s.scopes ≡ scopes →
+    read scopes name index ≡ Err trouble → flaw ≡ flaw_of_trouble trouble (spelled name index) →
+    fails flaw s ≡ reading name index spot s
+troubled s scopes name index trouble flaw spot same_scopes is told =
+    ap (λ f. fails f s) told
+    ∙ sym (ap (λ r. with_value r (spelled name index) s (λ value. Went (with_top value spot) s))
+    (ap (λ x. read x name index) same_scopes ∙ is))
+
+-- a variable that could not be read
+pub unread : {A : Type 0} (s : Status) (scopes : Scopes) (name : List ℕ) (index : Option (List ℕ))
+    (why : ScopeError) (fault : Fault A) (spot : Spot) → s.scopes ≡ scopes →
+    HasTrouble why (read scopes name index) → IsTold fault why name index →
+    fails (flaw_of fault) s ≡ reading name index spot s
+unread s scopes name index error.NoVariable fault spot same_scopes is told =
+    troubled s scopes name index _ (flaw_of fault) spot same_scopes is told
+unread s scopes name index error.IsArray fault spot same_scopes is told =
+    troubled s scopes name index _ (flaw_of fault) spot same_scopes is told
+unread s scopes name index error.NotArray fault spot same_scopes is told =
+    troubled s scopes name index _ (flaw_of fault) spot same_scopes is told
+unread s scopes name index error.NoElement fault spot same_scopes is told =
+    troubled s scopes name index _ (flaw_of fault) spot same_scopes is told
+unread s scopes name index (error.NoMemory e) fault spot same_scopes is told = absurd told
+
+unsplit : (text : List ℕ) (flaw : acts.Flaw) (next : Result (List (List ℕ)) Flaw → Did)
+    (did : Did) (split : Result (List (List ℕ)) Flaw) → IsSplit text split →
+    (let answer : Answer = Err flaw in
+    MatchResult split (λ elements. Comes (Gives []) answer)
+    (λ why. answer ≡ Err (flaw_of_list why))) →
+    ((why : Flaw) → flaw ≡ flaw_of_list why → did ≡ next (Err why)) → Does (Splits text next) did
+unsplit text flaw next did (Ok elements) is differs f = absurd (cc)
+unsplit text flaw next did (Err why) is told f =
+    let same_flaw : flaw ≡ flaw_of_list why = cc in
+    splits (Err why) is (same_does (f why same_flaw))
+
+-- a text that is no list
+pub no_list_does : {A : Type 0} (text : List ℕ) (fault : Fault A)
+    (next : Result (List (List ℕ)) Flaw → Did) (did : Did) → IsNoList text (raise.Fault fault) →
+    ((why : Flaw) → flaw_of fault ≡ flaw_of_list why → did ≡ next (Err why)) →
+    Does (Splits text next) did
+no_list_does text fault next did is f =
+    let none = is (λ elements. Gives []) in
+    unsplit text (flaw_of fault) next did none.0 none.1 none.2 f
+
+-- all other instructions do nothing yet
+pub others_stick : {A : Type 0} (it : Instruction A) (spot : Spot) (s : Status) →
+    (it ≡ i.Next → ⊥) →
+    ((x : List ℕ) → it ≡ i.Text x → ⊥) →
+    ((x : List ℕ) → it ≡ i.Variable x → ⊥) →
+    ((x : List ℕ) → it ≡ i.Element x → ⊥) →
+    (it ≡ i.Join → ⊥) →
+    (it ≡ i.Enter → ⊥) →
+    (it ≡ i.Leave → ⊥) →
+    ((x : ℕ) → it ≡ i.Count x → ⊥) →
+    (it ≡ i.Spread → ⊥) →
+    ((x : ℕ) → it ≡ i.Command x → ⊥) →
+    (it ≡ i.Counted → ⊥) →
+    ((x : faults.Fault) → it ≡ i.Fault x → ⊥) →
+    Does (does it spot s) Stuck
+others_stick i.Next spot s n0 n1 n2 n3 n4 n5 n6 n7 n8 n9 n10 n11 = absurd (n0 refl)
+others_stick (i.Text x) spot s n0 n1 n2 n3 n4 n5 n6 n7 n8 n9 n10 n11 = absurd (n1 x refl)
+others_stick (i.Variable x) spot s n0 n1 n2 n3 n4 n5 n6 n7 n8 n9 n10 n11 = absurd (n2 x refl)
+others_stick (i.Element x) spot s n0 n1 n2 n3 n4 n5 n6 n7 n8 n9 n10 n11 = absurd (n3 x refl)
+others_stick i.Join spot s n0 n1 n2 n3 n4 n5 n6 n7 n8 n9 n10 n11 = absurd (n4 refl)
+others_stick i.Enter spot s n0 n1 n2 n3 n4 n5 n6 n7 n8 n9 n10 n11 = absurd (n5 refl)
+others_stick i.Leave spot s n0 n1 n2 n3 n4 n5 n6 n7 n8 n9 n10 n11 = absurd (n6 refl)
+others_stick (i.Count x) spot s n0 n1 n2 n3 n4 n5 n6 n7 n8 n9 n10 n11 = absurd (n7 x refl)
+others_stick i.Spread spot s n0 n1 n2 n3 n4 n5 n6 n7 n8 n9 n10 n11 = absurd (n8 refl)
+others_stick (i.Command x) spot s n0 n1 n2 n3 n4 n5 n6 n7 n8 n9 n10 n11 = absurd (n9 x refl)
+others_stick i.Counted spot s n0 n1 n2 n3 n4 n5 n6 n7 n8 n9 n10 n11 = absurd (n10 refl)
+others_stick (i.Fault x) spot s n0 n1 n2 n3 n4 n5 n6 n7 n8 n9 n10 n11 = absurd (n11 x refl)
+others_stick _ spot s n0 n1 n2 n3 n4 n5 n6 n7 n8 n9 n10 n11 = same

@@ -1,0 +1,79 @@
+-- Each place.
+use Rattle.std.proofs.Common.{ℕ, ◌+◌, ◌≤◌, List, [], ◌∷◌, length, refl, sym, subst, arith}
+use Rattle.std.specs.Prelude.{slice_get}
+use Rattle.std.proofs.lemmas.Option.{slice_get_past}
+use Rattle.code.specs.Code.{ScriptAt}
+use Rattle.code.specs.declared.instruction.Instruction.{Instruction}
+use Rattle.plan.specs.Plan.{and_then, onward}
+use Rattle.runs.specs.Scripts.{plan_of}
+use Rattle.state.specs.Piece.{Script, ScriptTree}
+use Rattle.state.specs.Prelude.{Dialogue, Outcome, Status}
+use Rattle.steps.specs.Follows.{Here, Follows, InstructionsLead, CodeLeads, ScriptsBegin}
+use Rattle.steps.specs.Does.{Does, same, splits, Arrives, stays, then}
+use Rattle.steps.specs.Goes.{here}
+use Rattle.steps.specs.Layout.{FramesAt, HeadAt}
+use Rattle.steps.specs.Machine.{machine}
+use Rattle.steps.specs.Places.{Head, Has, Part, Joins, Gathers, Frame, Rest, brackets, left_of, spot_at}
+use Rattle.steps.specs.Spot.{Spot, Did, beginning_at}
+use Rattle.steps.proofs.Leads.Opened.{joins_lead, open_leads}
+use Rattle.steps.proofs.Leads.Scripts.{has_leads}
+use Rattle.steps.proofs.Leads.Standing.{silently, stands_here}
+use Rattle.steps.proofs.Leads.Words.{words_lead}
+
+module _ {A X : Type 0} (code : List (Instruction A)) (last : Status → Outcome → Dialogue X) where
+  head_leads : (place levels : ℕ) (head : Head) (frames : List Frame) (end : ℕ) (s : Status) →
+      HeadAt code place head end → FramesAt code end frames → levels + brackets frames ≤ 255 →
+      Follows code last (machine (slice_get code place) (spot_at place levels head frames) s)
+      (left_of last levels head frames s)
+  head_leads place levels (Has v) frames end s at behind fits =
+      has_leads code last place levels frames v s (subst (λ n. FramesAt code n frames) (sym at)
+      behind)
+      fits
+  head_leads place levels (Part o) frames end s at behind fits =
+      open_leads code last levels end frames s o.so_far o.outer o.word place o.parts at behind fits
+  head_leads place levels (Joins v o) frames end s at behind fits =
+      joins_lead code last levels end frames s v o.so_far o.outer o.word place o.parts at behind
+      fits
+  head_leads place levels (Gathers counted before rest) frames end s at behind fits =
+      words_lead code last levels before frames s counted at.0 place rest end at.1 at.2 behind fits
+
+  leads : (spot : Spot) (s : Status) (p : Dialogue X) → Here code last spot s p →
+      Follows code last (machine (slice_get code spot.place) spot s) p
+  leads spot s p h =
+      subst (λ at. Follows code last (machine (slice_get code at.place) at s) p) (sym h.stands)
+      (subst (λ q. Follows code last
+      (machine (slice_get code h.place) (spot_at h.place h.levels h.head h.frames) s) q) (sym h.is)
+      (head_leads h.place h.levels h.head h.frames h.end s h.at h.behind h.fits))
+
+  -- a result once texts are read
+  follows_does : {did end : Did} (p : Dialogue X) → Does did end → Follows code last did p →
+      Follows code last end p
+  follows_does p same f = f
+  follows_does p (splits split is more) f = follows_does p more (f split is)
+
+  -- several instructions
+  arrives_leads : (from : Spot) (s : Status) (p : Dialogue X) → Here code last from s p →
+      {did : Did} → Arrives code from s did → Follows code last did p
+  arrives_leads from s p h stays = record { then = p; goes = here; at = h }
+  arrives_leads from s p h (then {spot = spot} {t = t} {did = did} before does) =
+      let comes = arrives_leads from s p h before in
+      silently code last did comes.goes
+      (follows_does comes.then does (leads spot t comes.then comes.at))
+
+  -- where a script begins
+  begins : (tree : ScriptTree) (levels : ℕ) (s : Status) →
+      ScriptAt code 0 tree.commands tree.fault (length code) → levels ≤ 255 →
+      Here code last (beginning_at levels) s
+      (and_then (plan_of (Script tree levels) s) (onward last))
+  begins tree levels s at fits =
+      stands_here code last 0 levels (Has []) (Rest tree.commands tree.fault ∷ []) 0 s refl
+      (length code, at, slice_get_past code (length code) (omega arith)) (omega (arith, fits))
+
+pub instructions_lead : {A X : Type 0} → InstructionsLead A X
+instructions_lead = λ code last spot s p h. leads code last spot s p h
+
+pub code_leads : {A X : Type 0} → CodeLeads A X
+code_leads = λ code last spot s did p h arrives. arrives_leads code last spot s p h arrives
+
+pub scripts_begin : {A X : Type 0} → ScriptsBegin A X
+scripts_begin = λ code last tree levels s at fits. begins code last tree levels s at fits

@@ -1,0 +1,73 @@
+-- A value on top: the rest of a script follows, or a script in brackets is over.
+use Rattle.std.proofs.Common.{ℕ, suc, ◌+◌, ◌≤◌, List, [], ◌∷◌, Option, false, refl, sym, subst, arith, if◌then◌else◌}
+use Rattle.std.proofs.lemmas.Bool.{lt-leb}
+use Rattle.std.specs.Prelude.{slice_get}
+use Rattle.code.specs.Code.{CommandsAt, done, next, FaultAt, none, fault}
+use Rattle.code.specs.declared.instruction.Instruction.{Instruction}
+use Rattle.code.specs.declared.instruction.Instruction.TheVariants as i
+use Rattle.runs.specs.Commands.{command}
+use Rattle.state.specs.Prelude.{Dialogue, Gives, Outcome, Status}
+use Rattle.steps.specs.Follows.{Follows}
+use Rattle.steps.specs.Goes.{here, calls}
+use Rattle.steps.specs.Layout.{FramesAt}
+use Rattle.steps.specs.Machine.{ahead, machine}
+use Rattle.steps.specs.Places.{Has, Joins, Gathers, Frame, Rest, Bracket, brackets, onward_of, spot_at}
+use Rattle.steps.specs.Spot.{Went, Stuck}
+use Rattle.steps.proofs.Leads.Silent.{same_goes}
+use Rattle.steps.proofs.Leads.Standing.{by, silently, leaves_pass, stands, tick_leads}
+use Rattle.tclparse.specs.Fault.{Fault}
+use Rattle.tclparse.specs.Tree.{Commands}
+use Rattle.words.specs.Words.{words}
+use Rattle.steps.specs.Word.{Open}
+
+module _ {A X : Type 0} (code : List (Instruction A)) (last : Status → Outcome → Dialogue X) where
+  -- a value on top leads on as these frames say
+  abbrev pub ValueLeads : ℕ → ℕ → List Frame → List ℕ → Status → Type 0
+  ValueLeads place levels frames value s =
+      Follows code last (machine (slice_get code place) (spot_at place levels (Has value) frames) s)
+      (onward_of last levels frames s (Gives value))
+
+  -- the rest of a script: its next command, its fault, or its end
+  rest_leads : (place mid end levels : ℕ) (cs : Commands) (f : Option Fault) (fs : List Frame)
+      (v : List ℕ) (s : Status) → (FramesAt code end fs → ValueLeads end levels fs v s) →
+      CommandsAt code place cs mid → FaultAt code f mid end → FramesAt code end fs →
+      levels + brackets fs ≤ 255 → ValueLeads place levels (Rest cs f ∷ fs) v s
+  rest_leads place mid end levels cs f fs v s over done none behind fits = over behind
+  rest_leads place mid end levels cs f fs v s over done (fault {fault = why} at) behind fits =
+      by code last (i.Fault why) (spot_at place levels (Has v) (Rest cs f ∷ fs)) s _ at
+      (same_goes (leaves_pass code last levels fs s _ _))
+  rest_leads place mid end levels cs f fs v s over (next {mid = behind_words} {ws = ws} {cs = more}
+      at words_at rest) ends behind fits =
+      by code last i.Next (spot_at place levels (Has v) (Rest cs f ∷ fs)) s _ at
+      (silently code last _ (calls here)
+      (tick_leads code last s.left levels (Rest more f ∷ fs) s _ (λ t. words levels ws [] t (command
+      levels))
+      (λ t. stands code last (place + 1) levels (Gathers false [] ws) (Rest more f ∷ fs)
+      behind_words t
+      (0, refl, words_at) (end, record { mid = mid; commands = rest; ends = ends }, behind) fits)))
+
+  -- a script in brackets is over
+  bracket_leads : (place levels : ℕ) (word : Open) (fs : List Frame) (v : List ℕ) (s : Status) →
+      FramesAt code place (Bracket word ∷ fs) → levels + suc (brackets fs) ≤ 255 →
+      ValueLeads place levels (Bracket word ∷ fs) v s
+  bracket_leads place levels word fs v s at fits =
+      let spot = spot_at place levels (Has v) (Bracket word ∷ fs) in
+      let p = onward_of last levels (Bracket word ∷ fs) s (Gives v) in
+      let went = Went (record (ahead spot) { levels = suc levels }) s in
+      by code last i.Leave spot s p at.0
+      (subst (λ b. Follows code last (if b then Stuck else went) p)
+      (sym (lt-leb 255 levels (omega (arith, fits))))
+      (stands code last (place + 1) (suc levels) (Joins v word) fs at.1.0 s at.1.1 at.1.2
+      (omega (arith, fits))))
+
+  -- each frame
+  pub has_leads : (place levels : ℕ) (fs : List Frame) (v : List ℕ) (s : Status) →
+      FramesAt code place fs → levels + brackets fs ≤ 255 → ValueLeads place levels fs v s
+  has_leads place levels [] v s at fits =
+      subst (λ o. Follows code last (machine o (spot_at place levels (Has v) []) s)
+      (onward_of last levels [] s (Gives v))) (sym at) here
+  has_leads place levels (Rest cs f ∷ fs) v s at fits =
+      rest_leads place at.1.mid at.0 levels cs f fs v s
+      (λ behind. has_leads at.0 levels fs v s behind fits) at.1.commands at.1.ends at.2 fits
+  has_leads place levels (Bracket word ∷ fs) v s at fits =
+      bracket_leads place levels word fs v s at fits

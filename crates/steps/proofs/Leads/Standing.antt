@@ -1,0 +1,107 @@
+-- How a place is shown: by the instruction that stands there, and by the place that comes next.
+use Rattle.std.proofs.Common.{◌≡◌, ℕ, zero, suc, ◌+◌, ◌≤◌, List, [], ◌∷◌, Some, Result, Ok, Err, refl, sym, subst}
+use Rattle.std.specs.Prelude.{slice_get}
+use Rattle.code.specs.Code.{At}
+use Rattle.code.specs.declared.instruction.Instruction.{Instruction}
+use Rattle.plan.specs.Plan.{and_then, onward}
+use Rattle.state.specs.Dialogue.{tick_of}
+use Rattle.state.specs.Outcome.{Stop}
+use Rattle.state.specs.Prelude.{Code, Course, Dialogue, Leaves, Outcome, Status, Stops}
+use Rattle.state.specs.Variables.{found}
+use Rattle.steps.specs.Follows.{Here, Comes, Follows}
+use Rattle.steps.specs.Goes.{Goes, here}
+use Rattle.steps.specs.Layout.{HeadAt, FramesAt}
+use Rattle.steps.specs.Machine.{machine, ticked, with_value}
+use Rattle.steps.specs.Places.{Head, Frame, Rest, Bracket, brackets, left_of, onward_of, spot_at}
+use Rattle.steps.specs.Spot.{Spot, Did, Went, Splits, Begins, Over, Stuck}
+use Rattle.steps.proofs.Leads.Silent.{same_goes, then_goes}
+use Rattle.tclstate.specs.Scopes.{Trouble}
+
+module _ {A X : Type 0} (code : List (Instruction A)) (last : Status → Outcome → Dialogue X) where
+  -- another code than ok goes past all frames
+  pub leaves_pass : (levels : ℕ) (frames : List Frame) (s : Status) (c : Code) (value : List ℕ) →
+      onward_of last levels frames s (Leaves c value) ≡ last s (Leaves c value)
+  leaves_pass levels [] s c value = refl
+  leaves_pass levels (Rest cs f ∷ frames) s c value = leaves_pass levels frames s c value
+  leaves_pass levels (Bracket word ∷ frames) s c value = leaves_pass (suc levels) frames s c value
+
+  -- and so does a stop
+  pub stops_pass : (levels : ℕ) (frames : List Frame) (s : Status) (stop : Stop) →
+      onward_of last levels frames s (Stops stop) ≡ last s (Stops stop)
+  stops_pass levels [] s stop = refl
+  stops_pass levels (Rest cs f ∷ frames) s stop = stops_pass levels frames s stop
+  stops_pass levels (Bracket word ∷ frames) s stop = stops_pass (suc levels) frames s stop
+
+  -- this is left to be done there
+  pub stands_here : (place levels : ℕ) (head : Head) (frames : List Frame) (end : ℕ) (s : Status) →
+      HeadAt code place head end → FramesAt code end frames → levels + brackets frames ≤ 255 →
+      Here code last (spot_at place levels head frames) s (left_of last levels head frames s)
+  stands_here place levels head frames end s at behind fits = record {
+    place = place;
+    levels = levels;
+    head = head;
+    frames = frames;
+    end = end;
+    at = at;
+    behind = behind;
+    fits = fits;
+    stands = refl;
+    is = refl;
+  }
+
+  pub stands : (place levels : ℕ) (head : Head) (frames : List Frame) (end : ℕ) (s : Status) →
+      HeadAt code place head end → FramesAt code end frames → levels + brackets frames ≤ 255 →
+      Comes code last (spot_at place levels head frames) s (left_of last levels head frames s)
+  stands place levels head frames end s at behind fits = record {
+    then = left_of last levels head frames s;
+    goes = here;
+    at = stands_here place levels head frames end s at behind fits;
+  }
+
+  -- some silent steps first
+  pub sooner : {p q : Dialogue X} (spot : Spot) (s : Status) → Goes p q →
+      Comes code last spot s q → Comes code last spot s p
+  sooner spot s goes comes =
+      record { then = comes.then; goes = then_goes goes comes.goes; at = comes.at }
+
+  pub silently : {p q : Dialogue X} (did : Did) → Goes p q → Follows code last did q →
+      Follows code last did p
+  silently (Went spot s) g f = sooner spot s g f
+  silently (Splits text next) g f = λ split is. silently (next split) g (f split is)
+  silently (Begins words spot s) g f = record {
+    next = f.next;
+    goes = then_goes g f.goes;
+    value = f.value;
+    leaves = f.leaves;
+    stops = f.stops;
+  }
+  silently (Over outcome s) g f = then_goes g f
+  silently Stuck g f = f
+
+  -- by the instruction that stands there
+  pub by : (it : Instruction A) (spot : Spot) (s : Status) (p : Dialogue X) →
+      At code spot.place it → Follows code last (machine (Some it) spot s) p →
+      Follows code last (machine (slice_get code spot.place) spot s) p
+  by it spot s p at follows =
+      subst (λ o. Follows code last (machine o spot s) p) (sym at) follows
+
+  -- a tick, or the limit
+  pub tick_leads : (left levels : ℕ) (frames : List Frame) (s : Status) (next : Status → Did)
+      (course : Status → Course) →
+      ((t : Status) → Follows code last (next t)
+      (and_then (course t) (onward (onward_of last levels frames)))) →
+      Follows code last (ticked left s next)
+      (and_then (tick_of left s course) (onward (onward_of last levels frames)))
+  tick_leads zero levels frames s next course f = same_goes (stops_pass levels frames s _)
+  tick_leads (suc left) levels frames s next course f = f (record s { left = left })
+
+  -- the value of a variable, or its error
+  pub value_leads : (r : Result (List ℕ) Trouble) (name : List ℕ) (levels : ℕ) (frames : List Frame)
+      (s : Status) (next : List ℕ → Did) (course : List ℕ → Course) →
+      ((value : List ℕ) → Follows code last (next value)
+      (and_then (course value) (onward (onward_of last levels frames)))) →
+      Follows code last (with_value r name s next)
+      (and_then (found r name s course) (onward (onward_of last levels frames)))
+  value_leads (Ok value) name levels frames s next course f = f value
+  value_leads (Err trouble) name levels frames s next course f =
+      same_goes (leaves_pass levels frames s _ _)

@@ -1,0 +1,114 @@
+-- The words of a command: its next word, or its beginning.
+use Rattle.std.proofs.Common.{◌≡◌, ℕ, suc, ◌+◌, ◌≤◌, List, [], ◌∷◌, ◌++◌, Bool, true, false, refl, sym, subst, length, arith}
+use Rattle.std.specs.Prelude.{slice_get, reverse}
+use Rattle.code.specs.Code.{At, WordsAt, begins, begins_counted, one, counts, spread}
+use Rattle.code.specs.declared.instruction.Instruction.{Instruction}
+use Rattle.code.specs.declared.instruction.Instruction.TheVariants as i
+use Rattle.plan.specs.Plan.{and_then, onward}
+use Rattle.runs.specs.Commands.{command}
+use Rattle.state.specs.Prelude.{Dialogue, Outcome, Status}
+use Rattle.steps.specs.Follows.{Follows}
+use Rattle.steps.specs.Goes.{here}
+use Rattle.steps.specs.Layout.{CountIs, FramesAt}
+use Rattle.steps.specs.Machine.{beginning, machine}
+use Rattle.steps.specs.Places.{Has, Gathers, Frame, beneath, brackets, left_of, onward_of, marks_beneath, spot_at}
+use Rattle.steps.specs.Spot.{Went}
+use Rattle.steps.specs.Word.{Plain, Expands}
+use Rattle.steps.proofs.Leads.Operands.{begins_with, words_left}
+use Rattle.steps.proofs.Leads.Parts.{start_leads}
+use Rattle.steps.proofs.Leads.Standing.{by, leaves_pass, stands, stands_here, stops_pass}
+use Rattle.tclparse.specs.Tree.{Words, no_words}
+
+module _ {A X : Type 0} (code : List (Instruction A)) (last : Status → Outcome → Dialogue X) where
+  -- one more word
+  one_more : (counted : Bool) (count : ℕ) (before : List (List ℕ)) →
+      CountIs code counted count (length before) →
+      CountIs code counted (count + 1) (suc (length before))
+  one_more false count before is = omega (arith, is)
+  one_more true count before is = tt
+
+  -- a command leads on with its next word
+  abbrev pub WordsLead : ℕ → ℕ → Bool → List (List ℕ) → Words → List Frame → Status → Type 0
+  WordsLead place levels counted before rest frames s =
+      Follows code last
+      (machine (slice_get code place) (spot_at place levels (Gathers counted before rest) frames) s)
+      (left_of last levels (Gathers counted before rest) frames s)
+
+  -- a command begins by its words
+  begin_leads : (levels place n : ℕ) (counted : Bool) (before : List (List ℕ)) (fs : List Frame)
+      (s : Status) → n ≡ length (beneath fs) → FramesAt code (place + 1) fs →
+      levels + brackets fs ≤ 255 →
+      Follows code last
+      (beginning n (record {
+        place = place + 1;
+        operands = before ++ beneath fs;
+        marks = marks_beneath fs;
+        levels = levels;
+      }) s)
+      (and_then (command levels s (reverse before)) (onward (onward_of last levels fs)))
+  begin_leads levels place n counted before fs s is behind fits =
+      subst (λ did. Follows code last did
+      (and_then (command levels s (reverse before)) (onward (onward_of last levels fs))))
+      (sym (begins_with n before (beneath fs) (place + 1) (marks_beneath fs) levels s is))
+      (record {
+        next = onward_of last levels fs;
+        goes = here;
+        value = λ t v. stands_here code last (place + 1) levels (Has v) fs (place + 1) t refl behind
+            fits;
+        leaves = λ t c v. leaves_pass code last levels fs t c v;
+        stops = λ t stop. stops_pass code last levels fs t stop;
+      })
+
+  -- from here on the words are counted
+  count_leads : (levels place count end : ℕ) (before : List (List ℕ)) (rest : Words)
+      (fs : List Frame) (s : Status) → count ≡ length before → At code place (i.Count count) →
+      WordsAt code true count (place + 1) rest end → FramesAt code end fs →
+      levels + brackets fs ≤ 255 → WordsLead place levels false before rest fs s
+  count_leads levels place count end before rest fs s is at words_at behind fits =
+      by code last (i.Count count) (spot_at place levels (Gathers false before rest) fs) s _ at
+      (subst (λ n. Follows code last
+      (Went (record {
+        place = place + 1;
+        operands = before ++ beneath fs;
+        marks = n ∷ marks_beneath fs;
+        levels = levels;
+      }) s)
+      (left_of last levels (Gathers false before rest) fs s))
+      (sym (words_left count before (beneath fs) is))
+      (stands code last (place + 1) levels (Gathers true before rest) fs end s
+      (count, tt, words_at) behind fits))
+
+  -- each word
+  pub words_lead : (levels : ℕ) (before : List (List ℕ)) (fs : List Frame) (s : Status)
+      (counted : Bool) (count place : ℕ) (rest : Words) (end : ℕ) →
+      CountIs code counted count (length before) → WordsAt code counted count place rest end →
+      FramesAt code end fs → levels + brackets fs ≤ 255 →
+      WordsLead place levels counted before rest fs s
+  words_lead levels before fs s counted count place rest end is (begins at) behind fits =
+      by code last (i.Command count) (spot_at place levels (Gathers false before no_words) fs) s _
+      at
+      (begin_leads levels place _ false before fs s (words_left count before (beneath fs) is) behind
+      fits)
+  words_lead levels before fs s counted count place rest end is (begins_counted at) behind fits =
+      by code last i.Counted (spot_at place levels (Gathers true before no_words) fs) s _ at
+      (begin_leads levels place _ true before fs s refl behind fits)
+  words_lead levels before fs s counted count place rest end is (one {counted = c} {mid = mid} {ps =
+      ps} {ws = ws} parts_at words_at) behind fits =
+      start_leads code last levels end [] (Plain c before ws) fs s place ps mid parts_at
+      (record {
+        stop = mid;
+        around = refl;
+        word_at = (
+          count + 1,
+          one_more c count before is,
+          words_at,
+        );
+      })
+      behind fits
+  words_lead levels before fs s counted count place rest end is (counts at words_at) behind fits =
+      count_leads levels place count end before rest fs s is at words_at behind fits
+  words_lead levels before fs s counted count place rest end is (spread {mid = mid} {ps = ps} {ws =
+      ws} parts_at at words_at) behind fits =
+      start_leads code last levels end [] (Expands before ws) fs s place ps mid parts_at
+      (record { stop = mid; around = refl; word_at = (at, (count + 1, words_at)) })
+      behind fits

@@ -1,0 +1,28 @@
+use Rattle.std.proofs.Common.{slice_get, subst}
+use Rattle.steps.specs.Does.{Does, stays, then}
+use Rattle.steps.specs.Machine.{machine}
+use Rattle.steps.specs.View.{did_of, spot_of, with_parts}
+use Rattle.steps.proofs.advancing.advance.Goals as goal
+
+pub steps-init : goal.steps-init
+steps-init g c = λ s. stays
+
+pub steps-preserved : goal.steps-preserved
+steps-preserved g c = λ s.
+    let scopes = c.args.scopes.now in
+    then (c.steps.invariant s)
+    (subst (λ o. Does
+    (machine (slice_get c.args.code.now c.steps.spot.place) (spot_of c.steps.spot)
+    (with_parts scopes c.steps.left s))
+    (did_of o (spot_of c.step.new.spot) (with_parts scopes c.step.new.left s)))
+    c.in_default.is (c.in_ok-stopped.ensures.does s))
+
+pub returns-in-Some : goal.returns-in-Some
+returns-in-Some g c = λ s.
+    let scopes = c.args.scopes.now in
+    then (c.steps.invariant s)
+    (subst (λ o. Does
+    (machine (slice_get c.args.code.now c.steps.spot.place) (spot_of c.steps.spot)
+    (with_parts scopes c.steps.left s))
+    (did_of o (spot_of c.step.new.spot) (with_parts scopes c.step.new.left s)))
+    c.in-Some.is (c.in_ok-stopped.ensures.does s))

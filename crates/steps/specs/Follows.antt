@@ -1,0 +1,81 @@
+-- What an instruction did is what was left to be done.
+use Rattle.std.specs.Prelude.{◌≡◌, ℕ, ◌+◌, ◌≤◌, List, Result, length, slice_get}
+use Rattle.code.specs.Code.{ScriptAt}
+use Rattle.code.specs.declared.instruction.Instruction.{Instruction}
+use Rattle.meanings.specs.Meaning.{IsSplit}
+use Rattle.plan.specs.Plan.{and_then, onward}
+use Rattle.runs.specs.Commands.{command}
+use Rattle.runs.specs.Scripts.{plan_of}
+use Rattle.state.specs.Prelude.{Code, Dialogue, Gives, Leaves, Outcome, Status, Stops}
+use Rattle.state.specs.Outcome.{Stop}
+use Rattle.state.specs.Piece.{Script, ScriptTree}
+use Rattle.steps.specs.Does.{Arrives}
+use Rattle.steps.specs.Goes.{Goes}
+use Rattle.steps.specs.Layout.{HeadAt, FramesAt}
+use Rattle.steps.specs.Machine.{machine}
+use Rattle.steps.specs.Places.{Head, Frame, brackets, left_of, spot_at}
+use Rattle.steps.specs.Spot.{Spot, Did, Went, Splits, Begins, Over, Stuck, with_top, beginning_at}
+use Rattle.tcltext.specs.Flaw.{Flaw}
+
+module _ {A X : Type 0} (code : List (Instruction A)) (last : Status → Outcome → Dialogue X) where
+  -- the run of the code stands where this is left to be done, and then what is done last
+  pub record Here (spot : Spot) (s : Status) (p : Dialogue X) : Type 0 where
+    pub place : ℕ
+    pub levels : ℕ
+    pub head : Head
+    pub frames : List Frame
+    pub end : ℕ
+    pub at : HeadAt code place head end
+    pub behind : FramesAt code end frames
+    pub fits : levels + brackets frames ≤ 255
+    pub stands : spot ≡ spot_at place levels head frames
+    pub is : p ≡ left_of last levels head frames s
+
+  -- it continues as something that is left to be done here
+  pub record Comes (spot : Spot) (s : Status) (p : Dialogue X) : Type 0 where
+    pub then : Dialogue X
+    pub goes : Goes p then
+    pub at : Here spot s then
+
+  -- it continues as a command, whose value leads on from here; every other outcome is the last one
+  pub record Waits (words : List (List ℕ)) (spot : Spot) (s : Status) (p : Dialogue X) :
+      Type 0 where
+    pub next : Status → Outcome → Dialogue X
+    pub goes : Goes p (and_then (command spot.levels s words) (onward next))
+    pub value : (t : Status) (value : List ℕ) → Here (with_top value spot) t (next t (Gives value))
+    pub leaves : (t : Status) (c : Code) (value : List ℕ) →
+        next t (Leaves c value) ≡ last t (Leaves c value)
+    pub stops : (t : Status) (stop : Stop) → next t (Stops stop) ≡ last t (Stops stop)
+
+  -- what an instruction did is what was left to be done
+  abbrev pub Follows : Did → Dialogue X → Type 0
+  Follows (Went spot s) p = Comes spot s p
+  Follows (Splits text next) p =
+      (split : Result (List (List ℕ)) Flaw) → IsSplit text split → Follows (next split) p
+  Follows (Begins words spot s) p = Waits words spot s p
+  Follows (Over outcome s) p = Goes p (last s outcome)
+  Follows Stuck p = ⊥
+
+-- where something is left to be done, the instruction there does it
+abbrev pub InstructionsLead : Type 0 → Type 0 → Type 0
+InstructionsLead A X =
+    (code : List (Instruction A)) (last : Status → Outcome → Dialogue X) (spot : Spot) (s : Status)
+    (p : Dialogue X) → Here code last spot s p →
+    Follows code last (machine (slice_get code spot.place) spot s) p
+
+-- where something is left to be done, the result of several instructions does it
+abbrev pub CodeLeads : Type 0 → Type 0 → Type 0
+CodeLeads A X =
+    (code : List (Instruction A)) (last : Status → Outcome → Dialogue X) (spot : Spot) (s : Status)
+    (did : Did) (p : Dialogue X) → Here code last spot s p → Arrives code spot s did →
+    Follows code last did p
+
+-- a script of which nothing is done yet is left to be done where its code begins, with the empty
+-- text on top
+abbrev pub ScriptsBegin : Type 0 → Type 0 → Type 0
+ScriptsBegin A X =
+    (code : List (Instruction A)) (last : Status → Outcome → Dialogue X) (tree : ScriptTree)
+    (levels : ℕ) (s : Status) → ScriptAt code 0 tree.commands tree.fault (length code) →
+    levels ≤ 255 →
+    Here code last (beginning_at levels) s
+    (and_then (plan_of (Script tree levels) s) (onward last))

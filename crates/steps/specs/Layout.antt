@@ -1,0 +1,67 @@
+-- Where the code of what is left to be done stands.
+use Rattle.std.specs.Prelude.{◌≡◌, ℕ, suc, ◌+◌, List, [], ◌∷◌, Bool, true, false, None, is_some, length, slice_get}
+use Rattle.code.specs.Code.{At, JoinsAt, PartsAt, WordsAt, ScriptAt}
+use Rattle.code.specs.declared.instruction.Instruction.{Instruction}
+use Rattle.code.specs.declared.instruction.Instruction.TheVariants as i
+use Rattle.steps.specs.Places.{Head, Has, Part, Joins, Gathers, Frame, Rest, Bracket}
+use Rattle.steps.specs.Word.{Around, Open, Word, Plain, Expands}
+
+module _ {A : Type 0} (code : List (Instruction A)) where
+  -- words that are not counted: their number stands in the instruction that begins the command
+  abbrev pub CountIs : Bool → ℕ → ℕ → Type 0
+  CountIs false count n = count ≡ n
+  CountIs true count n = Unit {0}
+
+  -- after the value of an index come the elements and the words around it
+  abbrev pub AroundAt : ℕ → List Around → ℕ → Type 0
+  AroundAt place [] end = place ≡ end
+  AroundAt place (o ∷ os) end =
+      At code place (i.Element o.array) ×
+      ((mid : ℕ) × (stop : ℕ) × JoinsAt code (is_some o.so_far) (place + 1) mid ×
+      PartsAt code true mid o.parts stop × AroundAt stop os end)
+
+  -- after the value of a word come the words after it
+  abbrev pub WordAt : ℕ → Word → ℕ → Type 0
+  WordAt place (Plain counted before rest) end =
+      (count : ℕ) × CountIs counted count (suc (length before)) ×
+      WordsAt code counted count place rest end
+  WordAt place (Expands before rest) end =
+      At code place i.Spread × ((count : ℕ) × WordsAt code true count (place + 1) rest end)
+
+  -- what is around the parts that are left of an open word
+  pub record OuterAt (place : ℕ) (outer : List Around) (word : Word) (end : ℕ) : Type 0 where
+    pub stop : ℕ
+    pub around : AroundAt place outer stop
+    pub word_at : WordAt stop word end
+
+  -- an open word, before its next part
+  pub record OpenAt (place : ℕ) (o : Open) (end : ℕ) : Type 0 where
+    pub stop : ℕ
+    pub parts_at : PartsAt code (is_some o.so_far) place o.parts stop
+    pub outer_at : OuterAt stop o.outer o.word end
+
+  -- an open word, with a value on top that is put after its bytes
+  pub record JoinedAt (place : ℕ) (o : Open) (end : ℕ) : Type 0 where
+    pub mid : ℕ
+    pub joins : JoinsAt code (is_some o.so_far) place mid
+    pub stop : ℕ
+    pub parts_at : PartsAt code true mid o.parts stop
+    pub outer_at : OuterAt stop o.outer o.word end
+
+  -- the code does this, up to the second place
+  abbrev pub HeadAt : ℕ → Head → ℕ → Type 0
+  HeadAt place (Has value) end = place ≡ end
+  HeadAt place (Part word) end = OpenAt place word end
+  HeadAt place (Joins value word) end = JoinedAt place word end
+  HeadAt place (Gathers counted before rest) end =
+      (count : ℕ) × CountIs counted count (length before) ×
+      WordsAt code counted count place rest end
+
+  -- from here on the code does what the frames do with the value on top
+  abbrev pub FramesAt : ℕ → List Frame → Type 0
+  FramesAt place [] = slice_get code place ≡ None
+  FramesAt place (Rest cs f ∷ frames) =
+      (end : ℕ) × ScriptAt code place cs f end × FramesAt end frames
+  FramesAt place (Bracket word ∷ frames) =
+      At code place i.Leave ×
+      ((end : ℕ) × JoinedAt (place + 1) word end × FramesAt end frames)

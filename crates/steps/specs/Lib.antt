@@ -1,0 +1,9 @@
+pub mod Spot
+pub mod Machine
+pub mod Does
+pub mod View
+pub mod Word
+pub mod Places
+pub mod Layout
+pub mod Goes
+pub mod Follows

@@ -1,0 +1,127 @@
+-- What one instruction does, on texts and numbers alone.
+use Rattle.std.specs.Prelude.{ℕ, zero, suc, ◌+◌, ◌-◌, List, [], ◌∷◌, ◌++◌, Option, Some, None, Result, Ok, Err, reverse, take, drop, length, nat_le, if◌then◌else◌}
+use Rattle.acts.specs.Flaw as flaw
+use Rattle.code.specs.declared.instruction.Instruction.{Instruction}
+use Rattle.code.specs.declared.instruction.Instruction.TheVariants as i
+use Rattle.meanings.specs.Meaning.{flaw_of_list}
+use Rattle.state.specs.Prelude.{Flaw, text_of, Error, Gives, Leaves, Stops, Status}
+use Rattle.state.specs.Faults.{flaw_of_fault}
+use Rattle.state.specs.Outcome as stop
+use Rattle.state.specs.Variables.{flaw_of_trouble, spelled}
+use Rattle.steps.specs.Spot.{Spot, Did, Went, Splits, Begins, Over, Stuck, with_top}
+use Rattle.tclparse.specs.Seen.{fault_of}
+use Rattle.tclstate.specs.Scopes.{Trouble, read}
+use Rattle.tcltext.specs.Flaw as list
+
+-- the code is over with an error, whose value is the error's text (Tcl(n), return codes)
+abbrev pub fails : Flaw → Status → Did
+fails flaw s = Over (Leaves Error (text_of flaw)) s
+
+-- what is done with the first of these and with those after it, where there is one (this project's
+-- own rule)
+abbrev pub on_top : {X : Type 0} → List X → (X → List X → Did) → Did
+on_top [] next = Stuck
+on_top (x ∷ below) next = next x below
+
+-- the same with these operands (this project's own rule)
+abbrev pub with_operands : List (List ℕ) → Spot → Spot
+with_operands operands spot = record spot { operands = operands }
+
+-- takes a tick, where one is left; else the run stops (this project's own rule)
+abbrev pub ticked : ℕ → Status → (Status → Did) → Did
+ticked zero s next = Over (Stops stop.Limit) s
+ticked (suc left) s next = next (record s { left = left })
+
+-- goes on with the value of a variable, or is over with the error that it could not be read
+-- (set(n))
+abbrev pub with_value : Result (List ℕ) Trouble → List ℕ → Status → (List ℕ → Did) → Did
+with_value (Ok value) name s next = next value
+with_value (Err trouble) name s next = fails (flaw_of_trouble trouble name) s
+
+-- the value on top is dropped, and a tick is taken (Tcl(n), rule 1)
+abbrev pub ticking : Spot → Status → Did
+ticking spot s =
+    on_top spot.operands (λ value below.
+    ticked s.left s (λ t. Went (with_operands below spot) t))
+
+-- the value of a variable, or of an element, is put on top (Tcl(n), rule 8)
+abbrev pub reading : List ℕ → Option (List ℕ) → Spot → Status → Did
+reading name index spot s =
+    with_value (read s.scopes name index) (spelled name index) s
+    (λ value. Went (with_top value spot) s)
+
+-- the value of the element at the index on top is put in its place (Tcl(n), rule 8)
+abbrev pub indexing : List ℕ → Spot → Status → Did
+indexing name spot s =
+    on_top spot.operands (λ index below. reading name (Some index) (with_operands below spot) s)
+
+-- the value on top is put after the one below it (Tcl(n), rule 11)
+abbrev pub joining : Spot → Status → Did
+joining spot s =
+    on_top spot.operands (λ value more. on_top more (λ bytes below.
+    Went (with_operands ((bytes ++ value) ∷ below) spot) s))
+
+-- a script in brackets begins, where a level is left (Tcl(n), rule 7; interp(n), recursionlimit)
+abbrev pub entering : ℕ → Spot → Status → Did
+entering zero spot s = fails flaw.TooManyNested s
+entering (suc levels) spot s = Went (record (with_top [] spot) { levels = levels }) s
+
+-- a script in brackets is over; levels are counted up to 255 (this project's own rule)
+abbrev pub leaving : Spot → Status → Did
+leaving spot s =
+    if nat_le 255 spot.levels then Stuck
+    else Went (record spot { levels = suc spot.levels }) s
+
+-- from here on words are counted; n of them stand there already (Tcl(n), rule 5)
+abbrev pub counting : ℕ → Spot → Status → Did
+counting n spot s =
+    Went (record spot { marks = (length spot.operands - n) ∷ spot.marks }) s
+
+-- the elements of a list are put on top, or the text is no list (Tcl(n), rule 5)
+abbrev pub spread : Spot → Status → Result (List (List ℕ)) list.Flaw → Did
+spread spot s (Ok elements) = Went (with_operands (reverse elements ++ spot.operands) spot) s
+spread spot s (Err why) = fails (flaw_of_list why) s
+
+-- the text on top is read as a list (Tcl(n), rule 5)
+abbrev pub spreading : Spot → Status → Did
+spreading spot s =
+    on_top spot.operands (λ text below. Splits text (spread (with_operands below spot) s))
+
+-- a command begins, whose words are all operands above the lowest ones, which are this many
+-- (Tcl(n), rule 2)
+abbrev pub beginning : ℕ → Spot → Status → Did
+beginning below spot s =
+    let all = reverse spot.operands in
+    if nat_le below (length spot.operands)
+    then Begins (drop below all) (with_operands (reverse (take below all)) spot) s
+    else Stuck
+
+-- a command begins, whose words were counted (Tcl(n), rule 2)
+abbrev pub beginning_counted : Spot → Status → Did
+beginning_counted spot s =
+    on_top spot.marks (λ below marks. beginning below (record spot { marks = marks }) s)
+
+-- what an instruction does, where the next place is at hand; those of formulas do nothing yet
+abbrev pub does : {A : Type 0} → Instruction A → Spot → Status → Did
+does i.Next spot s = ticking spot s
+does (i.Text bytes) spot s = Went (with_top bytes spot) s
+does (i.Variable name) spot s = reading name None spot s
+does (i.Element name) spot s = indexing name spot s
+does i.Join spot s = joining spot s
+does i.Enter spot s = entering spot.levels spot s
+does i.Leave spot s = leaving spot s
+does (i.Count n) spot s = counting n spot s
+does i.Spread spot s = spreading spot s
+does (i.Command n) spot s = beginning (length spot.operands - n) spot s
+does i.Counted spot s = beginning_counted spot s
+does (i.Fault fault) spot s = fails (flaw_of_fault (fault_of fault)) s
+does _ spot s = Stuck
+
+-- the next place
+abbrev pub ahead : Spot → Spot
+ahead spot = record spot { place = spot.place + 1 }
+
+-- what the instruction at a place does; after the last one the value on top is the outcome
+abbrev pub machine : {A : Type 0} → Option (Instruction A) → Spot → Status → Did
+machine None spot s = on_top spot.operands (λ value below. Over (Gives value) s)
+machine (Some it) spot s = does it (ahead spot) s

@@ -1,0 +1,102 @@
+-- What is left to be done at a place of the code, as the proof sees it.
+use Rattle.std.specs.Prelude.{ℕ, suc, List, [], ◌∷◌, ◌++◌, Bool, true, false, Option, length, reverse}
+use Rattle.plan.specs.Plan.{and_then, onward, after}
+use Rattle.runs.specs.Commands.{command}
+use Rattle.runs.specs.Scripts.{script}
+use Rattle.state.specs.Prelude.{Course, Dialogue, gives, on_value, Outcome, Status}
+use Rattle.steps.specs.Spot.{Spot}
+use Rattle.steps.specs.Word.{Open, bytes_of, course_with, is_counted, operands_of}
+use Rattle.tclparse.specs.Fault.{Fault}
+use Rattle.tclparse.specs.Tree.{Commands, Words}
+use Rattle.words.specs.Words.{words}
+
+-- what is being done at a place: a value is on top; an open word goes on with its next part; a
+-- value is put after the bytes of an open word; a command goes on with its next word, after these
+-- words, the last one first, which are counted or not
+pub data Head : Type 0 where
+  Has : (value : List ℕ) → Head
+  Part : (word : Open) → Head
+  Joins : (value : List ℕ) (word : Open) → Head
+  Gathers : (counted : Bool) (before : List (List ℕ)) (rest : Words) → Head
+
+-- what is done with a value once it is on top: the commands of a script that are left follow; or a
+-- script in brackets is over, and its value is put after the bytes of an open word (Tcl(n), rules 1
+-- and 7)
+pub data Frame : Type 0 where
+  Rest : (commands : Commands) (fault : Option Fault) → Frame
+  Bracket : (word : Open) → Frame
+
+-- what is being done, as a course
+abbrev pub course_of : ℕ → Head → Status → Course
+course_of levels (Has value) s = gives value s
+course_of levels (Part word) s = course_with levels word (bytes_of word.so_far) s
+course_of levels (Joins value word) s = course_with levels word (bytes_of word.so_far ++ value) s
+course_of levels (Gathers counted before rest) s =
+    words levels rest (reverse before) s (command levels)
+
+-- what is done next, the top frame first; a word around a script in brackets stands one level up
+abbrev pub nexts : ℕ → List Frame → List (Status → Outcome → Course)
+nexts levels [] = []
+nexts levels (Rest cs f ∷ frames) =
+    on_value (script levels cs f) ∷ nexts levels frames
+nexts levels (Bracket word ∷ frames) =
+    on_value (λ s value. course_of (suc levels) (Joins value word) s) ∷ nexts (suc levels) frames
+
+-- what is done with an outcome: the frames from the top down, and then what is done last
+abbrev pub onward_of : {X : Type 0} → (Status → Outcome → Dialogue X) → ℕ → List Frame →
+    Status → Outcome → Dialogue X
+onward_of last levels frames = after (nexts levels frames) last
+
+-- what is left to be done
+abbrev pub left_of : {X : Type 0} → (Status → Outcome → Dialogue X) → ℕ → Head → List Frame →
+    Status → Dialogue X
+left_of last levels head frames s =
+    and_then (course_of levels head s) (onward (onward_of last levels frames))
+
+-- the operands that the frames have, the top one first
+abbrev pub beneath : List Frame → List (List ℕ)
+beneath [] = []
+beneath (Rest cs f ∷ frames) = beneath frames
+beneath (Bracket word ∷ frames) = operands_of word (beneath frames)
+
+-- where words are counted, one more mark
+abbrev pub marked : Bool → ℕ → List ℕ → List ℕ
+marked false below marks = marks
+marked true below marks = below ∷ marks
+
+-- the marks that the frames have
+abbrev pub marks_beneath : List Frame → List ℕ
+marks_beneath [] = []
+marks_beneath (Rest cs f ∷ frames) = marks_beneath frames
+marks_beneath (Bracket word ∷ frames) =
+    marked (is_counted word.word) (length (beneath frames)) (marks_beneath frames)
+
+-- all operands
+abbrev pub operands_at : Head → List Frame → List (List ℕ)
+operands_at (Has value) frames = value ∷ beneath frames
+operands_at (Part word) frames = operands_of word (beneath frames)
+operands_at (Joins value word) frames = value ∷ operands_of word (beneath frames)
+operands_at (Gathers counted before rest) frames = before ++ beneath frames
+
+-- all marks
+abbrev pub marks_at : Head → List Frame → List ℕ
+marks_at (Has value) frames = marks_beneath frames
+marks_at (Part word) frames = marks_beneath (Bracket word ∷ frames)
+marks_at (Joins value word) frames = marks_beneath (Bracket word ∷ frames)
+marks_at (Gathers counted before rest) frames =
+    marked counted (length (beneath frames)) (marks_beneath frames)
+
+-- where the run of the code stands
+abbrev pub spot_at : ℕ → ℕ → Head → List Frame → Spot
+spot_at place levels head frames = record {
+  place = place;
+  operands = operands_at head frames;
+  marks = marks_at head frames;
+  levels = levels;
+}
+
+-- how many scripts in brackets are open
+abbrev pub brackets : List Frame → ℕ
+brackets [] = 0
+brackets (Rest cs f ∷ frames) = brackets frames
+brackets (Bracket word ∷ frames) = suc (brackets frames)

@@ -1,0 +1,31 @@
+-- Where the run of a code stands, and the result of an instruction.
+use Rattle.std.specs.Prelude.{ℕ, List, [], ◌∷◌, Result}
+use Rattle.state.specs.Prelude.{Outcome, Status}
+use Rattle.tcltext.specs.Flaw.{Flaw}
+
+-- the place of the next instruction; the operands, the top one first; of each command whose words
+-- are counted, how many operands stand below its words, the innermost first; and the levels that
+-- may still nest (this project's own rule)
+pub record Spot : Type 0 where
+  pub place : ℕ
+  pub operands : List (List ℕ)
+  pub marks : List ℕ
+  pub levels : ℕ
+
+-- an instruction leads on; it leads on by what a text is as a list; a command begins by its words,
+-- whose value is to be put on top; the code is over; or an operand is missing (this project's own
+-- rule)
+pub data Did : Type 0 where
+  Went : (spot : Spot) (s : Status) → Did
+  Splits : (text : List ℕ) → (Result (List (List ℕ)) Flaw → Did) → Did
+  Begins : (words : List (List ℕ)) (spot : Spot) (s : Status) → Did
+  Over : (outcome : Outcome) (s : Status) → Did
+  Stuck : Did
+
+-- the same with a value on top
+abbrev pub with_top : List ℕ → Spot → Spot
+with_top value spot = record spot { operands = value ∷ spot.operands }
+
+-- where a code begins: the empty text, which is the value of a script without commands, is on top
+abbrev pub beginning_at : ℕ → Spot
+beginning_at levels = record { place = 0; operands = [] ∷ []; marks = []; levels = levels }

@@ -1,0 +1,27 @@
+-- What the values of the code stand for.
+use Rattle.std.specs.Prelude.{ℕ, Option, Some, None, reverse}
+use Rattle.state.specs.Prelude.{Scopes, Status, outcome_of}
+use Rattle.steps.specs.declared.spot.Spot as coded
+use Rattle.steps.specs.declared.stopped.Stopped.{Stopped}
+use Rattle.steps.specs.declared.stopped.Stopped.TheVariants as stopped
+use Rattle.steps.specs.Spot.{Spot, Did, Went, Begins, Over, Stuck}
+
+-- where the run of a code stands
+abbrev pub spot_of : {A : Type 0} → coded.Spot A → Spot
+spot_of spot = record {
+  place = spot.place;
+  operands = reverse spot.operands.items;
+  marks = reverse spot.marks.items;
+  levels = spot.levels;
+}
+
+-- the result of an instruction: the run goes on, or has stopped there
+abbrev pub did_of : {A : Type 0} → Option (Stopped A) → Spot → Status → Did
+did_of None spot s = Went spot s
+did_of (Some (stopped.Begins words)) spot s = Begins words.items spot s
+did_of (Some (stopped.Over outcome)) spot s = Over (outcome_of outcome) s
+did_of (Some stopped.Stuck) spot s = Stuck
+
+-- a state of the definition with these variables and these ticks left
+abbrev pub with_parts : Scopes → ℕ → Status → Status
+with_parts scopes left s = record s { scopes = scopes; left = left }

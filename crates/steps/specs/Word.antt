@@ -1,0 +1,80 @@
+-- A word of a command that is being put together, as the proof sees it.
+use Rattle.std.specs.Prelude.{ℕ, List, [], ◌∷◌, ◌++◌, Bool, true, Option, Some, None, reverse}
+use Rattle.runs.specs.Commands.{command}
+use Rattle.state.specs.Listed.{with_list}
+use Rattle.state.specs.Prelude.{Course, Status}
+use Rattle.state.specs.Variables.{reads}
+use Rattle.tclparse.specs.Tree.{Parts, Words}
+use Rattle.words.specs.Words.{parts, words}
+
+-- an array whose index is open, and the word or the index around its element: the bytes before the
+-- element, where there is something of it, and the parts after it (Tcl(n), rule 8)
+pub record Around : Type 0 where
+  pub array : List ℕ
+  pub so_far : Option (List ℕ)
+  pub parts : Parts
+
+-- where a word stands: after these words of its command, the last one first, and before the rest;
+-- the words are counted or not, and after {*} they are (Tcl(n), rules 2 and 5)
+pub data Word : Type 0 where
+  Plain : (counted : Bool) (before : List (List ℕ)) (rest : Words) → Word
+  Expands : (before : List (List ℕ)) (rest : Words) → Word
+
+-- a word that is open: its bytes so far, where there is something of it, its parts that are left,
+-- the indexes in which these stand, the innermost first, and where it stands (Tcl(n), rules 7, 8
+-- and 11)
+pub record Open : Type 0 where
+  pub so_far : Option (List ℕ)
+  pub parts : Parts
+  pub outer : List Around
+  pub word : Word
+
+-- the bytes so far
+abbrev pub bytes_of : Option (List ℕ) → List ℕ
+bytes_of None = []
+bytes_of (Some bytes) = bytes
+
+-- what follows the value of an index: the element is read, and then come the indexes and the word
+-- around it (Tcl(n), rule 8)
+abbrev pub index_on : ℕ → List Around → (Status → List ℕ → Course) → Status → List ℕ → Course
+index_on levels [] next = next
+index_on levels (o ∷ os) next = λ s index.
+    reads o.array (Some index) s (λ value.
+    parts levels o.parts (bytes_of o.so_far ++ value) s (index_on levels os next))
+
+-- what follows the value of a word: the words after it, and then the command (Tcl(n), rules 2
+-- and 5)
+abbrev pub word_on : ℕ → Word → Status → List ℕ → Course
+word_on levels (Plain counted before rest) = λ s value.
+    words levels rest (reverse before ++ value ∷ []) s (command levels)
+word_on levels (Expands before rest) = λ s value.
+    with_list value s (λ more. words levels rest (reverse before ++ more) s (command levels))
+
+-- the course of an open word with these bytes so far
+abbrev pub course_with : ℕ → Open → List ℕ → Status → Course
+course_with levels o bytes s =
+    parts levels o.parts bytes s (index_on levels o.outer (word_on levels o.word))
+
+-- the bytes so far are an operand, where there is something of the word
+abbrev pub with_bytes : Option (List ℕ) → List (List ℕ) → List (List ℕ)
+with_bytes None below = below
+with_bytes (Some bytes) below = bytes ∷ below
+
+-- the operands of the words and indexes around an index
+abbrev pub around : List Around → List (List ℕ) → List (List ℕ)
+around [] below = below
+around (o ∷ os) below = with_bytes o.so_far (around os below)
+
+-- the words before this one, the last one first
+abbrev pub before_of : Word → List (List ℕ)
+before_of (Plain counted before rest) = before
+before_of (Expands before rest) = before
+
+-- whether the words are counted
+abbrev pub is_counted : Word → Bool
+is_counted (Plain counted before rest) = counted
+is_counted (Expands before rest) = true
+
+-- the operands of an open word
+abbrev pub operands_of : Open → List (List ℕ) → List (List ℕ)
+operands_of o below = with_bytes o.so_far (around o.outer (before_of o.word ++ below))

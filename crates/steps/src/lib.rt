@@ -1,0 +1,15 @@
+//! Flat code is run, one instruction after the other, as the definition says.
+#![tactic(auto)]
+
+mod advancing;
+pub mod laws;
+mod spot;
+mod stepping;
+mod stopped;
+#[cfg(test)]
+mod tests;
+
+pub use advancing::advance;
+pub use spot::Spot;
+pub use stepping::step;
+pub use stopped::Stopped;

@@ -1,0 +1,170 @@
+//! One instruction.
+
+ghost use Rattle.std.specs.Prelude.{◌≡◌, ◌+◌, ◌<◌, length, slice_get, option_copied, IfOk, IfNone};
+ghost use Rattle.state.specs.Prelude.{Status, flaw_of};
+ghost use Rattle.steps.specs.Does.{Does};
+ghost use Rattle.steps.specs.Machine.{does as said, entering, fails, indexing, machine, reading, spread as spread_of, spreading};
+ghost use Rattle.steps.specs.Spot.{Spot as Standing, Splits as splits};
+ghost use Rattle.steps.specs.View.{did_of, spot_of, with_parts};
+
+use crate::spot::Spot;
+use crate::stopped::Stopped;
+use acts::{Fault, NoMemory, Raise};
+use code::Instruction;
+use meanings::elements;
+use state::faults::no_script;
+use state::outcome::raised;
+use state::variables::trouble;
+use std::alloc::Allocator;
+use tclstate::Scopes;
+use tcltext::Value;
+
+/// The code is over with the script's error.
+fn failed<A: Allocator + Copy>(alloc: A, fault: Fault<A>) -> Result<Option<Stopped<A>>, NoMemory>
+    ensures { (spot : Standing) (s : Status) → IfOk result (λ stopped.
+        did_of stopped spot s ≡ fails (flaw_of fault) s) }
+{
+    let outcome = raised(alloc, &fault)?;
+    Ok(Some(Stopped::Over(outcome)))
+}
+
+/// Puts the value of a variable, or of an element, on top.
+fn read<A: Allocator + Copy>(
+    alloc: A,
+    spot: &mut Spot<A>,
+    scopes: &Scopes<A>,
+    name: &[u8],
+    index: Option<&[u8]>,
+) -> Result<Option<Stopped<A>>, NoMemory>
+    ensures does { (s : Status) → s.scopes ≡ scopes.now → IfOk result (λ stopped.
+        did_of stopped (spot_of spot.new) s
+        ≡ reading name.now (option_copied index.entry) (spot_of spot.old) s) }
+    ensures place { spot.new.place ≡ spot.old.place }
+{
+    match scopes.get(name, index) {
+        Ok(value) => Ok(spot.put(value.share()?)?),
+        Err(error) => {
+            let fault = trouble(alloc, error, name, index)?;
+            Ok(failed(alloc, fault)?)
+        }
+    }
+}
+
+/// Puts the value of the element at the index on top in its place.
+fn read_element<A: Allocator + Copy>(
+    alloc: A,
+    spot: &mut Spot<A>,
+    scopes: &Scopes<A>,
+    name: &[u8],
+) -> Result<Option<Stopped<A>>, NoMemory>
+    ensures does { (s : Status) → s.scopes ≡ scopes.now → IfOk result (λ stopped.
+        did_of stopped (spot_of spot.new) s ≡ indexing name.now (spot_of spot.old) s) }
+    ensures place { spot.new.place ≡ spot.old.place }
+{
+    let Some(index) = spot.operands.pop() else {
+        return Ok(Some(Stopped::Stuck));
+    };
+    Ok(read(alloc, spot, scopes, name, Some(index.as_slice()))?)
+}
+
+/// A script in brackets begins, where a level is left.
+fn enter<A: Allocator + Copy>(alloc: A, spot: &mut Spot<A>) -> Result<Option<Stopped<A>>, NoMemory>
+    ensures does { (s : Status) → IfOk result (λ stopped.
+        did_of stopped (spot_of spot.new) s
+        ≡ entering spot.old.levels (spot_of spot.old) s) }
+    ensures place { spot.new.place ≡ spot.old.place }
+{
+    if spot.levels == 0 {
+        return Ok(failed(alloc, Fault::TooManyNested)?);
+    }
+    spot.levels -= 1;
+    Ok(spot.put(Value::empty())?)
+}
+
+/// Puts the elements of a list on top.
+fn spread_text<A: Allocator + Copy>(
+    alloc: A,
+    spot: &mut Spot<A>,
+    text: &[u8],
+) -> Result<Option<Stopped<A>>, NoMemory>
+    ensures does { (s : Status) → IfOk result (λ stopped.
+        Does (splits text.now (spread_of (spot_of spot.old) s))
+        (did_of stopped (spot_of spot.new) s)) }
+    ensures place { spot.new.place ≡ spot.old.place }
+{
+    match elements(alloc, text) {
+        Ok(mut elements) => {
+            spot.operands.append(&mut elements)?;
+            Ok(None)
+        }
+        Err(Raise::Fault(fault)) => Ok(failed(alloc, fault)?),
+        Err(Raise::NoMemory(refusal)) => Err(refusal),
+    }
+}
+
+/// Puts the elements of the list on top in its place.
+fn spread<A: Allocator + Copy>(alloc: A, spot: &mut Spot<A>) -> Result<Option<Stopped<A>>, NoMemory>
+    ensures does { (s : Status) → IfOk result (λ stopped.
+        Does (spreading (spot_of spot.old) s) (did_of stopped (spot_of spot.new) s)) }
+    ensures place { spot.new.place ≡ spot.old.place }
+{
+    let Some(text) = spot.operands.pop() else {
+        return Ok(Some(Stopped::Stuck));
+    };
+    Ok(spread_text(alloc, spot, text.as_slice())?)
+}
+
+/// Does what an instruction says, where the next place is at hand.
+fn perform<A: Allocator + Copy>(
+    alloc: A,
+    instruction: &Instruction<A>,
+    spot: &mut Spot<A>,
+    scopes: &Scopes<A>,
+    left: &mut u64,
+) -> Result<Option<Stopped<A>>, NoMemory>
+    ensures does { (s : Status) → IfOk result (λ stopped. Does
+        (said instruction.now (spot_of spot.old) (with_parts scopes.now left.old s))
+        (did_of stopped (spot_of spot.new) (with_parts scopes.now left.new s))) }
+    ensures place { spot.new.place ≡ spot.old.place }
+{
+    match instruction {
+        Instruction::Next => Ok(spot.tick(left)),
+        Instruction::Text(text) => Ok(spot.put(text.share()?)?),
+        Instruction::Variable(name) => Ok(read(alloc, spot, scopes, name.as_slice(), None)?),
+        Instruction::Element(name) => Ok(read_element(alloc, spot, scopes, name.as_slice())?),
+        Instruction::Join => Ok(spot.join(alloc)?),
+        Instruction::Enter => Ok(enter(alloc, spot)?),
+        Instruction::Leave => Ok(spot.leave()),
+        Instruction::Count(n) => Ok(spot.count(*n)?),
+        Instruction::Spread => Ok(spread(alloc, spot)?),
+        Instruction::Command(n) => Ok(spot.begin_last(*n)?),
+        Instruction::Counted => Ok(spot.begin_counted()?),
+        Instruction::Fault(fault) => Ok(failed(alloc, no_script(*fault))?),
+        _ => Ok(Some(Stopped::Stuck)),
+    }
+}
+
+/// Does what the instruction at the place says, and answers `None` where the run goes on.
+///
+/// # Errors
+/// `NoMemory` where memory is refused.
+pub fn step<A: Allocator + Copy>(
+    alloc: A,
+    code: &[Instruction<A>],
+    spot: &mut Spot<A>,
+    scopes: &Scopes<A>,
+    left: &mut u64,
+) -> Result<Option<Stopped<A>>, NoMemory>
+    ensures does { (s : Status) → IfOk result (λ stopped. Does
+        (machine (slice_get code.now spot.old.place) (spot_of spot.old)
+        (with_parts scopes.now left.old s))
+        (did_of stopped (spot_of spot.new) (with_parts scopes.now left.new s))) }
+    ensures onward { IfOk result (λ stopped. IfNone stopped
+        ((spot.old.place < length code.now) × (spot.new.place ≡ spot.old.place + 1))) }
+{
+    let Some(instruction) = code.get(spot.place) else {
+        return Ok(Some(spot.finish()));
+    };
+    spot.place += 1;
+    Ok(perform(alloc, instruction, spot, scopes, left)?)
+}
