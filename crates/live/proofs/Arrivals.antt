@@ -8,7 +8,10 @@ use Rattle.acts.specs.declared.act.Timer.{Timer}
 use Rattle.acts.specs.Deed.{Reply}
 use Rattle.acts.specs.Deed as said
 use Rattle.acts.specs.Fits.{fits_wait, has_row}
-use Rattle.live.specs.Arriving.{comes}
+use Rattle.std.specs.Prelude.{Option}
+use Rattle.std.specs.declared.time.Instant.{Instant}
+use Rattle.live.specs.Arriving.{IsDue, comes}
+use Rattle.live.specs.Calls.{Call}
 
 -- no row passes a test that is always false
 no_row : (rows : List Row) → list_any {X = Row} (λ row. false) rows ≡ true → ⊥
@@ -38,3 +41,16 @@ comes_fits rows timer said.Refused found = absurd (no_row rows found)
 comes_fits rows timer (said.Exited status) found = absurd (no_row rows found)
 comes_fits rows timer said.TimedOut found = absurd (no_row rows found)
 comes_fits rows timer said.NoMore found = refl
+
+-- what answers one of the rows tells of no time
+pub comes_due : (rows : List Row) (reply : Reply) (deadline : Option Instant) →
+    comes rows reply ≡ true → (calls : List Call) → IsDue deadline reply calls
+comes_due rows (said.Arrive id bytes) deadline found calls = tt
+comes_due rows (said.Ended id) deadline found calls = tt
+comes_due rows said.Done deadline found calls = tt
+comes_due rows (said.Failed sent) deadline found calls = tt
+comes_due rows (said.Started pid) deadline found calls = tt
+comes_due rows said.Refused deadline found calls = tt
+comes_due rows (said.Exited status) deadline found calls = tt
+comes_due rows said.TimedOut deadline found calls = absurd (no_row rows found)
+comes_due rows said.NoMore deadline found calls = tt

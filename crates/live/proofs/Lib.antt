@@ -1,2 +1,9 @@
-mod Arrivals
+pub mod Arrivals
+pub mod Chains
+pub mod Exchanging
+pub mod Hearing
+pub mod Looking
+pub mod Starting
+pub mod Table
 pub mod Texts
+pub mod Turns

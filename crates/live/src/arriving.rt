@@ -1,110 +1,179 @@
 //! Waiting for what programs and servers say.
 
-ghost use Rattle.std.specs.Prelude.{◌≡◌, ◌≤◌, true, length, IfOk, IfSome};
+ghost use Rattle.std.specs.Prelude.{◌≡◌, ◌≤◌, true, length, option_map, IfOk, IfSome};
 ghost use Rattle.acts.specs.Deed.{reply_of};
 ghost use Rattle.acts.specs.Fits as table;
-ghost use Rattle.live.specs.Arriving.{comes, is_of, is_wanted};
+ghost use Rattle.live.specs.Arriving.{Hears, Rests, Waits, comes, is_of, is_wanted};
+ghost use Rattle.live.specs.Early.{IfAnswered};
+ghost use Rattle.live.specs.Kept.{kept_of};
 
+use crate::calls::{Owned, System};
 use crate::link::Look;
-use crate::peers::Peers;
+use crate::peers::{Peers, look_early, place_of};
 use crate::system::MOST_TRIES;
-use crate::waiting::Left;
+use crate::waiting::{Left, is_over, time_from, time_left};
 use acts::{Answer, Id, Row, Timer};
 use std::alloc::Global;
 use std::io;
-use std::rt::Clock;
 
-impl Peers {
-    /// Waits for bytes or an end under one of the ids of the rows, or for the timer. The answer is
-    /// that there are no more answers where memory or the system refuses, or nothing could ever
-    /// come.
-    pub fn wait(&mut self, clock: &impl Clock, rows: &[Row], timer: Timer) -> Answer<Global>
-        ensures fits { table.fits_wait rows.now timer (reply_of result) ≡ true }
-        ensures wanted { is_wanted rows.now (reply_of result) ≡ true }
-    {
-        match self.next(clock, rows, timer) {
-            Ok(answer) => answer,
-            Err(_) => Answer::NoMore,
+/// Waits for bytes or an end under one of the ids of the rows, or for the timer. The answer is that
+/// there are no more answers where memory or the system refuses, or nothing could ever come.
+pub fn wait<S: System>(
+    system: &mut S,
+    peers: &mut Peers<S::Link>,
+    rows: &[Row],
+    timer: Timer,
+) -> Answer<Global>
+    ensures fits { table.fits_wait rows.now timer (reply_of result) ≡ true }
+    ensures wanted { is_wanted rows.now (reply_of result) ≡ true }
+    ensures waits { IfAnswered (reply_of result) (Waits S.step system.old
+        (kept_of S.Link.owner peers.old.list.items) timer peers.old.deadline peers.new.deadline
+        (reply_of result) (kept_of S.Link.owner peers.new.list.items) system.new) }
+{
+    match next(system, peers, rows, timer) {
+        Ok(answer) => answer,
+        Err(_) => Answer::NoMore,
+    }
+}
+
+/// What comes next. A wait reads before it gives up, but one that continues a timer that has run
+/// out does not: a program that never stops writing cannot hold it.
+#[tactic(auto, using(crate::proofs::Arrivals::comes_fits))]
+fn next<S: System>(
+    system: &mut S,
+    peers: &mut Peers<S::Link>,
+    rows: &[Row],
+    timer: Timer,
+) -> io::Result<Answer<Global>>
+    ensures fits { IfOk result (λ answer.
+        table.fits_wait rows.now timer (reply_of answer) ≡ true) }
+    ensures wanted { IfOk result (λ answer. is_wanted rows.now (reply_of answer) ≡ true) }
+    ensures waits { IfOk result (λ answer. IfAnswered (reply_of answer) (Waits S.step system.old
+        (kept_of S.Link.owner peers.old.list.items) timer peers.old.deadline peers.new.deadline
+        (reply_of answer) (kept_of S.Link.owner peers.new.list.items) system.new)) }
+{
+    peers.deadline = time_from(system, peers.deadline, timer)?;
+    if is_over(system, peers.deadline, timer)? {
+        return Ok(Answer::TimedOut);
+    }
+    'looks: for _ in 0..MOST_TRIES {
+        match look_round(system, peers, rows)? {
+            Some(heard) => return Ok(heard),
+            None => {}
+        }
+        match rest(system, peers, rows, timer)? {
+            Some(ended) => return Ok(ended),
+            None => {}
         }
     }
+    Ok(Answer::NoMore)
+}
 
-    /// What comes next. A wait reads before it gives up, but one that continues a timer that has
-    /// run out does not: a program that never stops writing cannot hold it.
-    #[tactic(auto, using(crate::proofs::Arrivals::comes_fits))]
-    fn next(&mut self, clock: &impl Clock, rows: &[Row], timer: Timer) -> io::Result<Answer<Global>>
-        ensures fits { IfOk result (λ answer.
-            table.fits_wait rows.now timer (reply_of answer) ≡ true) }
-        ensures wanted { IfOk result (λ answer. is_wanted rows.now (reply_of answer) ≡ true) }
-    {
-        self.waiting.start(clock, timer)?;
-        if timer == Timer::Running && self.waiting.left(clock, timer)? == Left::Nothing {
-            return Ok(Answer::TimedOut);
+/// Waits until something may have come, or answers that the time is up, or that nothing could ever
+/// come.
+fn rest<S: System>(
+    system: &mut S,
+    peers: &Peers<S::Link>,
+    rows: &[Row],
+    timer: Timer,
+) -> io::Result<Option<Answer<Global>>>
+    ensures fits { IfOk result (λ found. IfSome found (λ answer.
+        (table.fits_wait rows.now timer (reply_of answer) ≡ true)
+        × (is_wanted rows.now (reply_of answer) ≡ true))) }
+    ensures rests { IfOk result (λ found. Rests S.step system.old peers.now.deadline
+        (option_map reply_of found) system.new) }
+{
+    match time_left(system, peers.deadline, timer)? {
+        Left::Nothing => Ok(Some(Answer::TimedOut)),
+        Left::For(time) => {
+            system.pause(Some(time))?;
+            Ok(None)
         }
-        'looks: for _ in 0..MOST_TRIES {
-            if let Some(answer) = self.look(rows)? {
-                return Ok(answer);
-            }
-            match self.waiting.left(clock, timer)? {
-                Left::Nothing => return Ok(Answer::TimedOut),
-                Left::For(time) => self.waiting.pause(Some(time))?,
-                Left::Endless if self.is_any_open(rows) => self.waiting.pause(None)?,
-                Left::Endless => break 'looks,
-            }
+        Left::Endless if is_any_open(peers, rows) => {
+            system.pause(None)?;
+            Ok(None)
         }
-        Ok(Answer::NoMore)
+        Left::Endless => Ok(Some(Answer::NoMore)),
     }
+}
 
-    /// Whether one of the ids of the rows is open.
-    fn is_any_open(&self, rows: &[Row]) -> bool {
-        rows.iter()
-            .any(|row| self.list.iter().any(|peer| peer.id == row.id))
+/// Whether one of the ids of the rows is open.
+fn is_any_open<L: Owned>(peers: &Peers<L>, rows: &[Row]) -> bool {
+    rows.iter()
+        .any(|row| place_of(&peers.list, row.id).is_some())
+}
+
+/// Reads for each row once, without waiting. The id that was answered for last has its turn last.
+fn look_round<S: System>(
+    system: &mut S,
+    peers: &mut Peers<S::Link>,
+    rows: &[Row],
+) -> io::Result<Option<Answer<Global>>>
+    ensures of_rows { IfOk result (λ found. IfSome found (λ answer.
+        comes rows.now (reply_of answer) ≡ true)) }
+    ensures deadline { peers.new.deadline ≡ peers.old.deadline }
+    ensures hears { IfOk result (λ found. Hears S.step system.old
+        (kept_of S.Link.owner peers.old.list.items) (option_map reply_of found)
+        (kept_of S.Link.owner peers.new.list.items) system.new) }
+{
+    let (before, behind) = rows.split_at(turn_of(rows, peers.last));
+    match look_through(system, peers, behind)? {
+        Some(answer) => Ok(Some(answer)),
+        None => look_through(system, peers, before),
     }
+}
 
-    /// Reads for each row once, without waiting. The id that was answered for last has its turn
-    /// last.
-    fn look(&mut self, rows: &[Row]) -> io::Result<Option<Answer<Global>>>
-        ensures { IfOk result (λ found. IfSome found (λ answer.
-            comes rows.now (reply_of answer) ≡ true)) }
-    {
-        let (before, behind) = rows.split_at(turn_of(rows, self.last));
-        match self.look_through(behind)? {
-            Some(answer) => Ok(Some(answer)),
-            None => self.look_through(before),
+/// Reads for each row once, from the first row on.
+fn look_through<S: System>(
+    system: &mut S,
+    peers: &mut Peers<S::Link>,
+    rows: &[Row],
+) -> io::Result<Option<Answer<Global>>>
+    ensures of_rows { IfOk result (λ found. IfSome found (λ answer.
+        comes rows.now (reply_of answer) ≡ true)) }
+    ensures deadline { peers.new.deadline ≡ peers.old.deadline }
+    ensures hears { IfOk result (λ found. Hears S.step system.old
+        (kept_of S.Link.owner peers.old.list.items) (option_map reply_of found)
+        (kept_of S.Link.owner peers.new.list.items) system.new) }
+{
+    for row in rows {
+        match look_at(system, peers, *row)? {
+            Some(answer) => return Ok(Some(answer)),
+            None => {}
         }
     }
+    Ok(None)
+}
 
-    /// Reads for each row once, from the first row on.
-    fn look_through(&mut self, rows: &[Row]) -> io::Result<Option<Answer<Global>>>
-        ensures { IfOk result (λ found. IfSome found (λ answer.
-            comes rows.now (reply_of answer) ≡ true)) }
-    {
-        for row in rows {
-            if let Some(answer) = self.look_at(*row)? {
-                return Ok(Some(answer));
-            }
+/// Reads for one row once. An id that is not open gives nothing.
+fn look_at<S: System>(
+    system: &mut S,
+    peers: &mut Peers<S::Link>,
+    row: Row,
+) -> io::Result<Option<Answer<Global>>>
+    ensures of_row { IfOk result (λ found. IfSome found (λ answer.
+        is_of row (reply_of answer) ≡ true)) }
+    ensures deadline { peers.new.deadline ≡ peers.old.deadline }
+    ensures hears { IfOk result (λ found. Hears S.step system.old
+        (kept_of S.Link.owner peers.old.list.items) (option_map reply_of found)
+        (kept_of S.Link.owner peers.new.list.items) system.new) }
+{
+    let Some(place) = place_of(&peers.list, row.id) else {
+        return Ok(None);
+    };
+    let most = peers.room.len().min(row.want as usize);
+    let room = &mut peers.room[..most];
+    match look_early(system, &mut peers.list[place], room) {
+        Look::Bytes(count) => {
+            let bytes = Vec::from_slice(peers.alloc, &room[..count])?;
+            peers.last = Some(row.id);
+            Ok(Some(Answer::Arrive(row.id, bytes)))
         }
-        Ok(None)
-    }
-
-    /// Reads for one row once. An id that is not open gives nothing.
-    fn look_at(&mut self, row: Row) -> io::Result<Option<Answer<Global>>>
-        ensures { IfOk result (λ found. IfSome found (λ answer.
-            is_of row (reply_of answer) ≡ true)) }
-    {
-        let Some(peer) = self.list.iter_mut().find(|peer| peer.id == row.id) else {
-            return Ok(None);
-        };
-        let most = self.room.len().min(row.want as usize);
-        let room = &mut self.room[..most];
-        let answer = match peer.look(room) {
-            Look::Bytes(count) => {
-                Answer::Arrive(row.id, Vec::from_slice(self.alloc, &room[..count])?)
-            }
-            Look::Silence => return Ok(None),
-            Look::End => Answer::Ended(row.id),
-        };
-        self.last = Some(row.id);
-        Ok(Some(answer))
+        Look::Silence => Ok(None),
+        Look::End => {
+            peers.last = Some(row.id);
+            Ok(Some(Answer::Ended(row.id)))
+        }
     }
 }
 

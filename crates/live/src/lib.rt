@@ -2,14 +2,19 @@
 #![tactic(auto)]
 
 mod arriving;
+mod calls;
+mod host;
 mod link;
 mod live;
 mod outputs;
 mod peers;
+mod polling;
 mod processes;
 mod sending;
 mod sockets;
 mod system;
 mod waiting;
 
+pub use calls::{Owned, System};
+pub use link::Look;
 pub use live::Live;

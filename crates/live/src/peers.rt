@@ -1,17 +1,17 @@
 //! The programs and servers that are open, under their ids.
 
-ghost use Rattle.std.specs.Prelude.{◌-◌, ◌≤◌, length, max};
+ghost use Rattle.std.specs.Prelude.{◌≡◌, [], ◌-◌, ◌≤◌, length, max, ◌==◌, filter, not, position};
 ghost use Rattle.std.specs.Io.{StartsWith};
-ghost use Rattle.live.specs.Early.{HandsOn, most_early};
+ghost use Rattle.live.specs.Early.{Exchanged, HandsOn, LooksEarly, UnlessMemory, most_early};
 ghost use Rattle.live.specs.Look.{IsWithin};
 
-use crate::link::{Link, Look};
-use crate::waiting::Waiting;
+use crate::calls::{Owned, System};
+use crate::link::{Look, read_once};
 use acts::Id;
 use std::alloc::{AllocError, Global};
 use std::collections::VecDeque;
 use std::io::{self, Read, Write};
-use std::net::Net;
+use std::time::Instant;
 
 /// The most bytes that are kept of what comes from an id while it is sent an empty text.
 const LEAST_EARLY: usize = 1_000_000;
@@ -24,102 +24,121 @@ const MOST_READ: usize = 65_536;
 
 /// A program or a server that is open.
 #[derive(Drop)]
-pub struct Peer {
-    pub id: Id,
-    pub link: Link,
+pub struct Peer<L> {
+    pub link: L,
     /// Bytes that came while something was sent and were not handed on yet.
     early: VecDeque<u8>,
 }
 
-impl Peer {
-    /// Looks once for bytes, and puts them at the start of the room: bytes that were kept come
-    /// first.
-    pub fn look(&mut self, room: &mut [u8]) -> Look
-        ensures within { IsWithin result (length room.new) }
-        ensures early { HandsOn self.old.early.items self.new.early.items result room.new }
-    {
-        if self.early.is_empty() {
-            return self.link.look(room);
-        }
-        match self.early.read(room) {
-            Ok(0) | Err(_) => Look::Silence,
-            Ok(count) => Look::Bytes(count),
-        }
+/// Looks once for bytes from a peer, and puts them at the start of the room: bytes that were kept
+/// come first.
+pub fn look_early<S: System>(system: &mut S, peer: &mut Peer<S::Link>, room: &mut [u8]) -> Look
+    ensures within { IsWithin result (length room.new) }
+    ensures early { HandsOn peer.old.early.items peer.new.early.items result room.new }
+    ensures owner { S.Link.owner peer.new.link ≡ S.Link.owner peer.old.link }
+    ensures looks { LooksEarly S.step (S.Link.owner peer.old.link) peer.old.early.items
+        system.old result room.new system.new }
+{
+    if peer.early.is_empty() {
+        return read_once(system, &mut peer.link, room);
     }
+    match peer.early.read(room) {
+        Ok(0) | Err(_) => Look::Silence,
+        Ok(count) => Look::Bytes(count),
+    }
+}
 
-    /// Keeps bytes that have already come while a text of this size is sent, up to a bound, and
-    /// says what it found; it finds silence, too, where there is no room for more bytes. The room
-    /// is made before anything is read, so that no bytes are lost where memory is refused.
-    pub fn keep(&mut self, room: &mut [u8], size: usize) -> io::Result<Look>
-        ensures bound { length self.new.early.items
-            ≤ max (length self.old.early.items) (most_early size) }
-        ensures all { StartsWith self.new.early.items self.old.early.items }
+/// Keeps bytes that have already come from a peer while a text of this size is sent, up to a
+/// bound, and says what it found; it finds silence, too, where there is no room for more bytes. The
+/// room is made before anything is read, so that no bytes are lost where memory is refused.
+pub fn keep<S: System>(
+    system: &mut S,
+    peer: &mut Peer<S::Link>,
+    room: &mut [u8],
+    size: usize,
+) -> io::Result<Look>
+    ensures bound { length peer.new.early.items
+        ≤ max (length peer.old.early.items) (most_early size) }
+    ensures all { StartsWith peer.new.early.items peer.old.early.items }
+    ensures owner { S.Link.owner peer.new.link ≡ S.Link.owner peer.old.link }
+    ensures reads { UnlessMemory result (Exchanged S.step (S.Link.owner peer.old.link) system.old
+        peer.old.early.items [] [] peer.new.early.items system.new) }
+{
+    let most = room_left(&peer.early, size).min(room.len());
+    let room = &mut room[..most];
+    peer.early.reserve(most)?;
+    let found = read_once(system, &mut peer.link, room);
+    if let Look::Bytes(count) = found {
+        peer.early.write(&room[..count])?;
+    }
+    Ok(found)
+}
+
+impl<L> Peer<L> {
+    /// A link from which nothing has come yet.
+    pub fn new(alloc: Global, link: L) -> Peer<L>
+        ensures link { result.link ≡ link }
+        ensures early { result.early.items ≡ [] }
     {
-        let most = self.room_left(size).min(room.len());
-        let room = &mut room[..most];
-        self.early.reserve(most)?;
-        let found = self.link.look(room);
-        if let Look::Bytes(count) = found {
-            self.early.write(&room[..count])?;
+        Peer {
+            link,
+            early: VecDeque::new(alloc),
         }
-        Ok(found)
     }
 
     /// Whether no more bytes are kept while a text of this size is sent.
     pub fn is_full(&self, size: usize) -> bool {
-        self.room_left(size) == 0
+        room_left(&self.early, size) == 0
     }
+}
 
-    /// How many more bytes may be kept while a text of this size is sent.
-    fn room_left(&self, size: usize) -> usize
-        ensures { result ≤ most_early size - length self.now.early.items }
-    {
-        LEAST_EARLY
-            .saturating_add(size.saturating_mul(EARLY_FOR_EACH))
-            .saturating_sub(self.early.len())
-    }
+/// How many more bytes may be kept beside these while a text of this size is sent.
+fn room_left(early: &VecDeque<u8>, size: usize) -> usize
+    ensures { result ≤ most_early size - length early.now.items }
+{
+    LEAST_EARLY
+        .saturating_add(size.saturating_mul(EARLY_FOR_EACH))
+        .saturating_sub(early.len())
 }
 
 /// All that is open, and what waiting for it needs.
 #[derive(Drop)]
-pub struct Peers {
+pub struct Peers<L> {
     pub alloc: Global,
-    pub list: Vec<Peer>,
+    pub list: Vec<Peer<L>>,
     /// The id that a wait was answered for last.
     pub last: Option<Id>,
-    pub waiting: Waiting,
+    /// When the timer runs out.
+    pub deadline: Option<Instant>,
     /// Where reads put their bytes.
     pub room: Vec<u8>,
 }
 
-impl Peers {
-    /// A list in which nothing is open. Errors: memory is refused, or the system gives no poll.
-    pub fn new<R: Net + AllocGlobal>(rt: &R) -> io::Result<Peers> {
-        let alloc = rt.alloc();
+impl<L: Owned + Drop> Peers<L> {
+    /// A list in which nothing is open. Errors: memory is refused.
+    pub fn new(alloc: Global) -> Result<Peers<L>, AllocError> {
         Ok(Peers {
             alloc,
             list: Vec::new(alloc),
             last: None,
-            waiting: Waiting::new(rt)?,
+            deadline: None,
             room: vec![in alloc; 0u8; MOST_READ]?,
         })
     }
 
-    /// Makes room for one more peer.
-    pub fn reserve(&mut self) -> Result<(), AllocError> {
-        self.list.reserve(1)
-    }
-
-    /// Adds a link that is watched, under an id. An `Err` closes the link.
-    pub fn open(&mut self, id: Id, link: Link) -> Result<(), AllocError> {
-        let early = VecDeque::new(self.alloc);
-        self.list
-            .push(Peer { id, link, early })
-            .map_err(AllocError::from)
-    }
-
     /// Closes the link of an id, where one is open.
-    pub fn close(&mut self, id: Id) {
-        self.list.retain(|peer| peer.id != id);
+    pub fn close(&mut self, id: Id)
+        ensures deadline { self.new.deadline ≡ self.old.deadline }
+        ensures others { self.new.list.items
+            ≡ filter (λ peer. not ((L.owner peer.link).0 == id.0)) self.old.list.items }
+    {
+        self.list.retain(|peer| peer.link.id() != id);
     }
+}
+
+/// The place of the link of an id.
+pub fn place_of<L: Owned>(list: &[Peer<L>], id: Id) -> Option<usize>
+    ensures { result ≡ position (λ peer. (L.owner peer.link).0 == id.0) list.now }
+{
+    list.iter().position(|peer| peer.link.id() == id)
 }

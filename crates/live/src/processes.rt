@@ -1,57 +1,55 @@
 //! Programs over pipes.
 
-ghost use Rattle.std.specs.Prelude.{◌≡◌, true};
+ghost use Rattle.std.specs.Prelude.{◌≡◌, ◌≢◌, ℕ, ℤ, Option, map, true, IfOk, OnErr, OnOk};
 ghost use Rattle.acts.specs.Deed.{reply_of};
+ghost use Rattle.acts.specs.Deed as said;
 ghost use Rattle.acts.specs.Fits as table;
+ghost use Rattle.live.specs.Calls as call;
+ghost use Rattle.live.specs.Live.{AddsProgram, IsNamed, IsStart, Opens, exit_status};
 
-use crate::link::Link;
-use crate::peers::Peers;
+use crate::calls::{Owned, System};
+use crate::peers::{Peer, Peers};
 use crate::system::{refused, text_of};
 use acts::{Answer, Id};
 use std::alloc::Global;
-use std::io::{self, ErrorKind, pipe};
-use std::process::{Child, Command, Processes, SystemProcess};
-use std::rt::Files;
-
-/// A program that was started under an id and not waited for yet.
-#[derive(Drop)]
-pub struct Program {
-    id: Id,
-    child: Child<SystemProcess>,
-}
+use std::io::{self, ErrorKind};
 
 /// The command of a program and its arguments. Its standard error stays that of this process.
-fn command_of<R: AllocGlobal>(rt: &R, words: &[Vec<u8>]) -> io::Result<Command> {
+fn command_of<S: System>(system: &mut S, words: &[Vec<u8>]) -> io::Result<S::Command>
+    ensures { OnOk result (IsNamed S.step system.old (map (λ word. word.items) words.now)
+        system.new) }
+{
     let Some((name, args)) = words.split_first() else {
         return Err(io::Error::from(ErrorKind::InvalidInput));
     };
-    let mut command = Command::new(rt.alloc(), text_of(name)?)?;
+    let mut command = system.command(text_of(name)?)?;
     for arg in args {
-        command.arg(text_of(arg)?)?;
+        system.arg(&mut command, text_of(arg)?)?;
     }
     Ok(command)
 }
 
-/// Gives a command one end each of two pipes, and makes the link of the others.
-fn link_to(files: &impl Files, command: &mut Command) -> io::Result<Link> {
-    let (stdin, input) = pipe(files)?;
-    let (output, stdout) = pipe(files)?;
-    command.stdin(stdin);
-    command.stdout(stdout);
-    Link::program(input, output)
-}
-
 /// Starts a program under an id, and says the number of its process.
-pub fn spawn<R: Processes<Started = SystemProcess> + Files + AllocGlobal>(
-    rt: &R,
-    peers: &mut Peers,
-    programs: &mut Vec<Program>,
+pub fn spawn<S: System>(
+    system: &mut S,
+    peers: &mut Peers<S::Link>,
+    programs: &mut Vec<S::Program>,
     id: Id,
     words: &[Vec<u8>],
 ) -> Answer<Global>
-    ensures { table.fits_spawn (reply_of result) ≡ true }
+    ensures fits { table.fits_spawn (reply_of result) ≡ true }
+    ensures started { (pid : ℕ) → reply_of result ≡ said.Started pid →
+        Opens S.Link.owner id peers.old peers.new
+        × IsStart S.step system.old id (map (λ word. word.items) words.now) pid system.new }
+    ensures added { (pid : ℕ) → reply_of result ≡ said.Started pid →
+        AddsProgram S.Program.owner id programs.old.items programs.new.items }
+    ensures kept { ((pid : ℕ) → reply_of result ≢ said.Started pid) →
+        programs.new.items ≡ programs.old.items }
+    ensures refused { ((pid : ℕ) → reply_of result ≢ said.Started pid) →
+        (peers.new.deadline ≡ peers.old.deadline)
+        × (peers.new.list.items ≡ peers.old.list.items) }
 {
-    match started(rt, peers, programs, id, words) {
+    match started(system, peers, programs, id, words) {
         Ok(number) => Answer::Started(number),
         Err(error) => refused(&error),
     }
@@ -59,37 +57,57 @@ pub fn spawn<R: Processes<Started = SystemProcess> + Files + AllocGlobal>(
 
 /// Starts a program under an id, and gives the number of its process. Its link and the room for it
 /// are made first, so that no program is left running for which nobody waits.
-fn started<R: Processes<Started = SystemProcess> + Files + AllocGlobal>(
-    rt: &R,
-    peers: &mut Peers,
-    programs: &mut Vec<Program>,
+fn started<S: System>(
+    system: &mut S,
+    peers: &mut Peers<S::Link>,
+    programs: &mut Vec<S::Program>,
     id: Id,
     words: &[Vec<u8>],
-) -> io::Result<u64> {
-    peers.reserve()?;
+) -> io::Result<u64>
+    ensures started { IfOk result (λ pid. Opens S.Link.owner id peers.old peers.new
+        × IsStart S.step system.old id (map (λ word. word.items) words.now) pid system.new) }
+    ensures added { OnOk result (AddsProgram S.Program.owner id programs.old.items
+        programs.new.items) }
+    ensures kept { OnErr result (programs.new.items ≡ programs.old.items) }
+    ensures refused { OnErr result ((peers.new.deadline ≡ peers.old.deadline)
+        × (peers.new.list.items ≡ peers.old.list.items)) }
+{
+    peers.list.reserve(1)?;
     programs.reserve(1)?;
-    let mut command = command_of(rt, words)?;
-    let link = link_to(rt, &mut command)?;
-    peers.waiting.watch(&link)?;
-    let child = command.spawn(rt)?;
-    let number = u64::from(child.id());
-    programs.push_reserved(Program { id, child });
-    peers.open(id, link)?;
+    let mut command = command_of(system, words)?;
+    let link = system.pipes(id, &mut command)?;
+    system.watch(&link)?;
+    let (program, number) = system.start(id, &mut command)?;
+    programs.push_reserved(program);
+    peers.list.push_reserved(Peer::new(peers.alloc, link));
     Ok(number)
 }
 
 /// Waits for the program of an id to end, and takes it out of those that were started. The answer
 /// is that there are no more answers where no program was started under the id, or where it was
 /// waited for already.
-pub fn reap(programs: &mut Vec<Program>, id: Id) -> Answer<Global>
-    ensures { table.fits_reap (reply_of result) ≡ true }
+pub fn reap<S: System>(system: &mut S, programs: &mut Vec<S::Program>, id: Id) -> Answer<Global>
+    ensures fits { table.fits_reap (reply_of result) ≡ true }
+    ensures exited { (status : Option ℕ) → reply_of result ≡ said.Exited status →
+        (code : Option ℤ) × S.step system.old (call.Wait id code) system.new
+        × (status ≡ exit_status code) }
 {
-    let Some(place) = programs.iter().position(|program| program.id == id) else {
+    let Some(place) = programs.iter().position(|program| program.id() == id) else {
         return Answer::NoMore;
     };
     let mut program = programs.remove(place);
-    match program.child.wait() {
-        Ok(status) => Answer::Exited(status.code().and_then(|code| u8::try_from(code).ok())),
+    match system.wait(&mut program) {
+        Ok(code) => Answer::Exited(status_of(code)),
         Err(_) => Answer::NoMore,
+    }
+}
+
+/// The status of an exit; none where there is no code, or none of 8 bits.
+fn status_of(code: Option<i32>) -> Option<u8>
+    ensures { result ≡ exit_status code }
+{
+    match u8::try_from(code?) {
+        Ok(status) => Some(status),
+        Err(_) => None,
     }
 }

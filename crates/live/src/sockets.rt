@@ -1,45 +1,57 @@
 //! Servers over TCP.
 
-ghost use Rattle.std.specs.Prelude.{◌≡◌, true};
+ghost use Rattle.std.specs.Prelude.{◌≡◌, ◌≢◌, [], ◌∷◌, true, OnErr, OnOk};
 ghost use Rattle.acts.specs.Deed.{reply_of};
+ghost use Rattle.acts.specs.Deed as said;
 ghost use Rattle.acts.specs.Fits as table;
+ghost use Rattle.live.specs.Calls as call;
+ghost use Rattle.live.specs.Live.{Opens};
 
-use crate::link::Link;
-use crate::peers::Peers;
+use crate::calls::System;
+use crate::peers::{Peer, Peers};
 use crate::system::{refused, text_of};
 use acts::{Answer, Id};
 use std::alloc::Global;
 use std::io;
-use std::net::{Net, TcpStream};
 
 /// Connects to a port of a host under an id. It waits until the host answers or refuses.
-pub fn connect<R: Net<Stream = TcpStream>>(
-    rt: &R,
-    peers: &mut Peers,
+pub fn connect<S: System>(
+    system: &mut S,
+    peers: &mut Peers<S::Link>,
     id: Id,
     host: &[u8],
     port: u16,
 ) -> Answer<Global>
-    ensures { table.fits_open (reply_of result) ≡ true }
+    ensures fits { table.fits_open (reply_of result) ≡ true }
+    ensures done { reply_of result ≡ said.Done → Opens S.Link.owner id peers.old peers.new
+        × call.Made S.step system.old (call.Connect id host.now port ∷ call.Poll id ∷ [])
+        system.new }
+    ensures refused { reply_of result ≢ said.Done → (peers.new.deadline ≡ peers.old.deadline)
+        × (peers.new.list.items ≡ peers.old.list.items) }
 {
-    match connected(rt, peers, id, host, port) {
+    match connected(system, peers, id, host, port) {
         Ok(()) => Answer::Done,
         Err(error) => refused(&error),
     }
 }
 
 /// Connects to a port of a host under an id. Room for the link is made first.
-fn connected<R: Net<Stream = TcpStream>>(
-    rt: &R,
-    peers: &mut Peers,
+fn connected<S: System>(
+    system: &mut S,
+    peers: &mut Peers<S::Link>,
     id: Id,
     host: &[u8],
     port: u16,
-) -> io::Result<()> {
-    peers.reserve()?;
-    let stream = TcpStream::connect(rt, (text_of(host)?, port))?;
-    let link = Link::server(stream)?;
-    peers.waiting.watch(&link)?;
-    peers.open(id, link)?;
+) -> io::Result<()>
+    ensures done { OnOk result (Opens S.Link.owner id peers.old peers.new
+        × call.Made S.step system.old (call.Connect id host.now port ∷ call.Poll id ∷ [])
+        system.new) }
+    ensures refused { OnErr result ((peers.new.deadline ≡ peers.old.deadline)
+        × (peers.new.list.items ≡ peers.old.list.items)) }
+{
+    peers.list.reserve(1)?;
+    let link = system.connect(id, text_of(host)?, port)?;
+    system.watch(&link)?;
+    peers.list.push_reserved(Peer::new(peers.alloc, link));
     Ok(())
 }

@@ -1,7 +1,8 @@
 //! The answers that the system's errors are to a run, names as the system takes them, and how often
 //! its calls are tried.
 
-ghost use Rattle.std.specs.Prelude.{◌≡◌, true};
+ghost use Rattle.std.specs.Prelude.{◌≡◌, ◌≢◌, true, IfOk};
+ghost use Rattle.acts.specs.Deed as said;
 ghost use Rattle.acts.specs.Deed.{reply_of};
 ghost use Rattle.acts.specs.Fits as table;
 
@@ -18,6 +19,7 @@ pub const MOST_TRIES: u64 = u64::MAX;
 pub fn refused(error: &io::Error) -> Answer<Global>
     ensures spawn { table.fits_spawn (reply_of result) ≡ true }
     ensures open { table.fits_open (reply_of result) ≡ true }
+    ensures refused { reply_of result ≢ said.Done }
 {
     if error.kind() == ErrorKind::OutOfMemory {
         Answer::NoMore
@@ -27,6 +29,8 @@ pub fn refused(error: &io::Error) -> Answer<Global>
 }
 
 /// The text of a name. The system takes only names that are UTF-8; any other is an `Err`.
-pub fn text_of(bytes: &[u8]) -> io::Result<&str> {
+pub fn text_of(bytes: &[u8]) -> io::Result<&str>
+    ensures { IfOk result (λ text. text.now ≡ bytes.now) }
+{
     str::from_utf8(bytes).map_err(|_| io::Error::from(ErrorKind::InvalidInput))
 }

@@ -1,0 +1,197 @@
+-- What is kept in a table of links, of which one was read from or written to.
+use Rattle.std.proofs.Common.{◌≡◌, ◌≢◌, ◌==◌, ℕ, zero, suc, ◌+◌, ◌<◌, Bool, true, false, not, cond, List, [], ◌∷◌, ◌++◌, Some, None, length, refl, sym, ap, subst, ◌∙◌, append-nil, nat_lt, is_some, slice_index_or, slice_set, if◌then◌else◌, inl, inr, arith, rules}
+use Rattle.std.proofs.lemmas.Bool.{false≢true}
+use Rattle.std.proofs.lemmas.Bool.Decides.{eqb_tells, nat_tests}
+use Rattle.std.specs.List.{prefix_len, position}
+use Rattle.acts.specs.declared.id.Id.{Id}
+use Rattle.acts.specs.Deed.{Reply}
+use Rattle.acts.specs.Deed as said
+use Rattle.live.specs.Calls.{Call, heard, sent}
+use Rattle.live.specs.Early.{Exchanged, Exchanges, IfAnswered}
+use Rattle.live.specs.Kept.{Traded, Trades, kept_of, only}
+use Rattle.live.specs.Outputs.{went_out}
+use Rattle.live.specs.declared.peers.Peer.{Peer}
+use Rattle.live.proofs.Exchanging.{is_other, is_same}
+
+-- ids of one number are one
+same_id : (a b : Id) → a.0 ≡ b.0 → a ≡ b
+same_id a b is = ap (λ n. record { 0 = n }) is
+
+-- numbers that are told to be the same are
+told_same : (a b : ℕ) → (a == b) ≡ true → a ≡ b
+told_same a b told =
+    elim (eqb_tells a b) [
+      | inl known ↦ known.1
+      | inr known ↦ absurd (false≢true (sym known.0 ∙ told))
+    ]
+
+told_other : (a b : ℕ) → (a == b) ≡ false → b ≢ a
+told_other a b told is =
+    elim (eqb_tells a b) [
+      | inl known ↦ absurd (false≢true (sym told ∙ known.0))
+      | inr known ↦ known.1 (sym is)
+    ]
+
+-- the first of a list whose link is that of an id stands at this place
+abbrev pub IsAt : {L : Type 0} → (L → Id) → Id → List (Peer L) → ℕ → Peer L → Type 0
+IsAt owner id [] place peer = ⊥
+IsAt owner id (x ∷ xs) zero peer = (peer ≡ x) × (owner x.link ≡ id)
+IsAt owner id (x ∷ xs) (suc n) peer = (id.0 ≢ (owner x.link).0) × IsAt owner id xs n peer
+
+at_case : {L : Type 0} (owner : L → Id) (id : Id) (x : Peer L) (xs : List (Peer L)) (peer : Peer L)
+    (place : ℕ) (here : Bool) (more : ℕ) →
+    ((n : ℕ) → n ≡ more → n < length xs → peer ≡ slice_index_or xs n peer → IsAt owner id xs n peer) →
+    ((owner x.link).0 == id.0) ≡ here → place ≡ cond (not here) (1 + more) 0 →
+    place < length (x ∷ xs) → peer ≡ slice_index_or (x ∷ xs) place peer →
+    IsAt owner id (x ∷ xs) place peer
+at_case owner id x xs peer zero true more rest known is within value =
+    (value, same_id (owner x.link) id (told_same _ _ known))
+at_case owner id x xs peer (suc n) true more rest known is within value = absurd (omega arith)
+at_case owner id x xs peer zero false more rest known is within value = absurd (omega arith)
+at_case owner id x xs peer (suc n) false more rest known is within value =
+    (told_other _ _ known, rest n (omega arith) (omega arith) value)
+
+at_prefix : {L : Type 0} (owner : L → Id) (id : Id) (list : List (Peer L)) (peer : Peer L)
+    (place : ℕ) → place ≡ prefix_len (λ y. not ((owner y.link).0 == id.0)) list →
+    place < length list → peer ≡ slice_index_or list place peer → IsAt owner id list place peer
+at_prefix owner id [] peer place is within value = absurd (omega arith)
+at_prefix owner id (x ∷ xs) peer place is within value =
+    at_case owner id x xs peer place ((owner x.link).0 == id.0) _ (at_prefix owner id xs peer) refl is
+    within value
+
+chosen : (here : Bool) (m n place : ℕ) → nat_lt m n ≡ here →
+    cond here (Some m) None ≡ Some place → (place ≡ m) × (m < n)
+chosen true m n place known is = (search rules, grind (arith, nat_tests))
+chosen false m n place known is = absurd (false≢true (ap is_some is))
+
+-- the place at which the link of an id is found
+pub found_at : {L : Type 0} (owner : L → Id) (id : Id) (list : List (Peer L)) (place : ℕ)
+    (peer : Peer L) → position (λ y. (owner y.link).0 == id.0) list ≡ Some place →
+    peer ≡ slice_index_or list place peer → IsAt owner id list place peer
+found_at owner id list place peer found value =
+    let m = prefix_len (λ y. not ((owner y.link).0 == id.0)) list in
+    let (is, within) = chosen (nat_lt m (length list)) m (length list) place refl found in
+    at_prefix owner id list peer place is (omega arith) value
+
+-- what is kept for the id is what is kept there
+pub kept_at : {L : Type 0} (owner : L → Id) (id : Id) (list : List (Peer L)) (place : ℕ)
+    (peer : Peer L) → IsAt owner id list place peer → kept_of owner list id ≡ peer.early.items
+kept_at owner id [] place peer at = absurd at
+kept_at owner id (x ∷ xs) zero peer (same, whose) =
+    ap (λ here. if here then x.early.items else kept_of owner xs id)
+    (ap (λ link. link.0 == id.0) whose ∙ is_same id.0)
+    ∙ ap (λ it. it.early.items) (sym same)
+kept_at owner id (x ∷ xs) (suc n) peer (differs, at) =
+    ap (λ here. if here then x.early.items else kept_of owner xs id) (is_other _ _ differs)
+    ∙ kept_at owner id xs n peer at
+
+-- another peer of the same id may stand there
+pub at_set : {L : Type 0} (owner : L → Id) (id : Id) (list : List (Peer L)) (place : ℕ)
+    (peer new : Peer L) → owner new.link ≡ owner peer.link → IsAt owner id list place peer →
+    IsAt owner id (slice_set list place new) place new
+at_set owner id [] place peer new whose at = absurd at
+at_set owner id (x ∷ xs) zero peer new whose (same, is) =
+    (refl, whose ∙ ap (λ it. owner it.link) same ∙ is)
+at_set owner id (x ∷ xs) (suc n) peer new whose (differs, at) =
+    (differs, at_set owner id xs n peer new whose at)
+
+-- and what is kept for any other id stays
+kept_set : {L : Type 0} (owner : L → Id) (id other : Id) (list : List (Peer L)) (place : ℕ)
+    (peer new : Peer L) → other.0 ≢ id.0 → owner new.link ≡ owner peer.link →
+    IsAt owner id list place peer →
+    kept_of owner (slice_set list place new) other ≡ kept_of owner list other
+kept_set owner id other [] place peer new differs whose at = absurd at
+kept_set owner id other (x ∷ xs) zero peer new differs whose (same, is) =
+    let old_is = ap (λ link. link.0 == other.0) is ∙ is_other id.0 other.0 differs in
+    let new_is = ap (λ link. link.0 == other.0) (whose ∙ ap (λ it. owner it.link) same) ∙ old_is in
+    ap (λ here. if here then new.early.items else kept_of owner xs other) new_is
+    ∙ sym (ap (λ here. if here then x.early.items else kept_of owner xs other) old_is)
+kept_set owner id other (x ∷ xs) (suc n) peer new differs whose (here, at) =
+    ap (λ rest. if (owner x.link).0 == other.0 then x.early.items else rest)
+    (kept_set owner id other xs n peer new differs whose at)
+
+-- the link found there is the id's
+pub whose_at : {L : Type 0} (owner : L → Id) (id : Id) (list : List (Peer L)) (place : ℕ)
+    (peer : Peer L) → IsAt owner id list place peer → owner peer.link ≡ id
+whose_at owner id [] place peer at = absurd at
+whose_at owner id (x ∷ xs) zero peer (same, is) = ap (λ it. owner it.link) same ∙ is
+whose_at owner id (x ∷ xs) (suc n) peer (differs, at) = whose_at owner id xs n peer at
+
+-- what calls come to for one link is what they come to in the table
+pub trades_at : {L : Type 0} (owner : L → Id) (id : Id) (list : List (Peer L)) (place : ℕ)
+    (peer new : Peer L) (calls : List Call) (text handed : List ℕ) →
+    IsAt owner id list place peer → owner new.link ≡ owner peer.link →
+    Exchanges (owner peer.link) peer.early.items calls text handed new.early.items →
+    Trades (kept_of owner list) calls (only id text) (only id handed)
+    (kept_of owner (slice_set list place new))
+trades_at owner id list place peer new calls text handed at whose it other =
+    let is = whose_at owner id list place peer at in
+    let now = at_set owner id list place peer new whose at in
+    let left = kept_of owner (slice_set list place new) in
+    elim (eqb_tells id.0 other.0) [
+      | inl known ↦
+          let same = same_id id other known.1 in
+          let P : Id → Type 0 = λ o.
+          (kept_of owner list o ++ heard o calls ≡ only id handed o ++ left o)
+          × (sent o calls ≡ only id text o) in
+          let here = is_same id.0 in
+          subst P same (
+            ap (λ kept. kept ++ heard id calls) (kept_at owner id list place peer at)
+                ∙ subst (λ o. peer.early.items ++ heard o calls ≡ handed ++ new.early.items) is it.own
+                ∙ ap (λ kept. handed ++ kept) (sym (kept_at owner id _ place new now))
+                ∙ ap (λ b. (if b then handed else []) ++ left id) (sym here),
+            subst (λ o. sent o calls ≡ text) is it.out ∙ ap (λ b. if b then text else []) (sym here),
+          )
+      | inr known ↦
+          let differs : other.0 ≢ id.0 = λ e. known.1 (sym e) in
+          let none = it.elsewhere other (subst (λ o. other.0 ≢ o.0) (sym is) differs) in (
+            ap (λ more. kept_of owner list other ++ more) none.0 ∙ append-nil _
+                ∙ sym (kept_set owner id other list place peer new differs whose at)
+                ∙ ap (λ b. (if b then handed else []) ++ left other) (sym known.0),
+            none.1 ∙ ap (λ b. if b then text else []) (sym known.0),
+          )
+    ]
+
+pub none_either : (none : List ℕ) (here : Bool) → none ≡ (if here then none else none)
+none_either none true = refl
+none_either none false = refl
+
+-- where nothing is called, nothing is traded
+pub traded_none : {S : Type 0} (step : S → Call → S → Type 0) (id : Id) (a : S)
+    (kept : Id → List ℕ) → Traded step a kept (only id []) (λ other. []) kept a
+traded_none step id a kept =
+    ([], refl, λ other. (append-nil (kept other), none_either [] (id.0 == other.0)))
+
+-- what follows from what holds of an answer holds of it
+if_answered : (reply : Reply) (P Q : Type 0) → (P → Q) → IfAnswered reply P → IfAnswered reply Q
+if_answered said.Done P Q weaker holds = weaker holds
+if_answered (said.Failed sent) P Q weaker holds = weaker holds
+if_answered (said.Started pid) P Q weaker holds = weaker holds
+if_answered said.Refused P Q weaker holds = weaker holds
+if_answered (said.Exited status) P Q weaker holds = weaker holds
+if_answered (said.Arrive id bytes) P Q weaker holds = weaker holds
+if_answered (said.Ended id) P Q weaker holds = weaker holds
+if_answered said.TimedOut P Q weaker holds = weaker holds
+if_answered said.NoMore P Q weaker holds = tt
+
+-- the same of a text that is sent, unless there are no more answers
+pub traded_answer : {S L : Type 0} (step : S → Call → S → Type 0) (owner : L → Id) (id : Id)
+    (a b : S) (list : List (Peer L)) (place : ℕ) (peer new : Peer L) (text : List ℕ)
+    (reply : Reply) → IsAt owner id list place peer → owner new.link ≡ owner peer.link →
+    IfAnswered reply (Exchanged step (owner peer.link) a peer.early.items (went_out text reply) []
+    new.early.items b) →
+    IfAnswered reply (Traded step a (kept_of owner list) (only id (went_out text reply))
+    (λ other. []) (kept_of owner (slice_set list place new)) b)
+traded_answer step owner id a b list place peer new text reply at whose it =
+    if_answered reply _ _ (λ exchanged.
+    let (calls, made, it) = exchanged in
+    let trades = trades_at owner id list place peer new calls _ [] at whose it in (
+      calls,
+      made,
+      λ other. (
+        (trades other).0
+            ∙ ap (λ none. none ++ kept_of owner (slice_set list place new) other)
+            (sym (none_either [] (id.0 == other.0))),
+        (trades other).1,
+      ),
+    )) it
