@@ -1,10 +1,9 @@
 -- The results of taking operands off, of reading variables and of reading lists.
-use Rattle.std.proofs.Common.{◌≡◌, ◌∙◌, ℕ, List, [], ◌∷◌, ◌++◌, Option, Some, Result, Ok, Err, MatchResult, refl, sym, ap, subst, option_to_list}
+use Rattle.std.proofs.Common.{◌≡◌, ◌∙◌, ℕ, List, [], ◌∷◌, ◌++◌, Option, Some, Result, Ok, Err, MatchResult, sym, ap, subst, option_to_list}
 use Rattle.std.specs.Prelude.{reverse}
 use Rattle.std.proofs.lemmas.List.{reverse-append}
 use Rattle.acts.specs.Flaw as acts
 use Rattle.code.specs.declared.instruction.Instruction.{Instruction}
-use Rattle.code.specs.declared.instruction.Instruction.TheVariants as i
 use Rattle.acts.specs.declared.raise.Raise.TheVariants as raise
 use Rattle.meanings.specs.Meaning.{Answer, Comes, Gives, IsSplit, flaw_of_list}
 use Rattle.meanings.specs.View.{IsNoList}
@@ -13,8 +12,7 @@ use Rattle.state.specs.Stores.{IsTold}
 use Rattle.state.specs.Variables.{flaw_of_trouble, spelled}
 use Rattle.steps.specs.Does.{Does, same, splits}
 use Rattle.steps.specs.Machine.{does, fails, reading, with_value}
-use Rattle.steps.specs.Spot.{Spot, Did, Splits, Stuck, Went, with_top}
-use Rattle.tclparse.specs.declared.fault.Fault as faults
+use Rattle.steps.specs.Spot.{Spot, Did, Splits, Went, with_top}
 use Rattle.tclstate.specs.Scopes.{Trouble, read}
 use Rattle.tclstate.specs.ScopeError.{HasTrouble}
 use Rattle.tclstate.specs.declared.error.ScopeError.{ScopeError}
@@ -79,32 +77,3 @@ pub no_list_does : {A : Type 0} (text : List ℕ) (fault : Fault A)
 no_list_does text fault next did is f =
     let none = is (λ elements. Gives []) in
     unsplit text (flaw_of fault) next did none.0 none.1 none.2 f
-
--- all other instructions do nothing yet
-pub others_stick : {A : Type 0} (it : Instruction A) (spot : Spot) (s : Status) →
-    (it ≡ i.Next → ⊥) →
-    ((x : List ℕ) → it ≡ i.Text x → ⊥) →
-    ((x : List ℕ) → it ≡ i.Variable x → ⊥) →
-    ((x : List ℕ) → it ≡ i.Element x → ⊥) →
-    (it ≡ i.Join → ⊥) →
-    (it ≡ i.Enter → ⊥) →
-    (it ≡ i.Leave → ⊥) →
-    ((x : ℕ) → it ≡ i.Count x → ⊥) →
-    (it ≡ i.Spread → ⊥) →
-    ((x : ℕ) → it ≡ i.Command x → ⊥) →
-    (it ≡ i.Counted → ⊥) →
-    ((x : faults.Fault) → it ≡ i.Fault x → ⊥) →
-    Does (does it spot s) Stuck
-others_stick i.Next spot s n0 n1 n2 n3 n4 n5 n6 n7 n8 n9 n10 n11 = absurd (n0 refl)
-others_stick (i.Text x) spot s n0 n1 n2 n3 n4 n5 n6 n7 n8 n9 n10 n11 = absurd (n1 x refl)
-others_stick (i.Variable x) spot s n0 n1 n2 n3 n4 n5 n6 n7 n8 n9 n10 n11 = absurd (n2 x refl)
-others_stick (i.Element x) spot s n0 n1 n2 n3 n4 n5 n6 n7 n8 n9 n10 n11 = absurd (n3 x refl)
-others_stick i.Join spot s n0 n1 n2 n3 n4 n5 n6 n7 n8 n9 n10 n11 = absurd (n4 refl)
-others_stick i.Enter spot s n0 n1 n2 n3 n4 n5 n6 n7 n8 n9 n10 n11 = absurd (n5 refl)
-others_stick i.Leave spot s n0 n1 n2 n3 n4 n5 n6 n7 n8 n9 n10 n11 = absurd (n6 refl)
-others_stick (i.Count x) spot s n0 n1 n2 n3 n4 n5 n6 n7 n8 n9 n10 n11 = absurd (n7 x refl)
-others_stick i.Spread spot s n0 n1 n2 n3 n4 n5 n6 n7 n8 n9 n10 n11 = absurd (n8 refl)
-others_stick (i.Command x) spot s n0 n1 n2 n3 n4 n5 n6 n7 n8 n9 n10 n11 = absurd (n9 x refl)
-others_stick i.Counted spot s n0 n1 n2 n3 n4 n5 n6 n7 n8 n9 n10 n11 = absurd (n10 refl)
-others_stick (i.Fault x) spot s n0 n1 n2 n3 n4 n5 n6 n7 n8 n9 n10 n11 = absurd (n11 x refl)
-others_stick _ spot s n0 n1 n2 n3 n4 n5 n6 n7 n8 n9 n10 n11 = same

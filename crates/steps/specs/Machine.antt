@@ -115,7 +115,16 @@ does i.Spread spot s = spreading spot s
 does (i.Command n) spot s = beginning (length spot.operands - n) spot s
 does i.Counted spot s = beginning_counted spot s
 does (i.Fault fault) spot s = fails (flaw_of_fault (fault_of fault)) s
-does _ spot s = Stuck
+does (i.Numeral digits) spot s = Stuck
+does (i.Prefix operator) spot s = Stuck
+does (i.Binary operator) spot s = Stuck
+does (i.Call function count) spot s = Stuck
+does (i.AndAlso place) spot s = Stuck
+does (i.OrElse place) spot s = Stuck
+does i.Truth spot s = Stuck
+does (i.Unless place) spot s = Stuck
+does (i.Jump place) spot s = Stuck
+does i.Hole spot s = Stuck
 
 -- the next place
 abbrev pub ahead : Spot → Spot

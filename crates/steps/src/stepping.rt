@@ -140,7 +140,16 @@ fn perform<A: Allocator + Copy>(
         Instruction::Command(n) => Ok(spot.begin_last(*n)?),
         Instruction::Counted => Ok(spot.begin_counted()?),
         Instruction::Fault(fault) => Ok(failed(alloc, no_script(*fault))?),
-        _ => Ok(Some(Stopped::Stuck)),
+        Instruction::Numeral(_)
+        | Instruction::Prefix(_)
+        | Instruction::Binary(_)
+        | Instruction::Call(_, _)
+        | Instruction::AndAlso(_)
+        | Instruction::OrElse(_)
+        | Instruction::Truth
+        | Instruction::Unless(_)
+        | Instruction::Jump(_)
+        | Instruction::Hole => Ok(Some(Stopped::Stuck)),
     }
 }
 

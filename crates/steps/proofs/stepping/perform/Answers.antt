@@ -1,8 +1,9 @@
-use Rattle.std.proofs.Common.{◌∙◌, None, refl, ap}
+use Rattle.std.proofs.Common.{◌∙◌, None, refl, ap, inl, inr}
+use Rattle.steps.specs.Does.{same}
 use Rattle.steps.specs.Machine.{fails, indexing, reading}
 use Rattle.steps.specs.Spot.{Went, with_top}
 use Rattle.steps.specs.View.{spot_of, with_parts}
-use Rattle.steps.proofs.Does.{does_so, others_stick, same_does}
+use Rattle.steps.proofs.Does.{does_so, same_does}
 use Rattle.steps.proofs.stepping.perform.Goals as goal
 
 pub returns-in-Next-clause-does : goal.returns-in-Next-clause-does
@@ -89,10 +90,19 @@ returns-in_ok-failed-in-Fault-clause-does g c = λ s.
     (same_does (c.in_ok-failed-in-Fault.ensures spot t
     ∙ ap (λ f. fails f t) c.no_script.ensures))
 
-pub returns-in_default-clause-does : goal.returns-in_default-clause-does
-returns-in_default-clause-does g c = λ s.
-    let arm = c.in_default in
-    others_stick c.args.instruction.now (spot_of c.args.spot.now)
-    (with_parts c.args.scopes.now c.args.left.now s)
-    arm.not-Next arm.not-Text arm.not-Variable arm.not-Element arm.not-Join arm.not-Enter
-    arm.not-Leave arm.not-Count arm.not-Spread arm.not-Command arm.not-Counted arm.not-Fault
+pub returns-in-Numeral-clause-does : goal.returns-in-Numeral-clause-does
+returns-in-Numeral-clause-does g c = λ s.
+    let it = c.args.instruction.now in
+    let t = with_parts c.args.scopes.now c.args.left.now s in
+    elim c.in-Numeral.is [
+      | inl (x, is) ↦ does_so it _ _ t is same
+      | inr (inl (x, is)) ↦ does_so it _ _ t is same
+      | inr (inr (inl (x, is))) ↦ does_so it _ _ t is same
+      | inr (inr (inr (inl (x, n, is)))) ↦ does_so it _ _ t is same
+      | inr (inr (inr (inr (inl (x, is))))) ↦ does_so it _ _ t is same
+      | inr (inr (inr (inr (inr (inl (x, is)))))) ↦ does_so it _ _ t is same
+      | inr (inr (inr (inr (inr (inr (inl is)))))) ↦ does_so it _ _ t is same
+      | inr (inr (inr (inr (inr (inr (inr (inl (x, is)))))))) ↦ does_so it _ _ t is same
+      | inr (inr (inr (inr (inr (inr (inr (inr (inl (x, is))))))))) ↦ does_so it _ _ t is same
+      | inr (inr (inr (inr (inr (inr (inr (inr (inr is)))))))) ↦ does_so it _ _ t is same
+    ]
