@@ -1,8 +1,9 @@
 -- What is kept in a table of links, of which one was read from or written to.
-use Rattle.std.proofs.Common.{◌≡◌, ◌≢◌, ◌==◌, ℕ, zero, suc, ◌+◌, ◌<◌, Bool, true, false, not, cond, List, [], ◌∷◌, ◌++◌, Some, None, length, refl, sym, ap, subst, ◌∙◌, append-nil, nat_lt, is_some, slice_index_or, slice_set, if◌then◌else◌, inl, inr, arith, rules}
+use Rattle.std.proofs.Common.{◌≡◌, ◌≢◌, ◌==◌, ℕ, zero, suc, ◌<◌, Bool, true, false, List, [], ◌∷◌, ◌++◌, Some, length, refl, sym, ap, subst, ◌∙◌, append-nil, slice_index_or, slice_set, if◌then◌else◌, inl, inr, arith}
 use Rattle.std.proofs.lemmas.Bool.{false≢true}
-use Rattle.std.proofs.lemmas.Bool.Decides.{eqb_tells, nat_tests}
-use Rattle.std.specs.List.{prefix_len, position}
+use Rattle.std.proofs.lemmas.Bool.Decides.{eqb_tells}
+use Rattle.std.proofs.lemmas.List.Quantifiers.{position-Some}
+use Rattle.std.specs.List.{position}
 use Rattle.acts.specs.declared.id.Id.{Id}
 use Rattle.acts.specs.Deed.{Reply}
 use Rattle.acts.specs.Deed as said
@@ -14,11 +15,11 @@ use Rattle.live.specs.declared.peers.Peer.{Peer}
 use Rattle.live.proofs.Exchanging.{is_other, is_same}
 
 -- ids of one number are one
-same_id : (a b : Id) → a.0 ≡ b.0 → a ≡ b
+pub same_id : (a b : Id) → a.0 ≡ b.0 → a ≡ b
 same_id a b is = ap (λ n. record { 0 = n }) is
 
 -- numbers that are told to be the same are
-told_same : (a b : ℕ) → (a == b) ≡ true → a ≡ b
+pub told_same : (a b : ℕ) → (a == b) ≡ true → a ≡ b
 told_same a b told =
     elim (eqb_tells a b) [
       | inl known ↦ known.1
@@ -38,40 +39,27 @@ IsAt owner id [] place peer = ⊥
 IsAt owner id (x ∷ xs) zero peer = (peer ≡ x) × (owner x.link ≡ id)
 IsAt owner id (x ∷ xs) (suc n) peer = (id.0 ≢ (owner x.link).0) × IsAt owner id xs n peer
 
-at_case : {L : Type 0} (owner : L → Id) (id : Id) (x : Peer L) (xs : List (Peer L)) (peer : Peer L)
-    (place : ℕ) (here : Bool) (more : ℕ) →
-    ((n : ℕ) → n ≡ more → n < length xs → peer ≡ slice_index_or xs n peer → IsAt owner id xs n peer) →
-    ((owner x.link).0 == id.0) ≡ here → place ≡ cond (not here) (1 + more) 0 →
-    place < length (x ∷ xs) → peer ≡ slice_index_or (x ∷ xs) place peer →
-    IsAt owner id (x ∷ xs) place peer
-at_case owner id x xs peer zero true more rest known is within value =
-    (value, same_id (owner x.link) id (told_same _ _ known))
-at_case owner id x xs peer (suc n) true more rest known is within value = absurd (omega arith)
-at_case owner id x xs peer zero false more rest known is within value = absurd (omega arith)
-at_case owner id x xs peer (suc n) false more rest known is within value =
-    (told_other _ _ known, rest n (omega arith) (omega arith) value)
-
-at_prefix : {L : Type 0} (owner : L → Id) (id : Id) (list : List (Peer L)) (peer : Peer L)
-    (place : ℕ) → place ≡ prefix_len (λ y. not ((owner y.link).0 == id.0)) list →
-    place < length list → peer ≡ slice_index_or list place peer → IsAt owner id list place peer
-at_prefix owner id [] peer place is within value = absurd (omega arith)
-at_prefix owner id (x ∷ xs) peer place is within value =
-    at_case owner id x xs peer place ((owner x.link).0 == id.0) _ (at_prefix owner id xs peer) refl is
-    within value
-
-chosen : (here : Bool) (m n place : ℕ) → nat_lt m n ≡ here →
-    cond here (Some m) None ≡ Some place → (place ≡ m) × (m < n)
-chosen true m n place known is = (search rules, grind (arith, nat_tests))
-chosen false m n place known is = absurd (false≢true (ap is_some is))
+-- the first link of an id stands at the place before which there is none
+at_first : {L : Type 0} (owner : L → Id) (id : Id) (list : List (Peer L)) (place : ℕ)
+    (peer : Peer L) → place < length list →
+    ((owner (slice_index_or list place peer).link).0 == id.0) ≡ true →
+    ((k : ℕ) → k < place → ((owner (slice_index_or list k peer).link).0 == id.0) ≡ false) →
+    peer ≡ slice_index_or list place peer → IsAt owner id list place peer
+at_first owner id [] place peer within here before value = absurd (omega arith)
+at_first owner id (x ∷ xs) zero peer within here before value =
+    (value, same_id (owner x.link) id (told_same _ _ here))
+at_first owner id (x ∷ xs) (suc n) peer within here before value = (
+  told_other _ _ (before 0 (omega arith)),
+  at_first owner id xs n peer (omega arith) here (λ k less. before (suc k) (omega arith)) value,
+)
 
 -- the place at which the link of an id is found
 pub found_at : {L : Type 0} (owner : L → Id) (id : Id) (list : List (Peer L)) (place : ℕ)
     (peer : Peer L) → position (λ y. (owner y.link).0 == id.0) list ≡ Some place →
     peer ≡ slice_index_or list place peer → IsAt owner id list place peer
 found_at owner id list place peer found value =
-    let m = prefix_len (λ y. not ((owner y.link).0 == id.0)) list in
-    let (is, within) = chosen (nat_lt m (length list)) m (length list) place refl found in
-    at_prefix owner id list peer place is (omega arith) value
+    let (within, here, before) = position-Some _ list place peer found in
+    at_first owner id list place peer within here before value
 
 -- what is kept for the id is what is kept there
 pub kept_at : {L : Type 0} (owner : L → Id) (id : Id) (list : List (Peer L)) (place : ℕ)
