@@ -28,11 +28,6 @@ abbrev pub err_text : Deed → Reply → List ℕ
 err_text (said.Err text) reply = went_out text reply
 err_text _ reply = []
 
--- what goes to the log by an act with this answer (this project's own)
-abbrev pub log_text : Deed → Reply → List ℕ
-log_text (said.Log text) reply = went_out text reply
-log_text _ reply = []
-
 -- a file that is opened to be appended to keeps what it holds, and one that is begun anew is empty
 -- (expect(1), log_file; open(2), O_APPEND and O_TRUNC)
 abbrev pub IsOpened : (held : Option (List ℕ)) → LogMode → (contents : Option (List ℕ)) → Type 0
