@@ -69,10 +69,18 @@ abbrev pub AddsProgram : {P : Type 0} → (P → Id) → Id → (before after : 
 AddsProgram {P} whose id before after =
     (program : P) × (whose program ≡ id) × (after ≡ before ++ program ∷ [])
 
--- the programs that were started and not waited for; `whose` says under which id
+-- one program of this id is gone, and the others stay in their order
+abbrev pub LosesProgram : {P : Type 0} → (P → Id) → Id → (before after : List P) → Type 0
+LosesProgram {P} whose id before after =
+    (front : List P) × (program : P) × (rest : List P) × ((whose program).0 ≡ id.0)
+    × (before ≡ front ++ program ∷ rest) × (after ≡ front ++ rest)
+
+-- the programs that were started and not waited for; `whose` says under which id (wait(2))
 abbrev pub Programs : {P : Type 0} → (P → Id) → Deed → Reply → (before after : List P) → Type 0
 Programs whose (said.Spawn id words) (said.Started pid) before after =
     AddsProgram whose id before after
+Programs whose (said.Reap id) (said.Exited status) before after =
+    LosesProgram whose id before after
 Programs whose (said.Reap id) reply before after = ⊤
 Programs whose act reply before after = after ≡ before
 

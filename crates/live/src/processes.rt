@@ -1,11 +1,11 @@
 //! Programs over pipes.
 
-ghost use Rattle.std.specs.Prelude.{◌≡◌, ◌≢◌, ℕ, ℤ, Option, map, true, IfOk, OnErr, OnOk};
+ghost use Rattle.std.specs.Prelude.{◌≡◌, ◌≢◌, ◌==◌, ℕ, ℤ, Option, map, position, true, IfOk, OnErr, OnOk};
 ghost use Rattle.acts.specs.Deed.{reply_of};
 ghost use Rattle.acts.specs.Deed as said;
 ghost use Rattle.acts.specs.Fits as table;
 ghost use Rattle.live.specs.Calls as call;
-ghost use Rattle.live.specs.Live.{AddsProgram, IsNamed, IsStart, Opens, exit_status};
+ghost use Rattle.live.specs.Live.{AddsProgram, IsNamed, IsStart, LosesProgram, Opens, exit_status};
 
 use crate::calls::{Owned, System};
 use crate::peers::{Peer, Peers};
@@ -91,8 +91,10 @@ pub fn reap<S: System>(system: &mut S, programs: &mut Vec<S::Program>, id: Id) -
     ensures exited { (status : Option ℕ) → reply_of result ≡ said.Exited status →
         (code : Option ℤ) × S.step system.old (call.Wait id code) system.new
         × (status ≡ exit_status code) }
+    ensures gone { (status : Option ℕ) → reply_of result ≡ said.Exited status →
+        LosesProgram S.Program.owner id programs.old.items programs.new.items }
 {
-    let Some(place) = programs.iter().position(|program| program.id() == id) else {
+    let Some(place) = place_of(programs, id) else {
         return Answer::NoMore;
     };
     let mut program = programs.remove(place);
@@ -100,6 +102,13 @@ pub fn reap<S: System>(system: &mut S, programs: &mut Vec<S::Program>, id: Id) -
         Ok(code) => Answer::Exited(status_of(code)),
         Err(_) => Answer::NoMore,
     }
+}
+
+/// The place of the first program of an id.
+fn place_of<P: Owned>(programs: &[P], id: Id) -> Option<usize>
+    ensures { result ≡ position (λ program. (P.owner program).0 == id.0) programs.now }
+{
+    programs.iter().position(|program| program.id() == id)
 }
 
 /// The status of an exit; none where there is no code, or none of 8 bits.
