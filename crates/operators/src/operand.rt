@@ -88,6 +88,19 @@ impl<A: Allocator> Operand<A> {
 }
 
 impl<A: Allocator + Copy> Operand<A> {
+    /// The operand's text; that of a number is the decimal one.
+    ///
+    /// # Errors
+    /// `NoMemory` where memory is refused.
+    pub fn into_text(self, alloc: A) -> Result<Value<A>, NoMemory>
+        ensures { IfOk result (λ text. text ≡ self) }
+    {
+        match self.form {
+            Form::Number(n) => Value::int(alloc, n),
+            Form::Text(text) => Ok(text),
+        }
+    }
+
     /// The operand's text as a formula gives it: a number in decimal (expr(n)).
     pub(crate) fn into_value(self, alloc: A) -> Result<Value<A>, NoMemory>
         ensures { IfOk result (λ text. text ≡ value.result self) }
