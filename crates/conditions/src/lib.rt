@@ -8,7 +8,7 @@ mod deeper;
 pub mod expr;
 pub mod for_loop;
 mod formula;
+mod step;
 mod test;
-pub mod turn;
 pub mod turning;
 pub mod while_loop;

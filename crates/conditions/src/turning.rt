@@ -12,13 +12,14 @@ ghost use Rattle.state.specs.Dialogue.{tick};
 ghost use Rattle.state.specs.Nesting.{Advances};
 
 use crate::deeper::{deeper, nested};
+use crate::step::end_after_step;
 use crate::test::{Test, of_evaluated};
-use crate::turn::{end_behind_body, end_behind_step};
 use acts::NoMemory;
 use evaluation::{OpenFormula, begin as evaluate};
 use formulas::Formula;
 use state::nesting::shared;
 use state::outcome::raised;
+use state::turn::end_after_body;
 use state::{Leave, Nesting, Outcome, State, Stop};
 use std::alloc::Allocator;
 use std::rc::Rc;
@@ -188,7 +189,7 @@ fn behind_turn<A: Allocator + Copy>(
     ensures advances { IfOk result (λ nesting. Advances scripts_held nesting
         state.new.left state.old.left (2 + scripts_tested turns.value)) }
 {
-    match end_behind_body(outcome) {
+    match end_after_body(outcome) {
         Some(end) => Ok(Nesting::Has(end)),
         None => step(alloc, state, turns),
     }
@@ -209,7 +210,7 @@ fn behind_step<A: Allocator + Copy>(
     ensures advances { IfOk result (λ nesting. Advances scripts_held nesting
         state.new.left state.old.left (1 + scripts_tested turns.value)) }
 {
-    match end_behind_step(outcome) {
+    match end_after_step(outcome) {
         Some(end) => Ok(Nesting::Has(end)),
         None => turn(alloc, state, turns),
     }

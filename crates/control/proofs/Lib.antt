@@ -1,13 +1,2 @@
-pub mod Assigning
 pub mod Behaves
-pub mod Calling
-pub mod Catching
-pub mod Choosing
-pub mod Evaluating
 pub mod Lifted
-pub mod Loops
-pub mod Names
-pub mod Pairing
-pub mod Replaced
-pub mod Switching
-pub mod Turning

@@ -6,12 +6,12 @@ use Rattle.conditions.specs.Conditional.{conditional}
 use Rattle.conditions.specs.Expr.{expr}
 use Rattle.conditions.specs.ForLoop.{for_loop}
 use Rattle.conditions.specs.WhileLoop.{while_loop}
-use Rattle.control.specs.Catch.{catch}
-use Rattle.control.specs.Eval.{eval}
+use Rattle.bodies.specs.Catch.{catch}
+use Rattle.bodies.specs.Eval.{eval}
 use Rattle.control.specs.Control as control
 use Rattle.control.specs.Control.{Control}
-use Rattle.control.specs.Foreach.{foreach}
-use Rattle.control.specs.Switch.{switch}
+use Rattle.bodies.specs.Foreach.{foreach}
+use Rattle.bodies.specs.Switch.{switch}
 
 -- the command of a name
 abbrev pub named : List ℕ → Option Control

@@ -5,13 +5,13 @@ use Rattle.conditions.specs.Choosing as if_then
 use Rattle.conditions.specs.Expr as expr
 use Rattle.conditions.specs.Starting as for_loop
 use Rattle.conditions.specs.Turning as while_loop
-use Rattle.control.specs.Calls as calls
-use Rattle.control.specs.Calls.{call}
-use Rattle.control.specs.Catch as catch
-use Rattle.control.specs.Eval as eval
+use Rattle.bodies.specs.Calls as calls
+use Rattle.bodies.specs.Calls.{call}
+use Rattle.bodies.specs.Catch as catch
+use Rattle.bodies.specs.Eval as eval
 use Rattle.control.specs.Control as meant
 use Rattle.control.specs.Control.{Control}
-use Rattle.control.specs.Looping as foreach
+use Rattle.bodies.specs.Looping as foreach
 use Rattle.control.specs.declared.held.Held.{Held}
 use Rattle.control.specs.declared.held.Held.TheVariants as held
 use Rattle.control.specs.declared.table.Control as coded
@@ -45,11 +45,6 @@ next_of (held.Foreach own) = foreach.next_of own
 next_of (held.If own) = if_then.next_of own
 next_of (held.While own) = while_loop.next_of own
 
--- a script runs again only after a tick (this project's own rule)
-abbrev pub TicksFirst : {A H : Type 0} → Nesting A H → ℕ → ℕ → Type 0
-TicksFirst (nesting.Has outcome) new old = Unit {0}
-TicksFirst (nesting.Runs script levels held) new old = new < old
-
 -- the scripts that a command may still run without a tick before them
 abbrev pub scripts_held : {A : Type 0} → Held A → ℕ
 scripts_held (held.Call own) = 0
@@ -65,18 +60,3 @@ scripts_held (held.While own) = while_loop.scripts_held own
 abbrev pub IsLifted : {A H : Type 0} → (H → Status → Outcome → Course) → Nesting A H →
     Nesting A (Held A) → Type 0
 IsLifted own nesting lifted = (s : Status) → course_of own nesting s ≡ course_of next_of lifted s
-
--- a call of the procedure of this name has come so far
-pub record Calls {A H : Type 0} (next : H → Status → Outcome → Course) (n : Nesting A H)
-    (state : State A) (levels : ℕ) (name : List ℕ) (words : List (List ℕ)) (s : Status) :
-    Type 0 where
-  pub procedure : Procedure
-  pub found : found s.procedures name ≡ Some procedure
-  pub nests : Nests next n state (call levels name procedure words s)
-
--- the same, or no procedure has the name and nothing is done
-abbrev pub IsCalled : {A H : Type 0} → (H → Status → Outcome → Course) → Option (Nesting A H) →
-    State A → ℕ → List ℕ → List (List ℕ) → Status → Type 0
-IsCalled next None state levels name words s =
-    (found s.procedures name ≡ None) × FitsState state s
-IsCalled next (Some n) state levels name words s = Calls next n state levels name words s

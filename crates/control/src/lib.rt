@@ -1,15 +1,7 @@
-//! The commands that run scripts within them.
+//! The commands that run scripts within them, by their names, and the calls of procedures.
 #![tactic(auto)]
 
-mod arguments;
-pub mod calls;
-pub mod catch;
-pub mod eval;
-pub mod foreach;
 mod held;
-mod listed;
-pub mod pair;
-pub mod switch;
 mod table;
 
 pub use held::Held;

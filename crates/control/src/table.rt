@@ -3,15 +3,16 @@
 ghost use Rattle.std.specs.Prelude.{◌≡◌, ◌≤◌, IfOk, option_map};
 ghost use Rattle.state.specs.Prelude.{Status, FitsState, outcome_of};
 ghost use Rattle.control.specs.Commands as definition;
-ghost use Rattle.control.specs.View.{IsCalled, control_of, next_of, scripts_held};
+ghost use Rattle.bodies.specs.View.{IsCalled};
+ghost use Rattle.control.specs.View.{control_of, next_of, scripts_held};
 ghost use Rattle.conditions.specs.GoesOn.{Comes};
 ghost use Rattle.state.specs.Nesting.{Advances};
 
 use crate::held::{
     Held, from_call, from_catch, from_eval, from_expr, from_for, from_foreach, from_if, from_while,
 };
-use crate::{calls, catch, eval, foreach, switch};
 use acts::NoMemory;
+use bodies::{calls, catch, eval, foreach, switch};
 use conditions::{conditional, expr, for_loop, turning, while_loop};
 use state::{Nesting, Outcome, State};
 use std::alloc::Allocator;

@@ -3,7 +3,7 @@ use Rattle.std.proofs.Common.{◌≡◌, ◌-◌, ℕ, ◌≤◌, List, [], ◌�
 use Rattle.std.proofs.lemmas.List.{length-drop, take_all}
 use Rattle.commands.specs.Commands as leaf
 use Rattle.conditions.specs.GoesOn.{Comes}
-use Rattle.control.specs.Calls.{call}
+use Rattle.bodies.specs.Calls.{call}
 use Rattle.control.specs.Commands.{does, named}
 use Rattle.control.specs.Control.{Control}
 use Rattle.control.specs.View as control

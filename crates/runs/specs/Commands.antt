@@ -2,7 +2,7 @@
 use Rattle.std.specs.Prelude.{ℕ, List, [], ◌∷◌, Option, Some, None}
 use Rattle.state.specs.Prelude.{Course, gives, Status}
 use Rattle.commands.specs.Commands as leaf
-use Rattle.control.specs.Calls.{call}
+use Rattle.bodies.specs.Calls.{call}
 use Rattle.control.specs.Commands.{does, named}
 use Rattle.control.specs.Control.{Control}
 use Rattle.expects.specs.Expect.{expect}

@@ -9,6 +9,7 @@ pub mod nesting;
 pub mod outcome;
 pub mod size;
 pub mod state;
+pub mod turn;
 pub mod variables;
 
 pub use ids::{Ids, Unreaped};

@@ -1,7 +1,8 @@
 use Rattle.std.proofs.Common.{◌≡◌, ◌∙◌, ◌-◌, ◌∷◌, [], drop, length, take, None, Some, subst, sym, ap, rules, arith}
 use Rattle.control.specs.Commands.{named}
-use Rattle.control.specs.Calls as calls
-use Rattle.control.specs.View.{IsCalled, control_of, next_of}
+use Rattle.bodies.specs.Calls as calls
+use Rattle.bodies.specs.View.{IsCalled}
+use Rattle.control.specs.View.{control_of, next_of}
 use Rattle.machine.specs.Frames.{stack}
 use Rattle.machine.proofs.Held.{command_calls, command_none, command_other, command_runs, first_word, no_word, rest_words}
 use Rattle.machine.proofs.Machines.{leads_from, on_ok, over_leads}

@@ -1,0 +1,12 @@
+pub mod Assigning
+pub mod Calling
+pub mod Catching
+pub mod Choosing
+pub mod Closed
+pub mod Evaluating
+pub mod Loops
+pub mod Names
+pub mod Pairing
+pub mod Replaced
+pub mod Switching
+pub mod Turning

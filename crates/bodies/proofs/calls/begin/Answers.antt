@@ -1,0 +1,57 @@
+use Rattle.std.proofs.Common.{◌≡◌, ◌∙◌, Some, None, option_map, sym, ap, subst}
+use Rattle.acts.specs.Flaw as flaw
+use Rattle.state.specs.Prelude.{text_of, Leaves, Error, Status}
+use Rattle.bodies.proofs.Calling.{call_refused, call_runs}
+use Rattle.bodies.specs.Calls as definition
+use Rattle.state.proofs.Fits.{kept_fits}
+use Rattle.state.proofs.Nestings.{nests_after, nests_from, over, text_reaches}
+use Rattle.tclparse.specs.Grammar.{IsScript}
+use Rattle.tclparse.specs.Seen.{fault_of}
+use Rattle.tclparse.specs.View.{commands_of}
+use Rattle.tclstate.specs.Pairs.{found}
+use Rattle.tclstate.specs.Scopes.{entered}
+use Rattle.bodies.proofs.calls.begin.Goals as goal
+
+pub returns-in_default-2-clause-called : goal.returns-in_default-2-clause-called
+returns-in_default-2-clause-called g c = λ s fits.
+    let name = c.args.name.now in
+    let words = c.args.words.now in
+    let procedure = c.in-Some.procedure.now in
+    let none : definition.frame_of procedure.formals words ≡ None =
+    ap (λ p. definition.frame_of p.formals words) (sym c.procedure.view_is)
+    ∙ sym c.in_ok-frame.ensures ∙ c.in_default-2.is in
+    record {
+      procedure = procedure;
+      found = ap (λ procs. found procs name) fits.procedures ∙ sym c.in-Some.ensures;
+      nests = over definition.next_of c.args.state.now c.in_ok-wrong_args.field-0
+          (Leaves Error (text_of (flaw.WrongArgs name))) s _ fits c.in_ok-wrong_args.ensures
+          (call_refused c.args.levels name procedure words s none);
+    }
+
+pub returns-clause-called : goal.returns-clause-called
+returns-clause-called g c = λ s fits.
+    let name = c.args.name.now in
+    let words = c.args.words.now in
+    let levels = c.args.levels in
+    let procedure = c.in-Some.procedure.now in
+    let frame = c.in-Some-2.frame in
+    let body = c.in_ok-body.body in
+    let there : Status = record s { scopes = entered frame s.scopes } in
+    let some : definition.frame_of procedure.formals words ≡ Some frame =
+    ap (λ p. definition.frame_of p.formals words) (sym c.procedure.view_is)
+    ∙ sym c.in_ok-frame.ensures ∙ c.in-Some-2.is in
+    let text : c.as_slice.result.now ≡ procedure.body =
+    c.as_slice.ensures ∙ ap (λ p. p.body) c.procedure.view_is in
+    let is : IsScript (commands_of body.commands) (option_map fault_of body.fault) procedure.body =
+    subst (λ t. IsScript (commands_of body.commands) (option_map fault_of body.fault) t) text
+    c.in_ok-body.ensures.tree.tree in
+    record {
+      procedure = procedure;
+      found = ap (λ procs. found procs name) fits.procedures ∙ sym c.in-Some.ensures;
+      nests = nests_from definition.next_of c.run.new.state c.in_ok-run.field-0 _ _
+          (call_runs levels name procedure words s frame some)
+          (nests_after definition.next_of c.run.new.state c.in_ok-run.field-0 _ _
+          (text_reaches body levels procedure.body there definition.returned is)
+          (c.in_ok-run.ensures.nests s
+          (kept_fits c.args.state.now s fits c.get-2.new.self)));
+    }

@@ -1,0 +1,29 @@
+-- How far a call of a procedure, or a command that runs a script, has come.
+use Rattle.std.specs.Prelude.{◌≡◌, ℕ, ◌<◌, List, Option, Some, None}
+use Rattle.state.specs.Prelude.{Course, Nests, Outcome, Status, FitsState}
+use Rattle.bodies.specs.Calls.{call}
+use Rattle.state.specs.declared.nesting.Nesting.{Nesting}
+use Rattle.state.specs.declared.nesting.Nesting.TheVariants as nesting
+use Rattle.state.specs.declared.state.State.{State}
+use Rattle.tclstate.specs.Pairs.{found}
+use Rattle.tclstate.specs.Procs.{Procedure}
+
+-- a script runs again only after a tick (this project's own rule)
+abbrev pub TicksFirst : {A H : Type 0} → Nesting A H → ℕ → ℕ → Type 0
+TicksFirst (nesting.Has outcome) new old = Unit {0}
+TicksFirst (nesting.Runs script levels held) new old = new < old
+
+-- a call of the procedure of this name has come so far
+pub record Calls {A H : Type 0} (next : H → Status → Outcome → Course) (n : Nesting A H)
+    (state : State A) (levels : ℕ) (name : List ℕ) (words : List (List ℕ)) (s : Status) :
+    Type 0 where
+  pub procedure : Procedure
+  pub found : found s.procedures name ≡ Some procedure
+  pub nests : Nests next n state (call levels name procedure words s)
+
+-- the same, or no procedure has the name and nothing is done
+abbrev pub IsCalled : {A H : Type 0} → (H → Status → Outcome → Course) → Option (Nesting A H) →
+    State A → ℕ → List ℕ → List (List ℕ) → Status → Type 0
+IsCalled next None state levels name words s =
+    (found s.procedures name ≡ None) × FitsState state s
+IsCalled next (Some n) state levels name words s = Calls next n state levels name words s
