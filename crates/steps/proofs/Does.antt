@@ -1,18 +1,22 @@
 -- The results of taking operands off, of reading variables and of reading lists.
-use Rattle.std.proofs.Common.{◌≡◌, ◌∙◌, ℕ, List, [], ◌∷◌, ◌++◌, Option, Some, Result, Ok, Err, MatchResult, sym, ap, subst, option_to_list}
+use Rattle.std.proofs.Common.{◌≡◌, ◌∙◌, ℕ, ◌+◌, ◌<◌, List, [], ◌∷◌, ◌++◌, length, Option, None, Some, Result, Ok, Err, MatchResult, refl, sym, ap, subst, option_to_list}
 use Rattle.std.specs.Prelude.{reverse}
-use Rattle.std.proofs.lemmas.List.{reverse-append}
+use Rattle.std.proofs.lemmas.List.{append-nil, reverse-append}
 use Rattle.acts.specs.Flaw as acts
 use Rattle.code.specs.declared.instruction.Instruction.{Instruction}
+use Rattle.code.specs.declared.instruction.Instruction.TheVariants as i
 use Rattle.acts.specs.declared.raise.Raise.TheVariants as raise
 use Rattle.meanings.specs.Meaning.{Answer, Comes, Gives, IsSplit, flaw_of_list}
 use Rattle.meanings.specs.View.{IsNoList}
 use Rattle.state.specs.Prelude.{Fault, flaw_of, Scopes, Status}
+use Rattle.state.specs.Piece.{ListText}
 use Rattle.state.specs.Stores.{IsTold}
 use Rattle.state.specs.Variables.{flaw_of_trouble, spelled}
-use Rattle.steps.specs.Does.{Does, same, splits}
-use Rattle.steps.specs.Machine.{does, fails, reading, with_value}
-use Rattle.steps.specs.Spot.{Spot, Did, Splits, Went, with_top}
+use Rattle.steps.specs.Does.{Does, same, reads}
+use Rattle.steps.specs.Machine.{does, reading, with_value}
+use Rattle.steps.specs.Moves.{fails}
+use Rattle.steps.specs.Spot.{Spot, Did, Reads, Stuck, Went, with_top}
+use Rattle.tclparse.specs.declared.fault.Fault as faults
 use Rattle.tclstate.specs.Scopes.{Trouble, read}
 use Rattle.tclstate.specs.ScopeError.{HasTrouble}
 use Rattle.tclstate.specs.declared.error.ScopeError.{ScopeError}
@@ -63,17 +67,17 @@ unsplit : (text : List ℕ) (flaw : acts.Flaw) (next : Result (List (List ℕ)) 
     (let answer : Answer = Err flaw in
     MatchResult split (λ elements. Comes (Gives []) answer)
     (λ why. answer ≡ Err (flaw_of_list why))) →
-    ((why : Flaw) → flaw ≡ flaw_of_list why → did ≡ next (Err why)) → Does (Splits text next) did
+    ((why : Flaw) → flaw ≡ flaw_of_list why → did ≡ next (Err why)) → Does (Reads (ListText text) next) did
 unsplit text flaw next did (Ok elements) is differs f = absurd (cc)
 unsplit text flaw next did (Err why) is told f =
     let same_flaw : flaw ≡ flaw_of_list why = cc in
-    splits (Err why) is (same_does (f why same_flaw))
+    reads {text = ListText text} (Err why) is (same_does (f why same_flaw))
 
 -- a text that is no list
 pub no_list_does : {A : Type 0} (text : List ℕ) (fault : Fault A)
     (next : Result (List (List ℕ)) Flaw → Did) (did : Did) → IsNoList text (raise.Fault fault) →
     ((why : Flaw) → flaw_of fault ≡ flaw_of_list why → did ≡ next (Err why)) →
-    Does (Splits text next) did
+    Does (Reads (ListText text) next) did
 no_list_does text fault next did is f =
     let none = is (λ elements. Gives []) in
     unsplit text (flaw_of fault) next did none.0 none.1 none.2 f

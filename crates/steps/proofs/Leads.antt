@@ -2,8 +2,12 @@
 pub mod Silent
 pub mod Operands
 pub mod Standing
+pub mod Grows
 pub mod Scripts
 pub mod Parts
+pub mod Meanings
+pub mod Formulas
+pub mod Operators
 pub mod Words
 pub mod Opened
 pub mod Each

@@ -1,2 +1,3 @@
 pub mod Does
 pub mod Leads
+pub mod Meanings

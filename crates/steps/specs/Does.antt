@@ -1,19 +1,17 @@
 -- The result of an instruction once texts are read, and the result of several instructions.
-use Rattle.std.specs.Prelude.{ℕ, List, Result, slice_get}
+use Rattle.std.specs.Prelude.{List, slice_get}
 use Rattle.code.specs.declared.instruction.Instruction.{Instruction}
-use Rattle.meanings.specs.Meaning.{IsSplit}
-use Rattle.state.specs.Prelude.{Status}
+use Rattle.state.specs.Piece.{Text, Tree}
+use Rattle.state.specs.Prelude.{IsTree, Status}
 use Rattle.steps.specs.Machine.{machine}
-use Rattle.steps.specs.Spot.{Spot, Did, Went, Splits}
-use Rattle.tcltext.specs.Flaw.{Flaw}
+use Rattle.steps.specs.Spot.{Spot, Did, Went, Reads}
 
 -- the first result is the second one, once some texts are read as what they are (this project's
 -- own rule)
 pub data Does : Did → Did → Type 0 where
   same : {did : Did} → Does did did
-  splits : {text : List ℕ} (split : Result (List (List ℕ)) Flaw)
-      {next : Result (List (List ℕ)) Flaw → Did} {did : Did} → IsSplit text split →
-      Does (next split) did → Does (Splits text next) did
+  reads : {text : Text} (tree : Tree text) {next : Tree text → Did} {did : Did} →
+      IsTree text tree → Does (next tree) did → Does (Reads text next) did
 
 -- this is the result of some instructions, one after the other, from a spot on (this project's own
 -- rule)

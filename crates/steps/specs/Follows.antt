@@ -1,21 +1,22 @@
 -- What an instruction did is what was left to be done.
-use Rattle.std.specs.Prelude.{◌≡◌, ℕ, ◌+◌, ◌≤◌, List, Result, length, slice_get}
+use Rattle.std.specs.Prelude.{◌≡◌, ℕ, ◌+◌, ◌≤◌, List, [], length, slice_get}
 use Rattle.code.specs.Code.{ScriptAt}
+use Rattle.code.specs.Formula.{FormulaAt}
 use Rattle.code.specs.declared.instruction.Instruction.{Instruction}
-use Rattle.meanings.specs.Meaning.{IsSplit}
+use Rattle.evaluation.specs.Evaluated.{evaluated}
 use Rattle.plan.specs.Plan.{and_then, onward}
 use Rattle.runs.specs.Commands.{command}
 use Rattle.runs.specs.Scripts.{plan_of}
-use Rattle.state.specs.Prelude.{Code, Dialogue, Gives, Leaves, Outcome, Status, Stops}
+use Rattle.state.specs.Prelude.{Code, Dialogue, Gives, gives, IsTree, Leaves, Outcome, Status, Stops}
 use Rattle.state.specs.Outcome.{Stop}
-use Rattle.state.specs.Piece.{Script, ScriptTree}
+use Rattle.state.specs.Piece.{Script, ScriptTree, Tree}
+use Rattle.tclparse.specs.Formula.{Formula}
 use Rattle.steps.specs.Does.{Arrives}
 use Rattle.steps.specs.Goes.{Goes}
 use Rattle.steps.specs.Layout.{HeadAt, FramesAt}
 use Rattle.steps.specs.Machine.{machine}
 use Rattle.steps.specs.Places.{Head, Frame, brackets, left_of, spot_at}
-use Rattle.steps.specs.Spot.{Spot, Did, Went, Splits, Begins, Over, Stuck, with_top, beginning_at}
-use Rattle.tcltext.specs.Flaw.{Flaw}
+use Rattle.steps.specs.Spot.{Spot, Did, Went, Reads, Begins, Over, Stuck, with_top, beginning_at}
 
 module _ {A X : Type 0} (code : List (Instruction A)) (last : Status → Outcome → Dialogue X) where
   -- the run of the code stands where this is left to be done, and then what is done last
@@ -50,8 +51,7 @@ module _ {A X : Type 0} (code : List (Instruction A)) (last : Status → Outcome
   -- what an instruction did is what was left to be done
   abbrev pub Follows : Did → Dialogue X → Type 0
   Follows (Went spot s) p = Comes spot s p
-  Follows (Splits text next) p =
-      (split : Result (List (List ℕ)) Flaw) → IsSplit text split → Follows (next split) p
+  Follows (Reads text next) p = (tree : Tree text) → IsTree text tree → Follows (next tree) p
   Follows (Begins words spot s) p = Waits words spot s p
   Follows (Over outcome s) p = Goes p (last s outcome)
   Follows Stuck p = ⊥
@@ -79,3 +79,11 @@ ScriptsBegin A X =
     levels ≤ 255 →
     Here code last (beginning_at levels) s
     (and_then (plan_of (Script tree levels) s) (onward last))
+
+-- a formula of which nothing is done yet is left to be done where its code begins, without operands
+abbrev pub FormulasBegin : Type 0 → Type 0 → Type 0
+FormulasBegin A X =
+    (code : List (Instruction A)) (last : Status → Outcome → Dialogue X) (f : Formula)
+    (levels : ℕ) (s : Status) → FormulaAt code 0 f (length code) → levels ≤ 255 →
+    Here code last (record { place = 0; operands = []; marks = []; levels = levels }) s
+    (and_then (evaluated levels f s (λ t value. gives value t)) (onward last))

@@ -1,10 +1,12 @@
 -- Where the code of what is left to be done stands.
-use Rattle.std.specs.Prelude.{◌≡◌, ℕ, suc, ◌+◌, List, [], ◌∷◌, Bool, true, false, None, is_some, length, slice_get}
+use Rattle.std.specs.Prelude.{◌≡◌, ℕ, suc, ◌+◌, ◌≤◌, List, [], ◌∷◌, Bool, true, false, None, is_some, length, slice_get}
 use Rattle.code.specs.Code.{At, JoinsAt, PartsAt, WordsAt, ScriptAt}
+use Rattle.code.specs.Formula.{FormulaAt, LinksAt, ArgumentsAt}
 use Rattle.code.specs.declared.instruction.Instruction.{Instruction}
 use Rattle.code.specs.declared.instruction.Instruction.TheVariants as i
-use Rattle.steps.specs.Places.{Head, Has, Part, Joins, Gathers, Frame, Rest, Bracket}
-use Rattle.steps.specs.Word.{Around, Open, Word, Plain, Expands}
+use Rattle.steps.specs.Operand.{Outer, Prefixed, Row, Right, Holds, Argument, Test, Chosen}
+use Rattle.steps.specs.Places.{Head, Has, Part, Joins, Gathers, Evaluates, Values, Frame, Rest, Bracket}
+use Rattle.steps.specs.Word.{Around, Open, Word, Plain, Expands, Operand}
 
 module _ {A : Type 0} (code : List (Instruction A)) where
   -- words that are not counted: their number stands in the instruction that begins the command
@@ -20,6 +22,29 @@ module _ {A : Type 0} (code : List (Instruction A)) where
       ((mid : ℕ) × (stop : ℕ) × JoinsAt code (is_some o.so_far) (place + 1) mid ×
       PartsAt code true mid o.parts stop × AroundAt stop os end)
 
+  -- after the value of an operand comes what it is evaluated for
+  abbrev pub OperandAt : ℕ → List Outer → ℕ → Type 0
+  OperandAt place [] end = place ≡ end
+  OperandAt place (Prefixed operator ∷ outer) end =
+      At code place (i.Prefix operator) × OperandAt (place + 1) outer end
+  OperandAt place (Row links ∷ outer) end =
+      (mid : ℕ) × LinksAt code place links mid × OperandAt mid outer end
+  OperandAt place (Right operator left links ∷ outer) end =
+      At code place (i.Binary operator) ×
+      ((mid : ℕ) × LinksAt code (place + 1) links mid × OperandAt mid outer end)
+  OperandAt place (Holds links ∷ outer) end =
+      At code place i.Truth ×
+      ((mid : ℕ) × LinksAt code (place + 1) links mid × OperandAt mid outer end)
+  OperandAt place (Argument function before rest ∷ outer) end =
+      (count : ℕ) × (mid : ℕ) × ArgumentsAt code place rest count mid ×
+      At code mid (i.Call function (count + suc (length before))) × OperandAt (mid + 1) outer end
+  OperandAt place (Test one other ∷ outer) end =
+      (jump : ℕ) × (mid : ℕ) × At code place (i.Unless (jump + 1)) ×
+      FormulaAt code (place + 1) one jump × At code jump (i.Jump mid) ×
+      FormulaAt code (jump + 1) other mid × OperandAt mid outer end
+  OperandAt place (Chosen ∷ outer) end =
+      (mid : ℕ) × At code place (i.Jump mid) × (place + 1 ≤ mid) × OperandAt mid outer end
+
   -- after the value of a word come the words after it
   abbrev pub WordAt : ℕ → Word → ℕ → Type 0
   WordAt place (Plain counted before rest) end =
@@ -27,6 +52,7 @@ module _ {A : Type 0} (code : List (Instruction A)) where
       WordsAt code counted count place rest end
   WordAt place (Expands before rest) end =
       At code place i.Spread × ((count : ℕ) × WordsAt code true count (place + 1) rest end)
+  WordAt place (Operand outer) end = OperandAt place outer end
 
   -- what is around the parts that are left of an open word
   pub record OuterAt (place : ℕ) (outer : List Around) (word : Word) (end : ℕ) : Type 0 where
@@ -56,6 +82,9 @@ module _ {A : Type 0} (code : List (Instruction A)) where
   HeadAt place (Gathers counted before rest) end =
       (count : ℕ) × CountIs counted count (length before) ×
       WordsAt code counted count place rest end
+  HeadAt place (Evaluates f outer) end =
+      (mid : ℕ) × FormulaAt code place f mid × OperandAt mid outer end
+  HeadAt place (Values value outer) end = OperandAt place outer end
 
   -- from here on the code does what the frames do with the value on top
   abbrev pub FramesAt : ℕ → List Frame → Type 0

@@ -1,7 +1,10 @@
 pub mod Spot
+pub mod Moves
+pub mod Formulas
 pub mod Machine
 pub mod Does
 pub mod View
+pub mod Operand
 pub mod Word
 pub mod Places
 pub mod Layout

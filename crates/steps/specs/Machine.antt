@@ -1,31 +1,20 @@
 -- What one instruction does, on texts and numbers alone.
-use Rattle.std.specs.Prelude.{ℕ, zero, suc, ◌+◌, ◌-◌, List, [], ◌∷◌, ◌++◌, Option, Some, None, Result, Ok, Err, reverse, take, drop, length, nat_le, if◌then◌else◌}
+use Rattle.std.specs.Prelude.{true, false, ℕ, zero, suc, ◌+◌, ◌-◌, List, [], ◌∷◌, ◌++◌, Option, Some, None, Result, Ok, Err, reverse, take, drop, length, nat_le, if◌then◌else◌}
 use Rattle.acts.specs.Flaw as flaw
 use Rattle.code.specs.declared.instruction.Instruction.{Instruction}
 use Rattle.code.specs.declared.instruction.Instruction.TheVariants as i
 use Rattle.meanings.specs.Meaning.{flaw_of_list}
 use Rattle.state.specs.Prelude.{Flaw, text_of, Error, Gives, Leaves, Stops, Status}
 use Rattle.state.specs.Faults.{flaw_of_fault}
+use Rattle.state.specs.Piece.{ListText}
 use Rattle.state.specs.Outcome as stop
 use Rattle.state.specs.Variables.{flaw_of_trouble, spelled}
-use Rattle.steps.specs.Spot.{Spot, Did, Went, Splits, Begins, Over, Stuck, with_top}
+use Rattle.steps.specs.Formulas.{calling, choosing, joining_both, jumping, prefixing, putting, telling, unless}
+use Rattle.steps.specs.Moves.{fails, on_top, with_operands}
+use Rattle.steps.specs.Spot.{Spot, Did, Went, Reads, Begins, Over, Stuck, with_top}
 use Rattle.tclparse.specs.Seen.{fault_of}
 use Rattle.tclstate.specs.Scopes.{Trouble, read}
 use Rattle.tcltext.specs.Flaw as list
-
--- the code is over with an error, whose value is the error's text (Tcl(n), return codes)
-abbrev pub fails : Flaw → Status → Did
-fails flaw s = Over (Leaves Error (text_of flaw)) s
-
--- what is done with the first of these and with those after it, where there is one (this project's
--- own rule)
-abbrev pub on_top : {X : Type 0} → List X → (X → List X → Did) → Did
-on_top [] next = Stuck
-on_top (x ∷ below) next = next x below
-
--- the same with these operands (this project's own rule)
-abbrev pub with_operands : List (List ℕ) → Spot → Spot
-with_operands operands spot = record spot { operands = operands }
 
 -- takes a tick, where one is left; else the run stops (this project's own rule)
 abbrev pub ticked : ℕ → Status → (Status → Did) → Did
@@ -85,7 +74,7 @@ spread spot s (Err why) = fails (flaw_of_list why) s
 -- the text on top is read as a list (Tcl(n), rule 5)
 abbrev pub spreading : Spot → Status → Did
 spreading spot s =
-    on_top spot.operands (λ text below. Splits text (spread (with_operands below spot) s))
+    on_top spot.operands (λ text below. Reads (ListText text) (spread (with_operands below spot) s))
 
 -- a command begins, whose words are all operands above the lowest ones, which are this many
 -- (Tcl(n), rule 2)
@@ -101,7 +90,7 @@ abbrev pub beginning_counted : Spot → Status → Did
 beginning_counted spot s =
     on_top spot.marks (λ below marks. beginning below (record spot { marks = marks }) s)
 
--- what an instruction does, where the next place is at hand; those of formulas do nothing yet
+-- what an instruction does, where the next place is at hand
 abbrev pub does : {A : Type 0} → Instruction A → Spot → Status → Did
 does i.Next spot s = ticking spot s
 does (i.Text bytes) spot s = Went (with_top bytes spot) s
@@ -115,15 +104,15 @@ does i.Spread spot s = spreading spot s
 does (i.Command n) spot s = beginning (length spot.operands - n) spot s
 does i.Counted spot s = beginning_counted spot s
 does (i.Fault fault) spot s = fails (flaw_of_fault (fault_of fault)) s
-does (i.Numeral digits) spot s = Stuck
-does (i.Prefix operator) spot s = Stuck
-does (i.Binary operator) spot s = Stuck
-does (i.Call function count) spot s = Stuck
-does (i.AndAlso place) spot s = Stuck
-does (i.OrElse place) spot s = Stuck
-does i.Truth spot s = Stuck
-does (i.Unless place) spot s = Stuck
-does (i.Jump place) spot s = Stuck
+does (i.Numeral digits) spot s = putting digits spot s
+does (i.Prefix operator) spot s = prefixing operator spot s
+does (i.Binary operator) spot s = joining_both operator spot s
+does (i.Call function n) spot s = calling function (length spot.operands - n) spot s
+does (i.AndAlso place) spot s = choosing place false spot s
+does (i.OrElse place) spot s = choosing place true spot s
+does i.Truth spot s = telling spot s
+does (i.Unless place) spot s = unless place spot s
+does (i.Jump place) spot s = jumping place spot s
 does i.Hole spot s = Stuck
 
 -- the next place

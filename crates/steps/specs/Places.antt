@@ -1,23 +1,29 @@
 -- What is left to be done at a place of the code, as the proof sees it.
 use Rattle.std.specs.Prelude.{ℕ, suc, List, [], ◌∷◌, ◌++◌, Bool, true, false, Option, length, reverse}
+use Rattle.evaluation.specs.Evaluated.{evaluated}
 use Rattle.plan.specs.Plan.{and_then, onward, after}
 use Rattle.runs.specs.Commands.{command}
 use Rattle.runs.specs.Scripts.{script}
 use Rattle.state.specs.Prelude.{Course, Dialogue, gives, on_value, Outcome, Status}
+use Rattle.steps.specs.Operand.{Outer, operand_on, waiting}
 use Rattle.steps.specs.Spot.{Spot}
-use Rattle.steps.specs.Word.{Open, bytes_of, course_with, is_counted, operands_of}
+use Rattle.steps.specs.Word.{Open, Word, bytes_of, course_with, is_counted, operands_of}
 use Rattle.tclparse.specs.Fault.{Fault}
+use Rattle.tclparse.specs.Formula.{Formula}
 use Rattle.tclparse.specs.Tree.{Commands, Words}
 use Rattle.words.specs.Words.{words}
 
 -- what is being done at a place: a value is on top; an open word goes on with its next part; a
 -- value is put after the bytes of an open word; a command goes on with its next word, after these
--- words, the last one first, which are counted or not
+-- words, the last one first, which are counted or not; a formula is evaluated; the value of an
+-- operand is on top
 pub data Head : Type 0 where
   Has : (value : List ℕ) → Head
   Part : (word : Open) → Head
   Joins : (value : List ℕ) (word : Open) → Head
   Gathers : (counted : Bool) (before : List (List ℕ)) (rest : Words) → Head
+  Evaluates : (formula : Formula) (outer : List Outer) → Head
+  Values : (value : List ℕ) (outer : List Outer) → Head
 
 -- what is done with a value once it is on top: the commands of a script that are left follow; or a
 -- script in brackets is over, and its value is put after the bytes of an open word (Tcl(n), rules 1
@@ -33,6 +39,8 @@ course_of levels (Part word) s = course_with levels word (bytes_of word.so_far) 
 course_of levels (Joins value word) s = course_with levels word (bytes_of word.so_far ++ value) s
 course_of levels (Gathers counted before rest) s =
     words levels rest (reverse before) s (command levels)
+course_of levels (Evaluates f outer) s = evaluated levels f s (operand_on levels outer)
+course_of levels (Values value outer) s = operand_on levels outer s value
 
 -- what is done next, the top frame first; a word around a script in brackets stands one level up
 abbrev pub nexts : ℕ → List Frame → List (Status → Outcome → Course)
@@ -77,6 +85,8 @@ operands_at (Has value) frames = value ∷ beneath frames
 operands_at (Part word) frames = operands_of word (beneath frames)
 operands_at (Joins value word) frames = value ∷ operands_of word (beneath frames)
 operands_at (Gathers counted before rest) frames = before ++ beneath frames
+operands_at (Evaluates f outer) frames = waiting outer (beneath frames)
+operands_at (Values value outer) frames = value ∷ waiting outer (beneath frames)
 
 -- all marks
 abbrev pub marks_at : Head → List Frame → List ℕ
@@ -85,6 +95,8 @@ marks_at (Part word) frames = marks_beneath (Bracket word ∷ frames)
 marks_at (Joins value word) frames = marks_beneath (Bracket word ∷ frames)
 marks_at (Gathers counted before rest) frames =
     marked counted (length (beneath frames)) (marks_beneath frames)
+marks_at (Evaluates f outer) frames = marks_beneath frames
+marks_at (Values value outer) frames = marks_beneath frames
 
 -- where the run of the code stands
 abbrev pub spot_at : ℕ → ℕ → Head → List Frame → Spot

@@ -1,7 +1,7 @@
 -- Where the run of a code stands, and the result of an instruction.
-use Rattle.std.specs.Prelude.{ℕ, List, [], ◌∷◌, Result}
+use Rattle.std.specs.Prelude.{ℕ, List, [], ◌∷◌}
+use Rattle.state.specs.Piece.{Text, Tree}
 use Rattle.state.specs.Prelude.{Outcome, Status}
-use Rattle.tcltext.specs.Flaw.{Flaw}
 
 -- the place of the next instruction; the operands, the top one first; of each command whose words
 -- are counted, how many operands stand below its words, the innermost first; and the levels that
@@ -12,12 +12,12 @@ pub record Spot : Type 0 where
   pub marks : List ℕ
   pub levels : ℕ
 
--- an instruction leads on; it leads on by what a text is as a list; a command begins by its words,
+-- an instruction leads on; it leads on by what a text is read as; a command begins by its words,
 -- whose value is to be put on top; the code is over; or an operand is missing (this project's own
 -- rule)
 pub data Did : Type 0 where
   Went : (spot : Spot) (s : Status) → Did
-  Splits : (text : List ℕ) → (Result (List (List ℕ)) Flaw → Did) → Did
+  Reads : (text : Text) → (Tree text → Did) → Did
   Begins : (words : List (List ℕ)) (spot : Spot) (s : Status) → Did
   Over : (outcome : Outcome) (s : Status) → Did
   Stuck : Did

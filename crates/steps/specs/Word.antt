@@ -1,9 +1,10 @@
 -- A word of a command that is being put together, as the proof sees it.
-use Rattle.std.specs.Prelude.{ℕ, List, [], ◌∷◌, ◌++◌, Bool, true, Option, Some, None, reverse}
+use Rattle.std.specs.Prelude.{ℕ, List, [], ◌∷◌, ◌++◌, Bool, true, false, Option, Some, None, reverse}
 use Rattle.runs.specs.Commands.{command}
 use Rattle.state.specs.Listed.{with_list}
 use Rattle.state.specs.Prelude.{Course, Status}
 use Rattle.state.specs.Variables.{reads}
+use Rattle.steps.specs.Operand.{Outer, operand_on, waiting}
 use Rattle.tclparse.specs.Tree.{Parts, Words}
 use Rattle.words.specs.Words.{parts, words}
 
@@ -15,10 +16,12 @@ pub record Around : Type 0 where
   pub parts : Parts
 
 -- where a word stands: after these words of its command, the last one first, and before the rest;
--- the words are counted or not, and after {*} they are (Tcl(n), rules 2 and 5)
+-- the words are counted or not, and after {*} they are (Tcl(n), rules 2 and 5); or it is an operand
+-- of a formula (expr(n))
 pub data Word : Type 0 where
   Plain : (counted : Bool) (before : List (List ℕ)) (rest : Words) → Word
   Expands : (before : List (List ℕ)) (rest : Words) → Word
+  Operand : (outer : List Outer) → Word
 
 -- a word that is open: its bytes so far, where there is something of it, its parts that are left,
 -- the indexes in which these stand, the innermost first, and where it stands (Tcl(n), rules 7, 8
@@ -49,6 +52,7 @@ word_on levels (Plain counted before rest) = λ s value.
     words levels rest (reverse before ++ value ∷ []) s (command levels)
 word_on levels (Expands before rest) = λ s value.
     with_list value s (λ more. words levels rest (reverse before ++ more) s (command levels))
+word_on levels (Operand outer) = operand_on levels outer
 
 -- the course of an open word with these bytes so far
 abbrev pub course_with : ℕ → Open → List ℕ → Status → Course
@@ -65,16 +69,18 @@ abbrev pub around : List Around → List (List ℕ) → List (List ℕ)
 around [] below = below
 around (o ∷ os) below = with_bytes o.so_far (around os below)
 
--- the words before this one, the last one first
-abbrev pub before_of : Word → List (List ℕ)
-before_of (Plain counted before rest) = before
-before_of (Expands before rest) = before
+-- the words before this one, or the operands before it, on top of these
+abbrev pub before_of : Word → List (List ℕ) → List (List ℕ)
+before_of (Plain counted before rest) below = before ++ below
+before_of (Expands before rest) below = before ++ below
+before_of (Operand outer) below = waiting outer below
 
 -- whether the words are counted
 abbrev pub is_counted : Word → Bool
 is_counted (Plain counted before rest) = counted
 is_counted (Expands before rest) = true
+is_counted (Operand outer) = false
 
 -- the operands of an open word
 abbrev pub operands_of : Open → List (List ℕ) → List (List ℕ)
-operands_of o below = with_bytes o.so_far (around o.outer (before_of o.word ++ below))
+operands_of o below = with_bytes o.so_far (around o.outer (before_of o.word below))

@@ -3,6 +3,7 @@
 
 mod advancing;
 pub mod laws;
+mod operating;
 mod spot;
 mod stepping;
 mod stopped;

@@ -2,7 +2,8 @@
 
 ghost use Rattle.std.specs.Prelude.{◌≡◌, ◌-◌, [], ◌∷◌, length, Some, IfOk};
 ghost use Rattle.state.specs.Prelude.{Status};
-ghost use Rattle.steps.specs.Machine.{beginning, beginning_counted, counting, entering, joining, leaving, on_top, ticking};
+ghost use Rattle.steps.specs.Machine.{beginning, beginning_counted, counting, entering, joining, leaving, ticking};
+ghost use Rattle.steps.specs.Moves.{on_top};
 ghost use Rattle.steps.specs.Spot.{Over as is_over, Went as goes, beginning_at, with_top};
 ghost use Rattle.state.specs.Prelude.{Gives};
 ghost use Rattle.steps.specs.View.{did_of, spot_of, with_parts};

@@ -1,32 +1,24 @@
 //! One instruction.
 
-ghost use Rattle.std.specs.Prelude.{◌≡◌, ◌+◌, ◌<◌, length, slice_get, option_copied, IfOk, IfNone};
-ghost use Rattle.state.specs.Prelude.{Status, flaw_of};
+ghost use Rattle.std.specs.Prelude.{◌≡◌, ◌<◌, ◌≤◌, length, slice_get, option_copied, IfOk, IfNone};
+ghost use Rattle.state.specs.Piece.{ListText};
+ghost use Rattle.state.specs.Prelude.{Status};
 ghost use Rattle.steps.specs.Does.{Does};
-ghost use Rattle.steps.specs.Machine.{does as said, entering, fails, indexing, machine, reading, spread as spread_of, spreading};
-ghost use Rattle.steps.specs.Spot.{Spot as Standing, Splits as splits};
+ghost use Rattle.steps.specs.Machine.{does as said, entering, indexing, machine, reading, spread as spread_of, spreading};
+ghost use Rattle.steps.specs.Spot.{Reads as reads_text};
 ghost use Rattle.steps.specs.View.{did_of, spot_of, with_parts};
 
+use crate::operating::{apply, choose, join_both, jump, jump_unless, number, prefix, tell};
 use crate::spot::Spot;
-use crate::stopped::Stopped;
+use crate::stopped::{Stopped, failed};
 use acts::{Fault, NoMemory, Raise};
 use code::Instruction;
 use meanings::elements;
 use state::faults::no_script;
-use state::outcome::raised;
 use state::variables::trouble;
 use std::alloc::Allocator;
 use tclstate::Scopes;
 use tcltext::Value;
-
-/// The code is over with the script's error.
-fn failed<A: Allocator + Copy>(alloc: A, fault: Fault<A>) -> Result<Option<Stopped<A>>, NoMemory>
-    ensures { (spot : Standing) (s : Status) → IfOk result (λ stopped.
-        did_of stopped spot s ≡ fails (flaw_of fault) s) }
-{
-    let outcome = raised(alloc, &fault)?;
-    Ok(Some(Stopped::Over(outcome)))
-}
 
 /// Puts the value of a variable, or of an element, on top.
 fn read<A: Allocator + Copy>(
@@ -88,7 +80,7 @@ fn spread_text<A: Allocator + Copy>(
     text: &[u8],
 ) -> Result<Option<Stopped<A>>, NoMemory>
     ensures does { (s : Status) → IfOk result (λ stopped.
-        Does (splits text.now (spread_of (spot_of spot.old) s))
+        Does (reads_text (ListText text.now) (spread_of (spot_of spot.old) s))
         (did_of stopped (spot_of spot.new) s)) }
     ensures place { spot.new.place ≡ spot.old.place }
 {
@@ -125,7 +117,7 @@ fn perform<A: Allocator + Copy>(
     ensures does { (s : Status) → IfOk result (λ stopped. Does
         (said instruction.now (spot_of spot.old) (with_parts scopes.now left.old s))
         (did_of stopped (spot_of spot.new) (with_parts scopes.now left.new s))) }
-    ensures place { spot.new.place ≡ spot.old.place }
+    ensures place { spot.old.place ≤ spot.new.place }
 {
     match instruction {
         Instruction::Next => Ok(spot.tick(left)),
@@ -140,16 +132,16 @@ fn perform<A: Allocator + Copy>(
         Instruction::Command(n) => Ok(spot.begin_last(*n)?),
         Instruction::Counted => Ok(spot.begin_counted()?),
         Instruction::Fault(fault) => Ok(failed(alloc, no_script(*fault))?),
-        Instruction::Numeral(_)
-        | Instruction::Prefix(_)
-        | Instruction::Binary(_)
-        | Instruction::Call(_, _)
-        | Instruction::AndAlso(_)
-        | Instruction::OrElse(_)
-        | Instruction::Truth
-        | Instruction::Unless(_)
-        | Instruction::Jump(_)
-        | Instruction::Hole => Ok(Some(Stopped::Stuck)),
+        Instruction::Numeral(digits) => Ok(number(alloc, spot, digits)?),
+        Instruction::Prefix(operator) => Ok(prefix(alloc, spot, *operator)?),
+        Instruction::Binary(operator) => Ok(join_both(alloc, spot, *operator)?),
+        Instruction::Call(function, n) => Ok(apply(alloc, spot, *function, *n)?),
+        Instruction::AndAlso(place) => Ok(choose(alloc, spot, *place, false)?),
+        Instruction::OrElse(place) => Ok(choose(alloc, spot, *place, true)?),
+        Instruction::Truth => Ok(tell(alloc, spot)?),
+        Instruction::Unless(place) => Ok(jump_unless(alloc, spot, *place)?),
+        Instruction::Jump(place) => Ok(jump(spot, *place)),
+        Instruction::Hole => Ok(Some(Stopped::Stuck)),
     }
 }
 
@@ -169,7 +161,7 @@ pub fn step<A: Allocator + Copy>(
         (with_parts scopes.now left.old s))
         (did_of stopped (spot_of spot.new) (with_parts scopes.now left.new s))) }
     ensures onward { IfOk result (λ stopped. IfNone stopped
-        ((spot.old.place < length code.now) × (spot.new.place ≡ spot.old.place + 1))) }
+        ((spot.old.place < length code.now) × (spot.old.place < spot.new.place))) }
 {
     let Some(instruction) = code.get(spot.place) else {
         return Ok(Some(spot.finish()));

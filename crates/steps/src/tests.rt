@@ -1,10 +1,10 @@
 //! The commands that the code of a script begins, with their words, and how it ends.
 
 use crate::{Spot, Stopped, advance};
-use code::code_of;
+use code::{Instruction, code_of, formula_code};
+use formulas::Formula;
 use state::Leave;
 use std::alloc::{Allocator, Global};
-use std::process::Abort;
 use std::test::Fail;
 use tclparse::Script;
 use tclstate::Scopes;
@@ -60,16 +60,14 @@ fn show<A: Allocator>(shown: &mut Vec<u8, A>, stopped: &Stopped<A>) -> Result<bo
     Ok(goes_on)
 }
 
-/// The commands of a text, each with the value `v`, where 3 ticks are left.
-fn commands_of(alloc: Global, text: &[u8]) -> Result<Vec<u8>, Fail> {
-    let script = Script::read(alloc, text)?;
-    let code = code_of(alloc, &script)?;
+/// The commands of a code, each with the value `v`, and how it ends, where 3 ticks are left.
+fn commands_of(alloc: Global, code: &[Instruction<Global>]) -> Result<Vec<u8>, Fail> {
     let scopes = variables(alloc)?;
     let mut spot = Spot::new(alloc, 2)?;
     let mut left = 3;
     let mut shown = Vec::new(alloc);
     for _ in 0..9 {
-        let stopped = advance(alloc, &code, &mut spot, &scopes, &mut left)?;
+        let stopped = advance(alloc, code, &mut spot, &scopes, &mut left)?;
         if !show(&mut shown, &stopped)? {
             return Ok(shown);
         }
@@ -78,9 +76,20 @@ fn commands_of(alloc: Global, text: &[u8]) -> Result<Vec<u8>, Fail> {
     Ok(shown)
 }
 
-/// Holds the commands of a text against those that are wanted.
-fn compare(rt: &impl Abort, alloc: Global, text: &[u8], wanted: &[u8]) -> Result<(), Fail> {
-    let shown = commands_of(alloc, text)?;
+/// Holds the commands of a script against those that are wanted.
+fn compare(rt: &HostRuntime, text: &[u8], wanted: &[u8]) -> Result<(), Fail> {
+    let script = Script::read(rt.alloc(), text)?;
+    let code = code_of(rt.alloc(), &script)?;
+    let shown = commands_of(rt.alloc(), &code)?;
+    assert_eq!(rt; shown.as_slice(), wanted);
+    Ok(())
+}
+
+/// Holds the commands of a formula, and its value, against those that are wanted.
+fn evaluate(rt: &HostRuntime, text: &[u8], wanted: &[u8]) -> Result<(), Fail> {
+    let formula = Formula::read(rt.alloc(), text).ok().ok_or("a formula")?;
+    let code = formula_code(rt.alloc(), &formula)?;
+    let shown = commands_of(rt.alloc(), &code)?;
     assert_eq!(rt; shown.as_slice(), wanted);
     Ok(())
 }
@@ -90,14 +99,12 @@ fn words_are_those_of_the_rules(rt: HostRuntime) -> Result<(), Fail> {
     // Tcl(n), rule 5, whose example this is
     compare(
         &rt,
-        rt.alloc(),
         b"cmd a {*}{b [c]} d {*}{$e f \"g h\"}",
         b"<cmd><a><b><[c]><d><$e><f><g h>\nv\n",
     )?;
     // Tcl(n), rules 7, 8 and 11
     compare(
         &rt,
-        rt.alloc(),
         b"set y $a$t(x$i)[f \"$a b\"]z\nset {}",
         b"<f><1 b>\n<set><y><13vz>\n<set><>\nv\n",
     )?;
@@ -109,23 +116,30 @@ fn a_code_ends_early_by_an_error_or_the_limit(rt: HostRuntime) -> Result<(), Fai
     // set(n), a variable that does not exist; Tcl_SplitList(3); Tcl(n), rules 4 and 7
     compare(
         &rt,
-        rt.alloc(),
         b"a; b $none",
         b"<a>\ncan't read \"none\": no such variable\n",
     )?;
-    compare(
+    compare(&rt, b"a {*}\\{", b"unmatched open brace in list\n")?;
+    compare(&rt, b"a\nb \"", b"<a>\nmissing \"\n")?;
+    compare(&rt, b"a [b [c [d]]]", b"too many nested evaluations\n")?;
+    compare(&rt, b"a; b; c; d", b"<a>\n<b>\n<c>\nstopped\n")?;
+    Ok(())
+}
+
+#[test]
+fn a_formula_has_the_value_that_tclsh_gives(rt: HostRuntime) -> Result<(), Fail> {
+    // tclsh 8.6.13, with these variables, where the command `x` has the value `v`
+    evaluate(&rt, b"$a + 2 * $i", b"5\n")?;
+    evaluate(&rt, b"$a || [x]", b"1\n")?;
+    evaluate(&rt, b"!$a && [x]", b"0\n")?;
+    evaluate(&rt, b"$t(x2) > 2 ? \"yes\" : [x]", b"yes\n")?;
+    evaluate(&rt, b"max($a, 7, $i) - abs(-3)", b"4\n")?;
+    evaluate(&rt, b"[x] eq \"v\"", b"<x>\n1\n")?;
+    evaluate(&rt, b"1 / 0", b"divide by zero\n")?;
+    evaluate(
         &rt,
-        rt.alloc(),
-        b"a {*}\\{",
-        b"unmatched open brace in list\n",
+        b"\"b\" || 1",
+        b"expected boolean value but got \"b\"\n",
     )?;
-    compare(&rt, rt.alloc(), b"a\nb \"", b"<a>\nmissing \"\n")?;
-    compare(
-        &rt,
-        rt.alloc(),
-        b"a [b [c [d]]]",
-        b"too many nested evaluations\n",
-    )?;
-    compare(&rt, rt.alloc(), b"a; b; c; d", b"<a>\n<b>\n<c>\nstopped\n")?;
     Ok(())
 }

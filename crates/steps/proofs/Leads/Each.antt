@@ -1,21 +1,26 @@
 -- Each place.
-use Rattle.std.proofs.Common.{ℕ, ◌+◌, ◌≤◌, List, [], ◌∷◌, length, refl, sym, subst, arith}
+use Rattle.std.proofs.Common.{◌≡◌, ℕ, ◌+◌, ◌≤◌, List, [], ◌∷◌, length, refl, sym, subst, arith}
 use Rattle.std.specs.Prelude.{slice_get}
 use Rattle.std.proofs.lemmas.Option.{slice_get_past}
 use Rattle.code.specs.Code.{ScriptAt}
+use Rattle.code.specs.Formula.{FormulaAt}
 use Rattle.code.specs.declared.instruction.Instruction.{Instruction}
+use Rattle.evaluation.specs.Evaluated.{evaluated}
 use Rattle.plan.specs.Plan.{and_then, onward}
 use Rattle.runs.specs.Scripts.{plan_of}
 use Rattle.state.specs.Piece.{Script, ScriptTree}
-use Rattle.state.specs.Prelude.{Dialogue, Outcome, Status}
-use Rattle.steps.specs.Follows.{Here, Follows, InstructionsLead, CodeLeads, ScriptsBegin}
-use Rattle.steps.specs.Does.{Does, same, splits, Arrives, stays, then}
+use Rattle.state.specs.Prelude.{Dialogue, gives, Outcome, Status}
+use Rattle.tclparse.specs.Formula.{Formula}
+use Rattle.steps.specs.Follows.{Here, Follows, InstructionsLead, CodeLeads, FormulasBegin, ScriptsBegin}
+use Rattle.steps.specs.Does.{Does, same, reads, Arrives, stays, then}
 use Rattle.steps.specs.Goes.{here}
 use Rattle.steps.specs.Layout.{FramesAt, HeadAt}
 use Rattle.steps.specs.Machine.{machine}
-use Rattle.steps.specs.Places.{Head, Has, Part, Joins, Gathers, Frame, Rest, brackets, left_of, spot_at}
+use Rattle.steps.specs.Places.{Head, Has, Part, Joins, Gathers, Evaluates, Values, Frame, Rest, brackets, left_of, spot_at}
 use Rattle.steps.specs.Spot.{Spot, Did, beginning_at}
 use Rattle.steps.proofs.Leads.Opened.{joins_lead, open_leads}
+use Rattle.steps.proofs.Leads.Formulas.{formula_leads}
+use Rattle.steps.proofs.Leads.Operators.{operand_leads}
 use Rattle.steps.proofs.Leads.Scripts.{has_leads}
 use Rattle.steps.proofs.Leads.Standing.{silently, stands_here}
 use Rattle.steps.proofs.Leads.Words.{words_lead}
@@ -36,6 +41,10 @@ module _ {A X : Type 0} (code : List (Instruction A)) (last : Status → Outcome
       fits
   head_leads place levels (Gathers counted before rest) frames end s at behind fits =
       words_lead code last levels before frames s counted at.0 place rest end at.1 at.2 behind fits
+  head_leads place levels (Evaluates f outer) frames end s at behind fits =
+      formula_leads code last levels end frames s outer place f at.0 at.1 at.2 behind fits
+  head_leads place levels (Values v outer) frames end s at behind fits =
+      operand_leads code last levels end frames s place v outer at behind fits
 
   leads : (spot : Spot) (s : Status) (p : Dialogue X) → Here code last spot s p →
       Follows code last (machine (slice_get code spot.place) spot s) p
@@ -49,7 +58,7 @@ module _ {A X : Type 0} (code : List (Instruction A)) (last : Status → Outcome
   follows_does : {did end : Did} (p : Dialogue X) → Does did end → Follows code last did p →
       Follows code last end p
   follows_does p same f = f
-  follows_does p (splits split is more) f = follows_does p more (f split is)
+  follows_does p (reads tree is more) f = follows_does p more (f tree is)
 
   -- several instructions
   arrives_leads : (from : Spot) (s : Status) (p : Dialogue X) → Here code last from s p →
@@ -69,6 +78,15 @@ module _ {A X : Type 0} (code : List (Instruction A)) (last : Status → Outcome
       stands_here code last 0 levels (Has []) (Rest tree.commands tree.fault ∷ []) 0 s refl
       (length code, at, slice_get_past code (length code) (omega arith)) (omega (arith, fits))
 
+  -- where a formula begins
+  formula_begins : (f : Formula) (levels : ℕ) (s : Status) → FormulaAt code 0 f (length code) →
+      levels ≤ 255 →
+      Here code last (record { place = 0; operands = []; marks = []; levels = levels }) s
+      (and_then (evaluated levels f s (λ t value. gives value t)) (onward last))
+  formula_begins f levels s at fits =
+      stands_here code last 0 levels (Evaluates f []) [] (length code) s (length code, at, refl)
+      (slice_get_past code (length code) (omega arith)) (omega (arith, fits))
+
 pub instructions_lead : {A X : Type 0} → InstructionsLead A X
 instructions_lead = λ code last spot s p h. leads code last spot s p h
 
@@ -77,3 +95,6 @@ code_leads = λ code last spot s did p h arrives. arrives_leads code last spot s
 
 pub scripts_begin : {A X : Type 0} → ScriptsBegin A X
 scripts_begin = λ code last tree levels s at fits. begins code last tree levels s at fits
+
+pub formulas_begin : {A X : Type 0} → FormulasBegin A X
+formulas_begin = λ code last f levels s at fits. formula_begins code last f levels s at fits

@@ -1,16 +1,17 @@
 -- The operands of a command: its words, and those below them.
-use Rattle.std.proofs.Common.{◌≡◌, ◌∙◌, ℕ, ◌-◌, List, [], ◌∷◌, ◌++◌, take, drop, length, sym, ap, arith, length-append, ◌≤◌, if◌then◌else◌}
+use Rattle.std.proofs.Common.{◌≡◌, ◌∙◌, ℕ, ◌+◌, ◌-◌, List, [], ◌∷◌, ◌++◌, take, drop, length, refl, sym, ap, arith, length-append, ◌≤◌, if◌then◌else◌}
 use Rattle.std.specs.Prelude.{reverse}
 use mathlib.Core.List.{reverse-cons}
 use Rattle.std.proofs.lemmas.Bool.{le-leb}
 use Rattle.std.proofs.lemmas.List.{reverse-append, reverse-reverse, length-reverse}
 use Rattle.std.proofs.Math.Seq.{take-append_seam, drop-append_seam}
 use Rattle.state.specs.Prelude.{Status}
-use Rattle.steps.specs.Machine.{beginning, with_operands}
-use Rattle.steps.specs.Spot.{Spot, Begins, Stuck}
+use Rattle.steps.specs.Machine.{beginning}
+use Rattle.steps.specs.Moves.{with_operands}
+use Rattle.steps.specs.Spot.{Spot, Did, Begins, Stuck}
 
 -- the words, of which the last one is on top
-words_above : (words below : List (List ℕ)) →
+pub words_above : (words below : List (List ℕ)) →
     drop (length below) (reverse (words ++ below)) ≡ reverse words
 words_above words below =
     ap (drop (length below)) (reverse-append words below)
@@ -18,7 +19,7 @@ words_above words below =
     ∙ drop-append_seam (reverse below) (reverse words)
 
 -- the operands below them
-words_below : (words below : List (List ℕ)) →
+pub words_below : (words below : List (List ℕ)) →
     reverse (take (length below) (reverse (words ++ below))) ≡ below
 words_below words below =
     ap (λ os. reverse (take (length below) os)) (reverse-append words below)

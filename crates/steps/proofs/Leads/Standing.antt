@@ -1,5 +1,5 @@
 -- How a place is shown: by the instruction that stands there, and by the place that comes next.
-use Rattle.std.proofs.Common.{◌≡◌, ℕ, zero, suc, ◌+◌, ◌≤◌, List, [], ◌∷◌, Some, Result, Ok, Err, refl, sym, subst}
+use Rattle.std.proofs.Common.{◌≡◌, ℕ, zero, suc, ◌+◌, ◌≤◌, List, [], ◌∷◌, Option, None, Some, Result, Ok, Err, refl, sym, subst}
 use Rattle.std.specs.Prelude.{slice_get}
 use Rattle.code.specs.Code.{At}
 use Rattle.code.specs.declared.instruction.Instruction.{Instruction}
@@ -8,12 +8,12 @@ use Rattle.state.specs.Dialogue.{tick_of}
 use Rattle.state.specs.Outcome.{Stop}
 use Rattle.state.specs.Prelude.{Code, Course, Dialogue, Leaves, Outcome, Status, Stops}
 use Rattle.state.specs.Variables.{found}
-use Rattle.steps.specs.Follows.{Here, Comes, Follows}
+use Rattle.steps.specs.Follows.{Here, Comes, Waits, Follows}
 use Rattle.steps.specs.Goes.{Goes, here}
 use Rattle.steps.specs.Layout.{HeadAt, FramesAt}
 use Rattle.steps.specs.Machine.{machine, ticked, with_value}
 use Rattle.steps.specs.Places.{Head, Frame, Rest, Bracket, brackets, left_of, onward_of, spot_at}
-use Rattle.steps.specs.Spot.{Spot, Did, Went, Splits, Begins, Over, Stuck}
+use Rattle.steps.specs.Spot.{Spot, Did, Went, Reads, Begins, Over, Stuck}
 use Rattle.steps.proofs.Leads.Silent.{same_goes, then_goes}
 use Rattle.tclstate.specs.Scopes.{Trouble}
 
@@ -67,7 +67,7 @@ module _ {A X : Type 0} (code : List (Instruction A)) (last : Status → Outcome
   pub silently : {p q : Dialogue X} (did : Did) → Goes p q → Follows code last did q →
       Follows code last did p
   silently (Went spot s) g f = sooner spot s g f
-  silently (Splits text next) g f = λ split is. silently (next split) g (f split is)
+  silently (Reads text next) g f = λ tree is. silently (next tree) g (f tree is)
   silently (Begins words spot s) g f = record {
     next = f.next;
     goes = then_goes g f.goes;

@@ -1,6 +1,6 @@
-use Rattle.std.proofs.Common.{◌∙◌, None, refl, ap, inl, inr}
-use Rattle.steps.specs.Does.{same}
-use Rattle.steps.specs.Machine.{fails, indexing, reading}
+use Rattle.std.proofs.Common.{◌∙◌, None, refl, ap}
+use Rattle.steps.specs.Machine.{indexing, reading}
+use Rattle.steps.specs.Moves.{fails}
 use Rattle.steps.specs.Spot.{Went, with_top}
 use Rattle.steps.specs.View.{spot_of, with_parts}
 use Rattle.steps.proofs.Does.{does_so, same_does}
@@ -90,19 +90,72 @@ returns-in_ok-failed-in-Fault-clause-does g c = λ s.
     (same_does (c.in_ok-failed-in-Fault.ensures spot t
     ∙ ap (λ f. fails f t) c.no_script.ensures))
 
-pub returns-in-Numeral-clause-does : goal.returns-in-Numeral-clause-does
-returns-in-Numeral-clause-does g c = λ s.
-    let it = c.args.instruction.now in
+pub returns-in_ok-number-in-Numeral-clause-does : goal.returns-in_ok-number-in-Numeral-clause-does
+returns-in_ok-number-in-Numeral-clause-does g c = λ s.
+    let spot = spot_of c.args.spot.now in
     let t = with_parts c.args.scopes.now c.args.left.now s in
-    elim c.in-Numeral.is [
-      | inl (x, is) ↦ does_so it _ _ t is same
-      | inr (inl (x, is)) ↦ does_so it _ _ t is same
-      | inr (inr (inl (x, is))) ↦ does_so it _ _ t is same
-      | inr (inr (inr (inl (x, n, is)))) ↦ does_so it _ _ t is same
-      | inr (inr (inr (inr (inl (x, is))))) ↦ does_so it _ _ t is same
-      | inr (inr (inr (inr (inr (inl (x, is)))))) ↦ does_so it _ _ t is same
-      | inr (inr (inr (inr (inr (inr (inl is)))))) ↦ does_so it _ _ t is same
-      | inr (inr (inr (inr (inr (inr (inr (inl (x, is)))))))) ↦ does_so it _ _ t is same
-      | inr (inr (inr (inr (inr (inr (inr (inr (inl (x, is))))))))) ↦ does_so it _ _ t is same
-      | inr (inr (inr (inr (inr (inr (inr (inr (inr is)))))))) ↦ does_so it _ _ t is same
-    ]
+    does_so c.args.instruction.now _ spot t c.in-Numeral.is
+    (c.in_ok-number-in-Numeral.ensures.does t)
+
+pub returns-in_ok-prefix-in-Prefix-clause-does : goal.returns-in_ok-prefix-in-Prefix-clause-does
+returns-in_ok-prefix-in-Prefix-clause-does g c = λ s.
+    let spot = spot_of c.args.spot.now in
+    let t = with_parts c.args.scopes.now c.args.left.now s in
+    does_so c.args.instruction.now _ spot t c.in-Prefix.is
+    (c.in_ok-prefix-in-Prefix.ensures.does t)
+
+pub returns-in_ok-join_both-in-Binary-clause-does : goal.returns-in_ok-join_both-in-Binary-clause-does
+returns-in_ok-join_both-in-Binary-clause-does g c = λ s.
+    let spot = spot_of c.args.spot.now in
+    let t = with_parts c.args.scopes.now c.args.left.now s in
+    does_so c.args.instruction.now _ spot t c.in-Binary.is
+    (c.in_ok-join_both-in-Binary.ensures.does t)
+
+pub returns-in_ok-apply-in-Call-clause-does : goal.returns-in_ok-apply-in-Call-clause-does
+returns-in_ok-apply-in-Call-clause-does g c = λ s.
+    let spot = spot_of c.args.spot.now in
+    let t = with_parts c.args.scopes.now c.args.left.now s in
+    does_so c.args.instruction.now _ spot t c.in-Call.is
+    (c.in_ok-apply-in-Call.ensures.does t)
+
+pub returns-in_ok-choose-in-AndAlso-clause-does : goal.returns-in_ok-choose-in-AndAlso-clause-does
+returns-in_ok-choose-in-AndAlso-clause-does g c = λ s.
+    let spot = spot_of c.args.spot.now in
+    let t = with_parts c.args.scopes.now c.args.left.now s in
+    does_so c.args.instruction.now _ spot t c.in-AndAlso.is
+    (same_does (c.in_ok-choose-in-AndAlso.ensures.does t))
+
+pub returns-in_ok-choose-in-OrElse-clause-does : goal.returns-in_ok-choose-in-OrElse-clause-does
+returns-in_ok-choose-in-OrElse-clause-does g c = λ s.
+    let spot = spot_of c.args.spot.now in
+    let t = with_parts c.args.scopes.now c.args.left.now s in
+    does_so c.args.instruction.now _ spot t c.in-OrElse.is
+    (same_does (c.in_ok-choose-in-OrElse.ensures.does t))
+
+pub returns-in_ok-tell-in-Truth-clause-does : goal.returns-in_ok-tell-in-Truth-clause-does
+returns-in_ok-tell-in-Truth-clause-does g c = λ s.
+    let spot = spot_of c.args.spot.now in
+    let t = with_parts c.args.scopes.now c.args.left.now s in
+    does_so c.args.instruction.now _ spot t c.in-Truth.is
+    (c.in_ok-tell-in-Truth.ensures.does t)
+
+pub returns-in_ok-jump_unless-in-Unless-clause-does : goal.returns-in_ok-jump_unless-in-Unless-clause-does
+returns-in_ok-jump_unless-in-Unless-clause-does g c = λ s.
+    let spot = spot_of c.args.spot.now in
+    let t = with_parts c.args.scopes.now c.args.left.now s in
+    does_so c.args.instruction.now _ spot t c.in-Unless.is
+    (same_does (c.in_ok-jump_unless-in-Unless.ensures.does t))
+
+pub returns-in-Jump-clause-does : goal.returns-in-Jump-clause-does
+returns-in-Jump-clause-does g c = λ s.
+    let spot = spot_of c.args.spot.now in
+    let t = with_parts c.args.scopes.now c.args.left.now s in
+    does_so c.args.instruction.now _ spot t c.in-Jump.is
+    (same_does (c.jump.ensures.does t))
+
+pub returns-in-Hole-clause-does : goal.returns-in-Hole-clause-does
+returns-in-Hole-clause-does g c = λ s.
+    let spot = spot_of c.args.spot.now in
+    let t = with_parts c.args.scopes.now c.args.left.now s in
+    does_so c.args.instruction.now _ spot t c.in-Hole.is
+    (same_does refl)

@@ -1,6 +1,7 @@
 use Rattle.std.proofs.Common.{◌∙◌, Some, sym, ap}
 use Rattle.std.specs.Prelude.{reverse}
-use Rattle.steps.specs.Machine.{on_top, reading, with_operands}
+use Rattle.steps.specs.Machine.{reading}
+use Rattle.steps.specs.Moves.{on_top, with_operands}
 use Rattle.steps.specs.View.{spot_of}
 use Rattle.steps.proofs.Does.{one_on_top}
 use Rattle.steps.proofs.stepping.read_element.Goals as goal

@@ -4,8 +4,10 @@ use Rattle.std.proofs.lemmas.List.{reverse-append}
 use Rattle.acts.specs.declared.raise.Raise.TheVariants as meant
 use Rattle.meanings.specs.View.{IsNoList}
 use Rattle.std.proofs.Common.{subst}
-use Rattle.steps.specs.Does.{splits}
-use Rattle.steps.specs.Machine.{fails, spread, with_operands}
+use Rattle.state.specs.Piece.{ListText}
+use Rattle.steps.specs.Does.{reads}
+use Rattle.steps.specs.Machine.{spread}
+use Rattle.steps.specs.Moves.{fails, with_operands}
 use Rattle.steps.specs.Spot.{Went}
 use Rattle.steps.specs.View.{did_of, spot_of}
 use Rattle.steps.proofs.Does.{no_list_does, same_does}
@@ -17,7 +19,7 @@ returns-in_ok-append-in-Ok-clause-does g c = λ s.
     let old = c.args.spot.now.operands.items in
     let elements = c.in-Ok.elements.items in
     let put : c.append.new.self.items ≡ old ++ elements = search rules in
-    splits (Ok elements) c.in-Ok.ensures.list
+    reads {text = ListText c.args.text.now} (Ok elements) c.in-Ok.ensures.list
     (same_does (ap (λ os. Went (with_operands os spot) s)
     (ap reverse put ∙ reverse-append old elements)))
 

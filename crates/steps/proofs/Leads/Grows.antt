@@ -1,0 +1,60 @@
+-- Code ends at its beginning, or after it.
+use Rattle.std.proofs.Common.{ℕ, ◌+◌, ◌≤◌, List, Bool, arith}
+use Rattle.code.specs.Code.{JoinsAt, first, joined, PartsAt, over, empty, text, value, item, bracket, WordsAt, begins, begins_counted, one, counts, spread, CommandsAt, done, next}
+use Rattle.code.specs.Formula.{FormulaAt, number, parts, called, prefixed, joined as in_row, chosen, LinksAt, no_more, both, and_also, or_else, ArgumentsAt, no_argument, argument}
+use Rattle.code.specs.declared.instruction.Instruction.{Instruction}
+use Rattle.tclparse.specs.Formula.{Formula, Links, Formulas}
+use Rattle.tclparse.specs.Tree.{Parts, Words, Commands}
+
+module _ {A : Type 0} (code : List (Instruction A)) where
+  joins_grow : {more : Bool} {place end : ℕ} → JoinsAt code more place end → place ≤ end
+  joins_grow first = omega arith
+  joins_grow (joined at) = omega arith
+
+  mutual
+    parts_grow : {more : Bool} {place : ℕ} {ps : Parts} {end : ℕ} → PartsAt code more place ps end →
+        place ≤ end
+    parts_grow over = omega arith
+    parts_grow (empty at) = omega arith
+    parts_grow (text bytes at joins rest) = omega (arith, joins_grow joins, parts_grow rest)
+    parts_grow (value at joins rest) = omega (arith, joins_grow joins, parts_grow rest)
+    parts_grow (item inside at joins rest) =
+        omega (arith, parts_grow inside, joins_grow joins, parts_grow rest)
+    parts_grow (bracket enter commands leave joins rest) =
+        omega (arith, commands_grow commands, joins_grow joins, parts_grow rest)
+
+    words_grow : {counted : Bool} {count place : ℕ} {ws : Words} {end : ℕ} →
+        WordsAt code counted count place ws end → place ≤ end
+    words_grow (begins at) = omega arith
+    words_grow (begins_counted at) = omega arith
+    words_grow (one ps rest) = omega (arith, parts_grow ps, words_grow rest)
+    words_grow (counts at rest) = omega (arith, words_grow rest)
+    words_grow (spread ps at rest) = omega (arith, parts_grow ps, words_grow rest)
+
+    commands_grow : {place : ℕ} {cs : Commands} {end : ℕ} → CommandsAt code place cs end →
+        place ≤ end
+    commands_grow done = omega arith
+    commands_grow (next at ws rest) = omega (arith, words_grow ws, commands_grow rest)
+
+  mutual
+    pub formula_grows : {place : ℕ} {f : Formula} {end : ℕ} → FormulaAt code place f end →
+        place ≤ end
+    formula_grows (number at) = omega arith
+    formula_grows (parts ps) = parts_grow ps
+    formula_grows (called fs at) = omega (arith, arguments_grow fs)
+    formula_grows (prefixed f at) = omega (arith, formula_grows f)
+    formula_grows (in_row f ls) = omega (arith, formula_grows f, links_grow ls)
+    formula_grows (chosen test unless this jump other) =
+        omega (arith, formula_grows test, formula_grows this, formula_grows other)
+
+    links_grow : {place : ℕ} {ls : Links} {end : ℕ} → LinksAt code place ls end → place ≤ end
+    links_grow no_more = omega arith
+    links_grow (both f at ls) = omega (arith, formula_grows f, links_grow ls)
+    links_grow (and_also at f truth ls) = omega (arith, formula_grows f, links_grow ls)
+    links_grow (or_else at f truth ls) = omega (arith, formula_grows f, links_grow ls)
+
+    arguments_grow : {place : ℕ} {fs : Formulas} {count end : ℕ} → ArgumentsAt code place fs count
+        end →
+        place ≤ end
+    arguments_grow no_argument = omega arith
+    arguments_grow (argument f fs) = omega (arith, formula_grows f, arguments_grow fs)

@@ -1,0 +1,32 @@
+use Rattle.std.proofs.Common.{◌≡◌, subst, sym, rules}
+use Rattle.std.specs.Prelude.{reverse}
+use Rattle.evaluation.specs.Evaluated.{told}
+use Rattle.meanings.specs.View.{Answers}
+use Rattle.operators.specs.Truth.{truth_of}
+use Rattle.operators.specs.Unary.{unary}
+use Rattle.steps.specs.Does.{Does}
+use Rattle.steps.specs.Formulas.{gives, prefixing}
+use Rattle.steps.specs.Moves.{on_top, with_operands}
+use Rattle.steps.specs.Spot.{Stuck}
+use Rattle.steps.specs.View.{did_of, spot_of}
+use Rattle.steps.proofs.Does.{one_on_top, same_does}
+use Rattle.steps.proofs.operating.prefix.Goals as goal
+
+pub returns-in_default-clause-does : goal.returns-in_default-clause-does
+returns-in_default-clause-does g c = λ s.
+    let stuck : Stuck ≡ prefixing c.args.operator (spot_of c.args.spot.now) s = search rules in
+    same_does stuck
+
+pub returns-clause-does : goal.returns-clause-does
+returns-clause-does g c = λ s.
+    let spot = spot_of c.args.spot.now in
+    let old = c.args.spot.now.operands.items in
+    let new = c.pop.new.self.items in
+    let v = c.in-Some.value in
+    let answers : Answers (unary c.args.operator v) c.unary-value.result =
+    subst (λ t. Answers (unary c.args.operator t) c.unary-value.result) c.text.ensures c.unary-value.ensures in
+    subst (λ os. Does
+    (on_top os (λ value below. gives (unary c.args.operator value) (with_operands below spot) s))
+    (did_of c.in_ok-settle.field-0 (spot_of c.settle.new.spot) s))
+    (sym (one_on_top old new c.pop.result v c.pop.ensures.items c.in-Some.is))
+    (c.in_ok-settle.ensures.does (unary c.args.operator v) s answers)

@@ -1,0 +1,18 @@
+-- What the instructions of all kinds have in common.
+use Rattle.std.specs.Prelude.{ℕ, List, [], ◌∷◌}
+use Rattle.state.specs.Prelude.{Flaw, text_of, Error, Leaves, Status}
+use Rattle.steps.specs.Spot.{Spot, Did, Over, Stuck}
+
+-- the code is over with an error, whose value is the error's text (Tcl(n), return codes)
+abbrev pub fails : Flaw → Status → Did
+fails flaw s = Over (Leaves Error (text_of flaw)) s
+
+-- what is done with the first of these and with those after it, where there is one (this project's
+-- own rule)
+abbrev pub on_top : {X : Type 0} → List X → (X → List X → Did) → Did
+on_top [] next = Stuck
+on_top (x ∷ below) next = next x below
+
+-- the same with these operands (this project's own rule)
+abbrev pub with_operands : List (List ℕ) → Spot → Spot
+with_operands operands spot = record spot { operands = operands }

@@ -1,0 +1,233 @@
+//! The instructions of formulas.
+
+ghost use Rattle.std.specs.Prelude.{◌≡◌, ◌≤◌, ◌-◌, ◌∷◌, length, map, IfOk};
+ghost use Rattle.evaluation.specs.Evaluated.{told as told_of};
+ghost use Rattle.evaluation.specs.Pending.{TruthIs};
+ghost use Rattle.meanings.specs.Meaning.{Meaning};
+ghost use Rattle.meanings.specs.View.{Answers};
+ghost use Rattle.operators.specs.Truth.{truth_of};
+ghost use Rattle.state.specs.Prelude.{Status};
+ghost use Rattle.steps.specs.Does.{Does};
+ghost use Rattle.steps.specs.Formulas.{calling, choosing, deciding, gives, joining_both, jumping, prefixing, putting, telling, unless as unless_of};
+ghost use Rattle.steps.specs.View.{did_of, spot_of};
+
+use crate::spot::Spot;
+use crate::stopped::{Stopped, failed};
+use acts::{Fault, NoMemory, Raise};
+use operators::{Operand, binary, call, truth, unary, written};
+use std::alloc::Allocator;
+use tclparse::{Binary, Function, Unary};
+use tcltext::Value;
+
+/// Puts the value of a function of texts on top, or the code is over with its error.
+fn settle<A: Allocator + Copy>(
+    alloc: A,
+    spot: &mut Spot<A>,
+    value: Result<Operand<A>, Raise<A>>,
+) -> Result<Option<Stopped<A>>, NoMemory>
+    ensures does { (meaning : Meaning) (s : Status) → Answers meaning value →
+        IfOk result (λ stopped. Does (gives meaning (spot_of spot.old) s)
+        (did_of stopped (spot_of spot.new) s)) }
+    ensures place { spot.new.place ≡ spot.old.place }
+{
+    match value {
+        Ok(value) => Ok(spot.put(value.into_text(alloc)?)?),
+        Err(Raise::Fault(fault)) => Ok(failed(alloc, fault)?),
+        Err(Raise::NoMemory(refusal)) => Err(refusal),
+    }
+}
+
+/// Puts the value of a numeral on top.
+pub fn number<A: Allocator + Copy>(
+    alloc: A,
+    spot: &mut Spot<A>,
+    digits: &Value<A>,
+) -> Result<Option<Stopped<A>>, NoMemory>
+    ensures does { (s : Status) → IfOk result (λ stopped.
+        Does (putting digits.now (spot_of spot.old) s) (did_of stopped (spot_of spot.new) s)) }
+    ensures place { spot.new.place ≡ spot.old.place }
+{
+    let digits = digits.share()?;
+    let value = written(digits);
+    Ok(settle(alloc, spot, value)?)
+}
+
+/// Replaces the operand on top by the value of a prefix operator.
+pub fn prefix<A: Allocator + Copy>(
+    alloc: A,
+    spot: &mut Spot<A>,
+    operator: Unary,
+) -> Result<Option<Stopped<A>>, NoMemory>
+    ensures does { (s : Status) → IfOk result (λ stopped.
+        Does (prefixing operator (spot_of spot.old) s) (did_of stopped (spot_of spot.new) s)) }
+    ensures place { spot.new.place ≡ spot.old.place }
+{
+    let Some(value) = spot.operands.pop() else {
+        return Ok(Some(Stopped::Stuck));
+    };
+    let value = unary(alloc, operator, &Operand::text(value));
+    Ok(settle(alloc, spot, value)?)
+}
+
+/// Replaces the two upper operands by the value of an operator.
+pub fn join_both<A: Allocator + Copy>(
+    alloc: A,
+    spot: &mut Spot<A>,
+    operator: Binary,
+) -> Result<Option<Stopped<A>>, NoMemory>
+    ensures does { (s : Status) → IfOk result (λ stopped.
+        Does (joining_both operator (spot_of spot.old) s) (did_of stopped (spot_of spot.new) s)) }
+    ensures place { spot.new.place ≡ spot.old.place }
+{
+    let Some(right) = spot.operands.pop() else {
+        return Ok(Some(Stopped::Stuck));
+    };
+    let Some(left) = spot.operands.pop() else {
+        return Ok(Some(Stopped::Stuck));
+    };
+    let value = binary(alloc, operator, &Operand::text(left), &Operand::text(right));
+    Ok(settle(alloc, spot, value)?)
+}
+
+/// The truth value of an operand as 0 or 1.
+fn told<A: Allocator + Copy>(alloc: A, operand: &Operand<A>) -> Result<Operand<A>, Raise<A>>
+    ensures { Answers (told_of (truth_of operand.now)) result }
+{
+    match truth(alloc, operand) {
+        Ok(holds) => Ok(Operand::truth(holds)),
+        Err(fault) => Err(fault),
+    }
+}
+
+/// Replaces the operand on top by its truth value.
+pub fn tell<A: Allocator + Copy>(
+    alloc: A,
+    spot: &mut Spot<A>,
+) -> Result<Option<Stopped<A>>, NoMemory>
+    ensures does { (s : Status) → IfOk result (λ stopped.
+        Does (telling (spot_of spot.old) s) (did_of stopped (spot_of spot.new) s)) }
+    ensures place { spot.new.place ≡ spot.old.place }
+{
+    let Some(value) = spot.operands.pop() else {
+        return Ok(Some(Stopped::Stuck));
+    };
+    let value = told(alloc, &Operand::text(value));
+    Ok(settle(alloc, spot, value)?)
+}
+
+/// This place is next; there is no way back.
+pub fn jump<A: Allocator + Copy>(spot: &mut Spot<A>, place: usize) -> Option<Stopped<A>>
+    ensures does { (s : Status) →
+        did_of result (spot_of spot.new) s ≡ jumping place (spot_of spot.old) s }
+    ensures place { spot.old.place ≤ spot.new.place }
+{
+    if place < spot.place {
+        return Some(Stopped::Stuck);
+    }
+    spot.place = place;
+    None
+}
+
+/// The truth value of a text, or the script's error where it has none.
+fn tested<A: Allocator + Copy>(alloc: A, text: Value<A>) -> Result<Result<bool, Fault<A>>, NoMemory>
+    ensures { IfOk result (λ test. TruthIs test text) }
+{
+    match truth(alloc, &Operand::text(text)) {
+        Ok(holds) => Ok(Ok(holds)),
+        Err(Raise::Fault(fault)) => Ok(Err(fault)),
+        Err(Raise::NoMemory(refusal)) => Err(refusal),
+    }
+}
+
+/// Where the left operand has the truth value that decides, puts that on top and jumps.
+fn decide<A: Allocator + Copy>(
+    alloc: A,
+    spot: &mut Spot<A>,
+    place: usize,
+    known: bool,
+    holds: bool,
+) -> Result<Option<Stopped<A>>, NoMemory>
+    ensures does { (s : Status) → IfOk result (λ stopped.
+        did_of stopped (spot_of spot.new) s ≡ deciding known holds place (spot_of spot.old) s) }
+    ensures place { spot.old.place ≤ spot.new.place }
+{
+    if known != holds {
+        return Ok(None);
+    }
+    let value = Operand::truth(holds).into_text(alloc)?;
+    spot.operands.push(value)?;
+    Ok(jump(spot, place))
+}
+
+/// After the left operand of `&&` or `||`, which is decided by this truth value.
+pub fn choose<A: Allocator + Copy>(
+    alloc: A,
+    spot: &mut Spot<A>,
+    place: usize,
+    known: bool,
+) -> Result<Option<Stopped<A>>, NoMemory>
+    ensures does { (s : Status) → IfOk result (λ stopped.
+        did_of stopped (spot_of spot.new) s ≡ choosing place known (spot_of spot.old) s) }
+    ensures place { spot.old.place ≤ spot.new.place }
+{
+    let Some(value) = spot.operands.pop() else {
+        return Ok(Some(Stopped::Stuck));
+    };
+    match tested(alloc, value)? {
+        Ok(holds) => Ok(decide(alloc, spot, place, known, holds)?),
+        Err(fault) => Ok(failed(alloc, fault)?),
+    }
+}
+
+/// Drops the truth value on top, and jumps where it is false.
+pub fn jump_unless<A: Allocator + Copy>(
+    alloc: A,
+    spot: &mut Spot<A>,
+    place: usize,
+) -> Result<Option<Stopped<A>>, NoMemory>
+    ensures does { (s : Status) → IfOk result (λ stopped.
+        did_of stopped (spot_of spot.new) s ≡ unless_of place (spot_of spot.old) s) }
+    ensures place { spot.old.place ≤ spot.new.place }
+{
+    let Some(value) = spot.operands.pop() else {
+        return Ok(Some(Stopped::Stuck));
+    };
+    match tested(alloc, value)? {
+        Ok(true) => Ok(None),
+        Ok(false) => Ok(jump(spot, place)),
+        Err(fault) => Ok(failed(alloc, fault)?),
+    }
+}
+
+/// Texts as operands.
+fn as_operands<A: Allocator + Copy>(
+    alloc: A,
+    texts: &[Value<A>],
+) -> Result<Vec<Operand<A>, A>, NoMemory>
+    ensures { IfOk result (λ operands. operands.items ≡ texts.now) }
+{
+    let mut operands = Vec::with_capacity(alloc, texts.len())?;
+    for text in texts {
+        operands.push(Operand::text(text.share()?))?;
+    }
+    Ok(operands)
+}
+
+/// Replaces this many upper operands by the value of a function.
+pub fn apply<A: Allocator + Copy>(
+    alloc: A,
+    spot: &mut Spot<A>,
+    function: Function,
+    n: usize,
+) -> Result<Option<Stopped<A>>, NoMemory>
+    ensures does { (s : Status) → IfOk result (λ stopped. Does
+        (calling function (length (spot_of spot.old).operands - n) (spot_of spot.old) s)
+        (did_of stopped (spot_of spot.new) s)) }
+    ensures place { spot.new.place ≡ spot.old.place }
+{
+    let below = spot.operands.len().saturating_sub(n);
+    let texts = spot.operands.split_off(below)?;
+    let operands = as_operands(alloc, &texts)?;
+    let value = call(alloc, function, &operands);
+    Ok(settle(alloc, spot, value)?)
+}
