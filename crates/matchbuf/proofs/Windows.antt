@@ -1,12 +1,12 @@
 -- The window of a journal is the history from one place on, so each record changes it as the calls
 -- do.
-use Rattle.std.proofs.Common.{◌≡◌, ℕ, zero, suc, ◌+◌, ◌-◌, ◌<◌, ◌≤◌, max, Bool, true, false, ◌&&◌, ◌↔◌, cond, nat_le, nat_lt, nat_eq, slice_index, if◌then◌else◌, IsTrue, List, [], ◌∷◌, ◌++◌, length, map, take, drop, filter, refl, sym, ap, ◌∙◌, arith, append_assoc, length-append, length-drop}
+use Rattle.std.proofs.Common.{◌≡◌, ℕ, zero, suc, ◌+◌, ◌-◌, ◌<◌, ◌≤◌, max, Bool, true, false, ◌&&◌, ◌↔◌, cond, nat_le, nat_lt, nat_eq, slice_index, if◌then◌else◌, IsTrue, List, [], ◌∷◌, ◌++◌, length, map, drop, filter, refl, sym, ap, ◌∙◌, arith, append_assoc, length-append, length-drop}
 use Rattle.std.proofs.lemmas.Bool.Decides.{nat_tests}
-use Rattle.std.proofs.lemmas.List.{append-nil, drop-append-le, drop-drop, drop-take, length-map, length-take, take-append-drop, take-append-le, take-take}
-use Rattle.std.proofs.Math.Seq.{get_or-append_seam, take-length}
+use Rattle.std.proofs.lemmas.List.{drop-append-le, drop-drop, length-map}
+use Rattle.std.proofs.Math.Seq.{get_or-append_seam}
 use Rattle.std.proofs.Math.ListN.{drop_of_length-le}
 use Rattle.std.specs.List.{list_all, range_with_len}
-use Rattle.circular_buffer.specs.Buffer.{Buffer, buffer, keep_last}
+use Rattle.circular_buffer.specs.Buffer.{keep_last}
 use Rattle.matchbuf.specs.Held.{Held, held}
 use Rattle.matchbuf.specs.Journal.{Record, Arrived, Consumed, Sized, history, size_of, IsJournal, moments, spares, remembers, has_come, is_kept, is_visible, visible_places, window, place_after, Fits}
 use Rattle.matchbuf.specs.Laws.{ArrivalsJoin, ConsumptionsTake, SizesKeep, WindowsEnd, VisibleAtEnd, GoneForGood, ShortJournals, WindowsHold}
@@ -279,24 +279,7 @@ fits_sized j b size fits =
       max = refl;
     }
 
--- the last n of the last m elements are the last n
-pub kept_within : (n m : ℕ) (xs : List ℕ) → n ≤ m → keep_last n (keep_last m xs) ≡ keep_last n xs
-kept_within n m xs le =
-    let over = length xs - m in
-    let more = length (drop over xs) - n in
-    let all : over + more ≡ length xs - n = omega (arith, length-drop over xs) in
-    drop-drop more over xs ∙ ap (λ k. drop k xs) all
-
--- a ring that took an arrival and then kept as many bytes as it may hold
-pub arrived : (m : ℕ) (before taken kept : Buffer ℕ) (bytes : List ℕ) → m ≤ before.capacity
-    → taken ≡ buffer (keep_last before.capacity (before.items ++ bytes)) before.capacity
-    → kept ≡ buffer (keep_last m taken.items) taken.capacity
-    → kept.items ≡ keep_last m (before.items ++ bytes)
-arrived m before taken kept bytes le e₁ e₂ =
-    ap (λ (b : Buffer ℕ). b.items) e₂ ∙ ap (λ (b : Buffer ℕ). keep_last m b.items) e₁
-    ∙ kept_within m before.capacity (before.items ++ bytes) le
-
--- a ring that is filled in two parts holds what one filled at once would
+-- of bytes that are added in two parts, those stay that would if they were added at once
 pub kept_twice : (m : ℕ) (first second : List ℕ)
     → keep_last m (keep_last m ([] ++ first) ++ second) ≡ keep_last m (first ++ second)
 kept_twice m first second =
@@ -313,82 +296,3 @@ kept_twice m first second =
     ) in
     ap (drop more) (sym joined) ∙ drop-drop more over (first ++ second)
     ∙ ap (λ k. drop k (first ++ second)) all
-
--- a new ring, after both parts of an old one went in
-pub refilled : (m : ℕ) (one two three : Buffer ℕ) (first second bytes : List ℕ) → one ≡ buffer [] m
-    → two ≡ buffer (keep_last one.capacity (one.items ++ first)) one.capacity
-    → three ≡ buffer (keep_last two.capacity (two.items ++ second)) two.capacity → first ++ second
-    ≡ bytes
-    → three.items ≡ keep_last m bytes
-refilled m one two three first second bytes e₁ e₂ e₃ e =
-    rw e₃ (rw e₂ (rw e₁ (kept_twice m first second ∙ ap (keep_last m) e)))
-
--- the bytes, with the first m moved after the last one
-abbrev pub turned : ℕ → List ℕ → List ℕ
-turned m xs = drop m xs ++ take m xs
-
-pub length-turned : (m : ℕ) (xs : List ℕ) → m ≤ length xs → length (turned m xs) ≡ length xs
-length-turned m xs le =
-    omega (arith, length-append (drop m xs) (take m xs), length-drop m xs, length-take m xs)
-
--- where all bytes are still to be moved, or none is, they stand as before
-pub turned_none : (left : ℕ) (xs : List ℕ) → left ≡ length xs → turned (length xs - left) xs ≡ xs
-turned_none left xs is =
-    let none : length xs - left ≡ 0 = omega (arith, is) in
-    ap (λ m. turned m xs) none ∙ append-nil xs
-
-pub turned_all : (left : ℕ) (xs : List ℕ) → left ≡ 0 → turned (length xs - left) xs ≡ xs
-turned_all left xs is =
-    let all : length xs - left ≡ length xs = omega (arith, is) in
-    ap (λ m. turned m xs) all
-    ∙ ap (λ ys. ys ++ take (length xs) xs) (drop_of_length-le xs (omega arith))
-    ∙ take-length xs
-
--- k more bytes are moved after the last one
-turned_on : (m k : ℕ) (xs : List ℕ) → m + k ≤ length xs →
-    drop k (turned m xs) ++ take k (turned m xs) ≡ turned (m + k) xs
-turned_on m k xs le =
-    let within : k ≤ length (drop m xs) = omega (arith, length-drop m xs) in
-    let front : take m xs ++ take k (drop m xs) ≡ take (m + k) xs =
-    ap (λ ys. ys ++ take k (drop m xs)) (sym (take-take m (m + k) xs (omega arith)))
-    ∙ ap (λ ys. take m (take (m + k) xs) ++ ys) (sym (drop-take m k xs))
-    ∙ take-append-drop m (take (m + k) xs) in
-    ap (λ ys. ys ++ take k (turned m xs)) (drop-append-le k (drop m xs) (take m xs) within
-    ∙ ap (λ ys. ys ++ take m xs) (drop-drop k m xs))
-    ∙ ap (λ ys. (drop (m + k) xs ++ take m xs) ++ ys)
-    (take-append-le k (drop m xs) (take m xs) within)
-    ∙ append_assoc (drop (m + k) xs) (take m xs) (take k (drop m xs))
-    ∙ ap (λ ys. drop (m + k) xs ++ ys) front
-
--- a ring of which some bytes were read from its front and put after its last ones
-pub brought : (xs : List ℕ) (left k : ℕ) (before read after : Buffer ℕ) (room filled : List ℕ)
-    → left ≤ length xs → before.items ≡ turned (length xs - left) xs
-    → length before.items ≤ before.capacity → length room ≤ left → k ≡ length room
-    → filled ≡ take k before.items ++ drop k room
-    → read ≡ buffer (drop k before.items) before.capacity
-    → after ≡ buffer (keep_last read.capacity (read.items ++ filled)) read.capacity
-    → after ≡ buffer (turned (length xs - (left - k)) xs) before.capacity
-brought xs left k before read after room filled inside is fits some count e₁ e₂ e₃ =
-    let m = length xs - left in
-    let none : drop k room ≡ [] = drop_of_length-le room (omega arith) in
-    let all : filled ≡ take k before.items =
-    e₁ ∙ ap (λ ys. take k before.items ++ ys) none ∙ append-nil (take k before.items) in
-    let on : read.items ++ filled ≡ turned (m + k) xs =
-    ap (λ (b : Buffer ℕ). b.items ++ filled) e₂
-    ∙ ap (λ ys. drop k before.items ++ ys) all
-    ∙ ap (λ ys. drop k ys ++ take k ys) is
-    ∙ turned_on m k xs (omega arith) in
-    let same : m + k ≡ length xs - (left - k) = omega arith in
-    let room_for : length (turned (m + k) xs) ≤ before.capacity =
-    omega (
-      arith,
-      length-turned m xs (omega arith),
-      length-turned (m + k) xs (omega arith),
-      ap length is,
-    ) in
-    let no_more : length (turned (m + k) xs) - before.capacity ≡ 0 = omega (arith, room_for) in
-    let capacity : read.capacity ≡ before.capacity = ap (λ (b : Buffer ℕ). b.capacity) e₂ in
-    e₃ ∙ ap (λ ys. buffer (keep_last read.capacity ys) read.capacity) on
-    ∙ ap (λ n. buffer (keep_last n (turned (m + k) xs)) n) capacity
-    ∙ ap (λ n. buffer (drop n (turned (m + k) xs)) before.capacity) no_more
-    ∙ ap (λ n. buffer (turned n xs) before.capacity) same

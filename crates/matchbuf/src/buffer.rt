@@ -1,13 +1,14 @@
 //! The match buffer of one spawned process or connection.
-ghost use Rattle.std.specs.Prelude.{◌≡◌, ◌≤◌, ◌↔◌, ◌++◌, ◌∷◌, [], ℕ, List, length, drop};
+ghost use Rattle.std.specs.Prelude.{◌≡◌, ◌+◌, ◌-◌, ◌≤◌, ◌↔◌, ◌++◌, ◌∷◌, [], ℕ, List, length};
+ghost use Rattle.std.specs.Prelude.{take, drop, ◌<◌, ◌^◌};
 ghost use Rattle.std.specs.Prelude.{IfOk, IfErr, OnOk, OnErr, IsTrue};
 ghost use Rattle.std.specs.Borrow.{sem};
-ghost use Rattle.std.specs.List.{refill};
-ghost use Rattle.circular_buffer.specs.Buffer.{keep_last};
+ghost use Rattle.std.specs.List.{between, refill};
+ghost use Rattle.circular_buffer.specs.Buffer.{buffer, keep_last};
 ghost use Rattle.matchbuf.specs.Held.{held};
 ghost use Rattle.matchbuf.specs.Journal.{Record, Arrived, Consumed, Sized, Fits, place_after};
 ghost use Rattle.matchbuf.specs.Size.{IsSize};
-ghost use Rattle.matchbuf.specs.Unchanged.{StaysUnchanged, LendsBytes};
+ghost use Rattle.matchbuf.specs.Unchanged.{StaysUnchanged, RingStays, LendsBytes};
 
 use crate::error::MatchBufError;
 use circular_buffer::HeapCircularBuffer;
@@ -20,34 +21,38 @@ pub const MAX_SIZE: u32 = 1_000_000;
 /// The least room that a buffer has beyond its size, in bytes.
 const LEAST_SPARE: usize = 16_384;
 
-/// How many bytes are moved at a time.
-const PIECE: usize = 64;
-
 /// The last bytes that arrived and were neither consumed nor forgotten, at most as many as its
 /// size; expect(1), `match_max`.
 ///
 /// Only [`new`](MatchBuf::new) and [`set_max`](MatchBuf::set_max) take memory.
 #[derive(Drop)]
 pub struct MatchBuf<A: Allocator> {
-    /// Has room beyond the size, see `room_for`: its bytes go round the end of the block, and have
-    /// to be moved into one piece, only once for as many arriving bytes as that room takes.
+    /// All that was ever written to its block, from the front: nothing is taken from it, so it
+    /// never goes round the end of the block. It has room beyond the size, see `room_for`: the
+    /// bytes held have to be moved to its front only once for as many that arrive as that room
+    /// takes.
     ring: HeapCircularBuffer<u8, A>,
+    /// Where the bytes held begin in the ring.
+    begin: usize,
+    /// Where they end.
+    end: usize,
     size: u32,
 }
 
 impl<A: Allocator> Model for MatchBuf<A> {
     ghost use Rattle.matchbuf.specs.Held.{Held, held, held_code};
     ghost use Rattle.matchbuf.specs.Size.{IsSize};
-    ghost use Rattle.std.specs.Prelude.{◌≤◌, length};
+    ghost use Rattle.std.specs.Prelude.{◌+◌, ◌≤◌, length};
+    ghost use Rattle.std.specs.List.{between};
 
     ghost Value = { Held };
 
     ghost coded = { held_code };
 
-    ghost view = { λ b. held b.ring.items b.size };
+    ghost view = { λ b. held (between b.begin b.end b.ring.items) b.size };
 
-    ghost invariant = { λ b.
-        IsSize b.size × (b.size ≤ b.ring.capacity) × (length b.ring.items ≤ b.size) };
+    ghost invariant = { λ b. IsSize b.size × (b.size ≤ b.ring.capacity)
+        × (b.begin ≤ b.end) × (b.end ≤ length b.ring.items) × (b.end ≤ b.begin + b.size) };
 }
 
 impl<A: Allocator> MatchBuf<A> {
@@ -62,7 +67,12 @@ impl<A: Allocator> MatchBuf<A> {
     {
         check_size(max)?;
         let ring = HeapCircularBuffer::with_capacity(alloc, room_for(max))?;
-        Ok(MatchBuf { ring, size: max })
+        Ok(MatchBuf {
+            ring,
+            begin: 0,
+            end: 0,
+            size: max,
+        })
     }
 
     /// How many bytes it holds.
@@ -71,7 +81,7 @@ impl<A: Allocator> MatchBuf<A> {
         ensures within { result ≤ self.now.max }
         ensures size { IsSize self.now.max }
     {
-        self.ring.len()
+        self.end - self.begin
     }
 
     /// Its size: how many bytes it may hold.
@@ -97,9 +107,14 @@ impl<A: Allocator> MatchBuf<A> {
             self.new ≡ held (keep_last max (self.old.bytes ++ bytes.now)) max }
     {
         let size = self.max() as usize;
-        self.ring.extend_from_slice(bytes);
-        self.ring.truncate_front(size);
-        bring_round(&mut self.ring);
+        let newest = last_bytes(bytes, size);
+        let over = (self.len() + newest.len()).saturating_sub(size);
+        self.take(over);
+        let count = self.len();
+        self.begin = make_room(&mut self.ring, self.begin, self.end, newest.len());
+        self.end = self.begin + count;
+        write_at(&mut self.ring, self.end, newest);
+        self.end += newest.len();
     }
 
     /// Consumes the first `n` bytes.
@@ -109,8 +124,7 @@ impl<A: Allocator> MatchBuf<A> {
             → Fits (Consumed (place_after j n) ∷ j) self.new }
         ensures value { self.new ≡ held (drop n self.old.bytes) self.old.max }
     {
-        let rest = self.len() - n;
-        self.ring.truncate_front(rest);
+        self.begin += n;
     }
 
     /// The bytes that it holds, the oldest first, in one piece.
@@ -118,17 +132,8 @@ impl<A: Allocator> MatchBuf<A> {
         ensures* unchanged { sem 𝓛 (StaysUnchanged A.row A.Allocator self.entry) }
         ensures value { result.now ≡ self.old.bytes }
     {
-        self.straighten()
-    }
-
-    /// Moves the bytes into one piece.
-    fn straighten(&mut self) -> &mut [u8]
-        ensures* writes_back { sem 𝓛 (LendsBytes A.row A.Allocator self.entry result) }
-        ensures value { result.now ≡ self.old.bytes }
-        ensures same_len { let old = self.old.bytes in
-            (bytes : List ℕ) → length bytes ≡ length old → refill (length old) old bytes ≡ bytes }
-    {
-        self.ring.make_contiguous()
+        let (begin, end) = (self.begin, self.end);
+        &block(&mut self.ring)[begin..end]
     }
 }
 
@@ -146,34 +151,79 @@ impl<A: Allocator + Copy> MatchBuf<A> {
         ensures unchanged { OnErr result (self.new ≡ self.old) }
         ensures size { (result ≡ Err MatchBufError.Size) ↔ ¬ IsSize max }
     {
-        check_size(max)?;
-        let mut ring = HeapCircularBuffer::with_capacity(*self.ring.allocator(), room_for(max))?;
-        let (first, second) = self.ring.as_slices();
-        ring.extend_from_slice(first);
-        ring.extend_from_slice(second);
-        ring.truncate_front(max as usize);
-        *self = MatchBuf { ring, size: max };
+        let mut other = MatchBuf::new(*self.ring.allocator(), max)?;
+        other.arrive(self.window());
+        *self = other;
         Ok(())
     }
 }
 
-/// Where the bytes go round the end of the block, moves each in turn after the last one: then they
-/// lie in one piece near the beginning of the block, with the room beyond their size after them.
-fn bring_round<A: Allocator>(ring: &mut HeapCircularBuffer<u8, A>)
-    ensures { ring.new ≡ ring.old }
+/// The bytes of the ring, in one piece.
+fn block<A: Allocator>(ring: &mut HeapCircularBuffer<u8, A>) -> &[u8]
+    ensures* unchanged { sem 𝓛 (RingStays A.row A.Allocator ring.entry) }
+    ensures value { result.now ≡ ring.old.items }
 {
-    let (_, second) = ring.as_slices();
-    if second.is_empty() {
-        return;
+    straighten(ring)
+}
+
+/// Moves the bytes of the ring into one piece.
+fn straighten<A: Allocator>(ring: &mut HeapCircularBuffer<u8, A>) -> &mut [u8]
+    ensures* writes_back { sem 𝓛 (LendsBytes A.row A.Allocator ring.entry result) }
+    ensures value { result.now ≡ ring.old.items }
+    ensures same_len { let old = ring.old.items in
+        (bytes : List ℕ) → length bytes ≡ length old → refill (length old) old bytes ≡ bytes }
+{
+    ring.make_contiguous()
+}
+
+/// Makes room for `count` bytes after those from `begin` to `end`: where the block ends too soon,
+/// moves them to its front. Answers where they begin then.
+fn make_room<A: Allocator>(
+    ring: &mut HeapCircularBuffer<u8, A>,
+    begin: usize,
+    end: usize,
+    count: usize,
+) -> usize
+    requires within { (begin ≤ end) × (end ≤ length ring.old.items) }
+    requires room { end - begin + count ≤ ring.old.capacity }
+    ensures bytes { between result (result + (end - begin)) ring.new.items
+        ≡ between begin end ring.old.items }
+    ensures within { result + (end - begin) ≤ length ring.new.items }
+    ensures room { result + (end - begin) + count ≤ ring.new.capacity }
+    ensures capacity { ring.new.capacity ≡ ring.old.capacity }
+    ensures short { ring.new.capacity < 2 ^ 63 }
+{
+    let spare = ring.capacity() - end;
+    if begin == end {
+        return 0;
     }
-    let mut piece = [0u8; PIECE];
-    let mut left = ring.len();
-    'pieces: while 0 < left {
-        let room = &mut piece[..left.min(PIECE)];
-        let taken = ring.read_into(room);
-        ring.extend_from_slice(room);
-        left -= taken;
+    if count <= spare {
+        return begin;
     }
+    ring.make_contiguous().copy_within(begin..end, 0);
+    0
+}
+
+/// Writes the bytes to the places from `at` on, over what stands there.
+fn write_at<A: Allocator>(ring: &mut HeapCircularBuffer<u8, A>, at: usize, bytes: &[u8])
+    requires within { at ≤ length ring.old.items }
+    requires room { at + length bytes.now ≤ ring.old.capacity }
+    ensures { ring.new ≡ buffer (take at ring.old.items
+        ++ (bytes.now ++ drop (at + length bytes.now) ring.old.items)) ring.old.capacity }
+{
+    let old = bytes.len().min(ring.len() - at);
+    let (over, beyond) = bytes.split_at(old);
+    ring.make_contiguous()[at..at + old].copy_from_slice(over);
+    if !beyond.is_empty() {
+        ring.extend_from_slice(beyond);
+    }
+}
+
+/// The last bytes, as many as may be held.
+fn last_bytes(bytes: &[u8], size: usize) -> &[u8]
+    ensures { result.now ≡ keep_last size bytes.now }
+{
+    &bytes[bytes.len().saturating_sub(size)..]
 }
 
 /// How many bytes a buffer of a size has room for: as many again as it may hold, and more where

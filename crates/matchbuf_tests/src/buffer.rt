@@ -115,8 +115,8 @@ fn takes_a_long_stream_in_little_time(rt: HostRuntime) -> Result<(), Fail> {
 }
 
 /// 100,000 single bytes into a full buffer of the largest size, with a window after each, take a
-/// fraction of a second, also where the bytes go round the end of its block: to move 1,000,000
-/// bytes each time would take longer than a test may.
+/// fraction of a second, also where they come to the end of its block: to move 1,000,000 bytes each
+/// time would take longer than a test may.
 #[test]
 fn takes_single_bytes_when_it_is_full_in_little_time(rt: HostRuntime) -> Result<(), Fail> {
     let mut buffer = MatchBuf::new(rt.alloc(), 1_000_000)?;

@@ -47,16 +47,16 @@ use denote.Triple.Walked.{Stays, says, stay_dropped, walk_of, ends_at, walked, G
 use Rattle.std.proofs.alloc.Calls.{Al}
 use Rattle.std.specs.Prelude.{⊤}
 use Rattle.std.specs.List.{refill}
-use Rattle.matchbuf.specs.Unchanged.{StaysUnchanged}
-use Rattle.matchbuf.specs.Held.{Held}
-use Rattle.matchbuf.specs.contracts.buffer.MatchBuf.{the_row}
-use Rattle.matchbuf.specs.contracts.buffer.MatchBuf.straighten as lent
-use Rattle.matchbuf.proofs.buffer.MatchBuf.straighten.Symbol as lent_key
-use Rattle.matchbuf.proofs.buffer.MatchBuf.straighten.Met as lent_met
-use Rattle.matchbuf.specs.contracts.buffer.MatchBuf.window as f
-use Rattle.matchbuf.specs.contracts.buffer.MatchBuf.window.Key as key
-use Rattle.matchbuf.proofs.buffer.MatchBuf.window.Statement.{statement}
-use Rattle.matchbuf.proofs.buffer.MatchBuf.window.Code as code
+use Rattle.matchbuf.specs.Unchanged.{RingStays}
+use Rattle.circular_buffer.specs.Buffer.{Buffer, buffer}
+use Rattle.circular_buffer.specs.contracts.heap.HeapCircularBuffer.{the_row}
+use Rattle.matchbuf.specs.contracts.buffer.straighten as lent
+use Rattle.matchbuf.proofs.buffer.straighten.Symbol as lent_key
+use Rattle.matchbuf.proofs.buffer.straighten.Met as lent_met
+use Rattle.matchbuf.specs.contracts.buffer.block as f
+use Rattle.matchbuf.specs.contracts.buffer.block.Key as key
+use Rattle.matchbuf.proofs.buffer.block.Statement.{statement}
+use Rattle.matchbuf.proofs.buffer.block.Code as code
 
 module _ (Z : Al) where
   abbrev args : Args
@@ -66,7 +66,7 @@ module _ (Z : Al) where
   here = inst_fn args code.function
 
   abbrev Buf : RattleType
-  Buf = the_row (param 0 Z.row) Z.g
+  Buf = the_row u8 (param 0 Z.row) Z.g
 
   abbrev self : Slot 2
   self = mut_ref_to (0 ∷ []) tt (plain (λ _. Buf))
@@ -87,7 +87,7 @@ module _ (Z : Al) {M : Type 1} {𝓤 : Ura M} (𝓛 : Logic 𝓤) (at_mem : Memo
       (lent.spec Z.row Z.g Z.d Z.drops 𝓛 at_mem run)
 
   module _ (𝓣 : Tables 𝓤 𝓛.H) (lends : Triple 𝓤 (𝓣.C (lent_key.name (args Z))) Lent) (κ₁ κ₂ : Lft)
-      (q₁ q₂ : Share) (inn : κ₁ ⊑ κ₂) (b : MutBor Held) where
+      (q₁ q₂ : Share) (inn : κ₁ ⊑ κ₂) (b : MutBor (Buffer ℕ)) where
     open 𝓛 use {H, A}
 
     abbrev bound : (walk_of 𝓛 (ended Z) (stayed Z) clauses).Ghost
@@ -99,27 +99,27 @@ module _ (Z : Al) {M : Type 1} {𝓤 : Ura M} (𝓛 : Logic 𝓤) (at_mem : Memo
     abbrev asked : Lent.Ghost
     asked = (((κ₁, (κ₂, tt)), (q₁, (q₂, tt)), (inn, tt), (b, tt), (mut_vals b, tt)), tt)
 
-    abbrev written : List ℕ → Held
-    written ws = record { bytes = refill (length b.now.bytes) b.now.bytes ws; max = b.now.max }
+    abbrev written : List ℕ → Buffer ℕ
+    written ws = buffer (refill (length b.now.items) b.now.items ws) b.now.capacity
 
     abbrev shared : MutBor (List ℕ) → Bor (List ℕ)
     shared r = record { ref_ptr = r.ref_ptr; now = r.now }
 
     -- the buffer ends as it was
     stays : ent 𝓤 (A.res b.ghost_name ((Buf Z).coded.code b.now))
-        (sem 𝓛 (StaysUnchanged (param 0 Z.row) Z.g b))
+        (sem 𝓛 (RingStays (param 0 Z.row) Z.g b))
     unfolding such_by follows_by
     stays =
         qed 𝓛 (‵ (fres b.ghost_name ((Buf Z).coded.code b.now)) ∷ []) ∵
-        fpack ! (((s : (Held → Held) × Held) × ((w : Held) → ⊤) × (s.1 ≡ b.now)))
-        (λ s. follows_by Held Held (Buf Z).coded.code (Buf Z).coded.code b.ghost_name none s.0.0
+        fpack ! (((s : (Buffer ℕ → Buffer ℕ) × Buffer ℕ) × ((w : Buffer ℕ) → ⊤) × (s.1 ≡ b.now)))
+        (λ s. follows_by (Buffer ℕ) (Buffer ℕ) (Buf Z).coded.code (Buf Z).coded.code b.ghost_name none s.0.0
         s.0.1) ((λ h. h, b.now), λ w. tt, refl) $ done !
 
     walk : ent 𝓤 ((walk_of 𝓛 (ended Z) (stayed Z) clauses).pre bound)
         (WpFn 𝓤 H 𝓣.C 𝓣.Λ (here Z) (mut_vals b) Post)
     walk =
-        let Refills : Type 0 = (ws : List ℕ) → length ws ≡ length b.now.bytes →
-        refill (length b.now.bytes) b.now.bytes ws ≡ ws in
+        let Refills : Type 0 = (ws : List ℕ) → length ws ≡ length b.now.items →
+        refill (length b.now.items) b.now.items ws ≡ ws in
         qed 𝓛 (raw (Lent.pre asked) ∷ []) ∵ enter ! 𝓣.C 𝓣.Λ (here Z) (mut_vals b) _ $ alloc_all !
         (λ l. pass_all ! refl ((tt, tt), tt) $
         sets ! (addr ! (through ! refl (stop !))) refl (tt, tt) $
@@ -129,10 +129,10 @@ module _ (Z : Al) {M : Type 1} {𝓤 : Ura M} (𝓛 : Logic 𝓤) (at_mem : Memo
         ((MutSlice (named 0) κ₁ u8).own_val r (v ∷ [])))
         ⊛ some (λ (ws : Unit {0} × Unit {0}). ‵ (fsep ftrue ftrue) ⊛
         (‵ (follows (Buf Z) (Array u8 0) b.ghost_name r.ghost_name written) ⊛ raw
-        (fact 𝓤 (r.now ≡ b.now.bytes)) ⊛ raw (fact 𝓤 Refills)))))) (id⊢ 𝓤 _) $
+        (fact 𝓤 (r.now ≡ b.now.items)) ⊛ raw (fact 𝓤 Refills)))))) (id⊢ 𝓤 _) $
         await ! tt $ pick ! (λ r. split ! $ split ! $ move ! (2 ∷ []) $ pick !
         (λ ws. split ! $ drop ! $ split3 ! $
-        move ! (1 ∷ []) $ heard ! (r.now ≡ b.now.bytes)
+        move ! (1 ∷ []) $ heard ! (r.now ≡ b.now.items)
         (λ same. move ! (1 ∷ []) $ heard ! Refills (λ refills.
         -- [how the buffer follows the slice; the tokens; the slice]
         move ! (1 ∷ []) $ split ! $ move ! (3 ∷ 0 ∷ []) $
@@ -149,8 +149,8 @@ module _ (Z : Al) {M : Type 1} {𝓤 : Ura M} (𝓛 : Logic 𝓤) (at_mem : Memo
         (finally-res 𝓛 u8 r.ghost_name r.now) $ move ! (4 ∷ 0 ∷ []) $
         use2 𝓛 (‵ (fres b.ghost_name ((Buf Z).coded.code (written r.now))))
         (followed 𝓛 (Buf Z) (Array u8 0) written b.ghost_name r.ghost_name r.now) $
-        rewrite ! 0 (λ (h : Held). ‵ (fres b.ghost_name ((Buf Z).coded.code h)))
-        (ap (λ (l : List ℕ). record b.now { bytes = l }) (refills r.now (ap length same)
+        rewrite ! 0 (λ (h : Buffer ℕ). ‵ (fres b.ghost_name ((Buf Z).coded.code h)))
+        (ap (λ (l : List ℕ). record b.now { items = l }) (refills r.now (ap length same)
         ∙ same)) refl $
         lands_as ! (ap only is.0.0) refl (tt, (tt, (record { fits = is.0.1.0 }, tt))) $
         sets ! (addr !
@@ -168,15 +168,15 @@ module _ (Z : Al) {M : Type 1} {𝓤 : Ura M} (𝓛 : Logic 𝓤) (at_mem : Memo
         nothing ! $ nothing ! $ fjoin ! $ join ! $ move ! (2 ∷ 3 ∷ []) $ join ! $ join ! $ frame ! $
         says ! same $ by ! stays)))))))
 
-pub window_spec : {M : Type 1} → statement M
+pub block_spec : {M : Type 1} → statement M
 unfolding tables_of
-window_spec 𝓤 𝓛 𝓜 𝓡 wired row laws g d drops met dropped =
+block_spec 𝓤 𝓛 𝓜 𝓡 wired row laws g d drops met dropped =
     let Z : Al = record { row = row; laws = laws; g = g; d = d; drops = drops } in
     let 𝓣 : Tables 𝓤 𝓛.H = tables_of 𝓤 𝓛.H 𝓜 (tables 𝓤 𝓛.H 𝓜 𝓡 𝓡.env) in
     let wp = WpFn 𝓤 𝓛.H 𝓣.C 𝓣.Λ (here Z) in
     let k = lent_key.name (args Z) in
     let lends = cited 𝓤 𝓛.H _ 𝓜 𝓡 𝓡.env k (𝓡.env k) refl
-    (lent_met.met 𝓤 𝓛 𝓜 𝓡 (code.calls-matchbuf::buffer::MatchBuf::straighten 𝓡.env wired) row
+    (lent_met.met 𝓤 𝓛 𝓜 𝓡 (code.calls-matchbuf::buffer::straighten 𝓡.env wired) row
     laws g d drops met dropped) in
     let c = f.clauses row g d drops 𝓛 𝓜.mem 𝓡.returns in
     entered 𝓤 𝓛.H (triple_of 𝓛 (f.signature row g d drops) (f.spec row g d drops 𝓛 𝓜.mem 𝓡.returns))
