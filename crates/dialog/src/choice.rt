@@ -7,6 +7,7 @@ ghost use Rattle.dialog.specs.Lines.{Line, line_of, at_line, listing};
 ghost use Rattle.dialog.specs.Selects.{Selects, taken_by};
 
 use crate::branch::{Awaited, Pair};
+use crate::searched::Round;
 use crate::table::Table;
 use acts::{Id, NoMemory};
 use std::alloc::Allocator;
@@ -58,6 +59,12 @@ impl Trigger {
             Trigger::Arrival(id) => pair.id() == id,
             Trigger::End(_) | Trigger::TimedOut => false,
         }
+    }
+
+    /// Whether the texts that are sought after this trigger may ask for memory to be remembered: on
+    /// entry, before the wait, and not after an arrival.
+    fn grows(self) -> bool {
+        matches!(self, Trigger::Entry)
     }
 
     /// Whether a choice after this trigger takes something of a window.
@@ -119,7 +126,8 @@ impl<A: Allocator> Table<A> {
 impl<A: Allocator + Copy> Table<A> {
     /// Chooses the first pair whose pattern is found, else the first whose keyword has come, and
     /// consumes what the choice consumes. Other ids are untouched. Windows are searched where they
-    /// lie, and memory is asked for only where there is a choice.
+    /// lie, and memory is asked for only where there is a choice and, on entry, to remember what
+    /// was sought; where that is refused, the same is chosen, and later searches take longer.
     ///
     /// # Errors
     /// `NoMemory`, only where there is a choice. The table is then as it was.
@@ -159,9 +167,10 @@ impl<A: Allocator + Copy> Table<A> {
             (IsNone Has pairs.now) (λ at. IsFirst Has pairs.now at.0.now
             × Finds self.old.lines trigger at.0.now at.1) }
     {
+        let round = self.next_round(trigger);
         let mut rest = pairs;
         while let Some((pair, more)) = rest.split_first() {
-            if let Some(found) = self.search(alloc, pair, trigger) {
+            if let Some(found) = self.search(alloc, pair, trigger, round) {
                 return Some((pair, found));
             }
             rest = more;
@@ -169,8 +178,19 @@ impl<A: Allocator + Copy> Table<A> {
         None
     }
 
+    /// Begins the searches of a choice.
+    fn next_round(&mut self, trigger: Trigger) -> Round
+        ensures { self.new ≡ self.old }
+    {
+        self.rounds = self.rounds.wrapping_add(1);
+        Round {
+            number: self.rounds,
+            grows: trigger.grows(),
+        }
+    }
+
     /// Where the pattern of a pair is found, if it is looked for.
-    fn search(&mut self, alloc: A, pair: &Pair<A>, trigger: Trigger) -> Option<Found>
+    fn search(&mut self, alloc: A, pair: &Pair<A>, trigger: Trigger, round: Round) -> Option<Found>
         ensures unchanged { self.new ≡ self.old }
         ensures found { MatchOption result
             (¬ IsFoundFor self.old.lines trigger pair.now)
@@ -182,11 +202,11 @@ impl<A: Allocator + Copy> Table<A> {
         let Awaited::Sought(pattern) = pair.awaited() else {
             return None;
         };
-        self.find(alloc, pair.id(), pattern)
+        self.find(alloc, pair.id(), pattern, round)
     }
 
     /// Where a pattern is found in the window of an id, where the id is open.
-    fn find(&mut self, alloc: A, id: Id, pattern: &Pattern<A>) -> Option<Found>
+    fn find(&mut self, alloc: A, id: Id, pattern: &Pattern<A>, round: Round) -> Option<Found>
         ensures unchanged { self.new ≡ self.old }
         ensures found { let line = line_of self.old.lines id in MatchOption result
             ((f : found.Found) → ¬ FindsIn (Sought pattern.now) line f)
@@ -195,7 +215,7 @@ impl<A: Allocator + Copy> Table<A> {
         let Some(place) = self.place(id) else {
             return None;
         };
-        self.entries[place].search(alloc, pattern)
+        self.entries[place].search(alloc, pattern, round)
     }
 
     /// The choice of a pair: its body, and what it takes. On `Err` the table is unchanged.

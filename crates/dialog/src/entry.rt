@@ -9,7 +9,7 @@ ghost use Rattle.dialog.specs.Views.{line_by, kind_of};
 ghost use Rattle.tcltext.specs.Pattern.Match.{IsFound, SitsNowhere};
 
 use crate::kind::Kind;
-use crate::searched::Searched;
+use crate::searched::{Round, Searched};
 use acts::{Id, NoMemory, Row};
 use matchbuf::{MatchBuf, MatchBufError};
 use memchr::memchr;
@@ -141,14 +141,14 @@ impl<A: Allocator> Entry<A> {
 }
 
 impl<A: Allocator + Copy> Entry<A> {
-    /// Finds a pattern in the window. No memory is asked for.
-    pub(crate) fn search(&mut self, alloc: A, pattern: &Pattern<A>) -> Option<Found>
+    /// Finds a pattern in the window. Memory is asked for only where the round may.
+    pub(crate) fn search(&mut self, alloc: A, pattern: &Pattern<A>, round: Round) -> Option<Found>
         ensures unchanged { self.new ≡ self.old }
         ensures found { let window = self.old.held.bytes in MatchOption result
             (SitsNowhere pattern.now window)
             (λ found. IsFound pattern.now window found.start found.end) }
     {
-        self.buffer.search(alloc, pattern)
+        self.buffer.search(alloc, pattern, round)
     }
 
     /// Hands out the match and all before it, or the whole window where there is no match. What is

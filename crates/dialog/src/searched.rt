@@ -6,19 +6,35 @@ ghost use Rattle.matchbuf.specs.Held.{held};
 ghost use Rattle.matchbuf.specs.Size.{IsSize};
 ghost use Rattle.tcltext.specs.Pattern.Match.{IsFound, SitsNowhere};
 
-use crate::vain::{Vain, forget, note, place_of, room};
+use crate::vain::{Vain, forget, make_slot, note, place_of, room};
 use acts::NoMemory;
 use matchbuf::{MatchBuf, MatchBufError};
 use std::alloc::Allocator;
 use std::marker::Model;
 use tcltext::{Found, Pattern, Scratch, find_text};
 
+/// The searches of one choice. All windows are searched for the same choice by the same number.
+#[derive(Clone, Copy)]
+pub(crate) struct Round {
+    /// Which choice it is, counted round.
+    pub(crate) number: u64,
+    /// Whether memory may be asked for, as before a wait but not after an arrival.
+    pub(crate) grows: bool,
+}
+
 /// A match buffer, and the texts that were sought in it and not found: a search for such a text
 /// continues where the last one ended.
+///
+/// Each pattern that is sought for a choice has a slot, the first one the first slot. So the same
+/// patterns, sought in the same order after each arrival, find in their slots where they ended.
 #[derive(Drop)]
 pub(crate) struct Searched<A: Allocator> {
     buffer: MatchBuf<A>,
     vains: Vec<Vain<A>, A>,
+    /// The number of the last round in which something was sought here.
+    round: u64,
+    /// The slot of what is sought next in that round.
+    slot: usize,
     /// How many bytes are gone from the front since no search was remembered.
     gone: usize,
 }
@@ -43,6 +59,8 @@ impl<A: Allocator> Searched<A> {
         Ok(Searched {
             buffer,
             vains,
+            round: 0,
+            slot: 0,
             gone: 0,
         })
     }
@@ -95,9 +113,50 @@ impl<A: Allocator> Searched<A> {
     }
 }
 
+impl<A: Allocator> Searched<A> {
+    /// Begins with the first slot, where something was sought last in another round.
+    fn enter(&mut self, number: u64)
+        ensures { self.new ≡ self.old }
+    {
+        if self.round != number {
+            self.round = number;
+            self.slot = 0;
+        }
+    }
+
+    /// The slot of what is sought next in a round. It is made where the round may ask for memory.
+    fn next_slot(&mut self, round: Round) -> usize
+        ensures { self.new ≡ self.old }
+    {
+        self.enter(round.number);
+        let slot = self.slot;
+        self.slot = slot.saturating_add(1);
+        if round.grows {
+            make_slot(&mut self.vains, slot);
+        }
+        slot
+    }
+}
+
 impl<A: Allocator + Copy> Searched<A> {
-    /// Finds a pattern in the window. Takes no memory.
-    pub(crate) fn search(&mut self, alloc: A, pattern: &Pattern<A>) -> Option<Found>
+    /// Finds a pattern in the window. Memory is asked for only where the round may, and a refusal
+    /// changes no answer.
+    pub(crate) fn search(&mut self, alloc: A, pattern: &Pattern<A>, round: Round) -> Option<Found>
+        ensures unchanged { self.new ≡ self.old }
+        ensures found { let window = self.old.bytes in MatchOption result
+            (SitsNowhere pattern.now window)
+            (λ found. IsFound pattern.now window found.start found.end) }
+    {
+        let slot = self.next_slot(round);
+        let needed = pattern.needs();
+        if self.buffer.len() < needed.as_slice().len() {
+            return None;
+        }
+        self.search_by(alloc, pattern, slot)
+    }
+
+    /// Finds a pattern in the window, by what its slot remembers. Takes no memory.
+    fn search_by(&mut self, alloc: A, pattern: &Pattern<A>, slot: usize) -> Option<Found>
         ensures unchanged { self.new ≡ self.old }
         ensures found { let window = self.old.bytes in MatchOption result
             (SitsNowhere pattern.now window)
@@ -109,10 +168,14 @@ impl<A: Allocator + Copy> Searched<A> {
         let window = self.buffer.window();
         let needed = pattern.needs();
         let text = needed.as_slice();
-        let known = place_of(&self.vains, text, self.gone).min(window.len());
+        let known = place_of(&self.vains, slot, text, self.gone).min(window.len());
+        // Fewer bytes are left than the text has.
+        if window.len() - known < text.len() {
+            return None;
+        }
         if find_text(text, window, known).is_none() {
             let next = (window.len() + 1).saturating_sub(text.len());
-            note(&mut self.vains, needed, next, self.gone);
+            note(&mut self.vains, slot, needed, next, self.gone);
             return None;
         }
         pattern.find(window, &mut scratch).found

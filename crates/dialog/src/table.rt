@@ -30,6 +30,8 @@ pub const FIRST_SIZE: u32 = 2000;
 pub struct Table<A: Allocator> {
     pub(crate) entries: Vec<Entry<A>, A>,
     next: Option<u64>,
+    /// How many choices were looked for, counted round.
+    pub(crate) rounds: u64,
 }
 
 impl<A: Allocator> Model for Table<A> {
@@ -53,6 +55,7 @@ impl<A: Allocator> Table<A> {
         Table {
             entries: Vec::new(alloc),
             next: Some(FIRST_NUMBER),
+            rounds: 0,
         }
     }
 

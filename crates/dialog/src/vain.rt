@@ -9,8 +9,8 @@ use acts::NoMemory;
 use std::alloc::Allocator;
 use tcltext::Value;
 
-/// How many of the last searches that found nothing are remembered.
-const MOST: usize = 8;
+/// How many pairs of an id have a slot from its opening on.
+const FIRST_SLOTS: usize = 8;
 
 /// A text that was sought and not found.
 #[derive(Drop)]
@@ -21,33 +21,51 @@ pub(crate) struct Vain<A: Allocator> {
     from: usize,
 }
 
-/// An empty list with room for the last searches.
+/// An empty list with room for the first slots.
 pub(crate) fn room<A: Allocator>(alloc: A) -> Result<Vec<Vain<A>, A>, NoMemory>
     ensures { IfOk result (λ vains. vains.items ≡ []) }
 {
-    Ok(Vec::with_capacity(alloc, MOST)?)
+    Ok(Vec::with_capacity(alloc, FIRST_SLOTS)?)
 }
 
-/// The place before which a text is known to begin nowhere, whatever follows; 0 where nothing is
-/// known.
-pub(crate) fn place_of<A: Allocator>(vains: &[Vain<A>], text: &[u8], gone: usize) -> usize
+/// Makes a slot, where it is the next one after those that are there. Where memory for it is
+/// refused, there is none: what is sought by it is then sought from the front each time.
+pub(crate) fn make_slot<A: Allocator>(vains: &mut Vec<Vain<A>, A>, slot: usize)
+    ensures { (gone : ℕ) (bytes : List ℕ) → ArePassed gone bytes vains.old.items →
+        ArePassed gone bytes vains.new.items }
+{
+    if slot == vains.len() {
+        let text = Value::empty();
+        let _ = vains.push(Vain { text, from: 0 });
+    }
+}
+
+/// The place before which a text is known to begin nowhere, whatever follows; 0 where the slot has
+/// another text or where there is no such slot.
+pub(crate) fn place_of<A: Allocator>(
+    vains: &[Vain<A>],
+    slot: usize,
+    text: &[u8],
+    gone: usize,
+) -> usize
     ensures { (bytes : List ℕ) → ArePassed gone bytes vains.now →
         Passed (exact text.now) bytes result }
 {
-    let mut rest = vains;
-    while let Some((vain, more)) = rest.split_first() {
-        if vain.text.as_slice() == text {
-            return vain.from.saturating_sub(gone);
-        }
-        rest = more;
+    if vains.len() <= slot {
+        return 0;
+    }
+    let vain = &vains[slot];
+    if vain.text.as_slice() == text {
+        return vain.from.saturating_sub(gone);
     }
     0
 }
 
-/// Records that a text begins nowhere before the place `next` of the bytes; where the list is full,
-/// the oldest search is dropped for it. Takes no memory.
+/// Records in its slot, where it has one, that a text begins nowhere before the place `next` of the
+/// bytes. Takes no memory.
 pub(crate) fn note<A: Allocator>(
     vains: &mut Vec<Vain<A>, A>,
+    slot: usize,
     text: &Value<A>,
     next: usize,
     gone: usize,
@@ -58,11 +76,13 @@ pub(crate) fn note<A: Allocator>(
     let Some(from) = gone.checked_add(next) else {
         return;
     };
-    vains.truncate(MOST - 1);
     // Where the text already has as many holders as can be counted, nothing is recorded, and the
     // next search begins anew.
-    if let Ok(text) = text.share() {
-        let _ = vains.insert(0, Vain { text, from });
+    let Ok(text) = text.share() else {
+        return;
+    };
+    if slot < vains.len() {
+        vains[slot] = Vain { text, from };
     }
 }
 

@@ -1,33 +1,13 @@
-use Rattle.std.proofs.Common.{◌≡◌, ◌-◌, ◌+◌, List, ℕ, length, sym, ap, subst, arith, rules}
-use Rattle.dialog.specs.Vain.{ArePassed}
+use Rattle.std.proofs.Common.{◌-◌, ◌<◌, length, rules}
 use Rattle.tcltext.specs.Pattern.Glob.{exact}
-use Rattle.tcltext.specs.Pattern.Match.{Sits, SitsNowhere}
-use Rattle.tcltext.specs.Pattern.Passed.{Passed}
-use Rattle.tcltext.proofs.Patterns.Shifts.{Passed-here, Passed-vain}
+use Rattle.tcltext.proofs.Patterns.Shifts.{Passed-nothing}
+use Rattle.dialog.proofs.Vains.{nowhere_short}
 use Rattle.dialog.proofs.searched.Searched.search.Goals as goal
 
-pub find_text-requires-clause-low : goal.find_text-requires-clause-low
-find_text-requires-clause-low g c = λ s e sits.
-    let text = c.as_slice-text.result.now in
-    let bytes = c.self.inside.buffer.bytes in
-    let passed = c.place_of.ensures bytes (subst (λ vains. ArePassed c.self.inside.gone bytes vains)
-    (sym c.deref.ensures.value) c.self.invariant) in
-    let there = subst (λ (w : List ℕ). Sits (exact text) w s e) c.window-window.ensures.value sits in
-    let low = Passed-here (exact text) bytes c.place_of.result s e passed there in
-    omega (arith, low, c.min-known.ensures)
-
-pub invariant_of-self : goal.invariant_of-self
-invariant_of-self g c =
-    let text = c.as_slice-text.result.now in
-    let bytes = c.self.inside.buffer.bytes in
-    let kept : c.window-window.follows.lender-at-none.bytes ≡ bytes = search rules in
-    let nowhere : SitsNowhere (exact text) c.window-window.result.now = search rules in
-    let there = subst (SitsNowhere (exact text)) c.window-window.ensures.value nowhere in
-    let size = ap length c.window-window.ensures.value in
-    let next : length bytes + 1 - length text ≡ c.saturating_sub-next.result =
-    omega (arith, size, c.saturating_sub-next.ensures) in
-    let passed = subst (Passed (exact text) bytes) next (Passed-vain text bytes there) in
-    subst (λ (x : List ℕ). ArePassed c.self.inside.gone x c.note.new.vains.items) (sym kept)
-    (c.note.ensures bytes c.self.invariant
-    (subst (λ (t : List ℕ). Passed (exact t) bytes c.saturating_sub-next.result)
-    c.as_slice-text.ensures passed))
+pub returns-then-len-as_slice-clause-found : goal.returns-then-len-as_slice-clause-found
+returns-then-len-as_slice-clause-found g c =
+    let window = c.args.self.now.bytes in
+    let text = c.needs-needed.result.now in
+    let short : length window - 0 < length text = search rules in
+    c.needs-needed.ensures window
+    (nowhere_short text window 0 (Passed-nothing (exact text) window) short)
