@@ -31,7 +31,7 @@ all_set P [] k y new all = tt
 all_set P (x ∷ xs) zero y new all = (new, all.1)
 all_set P (x ∷ xs) (suc k) y new all = (all.0, all_set P xs k y new all.1)
 
--- and of what is put behind them
+-- and where it holds of what is put after them
 pub all_and : {X : Type 0} (P : X → Type 0) (xs : List X) (y : X) → P y →
     AllByRecursion P xs → AllByRecursion P (xs ++ y ∷ [])
 all_and P [] y new all = (new, tt)
@@ -70,7 +70,8 @@ whole_length (b ∷ bytes) t (piece, rest, joined, taken, whole) =
       whole_length bytes rest whole,
     )
 
--- a text sits nowhere in a window that is shorter behind the place that it does not begin before
+-- a text sits nowhere in a window in which fewer bytes than it has follow the place before which it
+-- does not begin
 pub nowhere_short : (text w : List ℕ) (known : ℕ) → Passed (exact text) w known →
     length w - known < length text → SitsNowhere (exact text) w
 nowhere_short text w known passed short = λ s e sits.
