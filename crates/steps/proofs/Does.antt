@@ -1,10 +1,9 @@
 -- The results of taking operands off, of reading variables and of reading lists.
-use Rattle.std.proofs.Common.{◌≡◌, ◌∙◌, ℕ, ◌+◌, ◌<◌, List, [], ◌∷◌, ◌++◌, length, Option, None, Some, Result, Ok, Err, MatchResult, refl, sym, ap, subst, option_to_list}
+use Rattle.std.proofs.Common.{◌≡◌, ◌∙◌, ℕ, List, [], ◌∷◌, ◌++◌, Option, Some, Result, Ok, Err, MatchResult, sym, ap, subst, option_to_list}
 use Rattle.std.specs.Prelude.{reverse}
-use Rattle.std.proofs.lemmas.List.{append-nil, reverse-append}
+use Rattle.std.proofs.lemmas.List.{reverse-append}
 use Rattle.acts.specs.Flaw as acts
 use Rattle.code.specs.declared.instruction.Instruction.{Instruction}
-use Rattle.code.specs.declared.instruction.Instruction.TheVariants as i
 use Rattle.acts.specs.declared.raise.Raise.TheVariants as raise
 use Rattle.meanings.specs.Meaning.{Answer, Comes, Gives, IsSplit, flaw_of_list}
 use Rattle.meanings.specs.View.{IsNoList}
@@ -15,8 +14,7 @@ use Rattle.state.specs.Variables.{flaw_of_trouble, spelled}
 use Rattle.steps.specs.Does.{Does, same, reads}
 use Rattle.steps.specs.Machine.{does, reading, with_value}
 use Rattle.steps.specs.Moves.{fails}
-use Rattle.steps.specs.Spot.{Spot, Did, Reads, Stuck, Went, with_top}
-use Rattle.tclparse.specs.declared.fault.Fault as faults
+use Rattle.steps.specs.Spot.{Spot, Did, Reads, Went, with_top}
 use Rattle.tclstate.specs.Scopes.{Trouble, read}
 use Rattle.tclstate.specs.ScopeError.{HasTrouble}
 use Rattle.tclstate.specs.declared.error.ScopeError.{ScopeError}

@@ -1,8 +1,11 @@
 -- The results of functions of texts.
 use Rattle.std.proofs.Common.{◌≡◌, ℕ, List, Bool, true, false, Result, Ok, Err, MatchResult, refl, sym, ap, subst}
-use Rattle.evaluation.specs.Pending.{TruthIs}
+use Rattle.std.specs.Prelude.{IfErr}
+use Rattle.acts.specs.declared.raise.Raise.{Raise}
+use Rattle.acts.specs.declared.raise.Raise.TheVariants as raise
 use Rattle.meanings.specs.Meaning.{Answer, Comes, Meaning, Gives, Raises, Splits, Matches, flaw_of_list, truth}
 use Rattle.operators.specs.Truth.{truth_of}
+use Rattle.operators.specs.View.{IsNoTruth}
 use Rattle.state.specs.Piece.{ListText, TestText}
 use Rattle.state.specs.Prelude.{Fault, flaw_of, Status}
 use Rattle.steps.specs.Does.{Does, reads}
@@ -48,9 +51,10 @@ decided false true place spot s same = absurd (cc)
 decided false false place spot s same = refl
 
 -- there is no truth value
-pub no_truth : {A : Type 0} (test : Result Bool (Fault A)) (fault : Fault A) (text : List ℕ)
-    (s : Status) (next : Bool → Did) → test ≡ Err fault → TruthIs test text →
-    fails (flaw_of fault) s ≡ on_truth (truth_of text) s next
+pub no_truth : {A : Type 0} (test : Result Bool (Raise A)) (fault : Fault A) (text : List ℕ)
+    (s : Status) (next : Bool → Did) → test ≡ Err (raise.Fault fault) →
+    IfErr test (IsNoTruth text) → fails (flaw_of fault) s ≡ on_truth (truth_of text) s next
 no_truth test fault text s next is told =
-    let none : truth_of text ≡ Err (flaw_of fault) = subst (λ t. TruthIs t text) is told in
+    let none : truth_of text ≡ Err (flaw_of fault) =
+    subst (λ t. IfErr t (IsNoTruth text)) is told in
     sym (ap (λ r. on_truth r s next) none)

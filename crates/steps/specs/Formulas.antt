@@ -1,5 +1,5 @@
 -- What the instructions of formulas do.
-use Rattle.std.specs.Prelude.{ℕ, suc, List, [], ◌∷◌, Bool, true, false, Result, Ok, Err, reverse, take, drop, length, nat_le, if◌then◌else◌}
+use Rattle.std.specs.Prelude.{ℕ, List, Bool, true, false, Result, Ok, Err, reverse, take, drop, nat_le, if◌then◌else◌}
 use Rattle.evaluation.specs.Evaluated.{told}
 use Rattle.meanings.specs.Meaning.{Meaning, Gives, Raises, Splits, Matches, flaw_of_list, truth}
 use Rattle.operators.specs.Binary.{binary}

@@ -4,7 +4,7 @@ use Rattle.acts.specs.Flaw as flaw
 use Rattle.code.specs.declared.instruction.Instruction.{Instruction}
 use Rattle.code.specs.declared.instruction.Instruction.TheVariants as i
 use Rattle.meanings.specs.Meaning.{flaw_of_list}
-use Rattle.state.specs.Prelude.{Flaw, text_of, Error, Gives, Leaves, Stops, Status}
+use Rattle.state.specs.Prelude.{Gives, Stops, Status}
 use Rattle.state.specs.Faults.{flaw_of_fault}
 use Rattle.state.specs.Piece.{ListText}
 use Rattle.state.specs.Outcome as stop

@@ -7,7 +7,7 @@ use Rattle.runs.specs.Scripts.{script}
 use Rattle.state.specs.Prelude.{Course, Dialogue, gives, on_value, Outcome, Status}
 use Rattle.steps.specs.Operand.{Outer, operand_on, waiting}
 use Rattle.steps.specs.Spot.{Spot}
-use Rattle.steps.specs.Word.{Open, Word, bytes_of, course_with, is_counted, operands_of}
+use Rattle.steps.specs.Word.{Open, bytes_of, course_with, is_counted, operands_of}
 use Rattle.tclparse.specs.Fault.{Fault}
 use Rattle.tclparse.specs.Formula.{Formula}
 use Rattle.tclparse.specs.Tree.{Commands, Words}

@@ -1,5 +1,5 @@
 -- What the values of the code stand for.
-use Rattle.std.specs.Prelude.{ℕ, List, Option, Some, None, reverse, Vec}
+use Rattle.std.specs.Prelude.{ℕ, Option, Some, None, reverse}
 use Rattle.state.specs.Prelude.{Scopes, Status, outcome_of}
 use Rattle.steps.specs.declared.spot.Spot as coded
 use Rattle.steps.specs.declared.stopped.Stopped.{Stopped}

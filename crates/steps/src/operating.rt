@@ -2,7 +2,6 @@
 
 ghost use Rattle.std.specs.Prelude.{◌≡◌, ◌≤◌, ◌-◌, ◌∷◌, length, map, IfOk};
 ghost use Rattle.evaluation.specs.Evaluated.{told as told_of};
-ghost use Rattle.evaluation.specs.Pending.{TruthIs};
 ghost use Rattle.meanings.specs.Meaning.{Meaning};
 ghost use Rattle.meanings.specs.View.{Answers};
 ghost use Rattle.operators.specs.Truth.{truth_of};
@@ -13,7 +12,7 @@ ghost use Rattle.steps.specs.View.{did_of, spot_of};
 
 use crate::spot::Spot;
 use crate::stopped::{Stopped, failed};
-use acts::{Fault, NoMemory, Raise};
+use acts::{NoMemory, Raise};
 use operators::{Operand, binary, call, truth, unary, written};
 use std::alloc::Allocator;
 use tclparse::{Binary, Function, Unary};
@@ -128,17 +127,6 @@ pub fn jump<A: Allocator + Copy>(spot: &mut Spot<A>, place: usize) -> Option<Sto
     None
 }
 
-/// The truth value of a text, or the script's error where it has none.
-fn tested<A: Allocator + Copy>(alloc: A, text: Value<A>) -> Result<Result<bool, Fault<A>>, NoMemory>
-    ensures { IfOk result (λ test. TruthIs test text) }
-{
-    match truth(alloc, &Operand::text(text)) {
-        Ok(holds) => Ok(Ok(holds)),
-        Err(Raise::Fault(fault)) => Ok(Err(fault)),
-        Err(Raise::NoMemory(refusal)) => Err(refusal),
-    }
-}
-
 /// Where the left operand has the truth value that decides, puts that on top and jumps.
 fn decide<A: Allocator + Copy>(
     alloc: A,
@@ -173,9 +161,10 @@ pub fn choose<A: Allocator + Copy>(
     let Some(value) = spot.operands.pop() else {
         return Ok(Some(Stopped::Stuck));
     };
-    match tested(alloc, value)? {
+    match truth(alloc, &Operand::text(value)) {
         Ok(holds) => Ok(decide(alloc, spot, place, known, holds)?),
-        Err(fault) => Ok(failed(alloc, fault)?),
+        Err(Raise::Fault(fault)) => Ok(failed(alloc, fault)?),
+        Err(Raise::NoMemory(refusal)) => Err(refusal),
     }
 }
 
@@ -192,10 +181,11 @@ pub fn jump_unless<A: Allocator + Copy>(
     let Some(value) = spot.operands.pop() else {
         return Ok(Some(Stopped::Stuck));
     };
-    match tested(alloc, value)? {
+    match truth(alloc, &Operand::text(value)) {
         Ok(true) => Ok(None),
         Ok(false) => Ok(jump(spot, place)),
-        Err(fault) => Ok(failed(alloc, fault)?),
+        Err(Raise::Fault(fault)) => Ok(failed(alloc, fault)?),
+        Err(Raise::NoMemory(refusal)) => Err(refusal),
     }
 }
 

@@ -5,6 +5,7 @@ use code::{Instruction, code_of, formula_code};
 use formulas::Formula;
 use state::Leave;
 use std::alloc::{Allocator, Global};
+use std::process::Abort;
 use std::test::Fail;
 use tclparse::Script;
 use tclstate::Scopes;
@@ -77,19 +78,19 @@ fn commands_of(alloc: Global, code: &[Instruction<Global>]) -> Result<Vec<u8>, F
 }
 
 /// Holds the commands of a script against those that are wanted.
-fn compare(rt: &HostRuntime, text: &[u8], wanted: &[u8]) -> Result<(), Fail> {
-    let script = Script::read(rt.alloc(), text)?;
-    let code = code_of(rt.alloc(), &script)?;
-    let shown = commands_of(rt.alloc(), &code)?;
+fn compare(rt: &impl Abort, alloc: Global, text: &[u8], wanted: &[u8]) -> Result<(), Fail> {
+    let script = Script::read(alloc, text)?;
+    let code = code_of(alloc, &script)?;
+    let shown = commands_of(alloc, &code)?;
     assert_eq!(rt; shown.as_slice(), wanted);
     Ok(())
 }
 
 /// Holds the commands of a formula, and its value, against those that are wanted.
-fn evaluate(rt: &HostRuntime, text: &[u8], wanted: &[u8]) -> Result<(), Fail> {
-    let formula = Formula::read(rt.alloc(), text).ok().ok_or("a formula")?;
-    let code = formula_code(rt.alloc(), &formula)?;
-    let shown = commands_of(rt.alloc(), &code)?;
+fn evaluate(rt: &impl Abort, alloc: Global, text: &[u8], wanted: &[u8]) -> Result<(), Fail> {
+    let formula = Formula::read(alloc, text).ok().ok_or("a formula")?;
+    let code = formula_code(alloc, &formula)?;
+    let shown = commands_of(alloc, &code)?;
     assert_eq!(rt; shown.as_slice(), wanted);
     Ok(())
 }
@@ -99,12 +100,14 @@ fn words_are_those_of_the_rules(rt: HostRuntime) -> Result<(), Fail> {
     // Tcl(n), rule 5, whose example this is
     compare(
         &rt,
+        rt.alloc(),
         b"cmd a {*}{b [c]} d {*}{$e f \"g h\"}",
         b"<cmd><a><b><[c]><d><$e><f><g h>\nv\n",
     )?;
     // Tcl(n), rules 7, 8 and 11
     compare(
         &rt,
+        rt.alloc(),
         b"set y $a$t(x$i)[f \"$a b\"]z\nset {}",
         b"<f><1 b>\n<set><y><13vz>\n<set><>\nv\n",
     )?;
@@ -116,30 +119,43 @@ fn a_code_ends_early_by_an_error_or_the_limit(rt: HostRuntime) -> Result<(), Fai
     // set(n), a variable that does not exist; Tcl_SplitList(3); Tcl(n), rules 4 and 7
     compare(
         &rt,
+        rt.alloc(),
         b"a; b $none",
         b"<a>\ncan't read \"none\": no such variable\n",
     )?;
-    compare(&rt, b"a {*}\\{", b"unmatched open brace in list\n")?;
-    compare(&rt, b"a\nb \"", b"<a>\nmissing \"\n")?;
-    compare(&rt, b"a [b [c [d]]]", b"too many nested evaluations\n")?;
-    compare(&rt, b"a; b; c; d", b"<a>\n<b>\n<c>\nstopped\n")?;
+    compare(
+        &rt,
+        rt.alloc(),
+        b"a {*}\\{",
+        b"unmatched open brace in list\n",
+    )?;
+    compare(&rt, rt.alloc(), b"a\nb \"", b"<a>\nmissing \"\n")?;
+    compare(
+        &rt,
+        rt.alloc(),
+        b"a [b [c [d]]]",
+        b"too many nested evaluations\n",
+    )?;
+    compare(&rt, rt.alloc(), b"a; b; c; d", b"<a>\n<b>\n<c>\nstopped\n")?;
     Ok(())
 }
 
 #[test]
 fn a_formula_has_the_value_that_tclsh_gives(rt: HostRuntime) -> Result<(), Fail> {
     // tclsh 8.6.13, with these variables, where the command `x` has the value `v`
-    evaluate(&rt, b"$a + 2 * $i", b"5\n")?;
-    evaluate(&rt, b"$a || [x]", b"1\n")?;
-    evaluate(&rt, b"!$a && [x]", b"0\n")?;
-    evaluate(&rt, b"$t(x2) > 2 ? \"yes\" : [x]", b"yes\n")?;
-    evaluate(&rt, b"max($a, 7, $i) - abs(-3)", b"4\n")?;
-    evaluate(&rt, b"[x] eq \"v\"", b"<x>\n1\n")?;
-    evaluate(&rt, b"1 / 0", b"divide by zero\n")?;
+    evaluate(&rt, rt.alloc(), b"$a + 2 * $i", b"5\n")?;
+    evaluate(&rt, rt.alloc(), b"$a || [x]", b"1\n")?;
+    evaluate(&rt, rt.alloc(), b"!$a && [x]", b"0\n")?;
+    evaluate(&rt, rt.alloc(), b"$t(x2) > 2 ? \"yes\" : [x]", b"yes\n")?;
+    evaluate(&rt, rt.alloc(), b"max($a, 7, $i) - abs(-3)", b"4\n")?;
+    evaluate(&rt, rt.alloc(), b"[x] eq \"v\"", b"<x>\n1\n")?;
+    evaluate(&rt, rt.alloc(), b"1 / 0", b"divide by zero\n")?;
+    // an error whose text is not that of tclsh
     evaluate(
         &rt,
+        rt.alloc(),
         b"\"b\" || 1",
-        b"expected boolean value but got \"b\"\n",
+        b"expected a truth value but got \"b\"\n",
     )?;
     Ok(())
 }

@@ -1,8 +1,7 @@
 -- A formula that is evaluated: its first instruction.
-use Rattle.std.proofs.Common.{◌≡◌, ℕ, suc, ◌+◌, ◌-◌, ◌≤◌, List, [], ◌∷◌, ◌++◌, None, length, refl, arith}
+use Rattle.std.proofs.Common.{ℕ, ◌+◌, ◌≤◌, List, [], ◌∷◌, refl, arith}
 use Rattle.std.specs.Prelude.{slice_get}
-use Rattle.code.specs.Code.{At}
-use Rattle.code.specs.Formula.{FormulaAt, number, parts, called, prefixed, joined, chosen, ArgumentsAt, no_argument, argument}
+use Rattle.code.specs.Formula.{FormulaAt, number, parts, called, prefixed, joined, chosen, no_argument, argument}
 use Rattle.code.specs.declared.instruction.Instruction.{Instruction}
 use Rattle.code.specs.declared.instruction.Instruction.TheVariants as i
 use Rattle.operators.specs.Value.{written}
@@ -10,14 +9,13 @@ use Rattle.state.specs.Prelude.{Dialogue, Outcome, Status}
 use Rattle.steps.specs.Follows.{Follows}
 use Rattle.steps.specs.Layout.{FramesAt, OperandAt}
 use Rattle.steps.specs.Machine.{machine}
-use Rattle.steps.specs.Operand.{Outer, Prefixed, Row, Argument, Test, waiting}
-use Rattle.steps.specs.Places.{Evaluates, Frame, beneath, brackets, left_of, spot_at}
+use Rattle.steps.specs.Operand.{Outer, Prefixed, Row, Argument, Test}
+use Rattle.steps.specs.Places.{Evaluates, Frame, brackets, left_of, spot_at}
 use Rattle.steps.specs.Word.{Operand}
 use Rattle.steps.proofs.Leads.Meanings.{call_leads, gives_leads}
 use Rattle.steps.proofs.Leads.Parts.{start_leads}
 use Rattle.steps.proofs.Leads.Standing.{by}
-use Rattle.tclparse.specs.Formula.{Formula, call, numeral}
-use Rattle.tclparse.specs.declared.operator.Function.{Function}
+use Rattle.tclparse.specs.Formula.{Formula, numeral}
 
 module _ {A X : Type 0} (code : List (Instruction A)) (last : Status → Outcome → Dialogue X) where
   -- a formula leads on

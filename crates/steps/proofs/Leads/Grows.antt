@@ -1,5 +1,5 @@
 -- Code ends at its beginning, or after it.
-use Rattle.std.proofs.Common.{ℕ, ◌+◌, ◌≤◌, List, Bool, arith}
+use Rattle.std.proofs.Common.{ℕ, ◌≤◌, List, Bool, arith}
 use Rattle.code.specs.Code.{JoinsAt, first, joined, PartsAt, over, empty, text, value, item, bracket, WordsAt, begins, begins_counted, one, counts, spread, CommandsAt, done, next}
 use Rattle.code.specs.Formula.{FormulaAt, number, parts, called, prefixed, joined as in_row, chosen, LinksAt, no_more, both, and_also, or_else, ArgumentsAt, no_argument, argument}
 use Rattle.code.specs.declared.instruction.Instruction.{Instruction}

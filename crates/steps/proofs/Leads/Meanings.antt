@@ -1,6 +1,6 @@
 -- Functions of texts and truth values, and jumps.
-use Rattle.std.proofs.Common.{◌≡◌, ◌∙◌, ℕ, suc, ◌+◌, ◌-◌, ◌≤◌, List, [], ◌∷◌, ◌++◌, Bool, true, false, Result, Ok, Err, length, drop, take, refl, sym, ap, subst, if◌then◌else◌}
-use Rattle.std.specs.Prelude.{nat_le, reverse}
+use Rattle.std.proofs.Common.{◌≡◌, ℕ, ◌+◌, ◌≤◌, List, ◌++◌, Bool, Result, Ok, Err, length, drop, take, sym, subst, if◌then◌else◌}
+use Rattle.std.specs.Prelude.{reverse}
 use Rattle.std.proofs.lemmas.Bool.{le-leb}
 use Rattle.code.specs.declared.instruction.Instruction.{Instruction}
 use Rattle.evaluation.specs.Evaluated as evaluation

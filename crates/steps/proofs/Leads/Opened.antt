@@ -1,7 +1,7 @@
 -- An open word of which there is something, and a value that is put after its bytes.
-use Rattle.std.proofs.Common.{◌≡◌, ℕ, suc, ◌+◌, ◌≤◌, List, [], ◌∷◌, ◌++◌, Bool, true, false, Option, None, Some, Result, Ok, Err, refl, sym, ap, subst, length, append_assoc}
-use Rattle.std.specs.Prelude.{is_some, slice_get, reverse}
-use Rattle.code.specs.Code.{At, JoinsAt, first, joined, PartsAt, over, text, value, item, bracket, WordsAt}
+use Rattle.std.proofs.Common.{ℕ, ◌+◌, ◌≤◌, List, [], ◌∷◌, ◌++◌, true, false, Option, None, Some, Result, Ok, Err, sym, ap, subst, length, append_assoc}
+use Rattle.std.specs.Prelude.{slice_get, reverse}
+use Rattle.code.specs.Code.{JoinsAt, first, joined, PartsAt, over, text, value, item, bracket, WordsAt}
 use Rattle.code.specs.declared.instruction.Instruction.{Instruction}
 use Rattle.code.specs.declared.instruction.Instruction.TheVariants as i
 use Rattle.meanings.specs.Meaning.{IsSplit}
@@ -10,12 +10,12 @@ use Rattle.runs.specs.Commands.{command}
 use Rattle.state.specs.Prelude.{Dialogue, Outcome, Status}
 use Rattle.state.specs.Variables.{spelled}
 use Rattle.steps.specs.Follows.{Follows}
-use Rattle.steps.specs.Goes.{here, reads}
-use Rattle.steps.specs.Layout.{AroundAt, FramesAt, JoinedAt, OpenAt, OuterAt, WordAt}
+use Rattle.steps.specs.Goes.{reads}
+use Rattle.steps.specs.Layout.{FramesAt, JoinedAt, OpenAt, OuterAt, WordAt}
 use Rattle.steps.specs.Machine.{machine, spread}
 use Rattle.steps.specs.Places.{Part, Joins, Gathers, Frame, beneath, brackets, course_of, left_of, marks_beneath, onward_of, spot_at}
-use Rattle.steps.specs.Spot.{Spot, Went}
-use Rattle.steps.specs.Word.{Around, Open, Word, Plain, Expands, Operand, bytes_of, index_on, word_on}
+use Rattle.steps.specs.Spot.{Went}
+use Rattle.steps.specs.Word.{Around, Open, Word, Plain, Expands, Operand, word_on}
 use Rattle.steps.proofs.Leads.Operands.{elements_after, last_first}
 use Rattle.steps.proofs.Leads.Operators.{operand_leads}
 use Rattle.steps.proofs.Leads.Parts.{PartLeads, enter_leads, opened, start_leads, text_leads, variable_leads}

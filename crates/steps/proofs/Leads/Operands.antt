@@ -1,5 +1,5 @@
 -- The operands of a command: its words, and those below them.
-use Rattle.std.proofs.Common.{◌≡◌, ◌∙◌, ℕ, ◌+◌, ◌-◌, List, [], ◌∷◌, ◌++◌, take, drop, length, refl, sym, ap, arith, length-append, ◌≤◌, if◌then◌else◌}
+use Rattle.std.proofs.Common.{◌≡◌, ◌∙◌, ℕ, ◌-◌, List, [], ◌∷◌, ◌++◌, take, drop, length, sym, ap, arith, length-append, ◌≤◌, if◌then◌else◌}
 use Rattle.std.specs.Prelude.{reverse}
 use mathlib.Core.List.{reverse-cons}
 use Rattle.std.proofs.lemmas.Bool.{le-leb}
@@ -8,7 +8,7 @@ use Rattle.std.proofs.Math.Seq.{take-append_seam, drop-append_seam}
 use Rattle.state.specs.Prelude.{Status}
 use Rattle.steps.specs.Machine.{beginning}
 use Rattle.steps.specs.Moves.{with_operands}
-use Rattle.steps.specs.Spot.{Spot, Did, Begins, Stuck}
+use Rattle.steps.specs.Spot.{Spot, Begins, Stuck}
 
 -- the words, of which the last one is on top
 pub words_above : (words below : List (List ℕ)) →

@@ -1,8 +1,8 @@
 -- The value of an operand is on top: what it was evaluated for.
-use Rattle.std.proofs.Common.{◌≡◌, ◌∙◌, ℕ, suc, ◌+◌, ◌-◌, ◌≤◌, List, [], ◌∷◌, ◌++◌, Bool, true, false, length, refl, sym, ap, subst, arith, if◌then◌else◌}
+use Rattle.std.proofs.Common.{◌≡◌, ℕ, suc, ◌+◌, ◌-◌, ◌≤◌, List, [], ◌∷◌, ◌++◌, true, false, length, sym, subst, arith, if◌then◌else◌}
 use Rattle.std.specs.Prelude.{slice_get, reverse}
 use Rattle.code.specs.Code.{At}
-use Rattle.code.specs.Formula.{FormulaAt, LinksAt, no_more, both, and_also, or_else, ArgumentsAt, no_argument, argument}
+use Rattle.code.specs.Formula.{LinksAt, no_more, both, and_also, or_else, ArgumentsAt, no_argument, argument}
 use Rattle.code.specs.declared.instruction.Instruction.{Instruction}
 use Rattle.code.specs.declared.instruction.Instruction.TheVariants as i
 use Rattle.evaluation.specs.Evaluated.{arguments, evaluated, told}
@@ -27,7 +27,7 @@ use Rattle.steps.proofs.Leads.Scripts.{has_leads}
 use Rattle.steps.proofs.Leads.Standing.{by, stands}
 use Rattle.steps.specs.Formulas.{calling, deciding, jumping}
 use Rattle.steps.specs.Spot.{Went}
-use Rattle.tclparse.specs.Formula.{Formula, Formulas, Links}
+use Rattle.tclparse.specs.Formula.{Formulas, Links}
 use Rattle.tclparse.specs.declared.operator.Function.{Function}
 
 module _ {A X : Type 0} (code : List (Instruction A)) (last : Status → Outcome → Dialogue X) where

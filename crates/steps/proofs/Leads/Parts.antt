@@ -1,5 +1,5 @@
 -- The parts of an open word of which there is nothing yet, and each kind of part.
-use Rattle.std.proofs.Common.{◌≡◌, ℕ, zero, suc, ◌+◌, ◌≤◌, List, [], ◌∷◌, ◌++◌, Bool, true, false, Option, None, Some, refl, ap, arith}
+use Rattle.std.proofs.Common.{ℕ, zero, suc, ◌+◌, ◌≤◌, List, [], ◌∷◌, true, false, Option, None, Some, refl, ap, arith}
 use Rattle.std.specs.Prelude.{is_some, slice_get}
 use Rattle.code.specs.Code.{At, JoinsAt, PartsAt, over, empty, text, value, item, bracket, CommandsAt, none}
 use Rattle.code.specs.declared.instruction.Instruction.{Instruction}

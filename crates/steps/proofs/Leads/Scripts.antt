@@ -1,8 +1,8 @@
 -- A value on top: the rest of a script follows, or a script in brackets is over.
-use Rattle.std.proofs.Common.{◌≡◌, ℕ, suc, ◌+◌, ◌≤◌, List, [], ◌∷◌, Option, None, Some, false, refl, sym, subst, arith, if◌then◌else◌}
+use Rattle.std.proofs.Common.{ℕ, suc, ◌+◌, ◌≤◌, List, [], ◌∷◌, Option, false, refl, sym, subst, arith, if◌then◌else◌}
 use Rattle.std.proofs.lemmas.Bool.{lt-leb}
 use Rattle.std.specs.Prelude.{slice_get}
-use Rattle.code.specs.Code.{At, CommandsAt, done, next, FaultAt, none, fault}
+use Rattle.code.specs.Code.{CommandsAt, done, next, FaultAt, none, fault}
 use Rattle.code.specs.declared.instruction.Instruction.{Instruction}
 use Rattle.code.specs.declared.instruction.Instruction.TheVariants as i
 use Rattle.runs.specs.Commands.{command}
@@ -11,8 +11,8 @@ use Rattle.steps.specs.Follows.{Follows}
 use Rattle.steps.specs.Goes.{here, calls}
 use Rattle.steps.specs.Layout.{FramesAt}
 use Rattle.steps.specs.Machine.{ahead, machine}
-use Rattle.steps.specs.Places.{Has, Joins, Gathers, Frame, Rest, Bracket, beneath, brackets, marks_beneath, onward_of, spot_at}
-use Rattle.steps.specs.Spot.{Spot, Did, Went, Stuck}
+use Rattle.steps.specs.Places.{Has, Joins, Gathers, Frame, Rest, Bracket, brackets, onward_of, spot_at}
+use Rattle.steps.specs.Spot.{Went, Stuck}
 use Rattle.steps.proofs.Leads.Silent.{same_goes}
 use Rattle.steps.proofs.Leads.Standing.{by, silently, leaves_pass, stands, tick_leads}
 use Rattle.tclparse.specs.Fault.{Fault}

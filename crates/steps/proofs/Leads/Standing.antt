@@ -1,5 +1,5 @@
 -- How a place is shown: by the instruction that stands there, and by the place that comes next.
-use Rattle.std.proofs.Common.{◌≡◌, ℕ, zero, suc, ◌+◌, ◌≤◌, List, [], ◌∷◌, Option, None, Some, Result, Ok, Err, refl, sym, subst}
+use Rattle.std.proofs.Common.{◌≡◌, ℕ, zero, suc, ◌+◌, ◌≤◌, List, [], ◌∷◌, Some, Result, Ok, Err, refl, sym, subst}
 use Rattle.std.specs.Prelude.{slice_get}
 use Rattle.code.specs.Code.{At}
 use Rattle.code.specs.declared.instruction.Instruction.{Instruction}
@@ -8,7 +8,7 @@ use Rattle.state.specs.Dialogue.{tick_of}
 use Rattle.state.specs.Outcome.{Stop}
 use Rattle.state.specs.Prelude.{Code, Course, Dialogue, Leaves, Outcome, Status, Stops}
 use Rattle.state.specs.Variables.{found}
-use Rattle.steps.specs.Follows.{Here, Comes, Waits, Follows}
+use Rattle.steps.specs.Follows.{Here, Comes, Follows}
 use Rattle.steps.specs.Goes.{Goes, here}
 use Rattle.steps.specs.Layout.{HeadAt, FramesAt}
 use Rattle.steps.specs.Machine.{machine, ticked, with_value}

@@ -1,18 +1,18 @@
 -- The words of a command: its next word, or its beginning.
-use Rattle.std.proofs.Common.{◌≡◌, ℕ, suc, ◌+◌, ◌≤◌, List, [], ◌∷◌, ◌++◌, Bool, true, false, None, refl, sym, ap, subst, length, arith}
+use Rattle.std.proofs.Common.{◌≡◌, ℕ, suc, ◌+◌, ◌≤◌, List, [], ◌∷◌, ◌++◌, Bool, true, false, refl, sym, subst, length, arith}
 use Rattle.std.specs.Prelude.{slice_get, reverse}
 use Rattle.code.specs.Code.{At, WordsAt, begins, begins_counted, one, counts, spread}
 use Rattle.code.specs.declared.instruction.Instruction.{Instruction}
 use Rattle.code.specs.declared.instruction.Instruction.TheVariants as i
 use Rattle.plan.specs.Plan.{and_then, onward}
 use Rattle.runs.specs.Commands.{command}
-use Rattle.state.specs.Prelude.{Dialogue, Gives, Outcome, Status}
+use Rattle.state.specs.Prelude.{Dialogue, Outcome, Status}
 use Rattle.steps.specs.Follows.{Follows}
 use Rattle.steps.specs.Goes.{here}
 use Rattle.steps.specs.Layout.{CountIs, FramesAt}
 use Rattle.steps.specs.Machine.{beginning, machine}
 use Rattle.steps.specs.Places.{Has, Gathers, Frame, beneath, brackets, left_of, onward_of, marks_beneath, spot_at}
-use Rattle.steps.specs.Spot.{Did, Went}
+use Rattle.steps.specs.Spot.{Went}
 use Rattle.steps.specs.Word.{Plain, Expands}
 use Rattle.steps.proofs.Leads.Operands.{begins_with, words_left}
 use Rattle.steps.proofs.Leads.Parts.{start_leads}

@@ -1,5 +1,4 @@
 use Rattle.std.proofs.Common.{◌≡◌, ◌∙◌, ◌∷◌, subst, sym, ap, rules}
-use Rattle.std.specs.Prelude.{reverse}
 use Rattle.meanings.specs.View.{Answers}
 use Rattle.operators.specs.Binary.{binary}
 use Rattle.steps.specs.Does.{Does}

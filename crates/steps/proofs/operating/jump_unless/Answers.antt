@@ -1,24 +1,30 @@
-use Rattle.std.proofs.Common.{◌≡◌, ◌∙◌, sym, ap, if◌then◌else◌}
-use Rattle.std.specs.Prelude.{reverse}
+use Rattle.std.proofs.Common.{◌∙◌, Err, sym, ap, subst, if◌then◌else◌}
+use Rattle.std.specs.Prelude.{reverse, IfErr}
 use Rattle.operators.specs.Truth.{truth_of}
-use Rattle.steps.specs.Formulas.{deciding, jumping, on_truth}
+use Rattle.operators.specs.View.{IsNoTruth}
+use Rattle.steps.specs.Formulas.{jumping, on_truth}
 use Rattle.steps.specs.Moves.{on_top, with_operands}
-use Rattle.steps.specs.Spot.{Did, Went}
+use Rattle.steps.specs.Spot.{Went}
 use Rattle.steps.specs.View.{spot_of}
 use Rattle.steps.proofs.Does.{one_on_top}
 use Rattle.steps.proofs.Meanings.{no_truth}
 use Rattle.steps.proofs.operating.jump_unless.Goals as goal
 
-pub returns-in_ok-failed-in-Err-clause-does : goal.returns-in_ok-failed-in-Err-clause-does
-returns-in_ok-failed-in-Err-clause-does g c = λ s.
+pub returns-in-Err-Fault-clause-does : goal.returns-in-Err-Fault-clause-does
+returns-in-Err-Fault-clause-does g c = λ s.
     let spot = spot_of c.args.spot.now in
     let place = c.args.place in
     let old = c.args.spot.now.operands.items in
     let new = c.pop.new.self.items in
     let v = c.in-Some.value in
-    c.in_ok-failed-in-Err.ensures (with_operands (reverse new) spot) s
-    ∙ no_truth c.in_ok-tested.field-0 c.in-Err.fault v s
-    (λ holds. if holds then Went (with_operands (reverse new) spot) s else jumping place (with_operands (reverse new) spot) s) c.in-Err.is c.in_ok-tested.ensures
+    let told = subst (λ t. IfErr c.truth-2.result (IsNoTruth t)) c.text.ensures
+    c.truth-2.ensures.fault in
+    let is = c.in-Err-Fault.is ∙ ap (λ why. Err why) c.in-Err-Fault.field-0-is in
+    c.in_ok-failed-in-Err-Fault.ensures (with_operands (reverse new) spot) s
+    ∙ no_truth c.truth-2.result c.in-Err-Fault.fault v s
+    (λ holds. if holds then Went (with_operands (reverse new) spot) s
+    else jumping place (with_operands (reverse new) spot) s) is told
     ∙ sym (ap (λ os. on_top os (λ value below. on_truth (truth_of value) s
-    (λ holds. if holds then Went (with_operands below spot) s else jumping place (with_operands below spot) s)))
+    (λ holds. if holds then Went (with_operands below spot) s
+    else jumping place (with_operands below spot) s)))
     (one_on_top old new c.pop.result v c.pop.ensures.items c.in-Some.is))

@@ -1,5 +1,4 @@
-use Rattle.std.proofs.Common.{◌≡◌, ◌∙◌, Ok, Err, sym, ap, subst}
-use Rattle.acts.specs.declared.raise.Raise.TheVariants as raise
+use Rattle.std.proofs.Common.{◌∙◌, Ok, Err, sym, ap, subst}
 use Rattle.meanings.specs.Meaning.{Comes}
 use Rattle.meanings.specs.View.{Answers}
 use Rattle.state.specs.Prelude.{flaw_of}

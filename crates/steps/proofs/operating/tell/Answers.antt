@@ -1,9 +1,7 @@
 use Rattle.std.proofs.Common.{◌≡◌, subst, sym, rules}
-use Rattle.std.specs.Prelude.{reverse}
 use Rattle.evaluation.specs.Evaluated.{told}
 use Rattle.meanings.specs.View.{Answers}
 use Rattle.operators.specs.Truth.{truth_of}
-use Rattle.operators.specs.Unary.{unary}
 use Rattle.steps.specs.Does.{Does}
 use Rattle.steps.specs.Formulas.{gives, telling}
 use Rattle.steps.specs.Moves.{on_top, with_operands}
