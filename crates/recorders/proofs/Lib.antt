@@ -1,3 +1,6 @@
+pub mod Closed
+pub mod Counts
+pub mod Filed
 pub mod Recorded
 pub mod Replayed
 pub mod Told

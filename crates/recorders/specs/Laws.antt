@@ -5,7 +5,9 @@ use Rattle.acts.specs.Deed as said
 use Rattle.acts.specs.History.{History, Past}
 use Rattle.records.specs.Entry.{AreNotes, IsSecondRecord, second_header}
 use Rattle.records.specs.Sink.{Gets, Takes}
-use Rattle.recorders.specs.Recorder.{MayRecord, Records, entries_of}
+use Rattle.recorders.specs.Recorder.{Begins, MayRecord, Records, entries_of}
+use Rattle.recorders.specs.RecordFile.{HasGot, Stores, has_failed}
+use Rattle.recorders.specs.declared.record_file.RecordFile.{RecordFile}
 use Rattle.replays.specs.Recording.{Recorded, whole}
 use Rattle.replays.specs.Replay.{Replays}
 
@@ -54,6 +56,22 @@ module _ {W S : Type 0} (step : W → Deed → Reply → W → Type 0) (adds : S
       MatchOption first.1 (Past step first.0 now.0 h × (now.1 ≡ None))
       (λ sink. (left : S) × (now.1 ≡ Some left)
       × Past (Records step adds failed) (first.0, sink) (now.0, left) h)
+
+-- `step` as above; `adds` says whether a put may lead from one state of the sink of a record's file
+-- to another and add these bytes.
+module _ {W S : Type 0} (step : W → Deed → Reply → W → Type 0)
+    (adds : S → List ℕ → S → Type 0) where
+  -- the file of a record that is begun in it got the record of the history, and nothing else; where
+  -- it has failed, it got a beginning of that
+  abbrev pub IsFiled : Type 0
+  IsFiled =
+      (h : History) (empty : RecordFile S) (begun : Option (RecordFile S)) (first last : W)
+      (kept : Option (RecordFile S)) →
+      empty.gathered.bytes.items ≡ [] → empty.failed ≡ false →
+      Begins (Stores adds) has_failed (Some empty) begun →
+      Past (MayRecord step (Stores adds) has_failed) (first, begun) (last, kept) h →
+      (left : RecordFile S) × (kept ≡ Some left) × (text : List ℕ)
+      × IsSecondRecord (entries_of h) text × HasGot adds empty.file text left
 
 module _ {O E : Type 0} (out : O → List ℕ → O → Type 0) (out_failed : O → Bool)
     (err : E → List ℕ → E → Type 0) (err_failed : E → Bool) where

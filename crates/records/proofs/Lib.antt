@@ -1,7 +1,8 @@
-mod Cuts
+pub mod Cuts
 mod Faults
 mod HexTexts
 mod Lanes
+pub mod Letters
 mod Lines
 pub mod Notes
 pub mod Records

@@ -11,12 +11,13 @@ ghost use Rattle.worlds.specs.declared.status.Outcome.TheVariants.{Usage};
 use crate::input::{Unread, is_standard_input, read_file, read_script, read_words};
 use crate::lived::lived;
 use crate::play::{finish, rerun};
-use crate::record_file::{RecordFile, create_record};
+use crate::record_file::create_record;
 use crate::same_file::is_same_file;
 use crate::standard::hold_closed;
 use crate::status::Outcome;
 use acts::NoMemory;
 use arguments::Arguments;
+use recorders::RecordFile;
 use records::{Counted, Entry, Sink, read_entries};
 use std::alloc::{Allocator, Global};
 use std::fs::File;
@@ -229,7 +230,7 @@ fn run_entries<R: Files<File = File> + AllocGlobal, O: Sink, E: Sink>(
 fn made_of<'a, R: Files<File = File> + AllocGlobal>(
     rt: &R,
     call: &Arguments<'a, Global>,
-) -> Result<Option<Counted<RecordFile<File>>>, Outcome<'a>>
+) -> Result<Option<RecordFile<Counted<File>>>, Outcome<'a>>
     ensures none { IfOk result (λ made. option_copied call.now.made ≡ None → made ≡ None) }
     ensures lack { IfErr result (λ outcome. LacksFile (option_copied call.now.made) outcome) }
 {
@@ -248,7 +249,7 @@ fn made_file<R: Files<File = File> + AllocGlobal>(
     rt: &R,
     call: &Arguments<'_, Global>,
     name: &[u8],
-) -> Result<Counted<RecordFile<File>>, Unread> {
+) -> Result<RecordFile<Counted<File>>, Unread> {
     if is_read(rt, call, name) {
         return Err(Unread::Refused);
     }
