@@ -1,5 +1,6 @@
 //! The live world.
 
+ghost use Rattle.std.specs.Prelude.{◌≡◌, [], IfOk, None};
 ghost use Rattle.std.specs.Io.KnownBytes.{Appends};
 ghost use Rattle.live.specs.Live.{Lives, Logs, Programs, Works};
 ghost use Rattle.live.specs.Outputs.{err_text, out_text};
@@ -49,7 +50,14 @@ where
 
 impl<S: System + Drop, O: Write + Drop, E: Write + Drop> Live<S, O, E> {
     /// A world over a system, in which nothing is open. Errors: memory is refused.
-    pub fn over(system: S, out: O, err: E) -> io::Result<Live<S, O, E>> {
+    pub fn over(system: S, out: O, err: E) -> io::Result<Live<S, O, E>>
+        ensures system { IfOk result (λ world. world.system ≡ system) }
+        ensures out { IfOk result (λ world. world.out ≡ out) }
+        ensures err { IfOk result (λ world. world.err ≡ err) }
+        ensures log { IfOk result (λ world. world.log ≡ None) }
+        ensures peers { IfOk result (λ world. world.peers.list.items ≡ []) }
+        ensures programs { IfOk result (λ world. world.programs.items ≡ []) }
+    {
         let alloc = system.alloc();
         Ok(Live {
             system,

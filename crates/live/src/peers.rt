@@ -1,6 +1,6 @@
 //! The programs and servers that are open, under their ids.
 
-ghost use Rattle.std.specs.Prelude.{◌≡◌, [], ◌-◌, ◌≤◌, length, max, ◌==◌, filter, not, position};
+ghost use Rattle.std.specs.Prelude.{◌≡◌, [], ◌-◌, ◌≤◌, length, max, ◌==◌, filter, not, position, IfOk};
 ghost use Rattle.std.specs.Io.{StartsWith};
 ghost use Rattle.live.specs.Early.{Exchanged, HandsOn, LooksEarly, UnlessMemory, most_early};
 ghost use Rattle.live.specs.Look.{IsWithin};
@@ -116,7 +116,9 @@ pub struct Peers<L> {
 
 impl<L: Owned + Drop> Peers<L> {
     /// A list in which nothing is open. Errors: memory is refused.
-    pub fn new(alloc: Global) -> Result<Peers<L>, AllocError> {
+    pub fn new(alloc: Global) -> Result<Peers<L>, AllocError>
+        ensures { IfOk result (λ peers. peers.list.items ≡ []) }
+    {
         Ok(Peers {
             alloc,
             list: Vec::new(alloc),

@@ -1,4 +1,5 @@
 mod Consumed
+mod Lent
 mod Lives
 mod Plays
 mod Replayed

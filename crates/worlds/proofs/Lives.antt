@@ -10,41 +10,43 @@ module _ {O E S A : Type 0} (out : O → List ℕ → O → Type 0) (out_failed 
     (adds : S → List ℕ → S → Type 0) (failed : S → Bool)
     (script : List ℕ) (args : List (Vec ℕ A)) (ticks : ℕ) where
   -- a live run of which a record may be made is a live run
-  pub lives : (after : E) (empty kept : Option S) (status : ℕ) →
-      LivedRecorded out out_failed err err_failed script args ticks adds failed empty after kept
-      status →
-      Lived out out_failed err err_failed script args ticks (is_lost failed kept) after status
-  lives after empty kept status (told, ended, (begun, begins, runs), finishes) = (
+  pub lives : (before after : O × E) (empty kept : Option S) (status : ℕ) →
+      LivedRecorded out out_failed err err_failed script args ticks adds failed before empty after
+      kept status →
+      Lived out out_failed err err_failed script args ticks (is_lost failed kept) before after status
+  lives before after empty kept status (told, ended, (begun, begins, runs), finishes) = (
     told,
     ended,
-    runs_alone Steps adds failed script args ticks (tt, begun) (tt, kept) ended runs,
+    runs_alone (Steps out err) adds failed script args ticks (before, begun)
+        ((after.0, told), kept) ended runs,
     finishes,
   )
 
   -- where no record is made, none is lost
-  pub lives_alone : (after : E) (kept : Option S) (status : ℕ) →
-      LivedRecorded out out_failed err err_failed script args ticks adds failed None after kept
-      status →
-      Lived out out_failed err err_failed script args ticks false after status
-  lives_alone after kept status (told, ended, (begun, begins, runs), finishes) =
+  pub lives_alone : (before after : O × E) (kept : Option S) (status : ℕ) →
+      LivedRecorded out out_failed err err_failed script args ticks adds failed before None after
+      kept status →
+      Lived out out_failed err err_failed script args ticks false before after status
+  lives_alone before after kept status (told, ended, (begun, begins, runs), finishes) =
       let none : kept ≡ None =
-      none_kept Steps adds failed script args ticks (tt, begun) (tt, kept) ended begins runs in
-      subst (λ lost. Lived out out_failed err err_failed script args ticks lost after status)
+      none_kept (Steps out err) adds failed script args ticks (before, begun)
+      ((after.0, told), kept) ended begins runs in
+      subst (λ lost. Lived out out_failed err err_failed script args ticks lost before after status)
       (ap (is_lost failed) none)
-      (lives after None kept status (told, ended, (begun, begins, runs), finishes))
+      (lives before after None kept status (told, ended, (begun, begins, runs), finishes))
 
   -- whether a record is made or not, the run is a live run
-  pub lives_so : (made : Option (List ℕ)) (after : E) (empty kept : Option S) (status : ℕ) →
-      (made ≡ None → empty ≡ None) →
-      LivedRecorded out out_failed err err_failed script args ticks adds failed empty after kept
-      status →
+  pub lives_so : (made : Option (List ℕ)) (before after : O × E) (empty kept : Option S)
+      (status : ℕ) → (made ≡ None → empty ≡ None) →
+      LivedRecorded out out_failed err err_failed script args ticks adds failed before empty after
+      kept status →
       (lost : Bool) × MayBeLost made lost
-      × Lived out out_failed err err_failed script args ticks lost after status
-  lives_so None after empty kept status none lived = (
+      × Lived out out_failed err err_failed script args ticks lost before after status
+  lives_so None before after empty kept status none lived = (
     false,
     refl,
-    lives_alone after kept status (subst (λ begun. LivedRecorded out out_failed err
-        err_failed script args ticks adds failed begun after kept status) (none refl) lived),
+    lives_alone before after kept status (subst (λ begun. LivedRecorded out out_failed err
+        err_failed script args ticks adds failed before begun after kept status) (none refl) lived),
   )
-  lives_so (Some name) after empty kept status none lived =
-      (is_lost failed kept, tt, lives after empty kept status lived)
+  lives_so (Some name) before after empty kept status none lived =
+      (is_lost failed kept, tt, lives before after empty kept status lived)

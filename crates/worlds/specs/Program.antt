@@ -60,7 +60,7 @@ module _ {O E : Type 0} (out : O → List ℕ → O → Type 0) (out_failed : O 
     RunsLive made before after status =
         LacksRecord made before after status
         ⊎ ((lost : Bool) × MayBeLost made lost
-        × Lived out out_failed err err_failed script args ticks lost after.1 status)
+        × Lived out out_failed err err_failed script args ticks lost before after status)
 
     -- the script runs under these entries
     abbrev pub RunsUnder : Option (List ℕ) → List Note → O × E → O × E → ℕ → Type 0

@@ -1,8 +1,13 @@
 //! A run in the live world, as a call of the program.
 
-ghost use Rattle.std.specs.Prelude.{◌≡◌};
+ghost use Rattle.std.specs.Prelude.{◌≡◌, ◌≢◌, true};
+ghost use Rattle.acts.specs.Deed as said;
+ghost use Rattle.acts.specs.Deed.{reply_of};
+ghost use Rattle.acts.specs.Fits as table;
 ghost use Rattle.live.specs.Live.{Lives};
-ghost use Rattle.worlds.specs.Lived.{LivedRecorded, Steps};
+ghost use Rattle.live.specs.Outputs.{went_out};
+ghost use Rattle.records.specs.Sink.{Gets};
+ghost use Rattle.worlds.specs.Lived.{Acts, LivedRecorded, Steps, open_in};
 ghost use Rattle.worlds.specs.Runs.{RunsRecorded};
 
 use crate::play::finish;
@@ -10,12 +15,12 @@ use crate::recorded::run_recorded;
 use crate::status::Outcome;
 use acts::{Act, Answer, Limits, NoMemory, World};
 use engine::End;
-use live::Live;
-use recorders::is_lost;
+use live::{Live, System};
+use recorders::{is_lost, put_count};
 use records::Sink;
 use std::alloc::Global;
 use std::fs::File;
-use std::io::{self, ErrorKind, Write};
+use std::io::{self, Write};
 use std::net::{Net, TcpStream};
 use std::process::{Processes, SystemProcess};
 use std::rt::{Clock, Files};
@@ -39,7 +44,8 @@ where
         + Clock
         + AllocGlobal,
     ensures { LivedRecorded O.adds O.has_failed E.adds E.has_failed
-        script.now args.now limits.ticks S.adds S.has_failed made.old err.new made.new result }
+        script.now args.now limits.ticks S.adds S.has_failed (out.old, err.old) made.old
+        (out.new, err.new) made.new result }
 {
     let ended = run_live(rt, script, args, limits, out, err, made);
     finish(Outcome::of_end(is_lost(made), None, &ended), err)
@@ -61,30 +67,142 @@ where
         + Files<File = File>
         + Clock
         + AllocGlobal,
-    ensures { RunsRecorded Steps S.adds S.has_failed script.now args.now limits.ticks
-        tt made.old tt made.new result }
+    ensures { RunsRecorded (Steps O.adds E.adds) S.adds S.has_failed script.now args.now
+        limits.ticks (out.old, err.old) made.old (out.new, err.new) made.new result }
 {
-    match Live::new(rt, Lent(out), Lent(err)) {
-        Ok(mut world) => run_recorded(rt.alloc(), script, args, limits, &mut world, made),
-        Err(_) => run_recorded(rt.alloc(), script, args, limits, &mut Silent, made),
+    match Live::new(rt, Unwritten, Unwritten) {
+        Ok(mut live) => run_over(&mut live, rt.alloc(), script, args, limits, out, err, made),
+        Err(_) => run_silent(rt.alloc(), script, args, limits, out, err, made),
     }
 }
 
-/// A sink that is lent, as an `io::Write`.
-#[derive(Drop)]
-struct Lent<'a, S>(&'a mut S);
+/// Runs a script in a live world over a system, and makes a record of this run where there is a
+/// sink for it. What the run writes goes to the two sinks, and not to the writers of that world.
+/// The acts of the run are those that the world performs, by the calls of its system that they say.
+pub fn run_over<Y: System + Drop, O: Sink, E: Sink, S: Sink>(
+    live: &mut Live<Y, Unwritten, Unwritten>,
+    alloc: Global,
+    script: &[u8],
+    args: &[Vec<u8>],
+    limits: Limits,
+    out: &mut O,
+    err: &mut E,
+    made: &mut Option<S>,
+) -> Result<End<Global>, NoMemory>
+    ensures { RunsRecorded (Acts O.adds E.adds Y.Log.contents Y.holds
+        Y.Program.owner Y.step Y.Link.owner) S.adds S.has_failed script.now args.now limits.ticks (
+          open_in live.old.system live.old.log live.old.peers live.old.programs.items,
+          (out.old, err.old),
+        ) made.old (
+          open_in live.new.system live.new.log live.new.peers live.new.programs.items,
+          (out.new, err.new),
+        ) made.new result }
+{
+    let mut world = LentLive { live, out, err };
+    run_lent(alloc, script, args, limits, &mut world, made)
+}
 
-impl<S: Sink> Write for Lent<'_, S> {
+/// Runs a script in a live world that is lent, which still borrows the same parts afterwards.
+fn run_lent<Y: System + Drop, O: Sink, E: Sink, S: Sink>(
+    alloc: Global,
+    script: &[u8],
+    args: &[Vec<u8>],
+    limits: Limits,
+    world: &mut LentLive<'_, '_, '_, Y, O, E>,
+    made: &mut Option<S>,
+) -> Result<End<Global>, NoMemory>
+    ensures same_live { world.new.live.ghost_name ≡ world.old.live.ghost_name }
+    ensures same_out { world.new.out.ghost_name ≡ world.old.out.ghost_name }
+    ensures same_err { world.new.err.ghost_name ≡ world.old.err.ghost_name }
+    ensures runs { RunsRecorded (Acts O.adds E.adds Y.Log.contents Y.holds
+        Y.Program.owner Y.step Y.Link.owner) S.adds S.has_failed script.now args.now limits.ticks (
+          open_in world.old.live.now.system world.old.live.now.log
+              world.old.live.now.peers world.old.live.now.programs.items,
+          (world.old.out.now, world.old.err.now),
+        ) made.old (
+          open_in world.new.live.now.system world.new.live.now.log
+              world.new.live.now.peers world.new.live.now.programs.items,
+          (world.new.out.now, world.new.err.now),
+        ) made.new result }
+{
+    run_recorded(alloc, script, args, limits, world, made)
+}
+
+/// Runs a script where the system gives no live world: there are no answers, and nothing goes out.
+fn run_silent<O: Sink, E: Sink, S: Sink>(
+    alloc: Global,
+    script: &[u8],
+    args: &[Vec<u8>],
+    limits: Limits,
+    _out: &O,
+    _err: &E,
+    made: &mut Option<S>,
+) -> Result<End<Global>, NoMemory>
+    ensures { RunsRecorded (Steps O.adds E.adds) S.adds S.has_failed script.now args.now
+        limits.ticks (_out.now, _err.now) made.old (_out.now, _err.now) made.new result }
+{
+    run_recorded(alloc, script, args, limits, &mut Silent, made)
+}
+
+/// What stands in a live world for its two writers where a run writes to sinks: nothing is written
+/// to it.
+#[derive(Drop)]
+pub struct Unwritten;
+
+impl Write for Unwritten {
     fn write(&mut self, text: &[u8]) -> io::Result<usize> {
-        let taken = self.0.put(text);
-        if self.0.failed() {
-            return Err(io::Error::from(ErrorKind::WriteZero));
-        }
-        Ok(taken)
+        Ok(text.len())
     }
 
     fn flush(&mut self) -> io::Result<()> {
         Ok(())
+    }
+}
+
+/// A live world that is lent, with the two sinks that it writes to.
+#[derive(Drop)]
+struct LentLive<'l, 'o, 'e, Y: System, O, E> {
+    live: &'l mut Live<Y, Unwritten, Unwritten>,
+    out: &'o mut O,
+    err: &'e mut E,
+}
+
+impl<Y: System + Drop, O: Sink, E: Sink> World<Global> for LentLive<'_, '_, '_, Y, O, E> {
+    // An act of the live world, after which the same parts are still lent.
+    ghost step = { λ before act answer after.
+        Acts O.adds E.adds Y.Log.contents Y.holds Y.Program.owner Y.step Y.Link.owner (
+          open_in before.live.now.system before.live.now.log before.live.now.peers
+              before.live.now.programs.items,
+          (before.out.now, before.err.now),
+        ) act answer (
+          open_in after.live.now.system after.live.now.log after.live.now.peers
+              after.live.now.programs.items,
+          (after.out.now, after.err.now),
+        )
+        × (after.live.ghost_name ≡ before.live.ghost_name)
+        × (after.out.ghost_name ≡ before.out.ghost_name)
+        × (after.err.ghost_name ≡ before.err.ghost_name) };
+
+    fn act(&mut self, act: &Act<Global>) -> Answer<Global> {
+        match act {
+            Act::Out(text) => put_text(self.out, text),
+            Act::Err(text) => put_text(self.err, text),
+            _ => self.live.act(act),
+        }
+    }
+}
+
+/// Puts a text into a sink, and where this fails says how many bytes went out.
+fn put_text<S: Sink>(sink: &mut S, text: &[u8]) -> Answer<Global>
+    ensures fits { table.fits_write text.now (reply_of result) ≡ true }
+    ensures gets { Gets S.adds sink.old (went_out text.now (reply_of result)) sink.new }
+    ensures fails { reply_of result ≢ said.Done → S.has_failed sink.new ≡ true }
+{
+    let sent = put_count(sink, text);
+    if sent == text.len() {
+        Answer::Done
+    } else {
+        Answer::Failed(sent as u64)
     }
 }
 
@@ -93,7 +211,7 @@ impl<S: Sink> Write for Lent<'_, S> {
 struct Silent;
 
 impl World<Global> for Silent {
-    ghost step = { λ _ act answer _. Lives act answer };
+    ghost step = { λ _ act answer _. Lives act answer × (answer ≡ said.NoMore) };
 
     fn act(&mut self, _act: &Act<Global>) -> Answer<Global> {
         Answer::NoMore

@@ -14,8 +14,9 @@ returns-in-Ok g c =
     (c.lived.new.out, c.lived.new.err) c.lived.result) (sym (ap option_copied c.in_default.is))
     (inr (lives_so g.O.Sink.adds g.O.Sink.has_failed g.E.Sink.adds g.E.Sink.has_failed _ _
     c.args.script.now c.args.args.now c.args.call.now.limits.ticks
-    (option_copied c.args.call.now.made) c.lived.new.err c.in-Ok.made c.lived.new.made
-    c.lived.result c.in-Ok.ensures.none c.lived.ensures))
+    (option_copied c.args.call.now.made) (c.args.out.now, c.args.err.now)
+    (c.lived.new.out, c.lived.new.err) c.in-Ok.made c.lived.new.made c.lived.result
+    c.in-Ok.ensures.none c.lived.ensures))
 
 pub returns-in-Ok-read_entries : goal.returns-in-Ok-read_entries
 returns-in-Ok-read_entries g c =
