@@ -137,7 +137,7 @@ cut_before front line start (b ∷ mid) back lacks (inr (lines, ends)) first sec
     ∙ sym (append_assoc (more ++ newline ∷ []) line (newline ∷ [])) in
     absurd (false≢true (sym held ∙ ap is_whole both ∙ two_whole more line))
 
--- where such a text is cut, nothing that waits is behind the cut
+-- where such a text is cut, nothing that waits comes after the cut
 pub closes_at : (text : List ℕ) → Closes text → (front back : List ℕ) → text ≡ front ++ back →
     is_whole back ≡ false → back ≡ []
 closes_at text closes front back e held =

@@ -45,7 +45,7 @@ module _ {O E : Type 0} (out : O → List ℕ → O → Type 0) (err : E → Lis
   module _ {Y L P F : Type 0} (contents : F → Option (List ℕ))
       (holds : Y → List ℕ → Option (List ℕ)) (whose : P → Id) (step : Y → Call → Y → Type 0)
       (owner : L → Id) where
-    -- the same, with what is open in the world, and by which calls of its system it comes to that
+    -- the same, with what is open in the world, and with the calls of its system that led there
     abbrev pub Acts : Open Y L P F × (O × E) → Deed → Reply → Open Y L P F × (O × E) → Type 0
     Acts before act reply after =
         Steps before.1 act reply after.1
