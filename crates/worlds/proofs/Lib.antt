@@ -2,6 +2,7 @@ mod Consumed
 mod Lent
 mod Lives
 mod Plays
+mod ReadChains
 mod Replayed
 mod Scripts
 mod Seen

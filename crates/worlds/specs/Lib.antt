@@ -2,5 +2,6 @@ pub mod Laws
 pub mod Lived
 pub mod Play
 pub mod Program
+pub mod Reads
 pub mod Runs
 pub mod Status

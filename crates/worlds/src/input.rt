@@ -1,14 +1,17 @@
 //! What comes from outside: the words of a call, and the bytes of files.
 
-ghost use Rattle.std.specs.Prelude.{◌≡◌, ◌<◌, ◌≤◌, ◌↔◌, IfOk, IfSome, IsTrue, codes, length, take};
-ghost use Rattle.std.specs.Io.KnownBytes.{Consumes, IsAtEnd};
+ghost use Rattle.std.specs.Prelude.{◌≡◌, ◌≢◌, ◌<◌, ◌≤◌, ◌↔◌, ℕ, List, Option, Result, IfErr, IfOk, IfSome, IsErrOf, IsTrue, OnOk, codes, length, take};
+ghost use Rattle.std.specs.Io.{ReadsAtMost};
+ghost use Rattle.std.specs.Io.KnownBytes.{Consumes, ConsumesCount, IsAtEnd, ReadConsumes};
+ghost use Rattle.std.specs.declared.io.Error.{Error};
+ghost use Rattle.worlds.specs.Reads.{Follows, GivesUp};
 ghost use Rattle.worlds.specs.declared.input.Unread.TheVariants as unread;
 
 use acts::NoMemory;
 use std::alloc::{AllocError, Allocator};
 use std::env::FillError;
 use std::fs::{self, Files};
-use std::io::{ErrorKind, Input, Read};
+use std::io::{self, ErrorKind, Input, Read};
 use std::rt::Env;
 use thiserror::Error;
 
@@ -41,6 +44,8 @@ impl From<NoMemory> for Unread {
 }
 
 impl From<AllocError> for Unread {
+    ghost from_gives = { λ _ result. result ≢ unread.Refused };
+
     fn from(refusal: AllocError) -> Unread {
         Unread::NoMemory(NoMemory::from(refusal))
     }
@@ -117,16 +122,45 @@ pub fn read_file<R: Files, A: Allocator + Copy>(
     }
 }
 
-/// All remaining bytes of a reader.
-pub fn read_all<A: Allocator + Copy, R: Read>(
+/// An `io::Read`, each of whose reads is a step from one state to the next.
+pub trait Reader {
+    /// The bytes that it has left, where they are known.
+    ghost left: { Self → Option (List ℕ) };
+
+    /// Whether a read may give this answer and lead from one state to another.
+    ghost reads: { Self → Result ℕ Error → Self → Type 0 };
+
+    /// Reads some bytes to the front of the room, and says how many, as `io::Read::read`.
+    fn read_once(&mut self, room: &mut [u8]) -> io::Result<usize>
+        ensures within { ReadsAtMost result room.new }
+        ensures len { length room.new ≡ length room.old }
+        ensures left { ReadConsumes (left self.old) (left self.new) result room.new }
+        ensures reads { reads self.old result self.new };
+}
+
+impl<R: Read> Reader for R {
+    ghost left = { λ reader. R.remaining reader };
+
+    // A read that fails keeps what is left.
+    ghost reads = { λ before answer after.
+        ConsumesCount (R.remaining before) (R.remaining after) answer };
+
+    fn read_once(&mut self, room: &mut [u8]) -> io::Result<usize> {
+        self.read(room)
+    }
+}
+
+/// All remaining bytes of a reader. It refuses only where a read of them failed.
+pub fn read_all<A: Allocator + Copy, R: Reader>(
     alloc: A,
     reader: &mut R,
 ) -> Result<Vec<u8, A>, Unread>
-    ensures { IfOk result (λ text. IfSome (R.remaining reader.old) (λ bytes. text.items ≡ bytes)) }
+    ensures all { IfOk result (λ text. IfSome (R.left reader.old) (λ bytes. text.items ≡ bytes)) }
+    ensures refused { IsErrOf result unread.Refused → GivesUp R.reads reader.old reader.new }
 {
     let mut text = Vec::new(alloc);
     let mut chunk = vec![in alloc; 0u8; CHUNK]?;
-    'chunks: for _ in 0..u64::MAX {
+    'chunks: for _read in 0..u64::MAX {
         let taken = read_some(reader, &mut chunk)?;
         if taken == 0 {
             return Ok(text);
@@ -138,15 +172,20 @@ pub fn read_all<A: Allocator + Copy, R: Read>(
 
 /// Reads some bytes to the front of a chunk, and says how many: none only at the end. A read that
 /// was interrupted is tried again.
-fn read_some<R: Read>(reader: &mut R, chunk: &mut [u8]) -> Result<usize, Unread>
+fn read_some<R: Reader>(reader: &mut R, chunk: &mut [u8]) -> Result<usize, Unread>
     requires { 0 < length chunk.old }
     ensures within { IfOk result (λ taken. taken ≤ length chunk.new) }
+    ensures len { length chunk.new ≡ length chunk.old }
     ensures bytes { IfOk result (λ taken.
-        Consumes (R.remaining reader.old) (R.remaining reader.new) (take taken chunk.new)) }
-    ensures end { IfOk result (λ taken. taken ≡ 0 → IsAtEnd (R.remaining reader.new)) }
+        Consumes (R.left reader.old) (R.left reader.new) (take taken chunk.new)) }
+    ensures end { IfOk result (λ taken. taken ≡ 0 → IsAtEnd (R.left reader.new)) }
+    ensures reads { OnOk result ((answers : List (Result ℕ Error))
+        × (1 ≤ length answers) × Follows R.reads reader.old answers reader.new) }
+    ensures refused { IfErr result (λ why. (why ≡ unread.Refused)
+        × GivesUp R.reads reader.old reader.new) }
 {
-    'tries: for _ in 0..u64::MAX {
-        match reader.read(chunk) {
+    'tries: for _tried in 0..u64::MAX {
+        match reader.read_once(chunk) {
             Ok(taken) => return Ok(taken),
             Err(error) => match error.kind() {
                 ErrorKind::Interrupted => {}
