@@ -26,10 +26,10 @@ pub normal_word : {A : Type 0} → (e : Bool) (ps : Rc (Vec (Part A) A) A)
     ≡ are_apart false (map form_of ps.value.items)
 normal_word e ps = search (rules, the_lemmas)
 
-pub normal_command : {A : Type 0} → (ws : Rc (Vec (Word A) A) A)
-    → is_normal_command (roll-Command A (record { words = ws }))
+pub normal_command : {A : Type 0} → (n : ℕ) (ws : Rc (Vec (Word A) A) A)
+    → is_normal_command (roll-Command A (record { from_end = n; words = ws }))
     ≡ some_yes (map is_normal_word ws.value.items)
-normal_command ws = search (rules, the_lemmas)
+normal_command n ws = search (rules, the_lemmas)
 
 map_push : {X Y : Type 0} (f : X → Y) (xs : List X) (x : X) → map f (xs ++ x ∷ []) ≡ map f xs ++ f x
     ∷ []

@@ -187,22 +187,22 @@ body_error context d x y (error.Fault f) r at h is =
       subst (λ v. IsBody context d h.0 v (Err (fault_of f))) at h.1,
     )
 
-pub after_command : {A : Type 0} (context : Context) (d : ℕ) (x y s z : List ℕ)
+pub after_command : {A : Type 0} (context : Context) (d : ℕ) (x y s z : List ℕ) (n : ℕ)
     (ws : Rc (Vec (Word A) A) A) (cs bs : List (Command A))
     → CommandsSoFar context d x y (commands_then cs) → s ≡ skip_gap context between y →
     ends_script context s ≡ false → IsWords context d (words_then ws.value.items no_words) s
     (Ok z)
-    → bs ≡ cs ++ roll-Command A (record { words = ws }) ∷ [] →
+    → bs ≡ cs ++ roll-Command A (record { from_end = n; words = ws }) ∷ [] →
     CommandsSoFar context d x z (commands_then bs)
-after_command {A} context d x y s z ws cs bs so_far skipped begins is pushed t o h =
-    let c = roll-Command A (record { words = ws }) in
+after_command {A} context d x y s z n ws cs bs so_far skipped begins is pushed t o h =
+    let c = roll-Command A (record { from_end = n; words = ws }) in
     let inside = words_then ws.value.items no_words in
     let first : (ends_script context (skip_gap context between y) ≡ false)
     × IsWords context d inside (skip_gap context between y) (Ok z) =
     subst (λ v. (ends_script context v ≡ false) × IsWords context d inside v (Ok z)) skipped
     (begins, is) in
     subst (λ v. IsCommands context d v x o) (sym (ap (λ l. commands_then l t) pushed
-    ∙ commands_push cs c t ∙ ap (λ l. commands_then cs (command l t)) (view_of_command ws)))
+    ∙ commands_push cs c t ∙ ap (λ l. commands_then cs (command l t)) (view_of_command n ws)))
     (so_far (command inside t) o (first.0, Ok z, first.1, h))
 
 pub command_fault : {A : Type 0} (context : Context) (d : ℕ) (x y s : List ℕ) (f : Fault)

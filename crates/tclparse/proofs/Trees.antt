@@ -53,9 +53,10 @@ pub view_of_word : {A : Type 0} → (e : Bool) (ps : Rc (Vec (Part A) A) A) (t :
     ≡ word e (parts_then ps.value.items no_parts) t
 view_of_word e ps t = search (rules, the_lemmas, join_parts_view)
 
-pub view_of_command : {A : Type 0} → (ws : Rc (Vec (Word A) A) A) →
-    command_view (roll-Command A (record { words = ws })) ≡ words_then ws.value.items no_words
-view_of_command ws = search (rules, the_lemmas, join_words_view)
+pub view_of_command : {A : Type 0} → (n : ℕ) (ws : Rc (Vec (Word A) A) A) →
+    command_view (roll-Command A (record { from_end = n; words = ws }))
+    ≡ words_then ws.value.items no_words
+view_of_command n ws = search (rules, the_lemmas, join_words_view)
 
 pub parts_push : {A : Type 0} → (ps : List (Part A)) (p : Part A) (t : Parts) →
     parts_then (ps ++ p ∷ []) t ≡ parts_then ps (part_view p t)

@@ -274,7 +274,8 @@ pub(crate) fn read_commands<A: Allocator + Copy>(
         }
         match read_words(alloc, context, depth, start) {
             Ok((words, rest)) => {
-                commands.push(Command { words })?;
+                let from_end = start.len();
+                commands.push(Command { from_end, words })?;
                 bytes = rest;
             }
             Err(ReadError::Fault(fault)) => {

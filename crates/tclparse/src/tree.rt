@@ -8,6 +8,9 @@ use tcltext::Value;
 #[cycle(tree)]
 #[derive(Drop)]
 pub struct Command<A: Allocator> {
+    /// How many bytes the text that was read has from the beginning of the command on, so that an
+    /// error can be told by its line. No contract speaks of it.
+    pub from_end: usize,
     pub words: Rc<Vec<Word<A>, A>, A>,
 }
 

@@ -213,8 +213,8 @@ read_commands-loop-context-preserved g t c =
     ∙ sym c.if-ends_script.ensures) in
     record {
       tree = after_command (context_of c.args.context) c.args.depth c.args.text.now l.bytes.now
-          c.skip_gap-start.result.now c.in-Ok.rest.now c.in-Ok.words l.commands.items
-          c.push.new.self.items
+          c.skip_gap-start.result.now c.in-Ok.rest.now (length c.skip_gap-start.result.now)
+          c.in-Ok.words l.commands.items c.push.new.self.items
           l.invariant.tree c.skip_gap-start.ensures.rest (sym c.if-ends_script.ensures)
           c.in-Ok.ensures.tree (search rules);
       shorter = omega (
@@ -224,8 +224,10 @@ read_commands-loop-context-preserved g t c =
         c.skip_gap-start.ensures.shorter,
       );
       normal = all_push is_normal_command l.commands.items c.push.new.self.items
-          (roll-Command _ (record { words = c.in-Ok.words })) l.invariant.normal
-          (normal_command c.in-Ok.words ∙ c.in-Ok.ensures.command goes_on) (search rules);
+          (roll-Command _ (record { from_end = length start.result.now; words = c.in-Ok.words }))
+          l.invariant.normal
+          (normal_command (length start.result.now) c.in-Ok.words
+          ∙ c.in-Ok.ensures.command goes_on) (search rules);
     }
 
 pub read_commands-returns-in-Err-Fault-clause-tree :
