@@ -28,21 +28,21 @@ pub enum Awaited<A: Allocator> {
 
 impl<A: Allocator> Awaited<A> {
     /// Whether the branch waits for a full buffer.
-    pub(crate) fn takes_full(&self) -> bool
+    pub fn takes_full(&self) -> bool
         ensures { result ≡ takes_full (awaited_of self.now) }
     {
         matches!(self, Awaited::FullBuffer)
     }
 
     /// Whether the branch waits for an end (`eof` or `default`).
-    pub(crate) fn takes_end(&self) -> bool
+    pub fn takes_end(&self) -> bool
         ensures { result ≡ takes_end (awaited_of self.now) }
     {
         matches!(self, Awaited::Eof | Awaited::Default)
     }
 
     /// Whether the branch waits for a timeout (`timeout` or `default`).
-    pub(crate) fn takes_timeout(&self) -> bool
+    pub fn takes_timeout(&self) -> bool
         ensures { result ≡ takes_timeout (awaited_of self.now) }
     {
         matches!(self, Awaited::Timeout | Awaited::Default)
@@ -114,9 +114,18 @@ impl<A: Allocator> Pair<A> {
         Pair { id, branch }
     }
 
+    /// Whether the branch of another pair is the same one, and not only one like it. No contract
+    /// speaks of it: who watches a run tells by it which words a branch was said by.
+    pub fn shares_branch(&self, other: &Pair<A>) -> bool {
+        Rc::ptr_eq(&self.branch, &other.branch)
+    }
+
     /// The same pair once more; its branch is not copied. Memory is asked for only for the count of
     /// its holders.
-    pub(crate) fn share(&self) -> Result<Pair<A>, NoMemory>
+    ///
+    /// # Errors
+    /// `NoMemory`.
+    pub fn share(&self) -> Result<Pair<A>, NoMemory>
         ensures { IfOk result (λ same. same ≡ self.now) }
     {
         let branch = self.branch.clone()?;
@@ -134,28 +143,28 @@ impl<A: Allocator> Pair<A> {
     }
 
     /// What its branch waits for.
-    pub(crate) fn awaited(&self) -> &Awaited<A>
+    pub fn awaited(&self) -> &Awaited<A>
         ensures { awaited_of result.now ≡ self.now.branch.awaited }
     {
         &self.branch.awaited
     }
 
     /// Whether the bytes that its branch finds stay in the buffer (`-notransfer`).
-    pub(crate) fn stays(&self) -> bool
+    pub fn stays(&self) -> bool
         ensures { result ≡ self.now.branch.flags.stays }
     {
         self.branch.flags.stays
     }
 
     /// Whether the places of a match are reported (`-indices`).
-    pub(crate) fn tells_places(&self) -> bool
+    pub fn tells_places(&self) -> bool
         ensures { result ≡ self.now.branch.flags.tells_places }
     {
         self.branch.flags.tells_places
     }
 
     /// The script of its branch.
-    pub(crate) fn body(&self) -> &Value<A>
+    pub fn body(&self) -> &Value<A>
         ensures { result.now ≡ self.now.branch.body }
     {
         &self.branch.body

@@ -171,6 +171,7 @@ impl<A: Allocator + Copy> Table<A> {
         let mut rest = pairs;
         while let Some((pair, more)) = rest.split_first() {
             if let Some(found) = self.search(alloc, pair, trigger, round) {
+                self.note_found(pairs.len().saturating_sub(rest.len()), found);
                 return Some((pair, found));
             }
             rest = more;
@@ -178,11 +179,19 @@ impl<A: Allocator + Copy> Table<A> {
         None
     }
 
+    /// Remembers which pattern was found, by the place of its pair, and where.
+    fn note_found(&mut self, place: usize, found: Found)
+        ensures { self.new ≡ self.old }
+    {
+        self.found = Some((place, found));
+    }
+
     /// Begins the searches of a choice.
     fn next_round(&mut self, trigger: Trigger) -> Round
         ensures { self.new ≡ self.old }
     {
         self.rounds = self.rounds.wrapping_add(1);
+        self.found = None;
         Round {
             number: self.rounds,
             grows: trigger.grows(),

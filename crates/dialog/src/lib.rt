@@ -30,5 +30,6 @@ pub use effective::Effective;
 pub use error::OpenError;
 pub use kind::Kind;
 pub use log_state::LogState;
+pub use sign::{Keyword, Mark, Sign, Style};
 pub use standing::{Side, Standing};
 pub use table::{FIRST_SIZE, MOST_OPEN, Table};

@@ -3,35 +3,38 @@ ghost use Rattle.std.specs.Prelude.{◌≡◌};
 ghost use Rattle.dialog.specs.Parts.{begins_with_dash, timeout_sign, alone_sign, flag_sign, plain_sign, sign};
 ghost use Rattle.dialog.specs.Signs.{sign_by};
 
-/// How a text is sought.
+/// How a text is sought (expect(1), expect).
 #[derive(Clone, Copy, Debug, PartialEq, Eq)]
-pub(crate) enum Style {
+pub enum Style {
     /// As a glob.
     Glob,
     /// As it stands.
     Exact,
 }
 
-/// A flag of the next branch.
+/// A flag of the next branch (expect(1), expect).
 #[derive(Clone, Copy, Debug, PartialEq, Eq)]
-pub(crate) enum Mark {
+pub enum Mark {
+    /// `-notransfer`.
     Stays,
+    /// `-indices`.
     TellsPlaces,
+    /// `-nocase`.
     Folds,
 }
 
-/// A keyword.
+/// A keyword (expect(1), expect).
 #[derive(Clone, Copy, Debug, PartialEq, Eq)]
-pub(crate) enum Keyword {
+pub enum Keyword {
     FullBuffer,
     Eof,
     Timeout,
     Default,
 }
 
-/// What a word says.
+/// What a word says where a flag or a pattern may stand (expect(1), expect).
 #[derive(Clone, Copy, Debug, PartialEq, Eq)]
-pub(crate) enum Sign {
+pub enum Sign {
     /// A flag of the next branch.
     Mark(Mark),
     /// `-re`, which this project leaves out.
@@ -52,7 +55,7 @@ pub(crate) enum Sign {
 
 impl Sign {
     /// What a word says; `standing` is whether it is a word of `expect_before` or `expect_after`.
-    pub(crate) fn of(standing: bool, word: &[u8]) -> Sign
+    pub fn of(standing: bool, word: &[u8]) -> Sign
         ensures { sign_by word.now result ≡ sign standing word.now }
     {
         if matches!(word, [b'-', ..]) {

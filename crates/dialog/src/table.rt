@@ -14,6 +14,7 @@ use acts::{Id, NoMemory};
 use matchbuf::{MatchBuf, MatchBufError};
 use std::alloc::Allocator;
 use std::marker::Model;
+use tcltext::Found;
 
 /// How many ids may be open at a time.
 pub const MOST_OPEN: usize = 64;
@@ -32,6 +33,8 @@ pub struct Table<A: Allocator> {
     next: Option<u64>,
     /// How many choices were looked for, counted round.
     pub(crate) rounds: u64,
+    /// The pattern that the last choice found, by the place of its pair, and where it was found.
+    pub(crate) found: Option<(usize, Found)>,
 }
 
 impl<A: Allocator> Model for Table<A> {
@@ -56,7 +59,15 @@ impl<A: Allocator> Table<A> {
             entries: Vec::new(alloc),
             next: Some(FIRST_NUMBER),
             rounds: 0,
+            found: None,
         }
+    }
+
+    /// What the last choice found, if it was a pattern: the place of its pair among the pairs that
+    /// it was chosen from, and where in the window it was. No contract speaks of it: it is told to
+    /// who watches a run.
+    pub fn last_found(&self) -> Option<(usize, Found)> {
+        self.found
     }
 
     /// The place of an open id in the table.
