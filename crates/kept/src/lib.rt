@@ -11,7 +11,8 @@ use memory::NoMemory;
 use std::alloc::Allocator;
 use std::hash::{BuildHasherDefault, FoldHasher};
 use std::marker::Model;
-use tclparse::Script;
+use std::rc::Rc;
+use tclparse::{Command, Script};
 
 /// The most texts that are kept.
 pub const MOST_KEPT: usize = 256;
@@ -46,6 +47,19 @@ impl<A: Allocator> Kept<A> {
         ensures once { IsDistinct bytes_eq self.now }
     {
         self.scripts.len()
+    }
+}
+
+impl<A: Allocator> Kept<A> {
+    /// The text under which the tree with these commands is kept, if it is. Takes no memory. No
+    /// contract speaks of it: it is told to who watches a run, which text it is that runs.
+    pub fn text_of(&self, commands: &Rc<Vec<Command<A>, A>, A>) -> Option<&[u8]> {
+        for (text, script) in self.scripts.iter() {
+            if Rc::ptr_eq(&script.commands, commands) {
+                return Some(text.as_slice());
+            }
+        }
+        None
     }
 }
 
