@@ -4,7 +4,12 @@
 mod running;
 mod session;
 
-pub use machine::End;
-pub use running::run;
+pub use machine::frame::Frame;
+pub use machine::{End, Unwatched, Watch};
+pub use running::{run, run_watched};
 pub use runs::laws::answers_decide;
 pub use session::{Session, Step};
+pub use state::State;
+
+/// How far what began has come, as one who watches a run is told it.
+pub type Lead<A> = state::Leaf<A, machine::Waits<A>>;

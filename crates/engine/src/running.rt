@@ -4,9 +4,12 @@ ghost use Rattle.std.specs.Prelude.{IfOk, IfErr};
 ghost use Rattle.machine.specs.View.{ending_of, words_of};
 ghost use Rattle.runs.specs.Run.{Began, Ran};
 
+use crate::Lead;
 use crate::session::{Session, Step};
 use acts::{Limits, NoMemory, World};
-use machine::End;
+use machine::frame::Frame;
+use machine::{End, Unwatched, Watch};
+use state::State;
 use std::alloc::Allocator;
 
 /// Runs a script in a world, for a limited number of ticks; the first of its arguments is `argv0`.
@@ -28,14 +31,38 @@ pub fn run<A: Allocator + Copy, W: World<A>>(
     ensures began { IfErr result (λ _.
         Began W.step world.old world.new script.now (words_of args.now) limits.ticks) }
 {
+    run_watched(alloc, script, args, limits, world, &mut Unwatched)
+}
+
+/// The same, while someone watches it, who has no part in it.
+pub fn run_watched<A: Allocator + Copy, W: World<A>, T: Watch<A, Frame<A>, State<A>, Lead<A>>>(
+    alloc: A,
+    script: &[u8],
+    args: &[Vec<u8, A>],
+    limits: Limits,
+    world: &mut W,
+    watch: &mut T,
+) -> Result<End<A>, NoMemory>
+    ensures ran { IfOk result (λ end.
+        Ran W.step world.old world.new script.now (words_of args.now) limits.ticks
+        (ending_of end)) }
+    ensures began { IfErr result (λ _.
+        Began W.step world.old world.new script.now (words_of args.now) limits.ticks) }
+{
+    watch.starts(script, args);
     let mut session = Session::start(alloc, script, args, limits)?;
-    session.go_on(None)?;
+    session.go_on(None, watch)?;
     'acts: loop {
         let answer = match session.step() {
-            Step::Act(act) => world.act(act),
+            Step::Act(act) => {
+                watch.asks(act);
+                let answer = world.act(act);
+                watch.answers(&answer);
+                answer
+            }
             Step::End(_) => break,
         };
-        session.go_on(Some(answer))?;
+        session.go_on(Some(answer), watch)?;
     }
     match session.into_end() {
         Some(end) => Ok(end),

@@ -7,11 +7,12 @@ ghost use Rattle.machine.specs.Frames.{IsWhole};
 ghost use Rattle.machine.specs.Phases.{GivesAgain, IsTold, MayFail};
 ghost use Rattle.machine.specs.View.{words_of};
 
+use crate::Lead;
 use acts::{Act, Answer, Limits, NoMemory};
 use machine::answering::forward;
 use machine::beginning::beginning;
 use machine::frame::{Frame, Script};
-use machine::{End, Phase};
+use machine::{End, Phase, Unwatched, Watch};
 use state::State;
 use std::alloc::Allocator;
 use std::mem;
@@ -81,12 +82,16 @@ impl<A: Allocator + Copy> Session<A> {
     pub fn next(&mut self, answer: Option<Answer<A>>) -> Result<Step<'_, A>, NoMemory>
         ensures* goes_on { sem 𝓛 (GoesOn A.row A.Allocator self.entry answer result) }
     {
-        self.go_on(answer)?;
+        self.go_on(answer, &mut Unwatched)?;
         Ok(self.step())
     }
 
-    /// Continues to the next act or to the end.
-    pub(crate) fn go_on(&mut self, answer: Option<Answer<A>>) -> Result<(), NoMemory>
+    /// Continues to the next act or to the end, and tells who watches what is done on the way.
+    pub(crate) fn go_on<T: Watch<A, Frame<A>, State<A>, Lead<A>>>(
+        &mut self,
+        answer: Option<Answer<A>>,
+        watch: &mut T,
+    ) -> Result<(), NoMemory>
         ensures at { (text : List ℕ) (args : List (List ℕ)) (limit : ℕ) (past : History) →
             IsAt self.old text args limit past →
             IfOk result (λ _. IsAt self.new text args limit
@@ -107,6 +112,7 @@ impl<A: Allocator + Copy> Session<A> {
             answers,
             phase,
             answer,
+            watch,
         ) {
             Ok(phase) => {
                 self.phase = phase;

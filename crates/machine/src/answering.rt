@@ -14,18 +14,20 @@ use crate::frame::Frame;
 use crate::phase::Phase;
 use crate::turns::talk;
 use crate::waits::{Waits, plainly};
+use crate::watch::Watch;
 use acts::{Act, Answer, NoMemory, fits};
 use state::{Leaf, Leave, State, Stop};
 use std::alloc::Allocator;
 
 /// Takes a session from where it stands, with the answer to its act, to the next act or the end.
-pub fn forward<A: Allocator + Copy>(
+pub fn forward<A: Allocator + Copy, T: Watch<A, Frame<A>, State<A>, Leaf<A, Waits<A>>>>(
     alloc: A,
     frames: &mut Vec<Frame<A>, A>,
     state: &mut State<A>,
     answers: &mut u64,
     phase: Phase<A>,
     answer: Option<Answer<A>>,
+    watch: &mut T,
 ) -> Result<Phase<A>, NoMemory>
     ensures stands { (s : Status) (p : Dialogue Over) → answers.old + 1 < 2 ^ 64 →
         FitsState state.old s → IsPlan phase (stack frames.old) s answers.old p →
@@ -38,11 +40,11 @@ pub fn forward<A: Allocator + Copy>(
     ensures again { GivesAgain (λ now end. now ≡ end) phase result }
 {
     match phase {
-        Phase::Has(outcome) => advance(alloc, frames, state, *answers, outcome),
+        Phase::Has(outcome) => advance(alloc, frames, state, *answers, outcome, watch),
         Phase::Asks(act, waits) => match answer {
             Some(answer) => {
                 *answers = answers.wrapping_add(1);
-                answered(alloc, frames, state, *answers, act, waits, answer)
+                answered(alloc, frames, state, *answers, act, waits, answer, watch)
             }
             None => Ok(Phase::Asks(act, waits)),
         },
@@ -60,7 +62,7 @@ pub fn forward<A: Allocator + Copy>(
 
 /// Continues with the answer to the act of a command, up to the next act or the end. Without an
 /// answer, or with one that does not fit, the whole run stops.
-fn answered<A: Allocator + Copy>(
+fn answered<A: Allocator + Copy, T: Watch<A, Frame<A>, State<A>, Leaf<A, Waits<A>>>>(
     alloc: A,
     frames: &mut Vec<Frame<A>, A>,
     state: &mut State<A>,
@@ -68,6 +70,7 @@ fn answered<A: Allocator + Copy>(
     act: Act<A>,
     waits: Waits<A>,
     answer: Answer<A>,
+    watch: &mut T,
 ) -> Result<Phase<A>, NoMemory>
     ensures stands { (s : Status) → FitsState state.old s → IfOk result (λ phase.
         Stands phase (stack frames.new) state.new answers
@@ -80,12 +83,21 @@ fn answered<A: Allocator + Copy>(
     } else if !fits(&act, &answer) {
         Stop::BadAnswer
     } else {
-        return match go_on(alloc, frames, state, act, waits, answer)? {
-            Leaf::Has(outcome) => advance(alloc, frames, state, answers, outcome),
+        let leaf = go_on(alloc, frames, state, act, waits, answer)?;
+        watch.leads(frames, state, &leaf);
+        return match leaf {
+            Leaf::Has(outcome) => advance(alloc, frames, state, answers, outcome, watch),
             Leaf::Asks(act, waits) => Ok(Phase::Asks(act, waits)),
         };
     };
-    advance(alloc, frames, state, answers, Err(Leave::Stopped(stop)))
+    advance(
+        alloc,
+        frames,
+        state,
+        answers,
+        Err(Leave::Stopped(stop)),
+        watch,
+    )
 }
 
 /// Continues with an answer that fits, until what waits for it ends or asks its next act.

@@ -15,8 +15,10 @@ mod taken;
 mod turns;
 mod unwinding;
 mod waits;
+mod watch;
 
 pub use closing::Closing;
 pub use end::End;
 pub use phase::Phase;
 pub use waits::Waits;
+pub use watch::{Unwatched, Watch};

@@ -19,6 +19,7 @@ use crate::frame::{Frame, WordsOf};
 use crate::nesting::{gather, put_script};
 use crate::turns::{say, take_turn, wait};
 use crate::waits::{Waits, plainly};
+use crate::watch::Watch;
 use acts::NoMemory;
 use control::{Control, Held};
 use expects::form::Form;
@@ -45,11 +46,12 @@ pub enum Next<A: Allocator> {
 }
 
 /// Begins what comes next, up to its first act or a script in it.
-pub(crate) fn start<A: Allocator + Copy>(
+pub(crate) fn start<A: Allocator + Copy, T: Watch<A, Frame<A>, State<A>, Leaf<A, Waits<A>>>>(
     alloc: A,
     frames: &mut Vec<Frame<A>, A>,
     state: &mut State<A>,
     next: Next<A>,
+    watch: &mut T,
 ) -> Result<Leaf<A, Waits<A>>, NoMemory>
     ensures leads { (s : Status) → FitsState state.old s →
         IfOk result (λ leaf. Leads leaf (stack frames.new) state.new
@@ -58,21 +60,24 @@ pub(crate) fn start<A: Allocator + Copy>(
         ≤ more_of next + load (stack frames.old) state.old) }
 {
     match next {
-        Next::Command(words, levels) => begin(alloc, frames, state, words, levels),
-        Next::Call(values, levels, whose) => { go_on(alloc, frames, state, &values, levels, whose) }
+        Next::Command(words, levels) => begin(alloc, frames, state, words, levels, watch),
+        Next::Call(values, levels, whose) => {
+            go_on(alloc, frames, state, &values, levels, whose, watch)
+        }
         Next::Turn(turn) => take_turn(alloc, frames, state, turn),
         Next::Again => Ok(empty()),
     }
 }
 
 /// Continues with words that are all substituted: they begin a command, or give its branches.
-fn go_on<A: Allocator + Copy>(
+fn go_on<A: Allocator + Copy, T: Watch<A, Frame<A>, State<A>, Leaf<A, Waits<A>>>>(
     alloc: A,
     frames: &mut Vec<Frame<A>, A>,
     state: &mut State<A>,
     words: &[Value<A>],
     levels: u8,
     whose: WordsOf,
+    watch: &mut T,
 ) -> Result<Leaf<A, Waits<A>>, NoMemory>
     ensures leads { (s : Status) → FitsState state.old s →
         IfOk result (λ leaf. Leads leaf (stack frames.new) state.new
@@ -81,18 +86,22 @@ fn go_on<A: Allocator + Copy>(
         ≤ call_load whose + load (stack frames.old) state.old) }
 {
     match whose {
-        WordsOf::Command => call(alloc, frames, state, words, levels),
-        WordsOf::Argument(form) => say(alloc, frames, state, form, words, levels),
+        WordsOf::Command => call(alloc, frames, state, words, levels, watch),
+        WordsOf::Argument(form) => {
+            watch.says(words);
+            say(alloc, frames, state, form, words, levels)
+        }
     }
 }
 
 /// Begins a command by its tree, or a script in one of its words.
-fn begin<A: Allocator + Copy>(
+fn begin<A: Allocator + Copy, T: Watch<A, Frame<A>, State<A>, Leaf<A, Waits<A>>>>(
     alloc: A,
     frames: &mut Vec<Frame<A>, A>,
     state: &mut State<A>,
     words: Rc<Vec<Word<A>, A>, A>,
     levels: u8,
+    watch: &mut T,
 ) -> Result<Leaf<A, Waits<A>>, NoMemory>
     ensures leads { (s : Status) → FitsState state.old s →
         IfOk result (λ leaf. Leads leaf (stack frames.new) state.new
@@ -102,18 +111,19 @@ fn begin<A: Allocator + Copy>(
         ≤ 2 + load (stack frames.old) state.old) }
 {
     match gather(alloc, frames, state, words, levels, WordsOf::Command)? {
-        Ok(values) => call(alloc, frames, state, &values, levels),
+        Ok(values) => call(alloc, frames, state, &values, levels, watch),
         Err(outcome) => Ok(Leaf::Has(outcome)),
     }
 }
 
 /// Begins a command by its words.
-fn call<A: Allocator + Copy>(
+fn call<A: Allocator + Copy, T: Watch<A, Frame<A>, State<A>, Leaf<A, Waits<A>>>>(
     alloc: A,
     frames: &mut Vec<Frame<A>, A>,
     state: &mut State<A>,
     words: &[Value<A>],
     levels: u8,
+    watch: &mut T,
 ) -> Result<Leaf<A, Waits<A>>, NoMemory>
     ensures leads { (s : Status) → FitsState state.old s →
         IfOk result (λ leaf. Leads leaf (stack frames.new) state.new
@@ -124,6 +134,7 @@ fn call<A: Allocator + Copy>(
     let [name, args @ ..] = words else {
         return Ok(empty());
     };
+    watch.begins(frames, state, words);
     if let Some(nesting) = control::call(alloc, state, name.as_slice(), args, levels)? {
         return hold(frames, nesting);
     }

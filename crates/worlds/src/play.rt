@@ -12,10 +12,10 @@ ghost use Rattle.worlds.specs.Runs.{RunsRecorded};
 ghost use Rattle.worlds.specs.Status.{line_of, status_of};
 ghost use Rattle.worlds.specs.declared.status.Outcome.TheVariants.{BadRecord};
 
-use crate::recorded::run_recorded;
+use crate::recorded::run_seen;
 use crate::status::Outcome;
 use acts::{Limits, NoMemory};
-use engine::End;
+use engine::{End, Frame, Lead, State, Unwatched, Watch};
 use recorders::is_lost;
 use records::{Entry, Sink, read_entries};
 use replays::{LentReplay, Recording};
@@ -128,8 +128,54 @@ pub fn rerun<A: Allocator + Copy, O: Sink, E: Sink, S: Sink>(
         (map note_of entries.items) (out.old, err.old) made.old (out.new, err.new) made.new
         result }
 {
+    rerun_seen(
+        alloc,
+        script,
+        args,
+        limits,
+        entries,
+        out,
+        err,
+        made,
+        &mut Unwatched,
+    )
+}
+
+/// The same, while someone watches.
+pub fn rerun_seen<
+    A: Allocator + Copy,
+    O: Sink,
+    E: Sink,
+    S: Sink,
+    T: Watch<A, Frame<A>, State<A>, Lead<A>>,
+>(
+    alloc: A,
+    script: &[u8],
+    args: &[Vec<u8, A>],
+    limits: Limits,
+    entries: Vec<Entry<A>, A>,
+    out: &mut O,
+    err: &mut E,
+    made: &mut Option<S>,
+    watch: &mut T,
+) -> u8
+    ensures { PlaysRecorded O.adds O.has_failed E.adds E.has_failed
+        script.now args.now limits.ticks S.adds S.has_failed
+        (map note_of entries.items) (out.old, err.old) made.old (out.new, err.new) made.new
+        result }
+{
     let mut recording = Recording::of_entries(entries);
-    let ended = run_entries(alloc, script, args, limits, &mut recording, out, err, made);
+    let ended = run_entries(
+        alloc,
+        script,
+        args,
+        limits,
+        &mut recording,
+        out,
+        err,
+        made,
+        watch,
+    );
     let failed = any_failed(out, err, made);
     finish(Outcome::of_end(failed, recording.differs(), &ended), err)
 }
@@ -150,7 +196,13 @@ fn either_failed<O: Sink, E: Sink>(out: &O, err: &E) -> bool
 }
 
 /// Runs a script under the rest of a record, and writes its output to two writers.
-fn run_entries<A: Allocator + Copy, O: Sink, E: Sink, S: Sink>(
+fn run_entries<
+    A: Allocator + Copy,
+    O: Sink,
+    E: Sink,
+    S: Sink,
+    T: Watch<A, Frame<A>, State<A>, Lead<A>>,
+>(
     alloc: A,
     script: &[u8],
     args: &[Vec<u8, A>],
@@ -159,6 +211,7 @@ fn run_entries<A: Allocator + Copy, O: Sink, E: Sink, S: Sink>(
     out: &mut O,
     err: &mut E,
     made: &mut Option<S>,
+    watch: &mut T,
 ) -> Result<End<A>, NoMemory>
     ensures { RunsRecorded (Replays O.adds O.has_failed E.adds E.has_failed)
         S.adds S.has_failed script.now args.now limits.ticks
@@ -170,17 +223,24 @@ fn run_entries<A: Allocator + Copy, O: Sink, E: Sink, S: Sink>(
         out,
         err,
     };
-    run_replay(alloc, script, args, limits, &mut world, made)
+    run_replay(alloc, script, args, limits, &mut world, made, watch)
 }
 
 /// Runs a script in a replay, which still borrows the same recording and writers afterwards.
-fn run_replay<A: Allocator + Copy, O: Sink, E: Sink, S: Sink>(
+fn run_replay<
+    A: Allocator + Copy,
+    O: Sink,
+    E: Sink,
+    S: Sink,
+    T: Watch<A, Frame<A>, State<A>, Lead<A>>,
+>(
     alloc: A,
     script: &[u8],
     args: &[Vec<u8, A>],
     limits: Limits,
     world: &mut LentReplay<'_, '_, '_, A, O, E>,
     made: &mut Option<S>,
+    watch: &mut T,
 ) -> Result<End<A>, NoMemory>
     ensures same_recording { world.new.recording.ghost_name ≡ world.old.recording.ghost_name }
     ensures same_out { world.new.out.ghost_name ≡ world.old.out.ghost_name }
@@ -191,7 +251,7 @@ fn run_replay<A: Allocator + Copy, O: Sink, E: Sink, S: Sink>(
         (recorded_in world.new.recording.now, (world.new.out.now, world.new.err.now)) made.new
         result }
 {
-    run_recorded(alloc, script, args, limits, world, made)
+    run_seen(alloc, script, args, limits, world, made, watch)
 }
 
 /// Writes the line of an end to standard error, and gives the status. Where the line is not

@@ -5,7 +5,7 @@ ghost use Rattle.recorders.specs.Recorder.{MayRecord};
 ghost use Rattle.worlds.specs.Runs.{Runs, RunsRecorded};
 
 use acts::{Limits, NoMemory, World};
-use engine::{End, run};
+use engine::{End, Frame, Lead, State, Unwatched, Watch, run_watched};
 use recorders::{LentRecorder, begin};
 use records::Sink;
 use std::alloc::Allocator;
@@ -23,18 +23,40 @@ pub fn run_recorded<A: Allocator + Copy, W: World<A>, S: Sink>(
     ensures { RunsRecorded W.step S.adds S.has_failed script.now args.now limits.ticks
         world.old made.old world.new made.new result }
 {
+    run_seen(alloc, script, args, limits, world, made, &mut Unwatched)
+}
+
+/// The same, while someone watches.
+pub fn run_seen<
+    A: Allocator + Copy,
+    W: World<A>,
+    S: Sink,
+    T: Watch<A, Frame<A>, State<A>, Lead<A>>,
+>(
+    alloc: A,
+    script: &[u8],
+    args: &[Vec<u8, A>],
+    limits: Limits,
+    world: &mut W,
+    made: &mut Option<S>,
+    watch: &mut T,
+) -> Result<End<A>, NoMemory>
+    ensures { RunsRecorded W.step S.adds S.has_failed script.now args.now limits.ticks
+        world.old made.old world.new made.new result }
+{
     begin(made);
     let mut recorder = LentRecorder { world, made };
-    run_lent(alloc, script, args, limits, &mut recorder)
+    run_lent(alloc, script, args, limits, &mut recorder, watch)
 }
 
 /// Runs a script in a recorder, which still borrows the same world and sink afterwards.
-fn run_lent<A: Allocator + Copy, W: World<A>, S: Sink>(
+fn run_lent<A: Allocator + Copy, W: World<A>, S: Sink, T: Watch<A, Frame<A>, State<A>, Lead<A>>>(
     alloc: A,
     script: &[u8],
     args: &[Vec<u8, A>],
     limits: Limits,
     recorder: &mut LentRecorder<'_, '_, W, S>,
+    watch: &mut T,
 ) -> Result<End<A>, NoMemory>
     ensures same_world { recorder.new.world.ghost_name ≡ recorder.old.world.ghost_name }
     ensures same_made { recorder.new.made.ghost_name ≡ recorder.old.made.ghost_name }
@@ -42,5 +64,5 @@ fn run_lent<A: Allocator + Copy, W: World<A>, S: Sink>(
         (recorder.old.world.now, recorder.old.made.now)
         (recorder.new.world.now, recorder.new.made.now) result }
 {
-    run(alloc, script, args, limits, recorder)
+    run_watched(alloc, script, args, limits, recorder, watch)
 }

@@ -2,7 +2,7 @@ use Rattle.std.proofs.Common.{sym}
 use Rattle.std.proofs.lemmas.Result.{err_from_is_err_and}
 use Rattle.machine.specs.View.{words_of}
 use Rattle.engine.proofs.Worlds.{sets_out, goes, goes_on, fewer_left, is_over, refused_on, never_began}
-use Rattle.engine.proofs.running.run.Goals as goal
+use Rattle.engine.proofs.running.run_watched.Goals as goal
 
 pub returns-in_err-session-clause-began : goal.returns-in_err-session-clause-began
 returns-in_err-session-clause-began g c =

@@ -3,7 +3,7 @@ use Rattle.machine.specs.Phases.{IsTold}
 use Rattle.machine.specs.View.{words_of}
 use Rattle.runs.specs.Bounds.{most_acts}
 use Rattle.engine.proofs.Worlds.{Going}
-use Rattle.engine.proofs.running.run.Given as goal
+use Rattle.engine.proofs.running.run_watched.Given as goal
 
 abbrev pub invariant-acts : goal.invariant-acts
 invariant-acts g l = record {

@@ -16,7 +16,7 @@ returns-in-Has-clause-stands g c = λ s fits.
     let reply = reply_of c.args.answer in
     let next = next_of c.args.waits deed s reply in
     let leads = subst (λ leaf. Leads leaf (stack c.go_on.new.frames) c.go_on.new.state
-    (left_of next frames)) c.in-Has.is (c.in_ok-outcome.ensures s fits) in
+    (left_of next frames)) c.in-Has.is (c.in_ok-leaf.ensures s fits) in
     on_ok c.advance.result (λ phase stands.
     stands_from (stack c.advance.new.frames) c.advance.new.state
     (then_goes
@@ -36,4 +36,4 @@ returns-in-Asks-clause-stands g c = λ s fits.
     (same_left frames (judged_fit (stopping s) deed reply next (sym c.if-is_no_more.ensures)
     (sym c.if-not-fits.ensures)))
     (subst (λ leaf. Leads leaf (stack c.go_on.new.frames) c.go_on.new.state (left_of next frames))
-    c.in-Asks.is (c.in_ok-outcome.ensures s fits))
+    c.in-Asks.is (c.in_ok-leaf.ensures s fits))
