@@ -1,0 +1,45 @@
+//! The lines of a story.
+
+use memory::NoMemory;
+use std::alloc::Allocator;
+
+/// How wide the column of places is.
+const PLACE_WIDTH: usize = 14;
+
+/// How wide the column of what happened is.
+const EVENT_WIDTH: usize = 32;
+
+/// How many blanks stand between two columns at least.
+const LEAST_GAP: usize = 2;
+
+/// Writes a line of a story, with its newline: a place, what happened there, and a detail, each in
+/// its column. What is wider than its column pushes the rest on; what is empty at the end of the
+/// line leaves no blanks.
+///
+/// After an `Err` a beginning of it may have been written.
+pub fn push_line<A: Allocator>(
+    out: &mut Vec<u8, A>,
+    place: &[u8],
+    event: &[u8],
+    detail: &[u8],
+) -> Result<(), NoMemory> {
+    out.extend_from_slice(place)?;
+    if !event.is_empty() || !detail.is_empty() {
+        push_gap(out, place, PLACE_WIDTH)?;
+        out.extend_from_slice(event)?;
+    }
+    if !detail.is_empty() {
+        push_gap(out, event, EVENT_WIDTH)?;
+        out.extend_from_slice(detail)?;
+    }
+    out.push(b'\n')?;
+    Ok(())
+}
+
+/// Writes the blanks after a text in a column of this width.
+fn push_gap<A: Allocator>(out: &mut Vec<u8, A>, text: &[u8], width: usize) -> Result<(), NoMemory> {
+    for _ in 0..width.saturating_sub(text.len()).max(LEAST_GAP) {
+        out.push(b' ')?;
+    }
+    Ok(())
+}
