@@ -10,7 +10,7 @@ use Rattle.acts.specs.Deed as said
 use Rattle.acts.specs.Fits.{fits_wait, has_row}
 use Rattle.std.specs.Prelude.{Option}
 use Rattle.std.specs.declared.time.Instant.{Instant}
-use Rattle.live.specs.Arriving.{IsDue, comes}
+use Rattle.live.specs.Arriving.{IsDue, IsLate, comes}
 use Rattle.live.specs.Calls.{Call}
 
 -- no row passes a test that is always false
@@ -43,14 +43,15 @@ comes_fits rows timer said.TimedOut found = absurd (no_row rows found)
 comes_fits rows timer said.NoMore found = refl
 
 -- what answers one of the rows tells of no time
-pub comes_due : (rows : List Row) (reply : Reply) (deadline : Option Instant) →
-    comes rows reply ≡ true → (calls : List Call) → IsDue deadline reply calls
-comes_due rows (said.Arrive id bytes) deadline found calls = tt
-comes_due rows (said.Ended id) deadline found calls = tt
-comes_due rows said.Done deadline found calls = tt
-comes_due rows (said.Failed sent) deadline found calls = tt
-comes_due rows (said.Started pid) deadline found calls = tt
-comes_due rows said.Refused deadline found calls = tt
-comes_due rows (said.Exited status) deadline found calls = tt
-comes_due rows said.TimedOut deadline found calls = absurd (no_row rows found)
-comes_due rows said.NoMore deadline found calls = tt
+pub comes_due : (ids : List Id) (rows : List Row) (which : Timer) (reply : Reply)
+    (deadline : Option Instant) (left : Id → List ℕ) → comes rows reply ≡ true →
+    (calls : List Call) → IsDue deadline reply calls × IsLate which ids rows reply calls left
+comes_due ids rows which (said.Arrive id bytes) deadline left found calls = (tt, tt)
+comes_due ids rows which (said.Ended id) deadline left found calls = (tt, tt)
+comes_due ids rows which said.Done deadline left found calls = (tt, tt)
+comes_due ids rows which (said.Failed sent) deadline left found calls = (tt, tt)
+comes_due ids rows which (said.Started pid) deadline left found calls = (tt, tt)
+comes_due ids rows which said.Refused deadline left found calls = (tt, tt)
+comes_due ids rows which (said.Exited status) deadline left found calls = (tt, tt)
+comes_due ids rows which said.TimedOut deadline left found calls = absurd (no_row rows found)
+comes_due ids rows which said.NoMore deadline left found calls = (tt, tt)

@@ -4,6 +4,8 @@ pub mod Exchanging
 pub mod Hearing
 pub mod Looking
 pub mod Programs
+pub mod Seeing
+pub mod Silence
 pub mod Starting
 pub mod Table
 pub mod Texts

@@ -1,15 +1,15 @@
 -- What is kept in a table of links, of which one was read from or written to.
-use Rattle.std.proofs.Common.{◌≡◌, ◌≢◌, ◌==◌, ℕ, zero, suc, ◌<◌, Bool, true, false, List, [], ◌∷◌, ◌++◌, Some, length, refl, sym, ap, subst, ◌∙◌, append-nil, slice_index_or, slice_set, if◌then◌else◌, inl, inr, arith}
+use Rattle.std.proofs.Common.{◌≡◌, ◌≢◌, ◌==◌, ◌||◌, ℕ, zero, suc, ◌+◌, ◌<◌, ◌≤◌, Bool, true, false, not, cond, nat_lt, List, [], ◌∷◌, ◌++◌, Some, None, map, length, refl, sym, ap, subst, ◌∙◌, append-nil, slice_index_or, slice_set, if◌then◌else◌, inl, inr, arith}
 use Rattle.std.proofs.lemmas.Bool.{false≢true}
-use Rattle.std.proofs.lemmas.Bool.Decides.{eqb_tells}
+use Rattle.std.proofs.lemmas.Bool.Decides.{eqb_tells, nat_tests}
 use Rattle.std.proofs.lemmas.List.Quantifiers.{position-Some}
-use Rattle.std.specs.List.{position}
+use Rattle.std.specs.List.{list_any, position, prefix_len}
 use Rattle.acts.specs.declared.id.Id.{Id}
 use Rattle.acts.specs.Deed.{Reply}
 use Rattle.acts.specs.Deed as said
 use Rattle.live.specs.Calls.{Call, heard, sent}
 use Rattle.live.specs.Early.{Exchanged, Exchanges, IfAnswered}
-use Rattle.live.specs.Kept.{Traded, Trades, kept_of, only}
+use Rattle.live.specs.Kept.{Traded, Trades, ids_of, is_open, kept_of, only}
 use Rattle.live.specs.Outputs.{went_out}
 use Rattle.live.specs.declared.peers.Peer.{Peer}
 use Rattle.live.proofs.Exchanging.{is_other, is_same}
@@ -97,6 +97,46 @@ kept_set owner id other (x ∷ xs) zero peer new differs whose (same, is) =
 kept_set owner id other (x ∷ xs) (suc n) peer new differs whose (here, at) =
     ap (λ rest. if (owner x.link).0 == other.0 then x.early.items else rest)
     (kept_set owner id other xs n peer new differs whose at)
+
+-- and so do the ids of the links
+pub ids_set : {L : Type 0} (owner : L → Id) (id : Id) (list : List (Peer L)) (place : ℕ)
+    (peer new : Peer L) → owner new.link ≡ owner peer.link → IsAt owner id list place peer →
+    ids_of owner (slice_set list place new) ≡ ids_of owner list
+ids_set owner id [] place peer new whose at = absurd at
+ids_set owner id (x ∷ xs) zero peer new whose (same, is) =
+    ap (λ one. one ∷ ids_of owner xs) (whose ∙ ap (λ it. owner it.link) same)
+ids_set owner id (x ∷ xs) (suc n) peer new whose (differs, at) =
+    ap (λ more. owner x.link ∷ more) (ids_set owner id xs n peer new whose at)
+
+-- the first of a list does not pass, and none of the others
+none_step : (here : Bool) (n many : ℕ) (rest : Bool) → suc many ≤ cond (not here) (1 + n) 0 →
+    (many ≤ n → rest ≡ false) → (here || rest) ≡ false
+none_step true n many rest past others = absurd (omega arith)
+none_step false n many rest past others = others (omega arith)
+
+-- where none is found, none passes
+none_passes : {A : Type 0} (p : A → Bool) (xs : List A) →
+    length xs ≤ prefix_len (λ x. not (p x)) xs → list_any p xs ≡ false
+none_passes p [] past = refl
+none_passes p (x ∷ xs) past =
+    none_step (p x) (prefix_len (λ y. not (p y)) xs) (length xs) (list_any p xs) past
+    (none_passes p xs)
+
+none_past : (n many : ℕ) → cond (nat_lt n many) (Some n) None ≡ None → many ≤ n
+none_past n many none = grind (arith, nat_tests)
+
+any_mapped : {A B : Type 0} (p : B → Bool) (f : A → B) (xs : List A) →
+    list_any p (map f xs) ≡ list_any (λ x. p (f x)) xs
+any_mapped p f [] = refl
+any_mapped p f (x ∷ xs) = ap (λ rest. p (f x) || rest) (any_mapped p f xs)
+
+-- where no link of an id is found, none is open
+pub closed : {L : Type 0} (owner : L → Id) (id : Id) (list : List (Peer L)) →
+    position (λ y. (owner y.link).0 == id.0) list ≡ None → is_open (ids_of owner list) id ≡ false
+closed owner id list none =
+    any_mapped (λ one. one.0 == id.0) (λ peer. owner peer.link) list
+    ∙ none_passes (λ peer. (owner peer.link).0 == id.0) list
+    (none_past (prefix_len (λ y. not ((owner y.link).0 == id.0)) list) (length list) none)
 
 -- the link found there is the id's
 pub whose_at : {L : Type 0} (owner : L → Id) (id : Id) (list : List (Peer L)) (place : ℕ)

@@ -1,5 +1,6 @@
 -- The calls of the system that the live world makes, and their answers.
-use Rattle.std.specs.Prelude.{◌≡◌, ◌==◌, ℕ, ℤ, List, [], ◌∷◌, Option, Result, Ok, Err, take, flat_map, if◌then◌else◌}
+use Rattle.std.specs.Prelude.{◌≡◌, ◌==◌, ℕ, ℤ, Bool, false, List, [], ◌∷◌, Option, Result, Ok, Err, take, flat_map, if◌then◌else◌}
+use Rattle.std.specs.List.{list_any}
 use Rattle.std.specs.IoError.{error_kind}
 use Rattle.std.specs.declared.io.Error.{Error}
 use Rattle.std.specs.declared.io.ErrorKind.{ErrorKind}
@@ -81,3 +82,12 @@ heard id calls = flat_map (heard_by id) calls
 -- all bytes that these calls wrote to the link of an id, in order
 abbrev pub sent : Id → List Call → List ℕ
 sent id calls = flat_map (sent_by id) calls
+
+-- whether a call read from the link of an id
+abbrev pub reads_from : Id → Call → Bool
+reads_from id (Read from found) = from.0 == id.0
+reads_from id _ = false
+
+-- whether one of these calls read from the link of an id
+abbrev pub is_read : Id → List Call → Bool
+is_read id calls = list_any (reads_from id) calls

@@ -1,5 +1,6 @@
 -- What is kept of what came from the links that are open.
-use Rattle.std.specs.Prelude.{◌≡◌, ◌==◌, ◌++◌, ℕ, List, [], ◌∷◌, if◌then◌else◌}
+use Rattle.std.specs.Prelude.{◌≡◌, ◌==◌, ◌++◌, ℕ, Bool, List, [], ◌∷◌, map, if◌then◌else◌}
+use Rattle.std.specs.List.{list_any}
 use Rattle.acts.specs.declared.id.Id.{Id}
 use Rattle.live.specs.Calls.{Call, Made, heard, sent}
 use Rattle.live.specs.declared.peers.Peer.{Peer}
@@ -9,6 +10,14 @@ abbrev pub kept_of : {L : Type 0} → (L → Id) → List (Peer L) → Id → Li
 kept_of owner [] id = []
 kept_of owner (peer ∷ list) id =
     if (owner peer.link).0 == id.0 then peer.early.items else kept_of owner list id
+
+-- the ids of the links that are open, in the order of the table
+abbrev pub ids_of : {L : Type 0} → (L → Id) → List (Peer L) → List Id
+ids_of owner list = map (λ peer. owner peer.link) list
+
+-- whether a link of an id is among those that are open
+abbrev pub is_open : (ids : List Id) → Id → Bool
+is_open ids id = list_any (λ one. one.0 == id.0) ids
 
 -- these bytes for one id, and none for any other
 abbrev pub only : Id → List ℕ → Id → List ℕ

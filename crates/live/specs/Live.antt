@@ -9,7 +9,7 @@ use Rattle.live.specs.Arriving.{Waits, is_wanted}
 use Rattle.live.specs.Calls.{Call}
 use Rattle.live.specs.Calls as call
 use Rattle.live.specs.Early.{IfAnswered}
-use Rattle.live.specs.Kept.{Traded, kept_of, only}
+use Rattle.live.specs.Kept.{Traded, ids_of, kept_of, only}
 use Rattle.live.specs.Outputs.{IsOpened, went_out}
 use Rattle.live.specs.declared.peers.Peer.{Peer}
 use Rattle.live.specs.declared.peers.Peers.{Peers}
@@ -90,11 +90,14 @@ abbrev pub Works : {S L : Type 0} → (S → Call → S → Type 0) → (L → I
     (a b : S) → (before after : Peers L) → Type 0
 Works step owner (said.Send id text) reply a b before after =
     (after.deadline ≡ before.deadline)
+    × (ids_of owner after.list.items ≡ ids_of owner before.list.items)
     × IfAnswered reply (Traded step a (kept_of owner before.list.items)
     (only id (went_out text reply)) (λ other. []) (kept_of owner after.list.items) b)
 Works step owner (said.Wait rows timer) reply a b before after =
-    IfAnswered reply (Waits step a (kept_of owner before.list.items) timer before.deadline
-    after.deadline reply (kept_of owner after.list.items) b)
+    (ids_of owner after.list.items ≡ ids_of owner before.list.items)
+    × IfAnswered reply (Waits step a (ids_of owner before.list.items) rows
+    (kept_of owner before.list.items) timer before.deadline after.deadline reply
+    (kept_of owner after.list.items) b)
 Works step owner (said.Sleep seconds) reply a b before after =
     step a (call.Sleep seconds) b × (after ≡ before)
 Works step owner (said.Close id) reply a b before after =

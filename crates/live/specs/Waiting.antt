@@ -1,11 +1,13 @@
 -- Timers of waits.
-use Rattle.std.specs.Prelude.{◌≡◌, ◌⊎◌, ℕ, ◌+◌, ◌*◌, ◌≤◌, ◌++◌, List, [], ◌∷◌, Option, Some, None, MatchOption}
+use Rattle.std.specs.Prelude.{◌≡◌, ◌⊎◌, ℕ, ◌+◌, ◌*◌, ◌≤◌, ◌++◌, List, [], ◌∷◌, Option, Some, None, MatchOption, ⊤}
+use Rattle.std.specs.List.{AllByRecursion}
 use Rattle.std.specs.Duration.{as_nanos}
 use Rattle.std.specs.Time.{FitsClock, instant_nanos}
 use Rattle.std.specs.declared.time.Instant.{Instant}
 use Rattle.acts.specs.declared.act.Timer.{Timer}
 use Rattle.acts.specs.declared.act.Timer.TheVariants as timer
-use Rattle.live.specs.Calls.{Call, Now}
+use Rattle.live.specs.Calls.{Call, Made, Now, Pause}
+use Rattle.live.specs.Early.{IsIdle}
 use Rattle.live.specs.declared.waiting.Left.{Left}
 use Rattle.live.specs.declared.waiting.Left.TheVariants as time
 
@@ -35,6 +37,48 @@ abbrev pub ShowsUp : {S : Type 0} → (S → Call → S → Type 0) → S → Op
 ShowsUp step before deadline after =
     (d : Instant) × (nanos : ℕ) × (deadline ≡ Some d) × step before (Now nanos) after
     × (instant_nanos d ≤ nanos)
+
+-- a reading of the clock
+abbrev pub IsNow : Call → Type 0
+IsNow call = (nanos : ℕ) × (call ≡ Now nanos)
+
+-- readings of the clock led the system from before to after
+abbrev pub Asks : {S : Type 0} → (S → Call → S → Type 0) → S → S → Type 0
+Asks step before after =
+    (calls : List Call) × Made step before calls after × AllByRecursion IsNow calls
+
+-- what the clock shows after a call, where nothing but readings came since it was last asked: a
+-- pause takes time
+abbrev pub shown_after : Option ℕ → Call → Option ℕ
+shown_after shown (Now nanos) = Some nanos
+shown_after shown (Pause nanos) = None
+shown_after shown _ = shown
+
+-- a pause begins where the clock was asked, and lasts until the timer runs out at most; it is
+-- without an end only where no timer runs (expect(1), timeout; poll(2))
+abbrev pub IsPause : Timer → Option Instant → (shown : Option ℕ) → (nanos : Option ℕ) → Type 0
+IsPause which deadline (Some shown) (Some nanos) =
+    (d : Instant) × (deadline ≡ Some d) × (shown + nanos ≡ instant_nanos d)
+IsPause which deadline None (Some nanos) = ⊥
+IsPause which deadline shown None = (which ≡ timer.Endless) ⊎ (deadline ≡ None)
+
+-- a call that is a pause is one of these
+abbrev pub MayPause : Timer → Option Instant → (shown : Option ℕ) → Call → Type 0
+MayPause which deadline shown (Pause nanos) = IsPause which deadline shown nanos
+MayPause which deadline shown _ = ⊤
+
+-- and so each of these calls
+abbrev pub Pauses : Timer → Option Instant → (shown : Option ℕ) → List Call → Type 0
+Pauses which deadline shown [] = ⊤
+Pauses which deadline shown (call ∷ calls) =
+    MayPause which deadline shown call × Pauses which deadline (shown_after shown call) calls
+
+-- a pause, after which nothing was read or written
+abbrev pub Paused : {S : Type 0} → (S → Call → S → Type 0) → Timer → S → Option Instant → S →
+    Type 0
+Paused step which before deadline after =
+    (calls : List Call) × Made step before calls after × AllByRecursion IsIdle calls
+    × ((shown : Option ℕ) → Pauses which deadline shown calls)
 
 -- how much time the clock leaves, where it is asked: what is left until the timer runs out, or
 -- nothing where it has run out; a wait without a timer does not ask

@@ -1,11 +1,11 @@
 //! Waiting for what programs and servers say.
 
-ghost use Rattle.std.specs.Prelude.{◌≡◌, ◌≤◌, true, length, option_map, IfOk, IfSome};
+ghost use Rattle.std.specs.Prelude.{◌≡◌, [], ◌∷◌, ◌≤◌, true, length, option_map, IfOk, IfSome};
 ghost use Rattle.acts.specs.Deed.{reply_of};
 ghost use Rattle.acts.specs.Fits as table;
-ghost use Rattle.live.specs.Arriving.{Hears, Rests, Waits, comes, is_of, is_wanted};
+ghost use Rattle.live.specs.Arriving.{Rests, Sees, Waits, comes, is_of, is_wanted};
 ghost use Rattle.live.specs.Early.{IfAnswered};
-ghost use Rattle.live.specs.Kept.{kept_of};
+ghost use Rattle.live.specs.Kept.{ids_of, kept_of};
 
 use crate::calls::{Owned, System};
 use crate::link::Look;
@@ -14,7 +14,7 @@ use crate::system::MOST_TRIES;
 use crate::waiting::{Left, is_over, time_from, time_left};
 use acts::{Answer, Id, Row, Timer};
 use std::alloc::Global;
-use std::io;
+use std::io::{self, ErrorKind};
 
 /// Waits for bytes or an end under one of the ids of the rows, or for the timer. The answer is that
 /// there are no more answers where memory or the system refuses, or nothing could ever come.
@@ -26,7 +26,10 @@ pub fn wait<S: System>(
 ) -> Answer<Global>
     ensures fits { table.fits_wait rows.now timer (reply_of result) ≡ true }
     ensures wanted { is_wanted rows.now (reply_of result) ≡ true }
+    ensures ids { ids_of S.Link.owner peers.new.list.items
+        ≡ ids_of S.Link.owner peers.old.list.items }
     ensures waits { IfAnswered (reply_of result) (Waits S.step system.old
+        (ids_of S.Link.owner peers.old.list.items) rows.now
         (kept_of S.Link.owner peers.old.list.items) timer peers.old.deadline peers.new.deadline
         (reply_of result) (kept_of S.Link.owner peers.new.list.items) system.new) }
 {
@@ -48,7 +51,10 @@ fn next<S: System>(
     ensures fits { IfOk result (λ answer.
         table.fits_wait rows.now timer (reply_of answer) ≡ true) }
     ensures wanted { IfOk result (λ answer. is_wanted rows.now (reply_of answer) ≡ true) }
+    ensures ids { ids_of S.Link.owner peers.new.list.items
+        ≡ ids_of S.Link.owner peers.old.list.items }
     ensures waits { IfOk result (λ answer. IfAnswered (reply_of answer) (Waits S.step system.old
+        (ids_of S.Link.owner peers.old.list.items) rows.now
         (kept_of S.Link.owner peers.old.list.items) timer peers.old.deadline peers.new.deadline
         (reply_of answer) (kept_of S.Link.owner peers.new.list.items) system.new)) }
 {
@@ -80,7 +86,7 @@ fn rest<S: System>(
     ensures fits { IfOk result (λ found. IfSome found (λ answer.
         (table.fits_wait rows.now timer (reply_of answer) ≡ true)
         × (is_wanted rows.now (reply_of answer) ≡ true))) }
-    ensures rests { IfOk result (λ found. Rests S.step system.old peers.now.deadline
+    ensures rests { IfOk result (λ found. Rests S.step timer system.old peers.now.deadline
         (option_map reply_of found) system.new) }
 {
     match time_left(system, peers.deadline, timer)? {
@@ -112,7 +118,10 @@ fn look_round<S: System>(
     ensures of_rows { IfOk result (λ found. IfSome found (λ answer.
         comes rows.now (reply_of answer) ≡ true)) }
     ensures deadline { peers.new.deadline ≡ peers.old.deadline }
-    ensures hears { IfOk result (λ found. Hears S.step system.old
+    ensures ids { ids_of S.Link.owner peers.new.list.items
+        ≡ ids_of S.Link.owner peers.old.list.items }
+    ensures sees { IfOk result (λ found. Sees S.step system.old
+        (ids_of S.Link.owner peers.old.list.items) rows.now
         (kept_of S.Link.owner peers.old.list.items) (option_map reply_of found)
         (kept_of S.Link.owner peers.new.list.items) system.new) }
 {
@@ -132,7 +141,10 @@ fn look_through<S: System>(
     ensures of_rows { IfOk result (λ found. IfSome found (λ answer.
         comes rows.now (reply_of answer) ≡ true)) }
     ensures deadline { peers.new.deadline ≡ peers.old.deadline }
-    ensures hears { IfOk result (λ found. Hears S.step system.old
+    ensures ids { ids_of S.Link.owner peers.new.list.items
+        ≡ ids_of S.Link.owner peers.old.list.items }
+    ensures sees { IfOk result (λ found. Sees S.step system.old
+        (ids_of S.Link.owner peers.old.list.items) rows.now
         (kept_of S.Link.owner peers.old.list.items) (option_map reply_of found)
         (kept_of S.Link.owner peers.new.list.items) system.new) }
 {
@@ -145,7 +157,8 @@ fn look_through<S: System>(
     Ok(None)
 }
 
-/// Reads for one row once. An id that is not open gives nothing.
+/// Reads for one row once. An id that is not open gives nothing. Without any room for what comes
+/// all would be silent for ever, which no list of peers is made with.
 fn look_at<S: System>(
     system: &mut S,
     peers: &mut Peers<S::Link>,
@@ -154,13 +167,19 @@ fn look_at<S: System>(
     ensures of_row { IfOk result (λ found. IfSome found (λ answer.
         is_of row (reply_of answer) ≡ true)) }
     ensures deadline { peers.new.deadline ≡ peers.old.deadline }
-    ensures hears { IfOk result (λ found. Hears S.step system.old
+    ensures ids { ids_of S.Link.owner peers.new.list.items
+        ≡ ids_of S.Link.owner peers.old.list.items }
+    ensures sees { IfOk result (λ found. Sees S.step system.old
+        (ids_of S.Link.owner peers.old.list.items) (row ∷ [])
         (kept_of S.Link.owner peers.old.list.items) (option_map reply_of found)
         (kept_of S.Link.owner peers.new.list.items) system.new) }
 {
     let Some(place) = place_of(&peers.list, row.id) else {
         return Ok(None);
     };
+    if peers.room.is_empty() {
+        return Err(io::Error::from(ErrorKind::OutOfMemory));
+    }
     let most = peers.room.len().min(row.want as usize);
     let room = &mut peers.room[..most];
     match look_early(system, &mut peers.list[place], room) {

@@ -68,6 +68,13 @@ impl<S: System + Drop, O: Write + Drop, E: Write + Drop> Live<S, O, E> {
             programs: Vec::new(alloc),
         })
     }
+
+    /// The system of the world.
+    pub fn system(&self) -> &S
+        ensures { result.now ≡ self.now.system }
+    {
+        &self.system
+    }
 }
 
 impl<S: System + Drop, O: Write + Drop, E: Write + Drop> World<Global> for Live<S, O, E> {

@@ -1,16 +1,17 @@
 //! The programs and servers that are open, under their ids.
 
-ghost use Rattle.std.specs.Prelude.{◌≡◌, [], ◌-◌, ◌≤◌, length, max, ◌==◌, filter, not, position, IfOk};
+ghost use Rattle.std.specs.Prelude.{◌≡◌, [], ◌++◌, ◌-◌, ◌<◌, ◌≤◌, length, max, take, ◌==◌, filter, not, position, IfOk};
 ghost use Rattle.std.specs.Io.{StartsWith};
 ghost use Rattle.live.specs.Early.{Exchanged, HandsOn, LooksEarly, UnlessMemory, most_early};
 ghost use Rattle.live.specs.Look.{IsWithin};
+ghost use Rattle.live.specs.declared.link.Look.TheVariants.{Silence};
 
 use crate::calls::{Owned, System};
 use crate::link::{Look, read_once};
 use acts::Id;
 use std::alloc::{AllocError, Global};
 use std::collections::VecDeque;
-use std::io::{self, Read, Write};
+use std::io::{self, BufRead, Write};
 use std::time::Instant;
 
 /// The most bytes that are kept of what comes from an id while it is sent an empty text.
@@ -38,14 +39,29 @@ pub fn look_early<S: System>(system: &mut S, peer: &mut Peer<S::Link>, room: &mu
     ensures owner { S.Link.owner peer.new.link ≡ S.Link.owner peer.old.link }
     ensures looks { LooksEarly S.step (S.Link.owner peer.old.link) peer.old.early.items
         system.old result room.new system.new }
+    ensures silence { result ≡ Silence → 0 < length room.new → peer.new.early.items ≡ [] }
 {
     if peer.early.is_empty() {
         return read_once(system, &mut peer.link, room);
     }
-    match peer.early.read(room) {
-        Ok(0) | Err(_) => Look::Silence,
-        Ok(count) => Look::Bytes(count),
+    match take_early(&mut peer.early, room) {
+        0 => Look::Silence,
+        count => Look::Bytes(count),
     }
+}
+
+/// Moves bytes that were kept to the start of the room, and says how many: as many as there is
+/// room for, of those that lie in one row.
+fn take_early(early: &mut VecDeque<u8>, room: &mut [u8]) -> usize
+    ensures within { result ≤ length room.new }
+    ensures some { 0 < length room.new → 0 < length early.old.items → 0 < result }
+    ensures front { early.old.items ≡ take result room.new ++ early.new.items }
+{
+    let (front, _) = early.as_slices();
+    let count = front.len().min(room.len());
+    room[..count].copy_from_slice(&front[..count]);
+    early.consume(count);
+    count
 }
 
 /// Keeps bytes that have already come from a peer while a text of this size is sent, up to a

@@ -6,7 +6,7 @@ ghost use Rattle.acts.specs.Deed.{reply_of};
 ghost use Rattle.acts.specs.Fits as table;
 ghost use Rattle.live.specs.Calls.{took};
 ghost use Rattle.live.specs.Early.{Exchanged, Idles, IfAnswered, UnlessMemory};
-ghost use Rattle.live.specs.Kept.{Traded, kept_of, only};
+ghost use Rattle.live.specs.Kept.{Traded, ids_of, kept_of, only};
 ghost use Rattle.live.specs.Outputs.{went_out};
 
 use crate::calls::System;
@@ -28,6 +28,8 @@ pub fn send<S: System>(
 ) -> Answer<Global>
     ensures fits { table.fits_write text.now (reply_of result) ≡ true }
     ensures deadline { peers.new.deadline ≡ peers.old.deadline }
+    ensures ids { ids_of S.Link.owner peers.new.list.items
+        ≡ ids_of S.Link.owner peers.old.list.items }
     ensures traded { IfAnswered (reply_of result) (Traded S.step system.old
         (kept_of S.Link.owner peers.old.list.items) (only id (went_out text.now (reply_of result)))
         (λ _. []) (kept_of S.Link.owner peers.new.list.items) system.new) }

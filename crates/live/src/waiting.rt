@@ -3,9 +3,9 @@
 ghost use Rattle.std.specs.Prelude.{◌≡◌, true, List, IfOk, MatchBool};
 ghost use Rattle.std.specs.List.{AllByRecursion};
 ghost use Rattle.acts.specs.Fits.{runs_out};
+ghost use Rattle.acts.specs.declared.act.Timer.TheVariants.{Running};
 ghost use Rattle.live.specs.Calls.{Call, Made};
-ghost use Rattle.live.specs.Early.{Idles, IsIdle};
-ghost use Rattle.live.specs.Waiting.{Leaves, ShowsUp, Starts};
+ghost use Rattle.live.specs.Waiting.{Asks, IsNow, Leaves, ShowsUp, Starts};
 ghost use Rattle.live.specs.declared.waiting.Left.TheVariants.{Nothing};
 
 use crate::calls::System;
@@ -32,7 +32,7 @@ pub fn time_from<S: System>(
     timer: Timer,
 ) -> io::Result<Option<Instant>>
     ensures { IfOk result (λ deadline. (calls : List Call)
-        × Made S.step system.old calls system.new × AllByRecursion IsIdle calls
+        × Made S.step system.old calls system.new × AllByRecursion IsNow calls
         × Starts timer earlier deadline calls) }
 {
     match timer {
@@ -73,8 +73,9 @@ pub fn is_over<S: System>(
     timer: Timer,
 ) -> io::Result<bool>
     ensures up { IfOk result (λ over. over ≡ true → runs_out timer ≡ true) }
+    ensures running { IfOk result (λ over. over ≡ true → timer ≡ Running) }
     ensures shows { IfOk result (λ over. MatchBool over
-        (ShowsUp S.step system.old deadline system.new) (Idles S.step system.old system.new)) }
+        (ShowsUp S.step system.old deadline system.new) (Asks S.step system.old system.new)) }
 {
     if timer != Timer::Running {
         return Ok(false);

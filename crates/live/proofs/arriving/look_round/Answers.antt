@@ -1,15 +1,21 @@
-use Rattle.std.proofs.Common.{option_map}
+use Rattle.std.proofs.Common.{◌++◌, ◌∙◌, option_map}
 use Rattle.std.proofs.lemmas.Result.{IfOk-weaker}
 use Rattle.acts.specs.Deed.{reply_of}
-use Rattle.live.proofs.Hearing.{hears_then}
+use Rattle.live.specs.Kept.{ids_of}
+use Rattle.live.proofs.Silence.{sees_then, sees_turned}
 use Rattle.live.proofs.arriving.look_round.Goals as goal
 
-pub returns-in-Some-clause-hears : goal.returns-in-Some-clause-hears
-returns-in-Some-clause-hears g c = rw c.in-Some.is at c.in_ok-answer.ensures.hears
+pub returns-in-Some-clause-sees : goal.returns-in-Some-clause-sees
+returns-in-Some-clause-sees g c = rw c.in-Some.is at c.in_ok-answer.ensures.sees
 
-pub returns-in-None-clause-hears : goal.returns-in-None-clause-hears
-returns-in-None-clause-hears g c =
+pub returns-in-None-clause-sees : goal.returns-in-None-clause-sees
+returns-in-None-clause-sees g c =
+    let ids = ids_of g.S.Link.Owned.owner c.args.peers.now.list.items in
+    let now = ids_of g.S.Link.Owned.owner c.look_through.new.peers.list.items in
     IfOk-weaker c.look_through-in-None.result _ _ (λ found later.
-    hears_then g.S.System.step _ _ _ _ _ _ (option_map reply_of found)
-    (rw c.in-None.is at c.in_ok-answer.ensures.hears) later)
-    c.look_through-in-None.ensures.hears
+    sees_turned g.S.System.step _ _ ids c.args.rows.now c.split_at.result.0.now
+    c.split_at.result.1.now _ _ (option_map reply_of found) c.split_at.ensures.by_index.0
+    (sees_then g.S.System.step _ _ _ ids now c.split_at.result.1.now c.split_at.result.0.now _ _ _
+    (option_map reply_of found) (rw c.in-None.is at c.in_ok-answer.ensures.sees)
+    c.look_through.ensures.ids later))
+    c.look_through-in-None.ensures.sees

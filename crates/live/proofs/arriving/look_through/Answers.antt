@@ -1,16 +1,67 @@
-use Rattle.std.proofs.Common.{◌∙◌, Some, None}
+use Rattle.std.proofs.Common.{◌∙◌, ◌++◌, ◌∷◌, ◌+◌, [], Some, None, refl, sym, subst, take}
+use Rattle.std.proofs.lemmas.List.{take_all, take_more}
 use Rattle.acts.specs.Deed.{reply_of}
-use Rattle.live.proofs.Hearing.{hears_then}
+use Rattle.live.specs.Arriving.{Sees}
+use Rattle.live.specs.Kept.{ids_of, kept_of}
+use Rattle.live.proofs.Silence.{sees_none, sees_then}
 use Rattle.live.proofs.arriving.look_through.Goals as goal
 
-pub returns-in-Some-clause-hears : goal.returns-in-Some-clause-hears
-returns-in-Some-clause-hears g c =
-    hears_then g.S.System.step _ _ _ _ _ _ (Some (reply_of c.in-Some.answer))
-    c.loop-row.invariant.hears (rw c.in-Some.is at c.in_ok-answer.ensures.hears)
+pub loop-row-init : goal.loop-row-init
+loop-row-init g c =
+    let owner = g.S.Link.Owned.owner in record {
+      deadline = refl;
+      same = refl;
+      sees = sees_none g.S.System.step c.args.system.now
+          (ids_of owner c.args.peers.now.list.items) (kept_of owner c.args.peers.now.list.items);
+    }
+
+pub returns-in-Some-clause-sees : goal.returns-in-Some-clause-sees
+returns-in-Some-clause-sees g c =
+    let owner = g.S.Link.Owned.owner in
+    sees_then g.S.System.step _ _ _ (ids_of owner c.args.peers.now.list.items)
+    (ids_of owner c.loop-row.peers.list.items) (take c.loop-row.row-index c.args.rows.now) [] _ _ _
+    (Some (reply_of c.in-Some.answer)) c.loop-row.invariant.sees c.loop-row.invariant.same
+    (rw c.in-Some.is at c.in_ok-answer.ensures.sees)
+
+pub returns-in-Some-clause-ids : goal.returns-in-Some-clause-ids
+returns-in-Some-clause-ids g c = c.look_at.ensures.ids ∙ c.loop-row.invariant.same
+
+pub returns-in-Some-clause-deadline : goal.returns-in-Some-clause-deadline
+returns-in-Some-clause-deadline g c = c.look_at.ensures.deadline ∙ c.loop-row.invariant.deadline
+
+pub returns-in_err-answer-clause-ids : goal.returns-in_err-answer-clause-ids
+returns-in_err-answer-clause-ids g c = c.look_at.ensures.ids ∙ c.loop-row.invariant.same
+
+pub returns-in_err-answer-clause-deadline : goal.returns-in_err-answer-clause-deadline
+returns-in_err-answer-clause-deadline g c =
+    c.look_at.ensures.deadline ∙ c.loop-row.invariant.deadline
+
+pub returns-clause-ids : goal.returns-clause-ids
+returns-clause-ids g c = c.loop-row.invariant.same
+
+pub returns-clause-deadline : goal.returns-clause-deadline
+returns-clause-deadline g c = c.loop-row.invariant.deadline
 
 pub loop-row-preserved : goal.loop-row-preserved
-loop-row-preserved g c = record {
-  deadline = c.look_at.ensures.deadline ∙ c.loop-row.invariant.deadline;
-  hears = hears_then g.S.System.step _ _ _ _ _ _ None c.loop-row.invariant.hears
-      (rw c.in-None.is at c.in_ok-answer.ensures.hears);
-}
+loop-row-preserved g c =
+    let owner = g.S.Link.Owned.owner in
+    let ids = ids_of owner c.args.peers.now.list.items in
+    let kept = kept_of owner c.args.peers.now.list.items in record {
+      deadline = c.look_at.ensures.deadline ∙ c.loop-row.invariant.deadline;
+      same = c.look_at.ensures.ids ∙ c.loop-row.invariant.same;
+      sees = subst (λ done. Sees g.S.System.step c.args.system.now ids done kept None
+          (kept_of owner c.look_at.new.peers.list.items) c.look_at.new.system)
+          (sym (take_more c.args.rows.now c.loop-row.row-index _ c.loop-row-test.true))
+          (sees_then g.S.System.step _ _ _ ids (ids_of owner c.loop-row.peers.list.items) _ _ _ _ _
+          None c.loop-row.invariant.sees c.loop-row.invariant.same
+          (rw c.in-None.is at c.in_ok-answer.ensures.sees));
+    }
+
+pub returns-clause-sees : goal.returns-clause-sees
+returns-clause-sees g c =
+    let owner = g.S.Link.Owned.owner in
+    subst (λ done. Sees g.S.System.step c.args.system.now
+    (ids_of owner c.args.peers.now.list.items) done
+    (kept_of owner c.args.peers.now.list.items) None (kept_of owner c.loop-row.peers.list.items)
+    c.loop-row.system) (take_all c.loop-row.row-index c.args.rows.now c.loop-row-test.false)
+    c.loop-row.invariant.sees

@@ -1,13 +1,16 @@
-use Rattle.std.proofs.Common.{◌≡◌, None}
-use Rattle.live.specs.Arriving.{Hears}
-use Rattle.live.specs.Kept.{kept_of}
+use Rattle.std.proofs.Common.{◌≡◌, None, take}
+use Rattle.live.specs.Arriving.{Sees}
+use Rattle.live.specs.Kept.{ids_of, kept_of}
 use Rattle.live.proofs.arriving.look_through.Given as goal
 
 -- the rows so far were silent
 abbrev pub invariant-loop-row : goal.invariant-loop-row
 invariant-loop-row g l =
-    let kept = kept_of g.S.Link.Owned.owner in record {
+    let kept = kept_of g.S.Link.Owned.owner in
+    let ids = ids_of g.S.Link.Owned.owner in record {
       deadline : l.peers.deadline ≡ l.initial.peers.deadline;
-      hears : Hears g.S.System.step l.initial.system (kept l.initial.peers.list.items) None
+      same : ids l.peers.list.items ≡ ids l.initial.peers.list.items;
+      sees : Sees g.S.System.step l.initial.system (ids l.initial.peers.list.items)
+          (take l.row-index l.rows) (kept l.initial.peers.list.items) None
           (kept l.peers.list.items) l.system;
     }

@@ -1,46 +1,59 @@
 use Rattle.std.proofs.Common.{◌∙◌, None, refl}
 use Rattle.acts.specs.Deed.{reply_of}
+use Rattle.live.specs.Kept.{ids_of}
 use Rattle.live.proofs.Arrivals.{comes_due}
-use Rattle.live.proofs.Hearing.{hears_idle, hears_none, hears_then}
-use Rattle.live.proofs.Turns.{begins_then, waits_rest, waits_so, waits_up}
+use Rattle.live.proofs.Turns.{begins_then, hears_none, hears_paused, hears_seen, waits_over, waits_rest, waits_so}
 use Rattle.live.proofs.arriving.next.Goals as goal
 
 pub returns-then-branch-clause-waits : goal.returns-then-branch-clause-waits
 returns-then-branch-clause-waits g c =
-    let step = g.S.System.step in
-    waits_up step _ _ _ _ _ _ c.args.timer _ _ _ c.in_ok-peers.ensures refl
-    (hears_none step _ _) (rw c.if-branch.true at c.in_ok-is_over.ensures.shows)
+    let ids = ids_of g.S.Link.Owned.owner c.args.peers.now.list.items in
+    waits_over g.S.System.step _ _ _ ids c.args.rows.now _ c.args.timer _ _
+    (c.in_ok-is_over.ensures.running c.if-branch.true) c.in_ok-peers.ensures
+    (rw c.if-branch.true at c.in_ok-is_over.ensures.shows)
 
 pub looks-init : goal.looks-init
-looks-init g c = record { deadline = refl; hears = hears_none g.S.System.step _ _ }
+looks-init g c =
+    record { deadline = refl; same = refl; hears = hears_none g.S.System.step c.args.timer _ _ _ }
 
 pub returns-in-Some-clause-waits : goal.returns-in-Some-clause-waits
 returns-in-Some-clause-waits g c =
     let step = g.S.System.step in
+    let ids = ids_of g.S.Link.Owned.owner c.args.peers.now.list.items in
     let reply = reply_of c.in-Some.heard in
-    waits_so step _ _ _ _ _ _ _ c.args.timer _ _ _ reply
+    waits_so step _ _ _ _ ids c.args.rows.now _ _ _ c.args.timer _ _ _ reply
     (begins_then step _ _ _ c.args.timer _ _ c.in_ok-peers.ensures
     (rw c.if-branch.false at c.in_ok-is_over.ensures.shows))
     (c.look_round.ensures.deadline ∙ c.looks.invariant.deadline)
-    (comes_due c.args.rows.now reply _ (rw c.in-Some.is at c.in_ok-heard.ensures.of_rows))
-    c.looks.invariant.hears (rw c.in-Some.is at c.in_ok-heard.ensures.hears)
+    (comes_due ids c.args.rows.now c.args.timer reply _ _
+    (rw c.in-Some.is at c.in_ok-heard.ensures.of_rows))
+    c.looks.invariant.hears (rw c.in-Some.is at c.in_ok-heard.ensures.sees)
 
 pub returns-in-Some-2-clause-waits : goal.returns-in-Some-2-clause-waits
 returns-in-Some-2-clause-waits g c =
     let step = g.S.System.step in
-    waits_rest step _ _ _ _ _ _ c.args.timer _ _ _ (reply_of c.in-Some-2.ended)
+    let owner = g.S.Link.Owned.owner in
+    waits_rest step _ _ _ _ _ (ids_of owner c.looks.peers.list.items)
+    (ids_of owner c.args.peers.now.list.items) c.args.rows.now _ _ _ c.args.timer _ _ _
+    (reply_of c.in-Some-2.ended) c.looks.invariant.same
     (begins_then step _ _ _ c.args.timer _ _ c.in_ok-peers.ensures
     (rw c.if-branch.false at c.in_ok-is_over.ensures.shows))
     (c.look_round.ensures.deadline ∙ c.looks.invariant.deadline)
-    (hears_then step _ _ _ _ _ _ None c.looks.invariant.hears
-    (rw c.in-None.is at c.in_ok-heard.ensures.hears))
+    c.looks.invariant.hears (rw c.in-None.is at c.in_ok-heard.ensures.sees)
     (rw c.in-Some-2.is at c.in_ok-ended.ensures.rests)
 
 pub looks-preserved : goal.looks-preserved
 looks-preserved g c =
-    let step = g.S.System.step in record {
-      deadline = c.look_round.ensures.deadline ∙ c.looks.invariant.deadline;
-      hears = hears_then step _ _ _ _ _ _ None c.looks.invariant.hears
-          (hears_then step _ _ _ _ _ _ None (rw c.in-None.is at c.in_ok-heard.ensures.hears)
-          (hears_idle step _ _ _ (rw c.in-None-2.is at c.in_ok-ended.ensures.rests)));
+    let step = g.S.System.step in
+    let ids = ids_of g.S.Link.Owned.owner c.looks.peers.list.items in
+    let same = c.look_round.ensures.deadline ∙ c.looks.invariant.deadline in record {
+      deadline = same;
+      same = c.look_round.ensures.ids ∙ c.looks.invariant.same;
+      hears = hears_paused step c.args.timer _ _ _ _ _ _ _ same
+          (hears_seen step c.args.timer _ _ _ _ ids c.args.rows.now _ _ _ None
+          c.looks.invariant.hears (rw c.in-None.is at c.in_ok-heard.ensures.sees))
+          (rw c.in-None-2.is at c.in_ok-ended.ensures.rests);
     }
+
+pub returns-in-Some-clause-ids : goal.returns-in-Some-clause-ids
+returns-in-Some-clause-ids g c = c.look_round.ensures.ids ∙ c.looks.invariant.same

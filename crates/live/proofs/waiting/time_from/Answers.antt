@@ -11,7 +11,7 @@ returns-in_ok-now-in-Start g c =
     let calls = Now nanos ∷ [] in (
       calls,
       (c.now.new.self, c.in_ok-now-in-Start.ensures, refl),
-      (λ id. (refl, refl), tt),
+      ((nanos, refl), tt),
       subst (λ t. Starts t c.args.earlier c.checked_add.result calls) (sym c.in-Start.is) (
         nanos,
         [],
