@@ -1,7 +1,7 @@
 # make demo     builds rx without its proofs, in a few minutes, and holds two dialogues of the examples,
 #               one by its record and live, the other by its record
-# make rx       proves and builds the program to out/rx
-# make install  puts out/rx, its man page, documents and examples under PREFIX (PREFIX=/usr/local DESTDIR=)
+# make rx       proves and builds the programs to out/rx and out/rx-explain
+# make install  puts both, their man pages, documents and examples under PREFIX (PREFIX=/usr/local DESTDIR=)
 # make uninstall  removes what make install put there
 # make deb      makes a Debian package of out/rx and all that make install puts in place: out/rx_*.deb
 # make test     the gate: every proof from nothing, the must-fail edits, the tests and the programs
@@ -9,6 +9,7 @@
 # make house    rules of this repository that the prover does not know, its links and its tables of
 #               commands, in a moment
 # make guide    runs what the README, the guide and the man page show, and compares (RX=out/rx)
+# make stories  runs the scripts of stories/ under their records, and looks what out/rx-explain tells of them
 # make rows     runs the rows, and writes how many there are to the stored output of rowtests
 # make rows-now runs them as they stand, without any proof, in a few minutes (FAMILIES="leaving logs")
 # make edits    the edits of edits/ that the prover must refuse, for the crates that changed (SINCE=COMMIT)
@@ -16,7 +17,7 @@
 # make compare  random scripts against tclsh8.6, dialogues against expect (SCRIPTS=N, DIALOGUES=N, SEED=S)
 # make bench    times of out/rx beside those of tclsh8.6 and jimsh, and dialogues beside expect
 # make soak     a long dialogue, live: whether something is lost and whether memory grows
-.PHONY: demo rx install built install-documents uninstall deb test house guide rows rows-now edits live \
+.PHONY: demo rx install built install-documents uninstall deb test house guide stories rows rows-now edits live \
 	compare bench soak clean
 
 FIRST := $(CURDIR)/examples/hello-cat
@@ -48,18 +49,22 @@ demo:
 # rt builds only what it has proved, and runs it once on the first example.
 rx:
 	cd crates/rx && rt run -- --replay $(FIRST)/record $(FIRST)/script.exp
-	mkdir -p out && cp crates/rx/out/rx out/rx
+	cd crates/rx_explain && rt run -- --brief --replay $(FIRST)/record $(FIRST)/script.exp
+	mkdir -p out && cp crates/rx/out/rx out/rx && cp crates/rx_explain/out/rx_explain out/rx-explain
 
 # It proves nothing, so that it can be run as another user than the one that ran make rx.
 install: built install-documents
 	install -D -m 755 out/rx $(DESTDIR)$(PREFIX)/bin/rx
+	install -D -m 755 out/rx-explain $(DESTDIR)$(PREFIX)/bin/rx-explain
 	install -D -m 755 tools/rx-cut-record $(DESTDIR)$(PREFIX)/bin/rx-cut-record
 	install -d $(SHARE)/man/man1
-	sed 's|/usr/local|$(PREFIX)|g' rx.1 >$(SHARE)/man/man1/rx.1
-	chmod 644 $(SHARE)/man/man1/rx.1
+	for page in rx.1 rx-explain.1; do \
+		sed 's|/usr/local|$(PREFIX)|g' $$page >$(SHARE)/man/man1/$$page && \
+		chmod 644 $(SHARE)/man/man1/$$page || exit 1; \
+	done
 
 built:
-	@test -x out/rx || { echo "there is no out/rx yet: make rx" >&2; exit 1; }
+	@test -x out/rx -a -x out/rx-explain || { echo "there is no out/rx or no out/rx-explain yet: make rx" >&2; exit 1; }
 
 install-documents:
 	install -D -m 644 -t $(DOCUMENTS) README.md CHANGELOG.md
@@ -70,7 +75,9 @@ install-documents:
 	cd examples && find . -type f -exec install -D -m 644 {} $(DOCUMENTS)/examples/{} \;
 
 uninstall:
-	rm -f $(DESTDIR)$(PREFIX)/bin/rx $(DESTDIR)$(PREFIX)/bin/rx-cut-record $(SHARE)/man/man1/rx.1
+	rm -f $(DESTDIR)$(PREFIX)/bin/rx $(DESTDIR)$(PREFIX)/bin/rx-explain
+	rm -f $(DESTDIR)$(PREFIX)/bin/rx-cut-record
+	rm -f $(SHARE)/man/man1/rx.1 $(SHARE)/man/man1/rx-explain.1
 	rm -rf $(DOCUMENTS)
 
 deb:
@@ -85,6 +92,9 @@ house:
 	tools/commands
 
 # The program is not built here, so that another one can be tried, as an installed one.
+stories: built
+	tools/stories
+
 guide:
 	tools/guide --program $(RX)
 

@@ -1,0 +1,18 @@
+//! The story of a run: what a script did, line by line, and why a wait did not find what it sought.
+#![tactic(auto)]
+
+mod branches;
+mod choice;
+mod lines;
+mod outcome;
+pub mod program;
+mod said;
+mod shown;
+mod spots;
+mod telling;
+mod told;
+mod vain;
+mod wait;
+mod watching;
+
+pub use telling::{Detail, Story};
