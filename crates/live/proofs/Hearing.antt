@@ -1,5 +1,5 @@
 -- What is traded and found by calls that follow one another.
-use Rattle.std.proofs.Common.{◌≡◌, ℕ, List, [], ◌∷◌, ◌++◌, Option, Some, None, sym, ap, ◌∙◌, append_assoc, append-nil}
+use Rattle.std.proofs.Common.{ℕ, List, [], ◌∷◌, ◌++◌, Option, Some, None, sym, ap, ◌∙◌, append_assoc, append-nil}
 use Rattle.std.specs.List.{AllByRecursion}
 use Rattle.acts.specs.declared.id.Id.{Id}
 use Rattle.acts.specs.Deed.{Reply}

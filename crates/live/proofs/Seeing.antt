@@ -1,5 +1,5 @@
 -- What a look at one id of the table finds.
-use Rattle.std.proofs.Common.{◌≡◌, ◌==◌, ℕ, ◌<◌, List, [], ◌∷◌, ◌++◌, Option, Some, None, map, take, length, refl, sym, ap, subst, ◌∙◌, append-nil, Bool, true, false, slice_set, arith}
+use Rattle.std.proofs.Common.{◌≡◌, ◌==◌, ℕ, ◌<◌, List, [], ◌∷◌, ◌++◌, Some, None, map, take, length, refl, sym, ap, subst, ◌∙◌, append-nil, Bool, true, false, slice_set, arith}
 use Rattle.std.proofs.lemmas.Bool.{false≢true}
 use Rattle.std.specs.List.{AllByRecursion, flat_map}
 use Rattle.acts.specs.declared.id.Id.{Id}

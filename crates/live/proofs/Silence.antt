@@ -1,15 +1,15 @@
 -- Looks that found nothing, and calls that only read or ask the clock.
-use Rattle.std.proofs.Common.{◌≡◌, ◌==◌, ◌||◌, ℕ, ◌<◌, true, false, Bool, List, [], ◌∷◌, ◌++◌, Option, Some, None, map, refl, sym, ap, subst, ◌∙◌, append-nil, if◌then◌else◌}
+use Rattle.std.proofs.Common.{◌≡◌, ◌==◌, ◌||◌, ℕ, true, false, Bool, List, [], ◌∷◌, ◌++◌, Option, Some, None, map, refl, sym, ap, subst, ◌∙◌, append-nil, if◌then◌else◌}
 use Rattle.std.proofs.lemmas.Bool.{false≢true}
 use Rattle.std.proofs.lemmas.List.Folds.{list_any-append}
-use Rattle.std.specs.List.{AllByRecursion, list_any}
+use Rattle.std.specs.List.{AllByRecursion}
 use Rattle.std.specs.declared.time.Instant.{Instant}
 use Rattle.acts.specs.declared.id.Id.{Id}
 use Rattle.acts.specs.declared.row.Row.{Row}
 use Rattle.acts.specs.declared.act.Timer.{Timer}
 use Rattle.acts.specs.Deed.{Reply}
 use Rattle.live.specs.Arriving.{IsQuiet, IsRead, IsSilence, IsSilent, Sees, handed}
-use Rattle.live.specs.Calls.{Call, Got, Gave, Failed, Made, Now, Read, bytes_of, heard, heard_by, is_read, reads_from, sent_by}
+use Rattle.live.specs.Calls.{Call, Got, Gave, Failed, Read, bytes_of, heard, heard_by, is_read, reads_from, sent_by}
 use Rattle.live.specs.Early.{IsIdle}
 use Rattle.live.specs.Kept.{Trades, is_open}
 use Rattle.live.specs.Look.{IsNothing}

@@ -12,10 +12,9 @@ use Rattle.acts.specs.declared.act.Timer.{Timer}
 use Rattle.acts.specs.declared.act.Timer.TheVariants as timer
 use Rattle.acts.specs.Deed.{Reply}
 use Rattle.acts.specs.Deed as said
-use Rattle.live.specs.Arriving.{Hears, IsDue, IsLate, IsQuiet, IsSilence, IsSilent, Rests, Sees, Waits, handed}
+use Rattle.live.specs.Arriving.{Hears, IsDue, IsLate, IsQuiet, Rests, Sees, Waits, handed}
 use Rattle.live.specs.Calls.{Call, Made, Now, Pause}
-use Rattle.live.specs.Early.{IfAnswered, IsIdle}
-use Rattle.live.specs.Kept.{Trades}
+use Rattle.live.specs.Early.{IfAnswered}
 use Rattle.live.specs.Waiting.{Asks, IsNow, Leaves, MayPause, Paused, Pauses, RunsOut, ShowsUp, Starts}
 use Rattle.live.specs.declared.waiting.Left.{Left}
 use Rattle.live.specs.declared.waiting.Left.TheVariants as time

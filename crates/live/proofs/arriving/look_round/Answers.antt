@@ -1,4 +1,4 @@
-use Rattle.std.proofs.Common.{◌++◌, ◌∙◌, option_map}
+use Rattle.std.proofs.Common.{option_map}
 use Rattle.std.proofs.lemmas.Result.{IfOk-weaker}
 use Rattle.acts.specs.Deed.{reply_of}
 use Rattle.live.specs.Kept.{ids_of}

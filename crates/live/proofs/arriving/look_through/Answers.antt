@@ -1,4 +1,4 @@
-use Rattle.std.proofs.Common.{◌∙◌, ◌++◌, ◌∷◌, ◌+◌, [], Some, None, refl, sym, subst, take}
+use Rattle.std.proofs.Common.{◌∙◌, [], Some, None, refl, sym, subst, take}
 use Rattle.std.proofs.lemmas.List.{take_all, take_more}
 use Rattle.acts.specs.Deed.{reply_of}
 use Rattle.live.specs.Arriving.{Sees}
