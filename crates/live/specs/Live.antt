@@ -1,6 +1,7 @@
 -- The steps of the live world.
-use Rattle.std.specs.Prelude.{◌≡◌, ◌==◌, ◌++◌, ◌∷◌, ℕ, ℤ, pos, nat_le, if◌then◌else◌, true, not, map, List, [], Option, Some, None, filter, IsSomeAnd, ⊤}
+use Rattle.std.specs.Prelude.{◌≡◌, ◌==◌, ◌++◌, ◌∷◌, ℕ, ℤ, pos, nat_le, if◌then◌else◌, true, not, map, List, [], Option, Some, None, filter, IsSome, IsSomeAnd, ⊤}
 use Rattle.std.specs.Io.KnownBytes.{Appends}
+use Rattle.std.specs.declared.io.Error.{Error}
 use Rattle.acts.specs.declared.id.Id.{Id}
 use Rattle.acts.specs.Deed.{Deed, Reply}
 use Rattle.acts.specs.Deed as said
@@ -22,6 +23,11 @@ IsWanted _ reply = ⊤
 -- each answer fits its act, and no more bytes come than are wanted (this project's own)
 abbrev pub Lives : Deed → Reply → Type 0
 Lives act reply = (fits act reply ≡ true) × IsWanted act reply
+
+-- where an act was refused, the system's error says why (this project's own)
+abbrev pub IsWhy : Reply → Option Error → Type 0
+IsWhy said.Refused why = IsSome why
+IsWhy _ why = ⊤
 
 -- the log gets what is written to it; one that is opened keeps what its file holds, or is begun
 -- anew, and takes the place of the one before; where none is open, no bytes go out; `contents` says

@@ -1,15 +1,10 @@
 -- What goes out to standard output and to standard error.
-use Rattle.std.specs.Prelude.{ℕ, List, [], Option, Some, None, take}
+use Rattle.std.specs.Prelude.{ℕ, List, [], Option, take}
 use Rattle.std.specs.Io.KnownBytes.{IsAtEnd, Keeps}
 use Rattle.acts.specs.declared.act.LogMode.{LogMode}
 use Rattle.acts.specs.declared.act.LogMode.TheVariants.{Append, Truncate}
 use Rattle.acts.specs.Deed.{Deed, Reply}
 use Rattle.acts.specs.Deed as said
-
--- the bytes that a write took from the front of a text, none where it gave no count (write(2))
-abbrev pub taken : List ℕ → Option ℕ → List ℕ
-taken text (Some count) = take count text
-taken text None = []
 
 -- what has gone out of a text by the answer: all of it where the answer is that it is done, and the
 -- first bytes, as many as the answer says, where it failed after them (write(2))

@@ -2,7 +2,7 @@
 
 ghost use Rattle.std.specs.Prelude.{◌≡◌, [], IfOk, None};
 ghost use Rattle.std.specs.Io.KnownBytes.{Appends};
-ghost use Rattle.live.specs.Live.{Lives, Logs, Programs, Works};
+ghost use Rattle.live.specs.Live.{IsWhy, Lives, Logs, Programs, Works};
 ghost use Rattle.live.specs.Outputs.{err_text, out_text};
 
 use crate::arriving::wait;
@@ -29,6 +29,8 @@ pub struct Live<S: System, O, E> {
     out: O,
     err: E,
     log: Option<S::Log>,
+    /// Why the last act was refused or failed, where the system said so.
+    refusal: Option<io::Error>,
     peers: Peers<S::Link>,
     /// The programs that were not waited for yet.
     programs: Vec<S::Program>,
@@ -64,6 +66,7 @@ impl<S: System + Drop, O: Write + Drop, E: Write + Drop> Live<S, O, E> {
             out,
             err,
             log: None,
+            refusal: None,
             peers: Peers::new(alloc)?,
             programs: Vec::new(alloc),
         })
@@ -75,32 +78,44 @@ impl<S: System + Drop, O: Write + Drop, E: Write + Drop> Live<S, O, E> {
     {
         &self.system
     }
+
+    /// Why the last act was refused or failed, in the words of the system: none where it was
+    /// neither, or where the system was not asked, as where nothing is open under an id. Standard
+    /// output and standard error that the caller writes itself are not known of here.
+    pub fn refusal(&self) -> Option<io::Error>
+        ensures { result ≡ self.now.refusal }
+    {
+        self.refusal
+    }
 }
 
 impl<S: System + Drop, O: Write + Drop, E: Write + Drop> World<Global> for Live<S, O, E> {
     // Each answer fits, the two writers and the log get what went out by it, and nothing else, and
     // what was read from the links and written to them, and which programs were started and which
-    // servers called, is what the acts and their answers say.
+    // servers called, is what the acts and their answers say. Why an act was refused is known.
     ghost step = { λ before act answer after. Lives act answer
         × Appends (O.contents before.out) (O.contents after.out) (out_text act answer)
         × Appends (E.contents before.err) (E.contents after.err) (err_text act answer)
         × Logs S.Log.contents S.holds act answer before.system before.log after.log
         × Programs S.Program.owner act answer before.programs.items after.programs.items
         × Works S.step S.Link.owner act answer before.system after.system
-        before.peers after.peers };
+        before.peers after.peers
+        × IsWhy answer after.refusal };
 
     #[tactic(auto, using(crate::proofs::Texts::grows_by_none))]
     fn act(&mut self, act: &Act<Global>) -> Answer<Global> {
         let system = &mut self.system;
         let peers = &mut self.peers;
+        let why = &mut self.refusal;
+        *why = None;
         match act {
-            Act::Out(text) => write_text(&mut self.out, text),
-            Act::Err(text) => write_text(&mut self.err, text),
-            Act::Log(text) => write_log(&mut self.log, text),
-            Act::Send(id, text) => send(system, peers, *id, text),
-            Act::Spawn(id, words) => spawn(system, peers, &mut self.programs, *id, words),
-            Act::Connect(id, host, port) => connect(system, peers, *id, host, *port),
-            Act::OpenLog(name, mode) => open_log(system, &mut self.log, name, *mode),
+            Act::Out(text) => write_text(&mut self.out, text, why),
+            Act::Err(text) => write_text(&mut self.err, text, why),
+            Act::Log(text) => write_log(&mut self.log, text, why),
+            Act::Send(id, text) => send(system, peers, *id, text, why),
+            Act::Spawn(id, words) => spawn(system, peers, &mut self.programs, *id, words, why),
+            Act::Connect(id, host, port) => connect(system, peers, *id, host, *port, why),
+            Act::OpenLog(name, mode) => open_log(system, &mut self.log, name, *mode, why),
             Act::Close(id) => {
                 peers.close(*id);
                 Answer::Done

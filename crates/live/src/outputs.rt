@@ -1,12 +1,15 @@
 //! Standard output, standard error and the log file.
 
-ghost use Rattle.std.specs.Prelude.{◌≡◌, ◌≢◌, ◌-◌, ◌≤◌, length, true, IfOk, IfNone, IfSome, IsSomeAnd, OnOk};
+ghost use Rattle.std.specs.Prelude.{◌≡◌, ◌≢◌, ◌-◌, length, true, IfOk, IfNone, IfSome, IsSomeAnd, OnOk};
+ghost use Rattle.std.specs.Io.{WritesAtMost};
 ghost use Rattle.std.specs.Io.KnownBytes.{Appends};
 ghost use Rattle.acts.specs.Deed as said;
 ghost use Rattle.acts.specs.Deed.{reply_of};
 ghost use Rattle.acts.specs.Fits as table;
 ghost use Rattle.live.specs.Calls as call;
-ghost use Rattle.live.specs.Outputs.{IsOpened, taken, went_out};
+ghost use Rattle.live.specs.Calls.{took};
+ghost use Rattle.live.specs.Live.{IsWhy};
+ghost use Rattle.live.specs.Outputs.{IsOpened, went_out};
 
 use crate::calls::System;
 use crate::system::{MOST_TRIES, refused, text_of};
@@ -14,9 +17,13 @@ use acts::{Answer, LogMode};
 use std::alloc::Global;
 use std::io::{self, ErrorKind, Write};
 
-/// Writes a text, and where this fails says how many bytes went out. A write that was interrupted
-/// is tried again.
-pub fn write_text<W: Write>(writer: &mut W, text: &[u8]) -> Answer<Global>
+/// Writes a text, and where this fails says how many bytes went out, and keeps why. A write that
+/// was interrupted is tried again.
+pub fn write_text<W: Write>(
+    writer: &mut W,
+    text: &[u8],
+    why: &mut Option<io::Error>,
+) -> Answer<Global>
     ensures fits { table.fits_write text.now (reply_of result) ≡ true }
     ensures gets { Appends (W.contents writer.old) (W.contents writer.new)
         (went_out text.now (reply_of result)) }
@@ -26,27 +33,30 @@ pub fn write_text<W: Write>(writer: &mut W, text: &[u8]) -> Answer<Global>
         if rest.is_empty() {
             return Answer::Done;
         }
-        let Some(count) = write_some(writer, rest) else {
-            return failed(text, rest);
-        };
-        rest = &rest[count..];
+        match write_some(writer, rest) {
+            Ok(count) => rest = &rest[count..],
+            Err(error) => {
+                *why = Some(error);
+                return failed(text, rest);
+            }
+        }
     }
     failed(text, rest)
 }
 
-/// Writes some bytes from the front of a text, and says how many: `Some(0)` where the write was
-/// interrupted, and `None` where no more will go out.
+/// Writes some bytes from the front of a text, and says how many: `Ok(0)` where the write was
+/// interrupted, and an `Err` where no more will go out.
 #[tactic(auto, using(crate::proofs::Texts::kept_grows))]
-fn write_some<W: Write>(writer: &mut W, text: &[u8]) -> Option<usize>
-    ensures within { IfSome result (λ count. count ≤ length text.now) }
+fn write_some<W: Write>(writer: &mut W, text: &[u8]) -> io::Result<usize>
+    ensures within { WritesAtMost result text.now }
     ensures gets { Appends (W.contents writer.old) (W.contents writer.new)
-        (taken text.now result) }
+        (took result text.now) }
 {
     match writer.write(text) {
-        Ok(0) => None,
-        Ok(count) => Some(count),
-        Err(error) if error.kind() == ErrorKind::Interrupted => Some(0),
-        Err(_) => None,
+        Ok(0) => Err(io::Error::from(ErrorKind::WriteZero)),
+        Ok(count) => Ok(count),
+        Err(error) if error.kind() == ErrorKind::Interrupted => Ok(0),
+        Err(error) => Err(error),
     }
 }
 
@@ -58,14 +68,18 @@ pub fn failed(text: &[u8], rest: &[u8]) -> Answer<Global>
 }
 
 /// Writes a text to the log file; where none is open, nothing goes out.
-pub fn write_log<W: Write>(log: &mut Option<W>, text: &[u8]) -> Answer<Global>
+pub fn write_log<W: Write>(
+    log: &mut Option<W>,
+    text: &[u8],
+    why: &mut Option<io::Error>,
+) -> Answer<Global>
     ensures fits { table.fits_write text.now (reply_of result) ≡ true }
     ensures some { IfSome log.old (λ file. IsSomeAnd log.new (λ new.
         Appends (W.contents file) (W.contents new) (went_out text.now (reply_of result)))) }
     ensures none { IfNone log.old ((reply_of result ≡ said.Failed 0) × (log.new ≡ None)) }
 {
     match log {
-        Some(file) => write_text(file, text),
+        Some(file) => write_text(file, text, why),
         None => Answer::Failed(0),
     }
 }
@@ -77,8 +91,10 @@ pub fn open_log<S: System>(
     log: &mut Option<S::Log>,
     name: &[u8],
     mode: LogMode,
+    why: &mut Option<io::Error>,
 ) -> Answer<Global>
     ensures fits { table.fits_open (reply_of result) ≡ true }
+    ensures why { IsWhy (reply_of result) why.new }
     ensures done { reply_of result ≡ said.Done → IsSomeAnd log.new (λ file.
         IsOpened (S.holds system.old name.now) mode (S.Log.contents file))
         × S.step system.old (call.OpenLog name.now mode) system.new }
@@ -89,7 +105,7 @@ pub fn open_log<S: System>(
             *log = Some(file);
             Answer::Done
         }
-        Err(error) => refused(&error),
+        Err(error) => refused(why, error),
     }
 }
 

@@ -5,7 +5,7 @@ ghost use Rattle.acts.specs.Deed.{reply_of};
 ghost use Rattle.acts.specs.Deed as said;
 ghost use Rattle.acts.specs.Fits as table;
 ghost use Rattle.live.specs.Calls as call;
-ghost use Rattle.live.specs.Live.{AddsProgram, IsNamed, IsStart, LosesProgram, Opens, exit_status};
+ghost use Rattle.live.specs.Live.{AddsProgram, IsNamed, IsStart, IsWhy, LosesProgram, Opens, exit_status};
 
 use crate::calls::{Owned, System};
 use crate::peers::{Peer, Peers};
@@ -36,8 +36,10 @@ pub fn spawn<S: System>(
     programs: &mut Vec<S::Program>,
     id: Id,
     words: &[Vec<u8>],
+    why: &mut Option<io::Error>,
 ) -> Answer<Global>
     ensures fits { table.fits_spawn (reply_of result) ≡ true }
+    ensures why { IsWhy (reply_of result) why.new }
     ensures started { (pid : ℕ) → reply_of result ≡ said.Started pid →
         Opens S.Link.owner id peers.old peers.new
         × IsStart S.step system.old id (map (λ word. word.items) words.now) pid system.new }
@@ -51,7 +53,7 @@ pub fn spawn<S: System>(
 {
     match started(system, peers, programs, id, words) {
         Ok(number) => Answer::Started(number),
-        Err(error) => refused(&error),
+        Err(error) => refused(why, error),
     }
 }
 

@@ -25,6 +25,7 @@ pub fn send<S: System>(
     peers: &mut Peers<S::Link>,
     id: Id,
     text: &[u8],
+    why: &mut Option<io::Error>,
 ) -> Answer<Global>
     ensures fits { table.fits_write text.now (reply_of result) ≡ true }
     ensures deadline { peers.new.deadline ≡ peers.old.deadline }
@@ -35,7 +36,7 @@ pub fn send<S: System>(
         (λ _. []) (kept_of S.Link.owner peers.new.list.items) system.new) }
 {
     match place_of(&peers.list, id) {
-        Some(place) => send_to(system, &mut peers.list[place], &mut peers.room, text),
+        Some(place) => send_to(system, &mut peers.list[place], &mut peers.room, text, why),
         None => Answer::Failed(0),
     }
 }
@@ -47,6 +48,7 @@ fn send_to<S: System>(
     peer: &mut Peer<S::Link>,
     room: &mut [u8],
     text: &[u8],
+    why: &mut Option<io::Error>,
 ) -> Answer<Global>
     ensures fits { table.fits_write text.now (reply_of result) ≡ true }
     ensures owner { S.Link.owner peer.new.link ≡ S.Link.owner peer.old.link }
@@ -61,10 +63,13 @@ fn send_to<S: System>(
         }
         match send_some(system, peer, room, text.len(), rest) {
             Ok(count) => rest = &rest[count..],
-            Err(error) => match error.kind() {
-                ErrorKind::OutOfMemory => return Answer::NoMore,
-                _ => return failed(text, rest),
-            },
+            Err(error) => {
+                *why = Some(error);
+                return match error.kind() {
+                    ErrorKind::OutOfMemory => Answer::NoMore,
+                    _ => failed(text, rest),
+                };
+            }
         }
     }
     failed(text, rest)

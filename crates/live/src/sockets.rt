@@ -5,7 +5,7 @@ ghost use Rattle.acts.specs.Deed.{reply_of};
 ghost use Rattle.acts.specs.Deed as said;
 ghost use Rattle.acts.specs.Fits as table;
 ghost use Rattle.live.specs.Calls as call;
-ghost use Rattle.live.specs.Live.{Opens};
+ghost use Rattle.live.specs.Live.{IsWhy, Opens};
 
 use crate::calls::System;
 use crate::peers::{Peer, Peers};
@@ -21,8 +21,10 @@ pub fn connect<S: System>(
     id: Id,
     host: &[u8],
     port: u16,
+    why: &mut Option<io::Error>,
 ) -> Answer<Global>
     ensures fits { table.fits_open (reply_of result) ≡ true }
+    ensures why { IsWhy (reply_of result) why.new }
     ensures done { reply_of result ≡ said.Done → Opens S.Link.owner id peers.old peers.new
         × call.Made S.step system.old (call.Connect id host.now port ∷ call.Poll id ∷ [])
         system.new }
@@ -31,7 +33,7 @@ pub fn connect<S: System>(
 {
     match connected(system, peers, id, host, port) {
         Ok(()) => Answer::Done,
-        Err(error) => refused(&error),
+        Err(error) => refused(why, error),
     }
 }
 

@@ -1,10 +1,11 @@
 //! The answers that the system's errors are to a run, names as the system takes them, and how often
 //! its calls are tried.
 
-ghost use Rattle.std.specs.Prelude.{◌≡◌, ◌≢◌, true, IfOk};
+ghost use Rattle.std.specs.Prelude.{◌≡◌, ◌≢◌, Some, IfOk};
+ghost use Rattle.std.specs.IoError.{error_kind};
+ghost use Rattle.std.specs.declared.io.ErrorKind.TheVariants.{OutOfMemory};
 ghost use Rattle.acts.specs.Deed as said;
 ghost use Rattle.acts.specs.Deed.{reply_of};
-ghost use Rattle.acts.specs.Fits as table;
 
 use acts::Answer;
 use std::alloc::Global;
@@ -14,13 +15,14 @@ use std::str;
 /// How often a loop tries its calls at most, so that it is proved to end. No run comes near it.
 pub const MOST_TRIES: u64 = u64::MAX;
 
-/// The answer to an act that the system refused: that there are no more answers where memory was
-/// refused, and else that the act is refused.
-pub fn refused(error: &io::Error) -> Answer<Global>
-    ensures spawn { table.fits_spawn (reply_of result) ≡ true }
-    ensures open { table.fits_open (reply_of result) ≡ true }
-    ensures refused { reply_of result ≢ said.Done }
+/// The answer to an act that the system refused by this error, which is kept: that there are no more
+/// answers where memory was refused, and else that the act is refused.
+pub fn refused(why: &mut Option<io::Error>, error: io::Error) -> Answer<Global>
+    ensures memory { error_kind error ≡ OutOfMemory → reply_of result ≡ said.NoMore }
+    ensures refused { error_kind error ≢ OutOfMemory → reply_of result ≡ said.Refused }
+    ensures why { why.new ≡ Some error }
 {
+    *why = Some(error);
     if error.kind() == ErrorKind::OutOfMemory {
         Answer::NoMore
     } else {

@@ -7,9 +7,9 @@ pub loop-preserved : goal.loop-preserved
 loop-preserved g c =
     let (sent, whole, gets) = c.loop.invariant in
     let rest = c.loop.rest.now in
-    let n = c.in-Some.count in (
+    let n = c.in-Ok.count in (
       sent ++ take n rest,
       onward c.args.text.now sent rest n whole,
       Appends-trans _ _ _ sent (take n rest) gets
-          (rw c.in-Some.is at c.write_some.ensures.gets),
+          c.in-Ok.ensures.gets,
     )
