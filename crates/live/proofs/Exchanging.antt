@@ -2,6 +2,7 @@
 use Rattle.std.proofs.Common.{◌≡◌, ◌≢◌, ◌==◌, ℕ, true, false, List, [], ◌∷◌, ◌++◌, map, refl, sym, ap, ◌∙◌, append_assoc, append-nil, Result, Ok, Err, if◌then◌else◌, inl, inr, subst, length, ◌-◌}
 use Rattle.std.proofs.lemmas.Bool.Decides.{eqb_tells}
 use Rattle.std.specs.List.{AllByRecursion, flat_map}
+use Rattle.std.specs.IoError.{error_kind}
 use Rattle.std.specs.declared.io.Error.{Error}
 use Rattle.acts.specs.declared.id.Id.{Id}
 use Rattle.acts.specs.Deed.{Reply}
@@ -108,7 +109,7 @@ pub poll_idles : {S A : Type 0} (step : S → Call → S → Type 0) (a b : S) (
 poll_idles step a b id (Ok answer) made =
     (Poll id ∷ [], (b, made, refl), (λ other. (refl, refl), tt))
 poll_idles step a b id (Err error) made =
-    (Refused ∷ [], (b, made, refl), (λ other. (refl, refl), tt))
+    (Refused (error_kind error) ∷ [], (b, made, refl), (λ other. (refl, refl), tt))
 
 -- no call
 pub idles_none : {S : Type 0} (step : S → Call → S → Type 0) (a : S) → Idles step a a

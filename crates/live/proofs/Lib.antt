@@ -4,6 +4,7 @@ pub mod Exchanging
 pub mod Hearing
 pub mod Looking
 pub mod Programs
+pub mod Refusing
 pub mod Seeing
 pub mod Silence
 pub mod Starting

@@ -16,7 +16,7 @@ done_more all done i x within is whole =
     ∙ ap (λ n. slice_index_or all i x ∷ drop n all) next ∙ sym (drop-cons all i x within))
     ∙ whole
 
-map_twice : {A B C : Type 0} (f : B → C) (g : A → B) (xs : List A) →
+pub map_twice : {A B C : Type 0} (f : B → C) (g : A → B) (xs : List A) →
     map (λ x. f (g x)) xs ≡ map f (map g xs)
 map_twice f g [] = refl
 map_twice f g (x ∷ xs) = ap (λ rest. f (g x) ∷ rest) (map_twice f g xs)

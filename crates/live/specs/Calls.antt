@@ -36,13 +36,13 @@ pub data Call : Type 0 where
   Sleep : (seconds : ℕ) → Call
   -- the poll is told of a link or asked about it, which reads and writes nothing (poll(2))
   Poll : (id : Id) → Call
-  -- a call that the system refused
-  Refused : Call
+  -- a call that the system refused by an error of this kind (errno(3))
+  Refused : (kind : ErrorKind) → Call
 
 -- a call that is known by its answer, or that was refused
 abbrev pub told : {A : Type 0} → Result A Error → (A → Call) → Call
 told (Ok answer) call = call answer
-told (Err error) call = Refused
+told (Err error) call = Refused (error_kind error)
 
 -- what a read into this room gave (read(2))
 abbrev pub got : Result ℕ Error → List ℕ → Got

@@ -5,4 +5,5 @@ pub mod Kept
 pub mod Live
 pub mod Outputs
 pub mod Look
+pub mod Refusing
 pub mod Waiting

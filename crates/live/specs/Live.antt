@@ -12,6 +12,7 @@ use Rattle.live.specs.Calls as call
 use Rattle.live.specs.Early.{IfAnswered}
 use Rattle.live.specs.Kept.{Traded, ids_of, kept_of, only}
 use Rattle.live.specs.Outputs.{IsOpened, went_out}
+use Rattle.live.specs.Refusing.{IsRefusal, StartStops, StopsShort}
 use Rattle.live.specs.declared.peers.Peer.{Peer}
 use Rattle.live.specs.declared.peers.Peers.{Peers}
 
@@ -111,16 +112,21 @@ Works step owner (said.Close id) reply a b before after =
     × (after.list.items ≡ filter (λ peer. not ((owner peer.link).0 == id.0)) before.list.items)
 Works step owner (said.Spawn id words) (said.Started pid) a b before after =
     Opens owner id before after × IsStart step a id words pid b
-Works step owner (said.Spawn id words) _ a b before after =
+Works step owner (said.Spawn id words) reply a b before after =
     (after.deadline ≡ before.deadline) × (after.list.items ≡ before.list.items)
+    × ((error : Error) × IsRefusal error reply × StartStops step a id words error b)
 Works step owner (said.Connect id host port) said.Done a b before after =
     Opens owner id before after
     × call.Made step a (call.Connect id host port ∷ call.Poll id ∷ []) b
-Works step owner (said.Connect id host port) _ a b before after =
+Works step owner (said.Connect id host port) reply a b before after =
     (after.deadline ≡ before.deadline) × (after.list.items ≡ before.list.items)
+    × ((error : Error) × IsRefusal error reply
+    × StopsShort step a (call.Connect id host port ∷ call.Poll id ∷ []) error b)
 Works step owner (said.OpenLog name mode) said.Done a b before after =
     step a (call.OpenLog name mode) b × (after ≡ before)
-Works step owner (said.OpenLog name mode) _ a b before after = after ≡ before
+Works step owner (said.OpenLog name mode) reply a b before after =
+    (after ≡ before) × ((error : Error) × IsRefusal error reply
+    × StopsShort step a (call.OpenLog name mode ∷ []) error b)
 Works step owner (said.Reap id) (said.Exited status) a b before after =
     ((code : Option ℤ) × step a (call.Wait id code) b × (status ≡ exit_status code))
     × (after ≡ before)

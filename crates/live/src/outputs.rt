@@ -1,6 +1,7 @@
 //! Standard output, standard error and the log file.
 
-ghost use Rattle.std.specs.Prelude.{◌≡◌, ◌≢◌, ◌-◌, length, true, IfOk, IfNone, IfSome, IsSomeAnd, OnOk};
+ghost use Rattle.std.specs.Prelude.{◌≡◌, ◌≢◌, ◌-◌, length, true, [], ◌∷◌, IfErr, IfOk, IfNone, IfSome, IsSomeAnd, OnOk};
+ghost use Rattle.std.specs.declared.io.Error.{Error};
 ghost use Rattle.std.specs.Io.{WritesAtMost};
 ghost use Rattle.std.specs.Io.KnownBytes.{Appends};
 ghost use Rattle.acts.specs.Deed as said;
@@ -10,6 +11,7 @@ ghost use Rattle.live.specs.Calls as call;
 ghost use Rattle.live.specs.Calls.{took};
 ghost use Rattle.live.specs.Live.{IsWhy};
 ghost use Rattle.live.specs.Outputs.{IsOpened, went_out};
+ghost use Rattle.live.specs.Refusing.{IsRefusal, StopsShort};
 
 use crate::calls::System;
 use crate::system::{MOST_TRIES, refused, text_of};
@@ -99,6 +101,9 @@ pub fn open_log<S: System>(
         IsOpened (S.holds system.old name.now) mode (S.Log.contents file))
         × S.step system.old (call.OpenLog name.now mode) system.new }
     ensures kept { reply_of result ≢ said.Done → log.new ≡ log.old }
+    ensures stops { reply_of result ≢ said.Done → (error : Error)
+        × IsRefusal error (reply_of result) × StopsShort S.step system.old
+        (call.OpenLog name.now mode ∷ []) error system.new }
 {
     match log_file(system, name, mode) {
         Ok(file) => {
@@ -114,6 +119,8 @@ fn log_file<S: System>(system: &mut S, name: &[u8], mode: LogMode) -> io::Result
     ensures opened { IfOk result (λ file.
         IsOpened (S.holds system.old name.now) mode (S.Log.contents file)) }
     ensures step { OnOk result (S.step system.old (call.OpenLog name.now mode) system.new) }
+    ensures stops { IfErr result (λ error. StopsShort S.step system.old
+        (call.OpenLog name.now mode ∷ []) error system.new) }
 {
     Ok(system.open_log(text_of(name)?, mode)?)
 }

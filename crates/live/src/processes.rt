@@ -1,10 +1,12 @@
 //! Programs over pipes.
 
-ghost use Rattle.std.specs.Prelude.{◌≡◌, ◌≢◌, ◌==◌, ℕ, ℤ, Option, map, position, true, IfOk, OnErr, OnOk};
+ghost use Rattle.std.specs.Prelude.{◌≡◌, ◌≢◌, ◌==◌, ℕ, ℤ, Option, map, position, true, IfErr, IfOk, OnErr, OnOk};
+ghost use Rattle.std.specs.declared.io.Error.{Error};
 ghost use Rattle.acts.specs.Deed.{reply_of};
 ghost use Rattle.acts.specs.Deed as said;
 ghost use Rattle.acts.specs.Fits as table;
 ghost use Rattle.live.specs.Calls as call;
+ghost use Rattle.live.specs.Refusing.{IsRefusal, NamingStops, StartStops};
 ghost use Rattle.live.specs.Live.{AddsProgram, IsNamed, IsStart, IsWhy, LosesProgram, Opens, exit_status};
 
 use crate::calls::{Owned, System};
@@ -16,8 +18,10 @@ use std::io::{self, ErrorKind};
 
 /// The command of a program and its arguments. Its standard error stays that of this process.
 fn command_of<S: System>(system: &mut S, words: &[Vec<u8>]) -> io::Result<S::Command>
-    ensures { OnOk result (IsNamed S.step system.old (map (λ word. word.items) words.now)
+    ensures named { OnOk result (IsNamed S.step system.old (map (λ word. word.items) words.now)
         system.new) }
+    ensures stops { IfErr result (λ error. NamingStops S.step system.old
+        (map (λ word. word.items) words.now) error system.new) }
 {
     let Some((name, args)) = words.split_first() else {
         return Err(io::Error::from(ErrorKind::InvalidInput));
@@ -49,7 +53,9 @@ pub fn spawn<S: System>(
         programs.new.items ≡ programs.old.items }
     ensures refused { ((pid : ℕ) → reply_of result ≢ said.Started pid) →
         (peers.new.deadline ≡ peers.old.deadline)
-        × (peers.new.list.items ≡ peers.old.list.items) }
+        × (peers.new.list.items ≡ peers.old.list.items)
+        × ((error : Error) × IsRefusal error (reply_of result) × StartStops S.step system.old id
+        (map (λ word. word.items) words.now) error system.new) }
 {
     match started(system, peers, programs, id, words) {
         Ok(number) => Answer::Started(number),
@@ -73,6 +79,8 @@ fn started<S: System>(
     ensures kept { OnErr result (programs.new.items ≡ programs.old.items) }
     ensures refused { OnErr result ((peers.new.deadline ≡ peers.old.deadline)
         × (peers.new.list.items ≡ peers.old.list.items)) }
+    ensures stops { IfErr result (λ error. StartStops S.step system.old id
+        (map (λ word. word.items) words.now) error system.new) }
 {
     peers.list.reserve(1)?;
     programs.reserve(1)?;

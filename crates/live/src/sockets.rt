@@ -1,11 +1,13 @@
 //! Servers over TCP.
 
-ghost use Rattle.std.specs.Prelude.{◌≡◌, ◌≢◌, [], ◌∷◌, true, OnErr, OnOk};
+ghost use Rattle.std.specs.Prelude.{◌≡◌, ◌≢◌, [], ◌∷◌, true, IfErr, OnErr, OnOk};
+ghost use Rattle.std.specs.declared.io.Error.{Error};
 ghost use Rattle.acts.specs.Deed.{reply_of};
 ghost use Rattle.acts.specs.Deed as said;
 ghost use Rattle.acts.specs.Fits as table;
 ghost use Rattle.live.specs.Calls as call;
 ghost use Rattle.live.specs.Live.{IsWhy, Opens};
+ghost use Rattle.live.specs.Refusing.{IsRefusal, StopsShort};
 
 use crate::calls::System;
 use crate::peers::{Peer, Peers};
@@ -29,7 +31,9 @@ pub fn connect<S: System>(
         × call.Made S.step system.old (call.Connect id host.now port ∷ call.Poll id ∷ [])
         system.new }
     ensures refused { reply_of result ≢ said.Done → (peers.new.deadline ≡ peers.old.deadline)
-        × (peers.new.list.items ≡ peers.old.list.items) }
+        × (peers.new.list.items ≡ peers.old.list.items)
+        × ((error : Error) × IsRefusal error (reply_of result) × StopsShort S.step system.old
+        (call.Connect id host.now port ∷ call.Poll id ∷ []) error system.new) }
 {
     match connected(system, peers, id, host, port) {
         Ok(()) => Answer::Done,
@@ -50,6 +54,8 @@ fn connected<S: System>(
         system.new) }
     ensures refused { OnErr result ((peers.new.deadline ≡ peers.old.deadline)
         × (peers.new.list.items ≡ peers.old.list.items)) }
+    ensures stops { IfErr result (λ error. StopsShort S.step system.old
+        (call.Connect id host.now port ∷ call.Poll id ∷ []) error system.new) }
 {
     peers.list.reserve(1)?;
     let link = system.connect(id, text_of(host)?, port)?;
