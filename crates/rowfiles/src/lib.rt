@@ -10,7 +10,7 @@ mod read;
 pub mod record;
 mod repeated;
 pub mod row;
-mod spelled;
+pub mod spelled;
 pub mod spelling;
 mod words;
 
@@ -18,3 +18,4 @@ pub use end::End;
 pub use fault::{LineFault, RowFault};
 pub use read::read_rows;
 pub use row::{Exchange, Printed, Row};
+pub use words::Words;
