@@ -6,6 +6,7 @@ use std::env::FillError;
 use std::io::{self, ErrorKind, Read};
 use std::rt::Env;
 use std::test::Fail;
+use worlds::folder::Disk;
 use worlds::input::{read_all, read_words};
 use worlds::program::perform;
 use worlds::{Counted, Unread};
@@ -112,6 +113,7 @@ fn performed(rt: &HostRuntime, words: &[Vec<u8>]) -> (u8, Vec<u8>, Vec<u8>) {
     let mut told = Vec::new(rt.alloc());
     let status = perform(
         rt,
+        &Disk { rt },
         words,
         &mut Counted::new(&mut printed),
         &mut Counted::new(&mut told),

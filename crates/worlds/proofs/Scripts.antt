@@ -1,11 +1,17 @@
 -- What a call runs.
 use Rattle.std.proofs.Common.{◌≡◌, ◌≢◌, Bool, List, [], ◌∷◌, ℕ, refl, sym, subst, ◌∙◌, Vec, length}
-use Rattle.std.specs.Prelude.{◌==◌, Some, false, true}
+use Rattle.std.specs.Prelude.{◌==◌, Option, Result, Some, false, true}
+use Rattle.std.specs.declared.io.Error.{Error}
+use Rattle.std.specs.Borrow.{Bor}
 use Rattle.std.specs.List.{slice_get}
 use Rattle.std.specs.Option.{option_copied}
 use Rattle.arguments.specs.declared.arguments.Arguments.{Arguments}
 use Rattle.arguments.specs.Arguments.{Call, Holds, texts}
-use Rattle.worlds.specs.Program.{Runs, argv_of}
+use Rattle.worlds.specs.Program.{IsLack, Runs, argv_of}
+use Rattle.worlds.specs.Status.{file_outcome}
+use Rattle.worlds.specs.declared.input.Unread.{Unread}
+use Rattle.worlds.specs.declared.input.Unread.TheVariants.{Refused}
+use Rattle.worlds.specs.declared.status.Outcome.{Outcome}
 use Rattle.arguments.proofs.Readings.{no_words, some_words}
 
 -- a script's words are its name and its arguments
@@ -23,24 +29,43 @@ pub some_first : {A : Type 0} (words : List (Vec ℕ A)) (name : Vec ℕ A) (sai
 some_first [] name said first is none = cc first
 some_first (word ∷ words) name said first is none = cc (is ∙ none)
 
+-- where the file of the first word is not had, it is lacking
+pub lacks_first : {A : Type 0} (missing : List ℕ → Type 0) (words : List (Vec ℕ A)) (name : Vec ℕ A)
+    (lent : Bor (List ℕ)) (fault : Unread) (outcome : Outcome) → Some name ≡ slice_get words 0 →
+    lent.now ≡ name.items → outcome ≡ file_outcome lent fault →
+    (fault ≡ Refused → missing name.items) → IsLack missing (texts words) outcome
+lacks_first missing [] name lent fault outcome first is tells lacks = cc first
+lacks_first missing (word ∷ words) name lent fault outcome first is tells lacks =
+    let same : name.items ≡ word.items = cc first in (
+      lent,
+      is ∙ same,
+      fault,
+      tells,
+      λ refused. subst missing same (lacks refused),
+    )
+
 -- without a script file, the name is the program's
 pub argv_own : {A : Type 0} (script : List (Vec ℕ A)) (said args : List (List ℕ)) →
     (length script == 0) ≡ true → texts script ≡ said → args ≡ argv_of [] → args ≡ argv_of said
 argv_own script said args none is own = rw (sym is ∙ no_words script none) own
 
 -- what the words of a call hold is what the call asks for
-module _ {O E A : Type 0} (out : O → List ℕ → O → Type 0) (out_failed : O → Bool)
+module _ {F I M O E A : Type 0} (opens : List ℕ → Result F Error → Type 0)
+    (reads : F → Result ℕ Error → F → Type 0) (takes : I → Result ℕ Error → I → Type 0)
+    (makes : List ℕ → Result M Error → Type 0) (same : List ℕ → List ℕ → Type 0)
+    (out : O → List ℕ → O → Type 0) (out_failed : O → Bool)
     (err : E → List ℕ → E → Type 0) (err_failed : E → Bool)
     (text : List ℕ) (args : List (Vec ℕ A)) (before after : O × E) (status : ℕ) where
+  -- it runs with so many ticks, under this record, and makes that one
+  abbrev pub RunsBy : ℕ → (replay made : Option (List ℕ)) → Type 0
+  RunsBy ticks replay made =
+      Runs opens reads takes makes same out out_failed err err_failed text args ticks replay made
+      before after status
+
   pub runs_asked : {B : Type 0} (call : Arguments B) (asked : Call) → Holds call asked →
-      Runs out out_failed err err_failed text args call.limits.ticks (option_copied call.replay)
-      (option_copied call.made) before after status →
-      Runs out out_failed err err_failed text args asked.ticks asked.replay asked.made before after
-      status
+      RunsBy call.limits.ticks (option_copied call.replay) (option_copied call.made) →
+      RunsBy asked.ticks asked.replay asked.made
   runs_asked call asked holds runs =
-      subst (λ ticks. Runs out out_failed err err_failed text args ticks asked.replay asked.made
-      before after status) holds.ticks
-      (subst (λ replay. Runs out out_failed err err_failed text args call.limits.ticks replay
-      asked.made before after status) holds.replay
-      (subst (λ made. Runs out out_failed err err_failed text args call.limits.ticks (option_copied
-      call.replay) made before after status) holds.made runs))
+      subst (λ ticks. RunsBy ticks asked.replay asked.made) holds.ticks
+      (subst (λ replay. RunsBy call.limits.ticks replay asked.made) holds.replay
+      (subst (λ made. RunsBy call.limits.ticks (option_copied call.replay) made) holds.made runs))

@@ -1,3 +1,4 @@
+pub mod Lacking
 pub mod Laws
 pub mod Lived
 pub mod Play

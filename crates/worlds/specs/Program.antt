@@ -1,22 +1,26 @@
 -- What a call of the program does (this project's own).
-use Rattle.std.specs.Prelude.{◌≡◌, ◌⊎◌, ◌++◌, ℕ, Bool, false, List, [], ◌∷◌, Option, Some, None, Vec, codes}
+use Rattle.std.specs.Prelude.{◌≡◌, ◌⊎◌, ◌++◌, ℕ, Bool, false, List, [], ◌∷◌, Option, Some, None, Result, Vec, codes}
+use Rattle.std.specs.declared.io.Error.{Error}
 use Rattle.std.specs.Borrow.{Bor}
 use Rattle.memory.specs.declared.NoMemory.{NoMemory as Refusal}
 use Rattle.worlds.specs.declared.input.Unread.{Unread}
+use Rattle.worlds.specs.declared.input.Unread.TheVariants as unread
 use Rattle.worlds.specs.declared.status.Outcome.{Outcome}
 use Rattle.worlds.specs.declared.status.Outcome.TheVariants.{NoMemory}
 use Rattle.arguments.specs.Arguments.{Call, lines, texts}
 use Rattle.records.specs.Entry.{AreEntries, Note}
+use Rattle.worlds.specs.Lacking.{IsUnmade, IsUnread, IsUnreadScript}
 use Rattle.worlds.specs.Lived.{Lived}
 use Rattle.worlds.specs.Play.{Declines, Plays, Refuses}
 use Rattle.worlds.specs.Status.{file_outcome}
 
--- how a call ends that gets no memory, or that does not get the file whose name comes first
-abbrev pub IsLack : List (List ℕ) → Outcome → Type 0
-IsLack [] outcome = (refusal : Refusal) × (outcome ≡ NoMemory refusal)
-IsLack (name ∷ others) outcome =
+-- how a call ends that gets no memory, or that does not get the file whose name comes first, which
+-- is missing then
+abbrev pub IsLack : (missing : List ℕ → Type 0) → List (List ℕ) → Outcome → Type 0
+IsLack missing [] outcome = (refusal : Refusal) × (outcome ≡ NoMemory refusal)
+IsLack missing (name ∷ others) outcome =
     (lent : Bor (List ℕ)) × (lent.now ≡ name) × (fault : Unread)
-    × (outcome ≡ file_outcome lent fault)
+    × (outcome ≡ file_outcome lent fault) × (fault ≡ unread.Refused → missing name)
 
 -- the name of a script and its arguments: without a file the name is the program's
 abbrev pub argv_of : List (List ℕ) → List (List ℕ)
@@ -29,29 +33,35 @@ IsText call text =
     (file : List ℕ) × (call.script ≡ [] → file ≡ []) × (text ≡ lines call.commands ++ file)
 
 -- how a call ends that does not get the file of the record that it is to make
-abbrev pub LacksFile : Option (List ℕ) → Outcome → Type 0
-LacksFile None outcome = ⊥
-LacksFile (Some name) outcome = IsLack (name ∷ []) outcome
+abbrev pub LacksFile : (missing : List ℕ → Type 0) → Option (List ℕ) → Outcome → Type 0
+LacksFile missing None outcome = ⊥
+LacksFile missing (Some name) outcome = IsLack missing (name ∷ []) outcome
 
 -- a record may be lost where one is made
 abbrev pub MayBeLost : Option (List ℕ) → Bool → Type 0
 MayBeLost None lost = lost ≡ false
 MayBeLost (Some name) lost = Unit {0}
 
--- `out` and `err` say whether a write may lead from one state of a writer to another and add these
--- bytes, `out_failed` and `err_failed` whether the writer has failed.
-module _ {O E : Type 0} (out : O → List ℕ → O → Type 0) (out_failed : O → Bool)
+-- `opens` and `makes` say what the system may answer where the file of a name is to be read or made,
+-- `reads` and `takes` whether a read from a file or from standard input may give an answer and lead
+-- from one state to another, and `same` whether two names may be those of one file; `out` and `err`
+-- say whether a write may lead from one state of a writer to another and add these bytes,
+-- `out_failed` and `err_failed` whether the writer has failed.
+module _ {F I M : Type 0} (opens : List ℕ → Result F Error → Type 0)
+    (reads : F → Result ℕ Error → F → Type 0) (takes : I → Result ℕ Error → I → Type 0)
+    (makes : List ℕ → Result M Error → Type 0) (same : List ℕ → List ℕ → Type 0)
+    {O E : Type 0} (out : O → List ℕ → O → Type 0) (out_failed : O → Bool)
     (err : E → List ℕ → E → Type 0) (err_failed : E → Bool) where
   -- nothing runs, since memory or the file whose name comes first is lacking
-  abbrev pub Lacks : List (List ℕ) → O × E → O × E → ℕ → Type 0
-  Lacks names before after status =
-      (outcome : Outcome) × IsLack names outcome
+  abbrev pub Lacks : (missing : List ℕ → Type 0) → List (List ℕ) → O × E → O × E → ℕ → Type 0
+  Lacks missing names before after status =
+      (outcome : Outcome) × IsLack missing names outcome
       × Declines out out_failed err err_failed outcome before after status
 
   -- nothing runs, since the file of the record that is to be made can't be had
   abbrev pub LacksRecord : Option (List ℕ) → O × E → O × E → ℕ → Type 0
   LacksRecord made before after status =
-      (outcome : Outcome) × LacksFile made outcome
+      (outcome : Outcome) × LacksFile (IsUnmade makes same) made outcome
       × Declines out out_failed err err_failed outcome before after status
 
   module _ {A : Type 0} (script : List ℕ) (args : List (Vec ℕ A)) (ticks : ℕ) where
@@ -80,14 +90,14 @@ module _ {O E : Type 0} (out : O → List ℕ → O → Type 0) (out_failed : O 
     abbrev pub Runs : (replay made : Option (List ℕ)) → O × E → O × E → ℕ → Type 0
     Runs None made before after status = RunsLive made before after status
     Runs (Some name) made before after status =
-        Lacks (name ∷ []) before after status
+        Lacks (IsUnread opens reads) (name ∷ []) before after status
         ⊎ ((lent : Bor (List ℕ)) × (lent.now ≡ name) × (text : List ℕ)
         × RunsRecord lent made text before after status)
 
   -- the text of the script can't be had, or it runs with its name and arguments
   abbrev pub Performs : Type 0 → Call → O × E → O × E → ℕ → Type 0
   Performs A call before after status =
-      Lacks call.script before after status
+      Lacks (IsUnreadScript opens reads takes) call.script before after status
       ⊎ ((text : List ℕ) × IsText call text
       × (args : List (Vec ℕ A)) × (texts args ≡ argv_of call.script)
       × Runs text args call.ticks call.replay call.made before after status)

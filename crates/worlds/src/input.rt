@@ -4,13 +4,15 @@ ghost use Rattle.std.specs.Prelude.{◌≡◌, ◌≢◌, ◌<◌, ◌≤◌, �
 ghost use Rattle.std.specs.Io.{ReadsAtMost};
 ghost use Rattle.std.specs.Io.KnownBytes.{Consumes, ConsumesCount, IsAtEnd, ReadConsumes};
 ghost use Rattle.std.specs.declared.io.Error.{Error};
+ghost use Rattle.worlds.specs.Lacking.{IsUnread, IsUnreadScript};
 ghost use Rattle.worlds.specs.Reads.{Follows, GivesUp};
 ghost use Rattle.worlds.specs.declared.input.Unread.TheVariants as unread;
 
+use crate::folder::{Disk, Folder};
 use acts::NoMemory;
 use std::alloc::{AllocError, Allocator};
 use std::env::FillError;
-use std::fs::{self, Files};
+use std::fs::Files;
 use std::io::{self, ErrorKind, Input, Read};
 use std::rt::Env;
 use thiserror::Error;
@@ -94,29 +96,55 @@ pub fn is_standard_input(name: &[u8]) -> bool
     name == b"-".as_slice()
 }
 
-/// The text of a script; the name `-` is standard input.
+/// The text of a script of the system; the name `-` is standard input.
 pub fn read_script<R: Files + Input, A: Allocator + Copy>(
     rt: &R,
     alloc: A,
     name: &[u8],
 ) -> Result<Vec<u8, A>, Unread> {
-    if is_standard_input(name) {
-        read_all(alloc, &mut rt.reader())
-    } else {
-        read_file(rt, alloc, name)
-    }
+    script_in(&Disk { rt }, alloc, name)
 }
 
-/// The bytes of a file. A name that is not UTF-8 is refused.
-pub fn read_file<R: Files, A: Allocator + Copy>(
+/// The bytes of a file of the system.
+pub fn read_file<R: Files + Input, A: Allocator + Copy>(
     rt: &R,
     alloc: A,
     name: &[u8],
 ) -> Result<Vec<u8, A>, Unread> {
+    file_in(&Disk { rt }, alloc, name)
+}
+
+/// The text of a script; the name `-` is standard input. It is refused only where the system
+/// refused it.
+pub fn script_in<F: Folder, A: Allocator + Copy>(
+    files: &F,
+    alloc: A,
+    name: &[u8],
+) -> Result<Vec<u8, A>, Unread>
+    ensures { IsErrOf result unread.Refused → IsUnreadScript (F.opens files.now)
+        F.File.reads F.Standard.reads name.now }
+{
+    if is_standard_input(name) {
+        read_all(alloc, &mut files.standard())
+    } else {
+        file_in(files, alloc, name)
+    }
+}
+
+/// The bytes of a file. It is refused only where the system takes no such name, or refused to open
+/// or to read it: a name that is not UTF-8 is refused.
+pub fn file_in<F: Folder, A: Allocator + Copy>(
+    files: &F,
+    alloc: A,
+    name: &[u8],
+) -> Result<Vec<u8, A>, Unread>
+    ensures { IsErrOf result unread.Refused → IsUnread (F.opens files.now) F.File.reads
+        name.now }
+{
     let Ok(path) = std::str::from_utf8(name) else {
         return Err(Unread::Refused);
     };
-    match fs::open(rt, path) {
+    match files.open(path) {
         Ok(mut file) => read_all(alloc, &mut file),
         Err(_) => Err(Unread::Refused),
     }

@@ -1,6 +1,7 @@
 //! The program, and the worlds in which it runs scripts.
 #![tactic(auto)]
 
+pub mod folder;
 pub mod input;
 pub mod laws;
 pub mod lived;

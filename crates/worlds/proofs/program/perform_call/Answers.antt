@@ -2,6 +2,7 @@ use Rattle.std.proofs.Common.{◌≡◌, [], ◌∷◌, refl, subst, sym, ◌∙
 use Rattle.std.specs.Prelude.{codes}
 use Rattle.arguments.specs.Arguments.{texts}
 use Rattle.arguments.proofs.Readings.{no_words}
+use Rattle.worlds.specs.Lacking.{IsUnreadScript}
 use Rattle.worlds.specs.Program.{IsLack, IsText}
 use Rattle.worlds.specs.declared.status.Outcome.TheVariants.{NoMemory}
 use Rattle.worlds.proofs.Scripts.{argv_named, argv_own, runs_asked}
@@ -17,7 +18,9 @@ returns-in-Ok-own_name g c = λ asked holds.
           (sym c.is_empty.ensures ∙ c.if-is_empty.true) holds.script
           (subst (λ words. texts words ≡ codes "rx" ∷ [])
           (sym c.deref-in-Ok-own_name.ensures.value) c.in-Ok-own_name.ensures),
-      runs_asked g.O.Sink.adds g.O.Sink.has_failed g.E.Sink.adds g.E.Sink.has_failed
+      runs_asked (g.F.Folder.opens c.args.files.now) g.F.File.Reader.reads
+          g.F.Standard.Reader.reads (g.F.Folder.makes c.args.files.now) (g.F.Folder.same c.args.files.now)
+          g.O.Sink.adds g.O.Sink.has_failed g.E.Sink.adds g.E.Sink.has_failed
           c.deref.result.now c.deref-in-Ok-own_name.result.now
           (c.args.out.now, c.args.err.now) (c.run_script.new.out, c.run_script.new.err)
           c.run_script.result c.args.call.now asked holds c.run_script.ensures,
@@ -29,7 +32,8 @@ returns-then-is_empty g c = λ asked holds.
     (sym c.is_empty.ensures ∙ c.if-is_empty.true) in
     inl (
       NoMemory c.in-Err-own_name.refusal,
-      subst (λ names. IsLack names (NoMemory c.in-Err-own_name.refusal))
+      subst (λ names. IsLack (IsUnreadScript (g.F.Folder.opens c.args.files.now)
+          g.F.File.Reader.reads g.F.Standard.Reader.reads) names (NoMemory c.in-Err-own_name.refusal))
           (sym nothing ∙ holds.script) (c.in-Err-own_name.refusal, refl),
       (refl, (c.finish-in-Err-own_name.ensures.line, c.finish-in-Err-own_name.ensures.status)),
     )
@@ -43,7 +47,9 @@ returns g c = λ asked holds.
       c.args.call.now.script.now,
       argv_named c.args.call.now.script.now asked.script
           (sym c.is_empty.ensures ∙ c.if-is_empty.false) holds.script,
-      runs_asked g.O.Sink.adds g.O.Sink.has_failed g.E.Sink.adds g.E.Sink.has_failed
+      runs_asked (g.F.Folder.opens c.args.files.now) g.F.File.Reader.reads
+          g.F.Standard.Reader.reads (g.F.Folder.makes c.args.files.now) (g.F.Folder.same c.args.files.now)
+          g.O.Sink.adds g.O.Sink.has_failed g.E.Sink.adds g.E.Sink.has_failed
           c.deref-else-is_empty.result.now c.args.call.now.script.now
           (c.args.out.now, c.args.err.now)
           (c.run_script-else-is_empty.new.out, c.run_script-else-is_empty.new.err)

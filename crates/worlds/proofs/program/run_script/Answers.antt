@@ -8,7 +8,9 @@ use Rattle.worlds.proofs.program.run_script.Goals as goal
 
 pub returns-in-Ok : goal.returns-in-Ok
 returns-in-Ok g c =
-    subst (λ replay. Runs g.O.Sink.adds g.O.Sink.has_failed g.E.Sink.adds g.E.Sink.has_failed
+    subst (λ replay. Runs (g.F.Folder.opens c.args.files.now) g.F.File.Reader.reads
+    g.F.Standard.Reader.reads (g.F.Folder.makes c.args.files.now) (g.F.Folder.same c.args.files.now)
+    g.O.Sink.adds g.O.Sink.has_failed g.E.Sink.adds g.E.Sink.has_failed
     c.args.script.now c.args.args.now c.args.call.now.limits.ticks replay
     (option_copied c.args.call.now.made) (c.args.out.now, c.args.err.now)
     (c.lived.new.out, c.lived.new.err) c.lived.result) (sym (ap option_copied c.in_default.is))
@@ -20,7 +22,9 @@ returns-in-Ok g c =
 
 pub returns-in-Ok-read_entries : goal.returns-in-Ok-read_entries
 returns-in-Ok-read_entries g c =
-    subst (λ replay. Runs g.O.Sink.adds g.O.Sink.has_failed g.E.Sink.adds g.E.Sink.has_failed
+    subst (λ replay. Runs (g.F.Folder.opens c.args.files.now) g.F.File.Reader.reads
+    g.F.Standard.Reader.reads (g.F.Folder.makes c.args.files.now) (g.F.Folder.same c.args.files.now)
+    g.O.Sink.adds g.O.Sink.has_failed g.E.Sink.adds g.E.Sink.has_failed
     c.args.script.now c.args.args.now c.args.call.now.limits.ticks replay
     (option_copied c.args.call.now.made) (c.args.out.now, c.args.err.now)
     (c.run_entries.new.out, c.run_entries.new.err) c.run_entries.result)
@@ -38,7 +42,9 @@ returns-in-Ok-read_entries g c =
 
 pub returns : goal.returns
 returns g c =
-    subst (λ replay. Runs g.O.Sink.adds g.O.Sink.has_failed g.E.Sink.adds g.E.Sink.has_failed
+    subst (λ replay. Runs (g.F.Folder.opens c.args.files.now) g.F.File.Reader.reads
+    g.F.Standard.Reader.reads (g.F.Folder.makes c.args.files.now) (g.F.Folder.same c.args.files.now)
+    g.O.Sink.adds g.O.Sink.has_failed g.E.Sink.adds g.E.Sink.has_failed
     c.args.script.now c.args.args.now c.args.call.now.limits.ticks replay
     (option_copied c.args.call.now.made) (c.args.out.now, c.args.err.now)
     (c.args.out.now, c.finish-in-Err-read_entries.new.err) c.finish-in-Err-read_entries.result)
