@@ -11,7 +11,17 @@ use crate::window::Look;
 use memory::NoMemory;
 use std::alloc::Allocator;
 
-/// The first cause that the history shows: it had come and is gone, or it came from another id.
+/// A part of what is kept of an id.
+#[derive(Clone, Copy)]
+pub(crate) enum Part {
+    /// What its buffer holds.
+    Window,
+    /// All of it.
+    Whole,
+}
+
+/// The first cause that the history shows: it had come and is gone, or it stands in the buffer of
+/// another id.
 pub(crate) fn in_history<A: Allocator + Copy>(
     look: &Look<'_, A>,
     heard: &Heard<A>,
@@ -19,7 +29,7 @@ pub(crate) fn in_history<A: Allocator + Copy>(
     if let Some(why) = gone(look, heard)? {
         return Ok(Some(why));
     }
-    elsewhere(look, heard)
+    elsewhere(look, heard, Part::Window)
 }
 
 /// It had come from the id, and was consumed or forgotten.
@@ -41,16 +51,21 @@ fn gone<A: Allocator + Copy>(
     }
 }
 
-/// It came from another id.
-fn elsewhere<A: Allocator + Copy>(
+/// It came from another id, and stands in this part of what is kept of that.
+pub(crate) fn elsewhere<A: Allocator + Copy>(
     look: &Look<'_, A>,
     heard: &Heard<A>,
+    part: Part,
 ) -> Result<Option<Why>, NoMemory> {
     let items = &look.shape.items;
     for tape in heard.tapes() {
         let id = tape.id();
+        let bytes = match part {
+            Part::Window => tape.window(),
+            Part::Whole => tape.bytes(),
+        };
         if id != look.vain.sought.id
-            && seek(look.alloc, items, Ties::NONE, look.lens, tape.bytes())?.is_some()
+            && seek(look.alloc, items, Ties::NONE, look.lens, bytes)?.is_some()
         {
             return Ok(Some(Why::OtherId { id }));
         }

@@ -1,6 +1,6 @@
 //! What was heard of one id.
 
-ghost use Rattle.std.specs.Prelude.{◌≡◌, ◌+◌, ◌≤◌, ◌++◌, length, vec_len, OnOk};
+ghost use Rattle.std.specs.Prelude.{◌≡◌, ◌+◌, ◌-◌, ◌≤◌, ◌++◌, drop, length, min, vec_len, OnOk};
 
 use crate::cause::Cause;
 use crate::track::Track;
@@ -77,7 +77,9 @@ impl<A: Allocator> Tape<A> {
     }
 
     /// The bytes that are kept, and neither consumed nor forgotten.
-    pub(crate) fn window(&self) -> &[u8] {
+    pub(crate) fn window(&self) -> &[u8]
+        ensures { result.now ≡ drop self.now.begin self.now.bytes.items }
+    {
         &self.bytes[self.begin..]
     }
 
@@ -128,7 +130,9 @@ impl<A: Allocator> Tape<A> {
 
     /// Bytes came during this command, and the buffer holds at most `max` bytes.
     pub(crate) fn arrive(&mut self, bytes: &[u8], max: u32, during: Cause) -> Result<(), NoMemory>
-        ensures { OnOk result (self.new.bytes.items ≡ self.old.bytes.items ++ bytes.now) }
+        ensures kept { OnOk result (self.new.bytes.items ≡ self.old.bytes.items ++ bytes.now) }
+        ensures begin { OnOk result (self.new.begin
+            ≡ self.old.begin + ((vec_len self.new.bytes - self.old.begin) - max)) }
     {
         self.bytes.extend_from_slice(bytes)?;
         let end = self.came();
@@ -138,7 +142,9 @@ impl<A: Allocator> Tape<A> {
 
     /// The buffer holds at most `max` bytes.
     pub(crate) fn resize(&mut self, max: u32) -> Result<(), NoMemory>
-        ensures { self.new.bytes.items ≡ self.old.bytes.items }
+        ensures kept { self.new.bytes.items ≡ self.old.bytes.items }
+        ensures begin { self.new.begin
+            ≡ self.old.begin + ((vec_len self.old.bytes - self.old.begin) - max) }
     {
         let excess = self.held().saturating_sub(max as usize);
         if 0 < excess {
@@ -151,7 +157,9 @@ impl<A: Allocator> Tape<A> {
 
     /// A command consumed the first `count` bytes of the buffer.
     pub(crate) fn consume(&mut self, count: usize, by: Cause) -> Result<(), NoMemory>
-        ensures { self.new.bytes.items ≡ self.old.bytes.items }
+        ensures kept { self.new.bytes.items ≡ self.old.bytes.items }
+        ensures begin { self.new.begin
+            ≡ self.old.begin + min count (vec_len self.old.bytes - self.old.begin) }
     {
         let count = count.min(self.held());
         if 0 < count {

@@ -3,7 +3,7 @@
 use crate::cause::Cause;
 use crate::heard::Heard;
 use crate::nearest::{beginning, nearest};
-use crate::past::in_history;
+use crate::past::{Part, elsewhere, in_history};
 use crate::vain::{Ending, Vain};
 use crate::window::{Look, in_window};
 use acts::Id;
@@ -64,7 +64,8 @@ pub enum Why {
     Forgotten {
         short: u64,
     },
-    /// It came from another id.
+    /// It came from another id: it stands in the buffer of that, or, where nothing else is known,
+    /// in what is kept of it.
     OtherId {
         id: Id,
     },
@@ -144,5 +145,9 @@ pub fn why_in_vain<A: Allocator + Copy>(
     if vain.ending == Ending::Ended {
         return Ok(Why::Ended);
     }
-    nearest(&look)
+    let near = nearest(&look)?;
+    if near != Why::Silent {
+        return Ok(near);
+    }
+    Ok(elsewhere(&look, heard, Part::Whole)?.unwrap_or(near))
 }
