@@ -2,7 +2,6 @@
 
 use crate::branches::Branch;
 use crate::lines::push_count;
-use crate::spots::{Spot, in_progress};
 use crate::telling::{Detail, Story};
 use crate::wait::{Over, Wait, awaited_in};
 use acts::{Id, NoMemory};
@@ -13,7 +12,7 @@ use records::{Sink, put_all};
 use state::State;
 use std::alloc::Allocator;
 use story::{Difference, Ending, Vain, Why, push_line, push_sought, push_why, why_in_vain};
-use tcltext::Found;
+use tcltext::{Found, Value};
 
 impl<A: Allocator + Copy, S: Sink> Story<A, S> {
     /// The wait of a turn that begins.
@@ -26,7 +25,7 @@ impl<A: Allocator + Copy, S: Sink> Story<A, S> {
         state: &State<A>,
         turn: &Turn<A>,
     ) -> Result<Wait<A>, NoMemory> {
-        let spots = in_progress(self.alloc, &self.script, frames, &state.kept)?;
+        let spots = self.in_progress(frames, &state.kept)?;
         Ok(Wait {
             spot: spots.last().copied(),
             branches: self.branches.of_pairs(self.alloc, turn.effective.pairs())?,
@@ -54,9 +53,10 @@ impl<A: Allocator + Copy, S: Sink> Story<A, S> {
             self.wait = Some(wait);
         }
         match state.ids.table.last_found() {
-            Some((place, found)) => self.choose_pattern(turn.effective.pairs(), place, found),
-            None => self.choose_keyword(),
+            Some((place, found)) => self.choose_pattern(turn.effective.pairs(), place, found)?,
+            None => self.choose_keyword()?,
         }
+        self.see(frames, state, &Ok(Value::empty()))
     }
 
     /// Tells that the pattern of the pair at this place was chosen, and where it was found.

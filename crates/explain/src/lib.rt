@@ -1,13 +1,17 @@
 //! The story of a run: what a script did, line by line, and why a wait did not find what it sought.
 #![tactic(auto)]
 
+mod blame;
+mod bounds;
 mod branches;
 mod choice;
+mod grounds;
 mod lines;
 mod outcome;
 pub mod program;
 mod said;
 mod shown;
+mod sources;
 mod spots;
 mod telling;
 mod told;

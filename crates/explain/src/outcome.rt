@@ -1,29 +1,23 @@
 //! Errors, and the commands that were in progress when they came.
 
+use crate::blame::{Raised, raiser};
+use crate::bounds::faulty_start;
 use crate::lines::push_count;
-use crate::spots::{Spot, in_progress};
+use crate::sources::{Raising, sources};
+use crate::spots::{Running, Spot};
 use crate::telling::Story;
 use acts::NoMemory;
-use control::Held;
 use machine::frame::Frame;
 use records::Sink;
-use state::{Code, Leave, Outcome, State};
+use state::{Leave, Outcome, State};
 use std::alloc::Allocator;
 
 /// How many commands around that of an error are told at most.
 const MOST_AROUND: usize = 20;
 
-/// An error that no `catch` was in progress for.
-#[derive(Drop)]
-pub(crate) struct Raised<A: Allocator> {
-    text: Vec<u8, A>,
-    /// Where the commands in progress stand, the outermost first.
-    spots: Vec<Spot, A>,
-}
-
 impl<A: Allocator + Copy, S: Sink> Story<A, S> {
-    /// Takes note of an outcome of what began: where it is an error that nothing catches, of the
-    /// commands in progress.
+    /// Takes note of an outcome of what began: of the commands that may raise an error before
+    /// anything else begins.
     ///
     /// # Errors
     /// `NoMemory`.
@@ -33,16 +27,20 @@ impl<A: Allocator + Copy, S: Sink> Story<A, S> {
         state: &State<A>,
         outcome: &Outcome<A>,
     ) -> Result<(), NoMemory> {
-        let Err(Leave::Coded(Code::Error, text)) = outcome else {
-            return Ok(());
-        };
-        if is_caught(frames) {
+        self.raised = None;
+        if goes_on(frames, outcome) {
             return Ok(());
         }
-        self.raised = Some(Raised {
-            text: Vec::from_slice(self.alloc, text.as_slice())?,
-            spots: in_progress(self.alloc, &self.script, frames, &state.kept)?,
-        });
+        if matches!(outcome, Err(Leave::Stopped(_))) {
+            self.report.clear();
+        }
+        let sources = sources(self.alloc, frames, outcome)?;
+        if !sources.is_empty() {
+            self.raised = Some(Raised {
+                scripts: self.scripts_running(frames, &state.kept)?,
+                sources,
+            });
+        }
         Ok(())
     }
 
@@ -57,24 +55,74 @@ impl<A: Allocator + Copy, S: Sink> Story<A, S> {
         Ok(())
     }
 
-    /// Tells the error that ended the run: the command, and those around it, where it was seen to
-    /// begin.
+    /// Tells the error that ended the run, if one did: the command, and those around it.
     ///
     /// # Errors
     /// `NoMemory`.
     pub(crate) fn tell_raised(&mut self) -> Result<(), NoMemory> {
+        let spots = match self.raised.take() {
+            Some(raised) => self.spots_of(&raised)?,
+            None if self.report.is_empty() => return Ok(()),
+            None => self.first_spot()?,
+        };
         let mut detail = Vec::new(self.alloc);
         detail.extend_from_slice(b"error: ")?;
         detail.extend_from_slice(&self.report)?;
-        let spots = match self.raised.take() {
-            Some(raised) if raised.text.as_slice() == self.report.as_slice() => raised.spots,
-            Some(_) | None => Vec::new(self.alloc),
-        };
         let Some((inner, outer)) = spots.split_last() else {
             return self.tell(None, b"", &detail);
         };
         self.tell_command(Some(*inner), &detail)?;
         self.tell_around(outer)
+    }
+
+    /// Where the first command of the script stands, which is at fault where none has begun.
+    fn first_spot(&self) -> Result<Vec<Spot, A>, NoMemory> {
+        let mut spots = Vec::new(self.alloc);
+        spots.push(Spot {
+            start: faulty_start(self.alloc, &self.script, None)?,
+            end: self.script.len(),
+            in_word: false,
+        })?;
+        Ok(spots)
+    }
+
+    /// Where the command stands that has raised the error, and before it those around it, the
+    /// outermost first.
+    fn spots_of(&self, raised: &Raised<A>) -> Result<Vec<Spot, A>, NoMemory> {
+        let mut spots = Vec::new(self.alloc);
+        let Some(source) = raiser(self.alloc, &self.script, raised, &self.report)? else {
+            return Ok(spots);
+        };
+        for one in raised.scripts.iter().take(source.depth) {
+            if let Some(spot) = one.command {
+                spots.push(spot)?;
+            }
+        }
+        if let (Raising::Faulty(_), Some(one)) = (
+            source.raising,
+            raised.scripts.get(source.depth),
+        ) {
+            self.push_faulty(&mut spots, *one)?;
+        }
+        Ok(spots)
+    }
+
+    /// Adds where the faulty command stands of a script whose whole commands have run.
+    fn push_faulty(&self, spots: &mut Vec<Spot, A>, script: Running) -> Result<(), NoMemory> {
+        let Some(ground) = script.ground else {
+            return Ok(());
+        };
+        let last = match script.command {
+            Some(command) => command.start.checked_sub(ground.start),
+            None => None,
+        };
+        let start = faulty_start(self.alloc, ground.text(&self.script), last)?;
+        spots.push(Spot {
+            start: ground.start.saturating_add(start),
+            end: ground.end,
+            in_word: false,
+        })?;
+        Ok(())
     }
 
     /// Tells the commands around that of an error, the innermost first.
@@ -92,12 +140,10 @@ impl<A: Allocator + Copy, S: Sink> Story<A, S> {
     }
 }
 
-/// Whether one of the frames is that of a `catch`.
-fn is_caught<A: Allocator>(frames: &[Frame<A>]) -> bool {
-    for frame in frames {
-        if matches!(frame, Frame::Held(Held::Catch(_))) {
-            return true;
-        }
+/// Whether the script on top of the frames has a command left, which begins after a value.
+fn goes_on<A: Allocator>(frames: &[Frame<A>], outcome: &Outcome<A>) -> bool {
+    match (frames, outcome) {
+        ([.., Frame::Script(part)], Ok(_)) => part.next < part.commands.len(),
+        (_, Ok(_) | Err(_)) => false,
     }
-    false
 }

@@ -1,20 +1,23 @@
 //! The words of a command, as they stand in the script.
 
+use crate::bounds::command_end;
 use acts::NoMemory;
+use memchr::memchr;
 use std::alloc::Allocator;
 
 /// How many bytes of a command are told at most.
 const MOST_TOLD: usize = 60;
 
-/// Writes a command as it stands in the script: its first line, and two points where it goes on.
+/// Writes a command as it stands in the script, with what stands between it and the next one: its
+/// first line, and two points where it goes on.
 ///
 /// # Errors
 /// `NoMemory`; a beginning of it may then have been written.
-pub(crate) fn push_command<A: Allocator>(
+pub(crate) fn push_command<A: Allocator + Copy>(
     out: &mut Vec<u8, A>,
     text: &[u8],
 ) -> Result<(), NoMemory> {
-    let whole = trimmed(text);
+    let whole = without_comment(*out.allocator(), trimmed(text))?;
     let line = first_line(whole);
     let told = line.get(..MOST_TOLD).unwrap_or(line);
     out.extend_from_slice(told)?;
@@ -23,6 +26,15 @@ pub(crate) fn push_command<A: Allocator>(
         out.extend_from_slice(b" ..")?;
     }
     Ok(())
+}
+
+/// A command without a comment after it in its first line.
+fn without_comment<A: Allocator + Copy>(alloc: A, text: &[u8]) -> Result<&[u8], NoMemory> {
+    if memchr(b'#', first_line(text)).is_none() {
+        return Ok(text);
+    }
+    let end = command_end(alloc, text, 0)?;
+    Ok(trimmed(text.get(..end).unwrap_or(text)))
 }
 
 /// Whether a text has nothing but empty lines and comments, as may stand between a command and the

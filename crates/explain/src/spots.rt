@@ -1,9 +1,10 @@
 //! Where the commands in progress stand in the text of a script.
 
+use crate::telling::Story;
 use acts::NoMemory;
 use kept::Kept;
 use machine::frame::{Frame, Script, WordsOf};
-use memchr::memmem;
+use records::Sink;
 use std::alloc::Allocator;
 
 /// A part of a script's text, from one byte up to another.
@@ -17,6 +18,15 @@ pub(crate) struct Spot {
 }
 
 impl Spot {
+    /// A whole text.
+    pub(crate) fn whole(script: &[u8]) -> Spot {
+        Spot {
+            start: 0,
+            end: script.len(),
+            in_word: false,
+        }
+    }
+
     /// The bytes of the text that stand there.
     pub(crate) fn text(self, script: &[u8]) -> &[u8] {
         let text = script.get(self.start..self.end).unwrap_or(&[]);
@@ -55,91 +65,83 @@ enum Under {
     Command,
 }
 
-/// Where the commands in progress stand in the script of the run, the outermost first. Left out is
-/// a command of a text that is no part of the script as it is written, such as one that was put
-/// together for `eval`.
-///
-/// # Errors
-/// `NoMemory`.
-pub(crate) fn in_progress<A: Allocator + Copy>(
-    alloc: A,
-    script: &[u8],
-    frames: &[Frame<A>],
-    kept: &Kept<A>,
-) -> Result<Vec<Spot, A>, NoMemory> {
-    let mut spots = Vec::new(alloc);
-    let mut ground = None;
-    let mut under = Under::Nothing;
-    for frame in frames {
-        match frame {
-            Frame::Script(part) => {
-                ground = ground_of(script, part, under, ground, spots.last().copied(), kept);
-                if let Some(spot) = spot_in(part, under, ground) {
-                    spots.push(spot)?;
-                }
+/// A script on the frames: where its text stands in that of the run, and where the command of it
+/// does that is in progress; `None` where that is not known.
+#[derive(Clone, Copy)]
+pub(crate) struct Running {
+    pub ground: Option<Spot>,
+    pub command: Option<Spot>,
+}
+
+impl<A: Allocator + Copy, S: Sink> Story<A, S> {
+    /// Where the commands in progress stand in the script of the run, the outermost first. Left out
+    /// is a command of a text that is no part of the script as it is written, such as one that was
+    /// put together for `eval`.
+    ///
+    /// # Errors
+    /// `NoMemory`.
+    pub(crate) fn in_progress(
+        &mut self,
+        frames: &[Frame<A>],
+        kept: &Kept<A>,
+    ) -> Result<Vec<Spot, A>, NoMemory> {
+        let mut spots = Vec::new(self.alloc);
+        for one in self.scripts_running(frames, kept)?.iter() {
+            if let Some(spot) = one.command {
+                spots.push(spot)?;
             }
-            Frame::Words(_, _, WordsOf::Command) => under = Under::Words,
-            Frame::Words(_, _, WordsOf::Argument(_)) => under = Under::Argument,
-            Frame::Held(_) | Frame::Turn(_) => under = Under::Command,
         }
+        Ok(spots)
     }
-    Ok(spots)
-}
 
-/// Where the text of a script on the frames stands in that of the run, by what is right under it:
-/// the text in which the script under it stands, and the command of that script.
-fn ground_of<A: Allocator>(
-    script: &[u8],
-    part: &Script<A>,
-    under: Under,
-    ground: Option<Spot>,
-    command: Option<Spot>,
-    kept: &Kept<A>,
-) -> Option<Spot> {
-    let whole = Spot {
-        start: 0,
-        end: script.len(),
-        in_word: false,
-    };
-    match under {
-        Under::Nothing => Some(whole),
-        Under::Words => ground,
-        Under::Argument => None,
-        Under::Command => {
-            let text = kept.text_of(&part.commands)?;
-            braced_in(script, command?, text).or(braced_in(script, whole, text))
+    /// The scripts on the frames, the outermost first.
+    ///
+    /// # Errors
+    /// `NoMemory`.
+    pub(crate) fn scripts_running(
+        &mut self,
+        frames: &[Frame<A>],
+        kept: &Kept<A>,
+    ) -> Result<Vec<Running, A>, NoMemory> {
+        let mut scripts = Vec::new(self.alloc);
+        let mut ground = None;
+        let mut around = None;
+        let mut under = Under::Nothing;
+        for frame in frames {
+            match frame {
+                Frame::Script(part) => {
+                    ground = self.ground_of(part, under, ground, around, kept)?;
+                    let command = spot_in(part, under, ground);
+                    around = command.or(around);
+                    scripts.push(Running { ground, command })?;
+                }
+                Frame::Words(_, _, WordsOf::Command) => under = Under::Words,
+                Frame::Words(_, _, WordsOf::Argument(_)) => under = Under::Argument,
+                Frame::Held(_) | Frame::Turn(_) => under = Under::Command,
+            }
         }
+        Ok(scripts)
     }
-}
 
-/// Where a text stands in a part of the script, in braces or in quotes.
-fn braced_in(script: &[u8], part: Spot, text: &[u8]) -> Option<Spot> {
-    if text.is_empty() {
-        return None;
-    }
-    let room = part.text(script);
-    let found = memmem::find_iter(room, text).find(|at| is_braced(room, *at, text.len()))?;
-    let start = part.start.checked_add(found)?;
-    let end = start.checked_add(text.len())?;
-    let in_word = false;
-    Some(Spot {
-        start,
-        end,
-        in_word,
-    })
-}
-
-/// Whether the bytes right before and after a part of a text are braces, or quotes.
-fn is_braced(room: &[u8], at: usize, length: usize) -> bool {
-    let Some(before) = at.checked_sub(1) else {
-        return false;
-    };
-    let Some(after) = at.checked_add(length) else {
-        return false;
-    };
-    match (room.get(before), room.get(after)) {
-        (Some(b'{'), Some(b'}')) | (Some(b'"'), Some(b'"')) => true,
-        (Some(_), Some(_)) | (None, _) | (_, None) => false,
+    /// Where the text of a script on the frames stands in that of the run, by what is right under
+    /// it: the text in which the script under it stands, and the command of that script.
+    fn ground_of(
+        &mut self,
+        part: &Script<A>,
+        under: Under,
+        ground: Option<Spot>,
+        around: Option<Spot>,
+        kept: &Kept<A>,
+    ) -> Result<Option<Spot>, NoMemory> {
+        match under {
+            Under::Nothing => Ok(Some(Spot::whole(&self.script))),
+            Under::Words => Ok(ground),
+            Under::Argument => Ok(None),
+            Under::Command => {
+                self.grounds
+                    .find(&self.script, &part.commands, around, kept)
+            }
+        }
     }
 }
 

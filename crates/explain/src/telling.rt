@@ -1,8 +1,9 @@
 //! The story of a run, as it is told.
 
+use crate::blame::Raised;
 use crate::branches::Branches;
+use crate::grounds::Grounds;
 use crate::lines::{Lines, push_count};
-use crate::outcome::Raised;
 use crate::shown::push_command;
 use crate::spots::Spot;
 use crate::told::{push_answer, push_bytes, push_id};
@@ -36,6 +37,7 @@ pub struct Story<A: Allocator, S: Sink> {
     pub(crate) commands: usize,
     pub(crate) script: Vec<u8, A>,
     pub(crate) lines: Option<Lines<A>>,
+    pub(crate) grounds: Grounds<A>,
     pub(crate) heard: Heard<A>,
     pub(crate) branches: Branches<A>,
     /// Whether the words that were read last are those of branches that stand.
@@ -62,6 +64,7 @@ impl<A: Allocator + Copy, S: Sink> Story<A, S> {
             commands,
             script: Vec::new(alloc),
             lines: None,
+            grounds: Grounds::new(alloc),
             heard: Heard::new(alloc),
             branches: Branches::new(alloc),
             stands: false,

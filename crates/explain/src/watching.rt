@@ -1,7 +1,6 @@
 //! What a story is told of a run.
 
 use crate::lines::Lines;
-use crate::spots::in_progress;
 use crate::telling::{Detail, Story};
 use crate::told::push_act;
 use acts::{Act, Answer, NoMemory};
@@ -120,7 +119,7 @@ impl<A: Allocator + Copy, S: Sink> Story<A, S> {
         if self.detail == Detail::Brief {
             return Ok(());
         }
-        let spots = in_progress(self.alloc, &self.script, frames, &state.kept)?;
+        let spots = self.in_progress(frames, &state.kept)?;
         let mut about = Vec::new(self.alloc);
         push_act(&mut about, act)?;
         self.asked = Some((spots.last().copied(), about));
