@@ -9,7 +9,8 @@
 # make house    rules of this repository that the prover does not know, its links and its tables of
 #               commands, in a moment
 # make guide    runs what the README, the guide and the man page show, and compares (RX=out/rx)
-# make stories  runs the scripts of stories/ under their records, and looks what out/rx-explain tells of them
+# make stories  runs the scripts of stories/ and the examples under their records, and looks what out/rx-explain
+#               tells of them
 # make rows     runs the rows, and writes how many there are to the stored output of rowtests
 # make rows-now runs them as they stand, without any proof, in a few minutes (FAMILIES="leaving logs")
 # make edits    the edits of edits/ that the prover must refuse, for the crates that changed (SINCE=COMMIT)
