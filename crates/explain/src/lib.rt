@@ -9,6 +9,7 @@ mod grounds;
 mod lines;
 mod outcome;
 pub mod program;
+mod refusals;
 mod said;
 mod shown;
 mod sources;

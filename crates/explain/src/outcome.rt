@@ -69,9 +69,11 @@ impl<A: Allocator + Copy, S: Sink> Story<A, S> {
         detail.extend_from_slice(b"error: ")?;
         detail.extend_from_slice(&self.report)?;
         let Some((inner, outer)) = spots.split_last() else {
-            return self.tell(None, b"", &detail);
+            self.tell(None, b"", &detail)?;
+            return self.tell_refusal();
         };
         self.tell_command(Some(*inner), &detail)?;
+        self.tell_refusal()?;
         self.tell_around(outer)
     }
 

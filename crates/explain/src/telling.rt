@@ -4,16 +4,19 @@ use crate::blame::Raised;
 use crate::branches::Branches;
 use crate::grounds::Grounds;
 use crate::lines::{Lines, push_count};
+use crate::refusals::{Heeded, Refusal, run_heeded};
 use crate::shown::push_command;
 use crate::spots::Spot;
 use crate::told::{push_answer, push_bytes, push_id};
 use crate::vain::{Later, Vains};
 use crate::wait::{Over, Wait};
-use acts::{Answer, Id, NoMemory};
+use acts::{Answer, Id, Limits, NoMemory, World};
+use engine::End;
 use memchr::memchr;
 use records::{Sink, put_all};
 use std::alloc::Allocator;
 use story::{Heard, push_line};
+use worlds::recorded::{Refuses, Runner};
 
 /// The status of a run that an error ended.
 const ERROR_STATUS: u8 = 1;
@@ -49,8 +52,39 @@ pub struct Story<A: Allocator, S: Sink> {
     pub(crate) raised: Option<Raised<A>>,
     /// What was written to standard error last: where an error ended the run, its text.
     pub(crate) report: Vec<u8, A>,
+    /// How many acts were answered.
+    pub(crate) acts: u64,
+    /// Whether nothing has come since of what the last answer led to.
+    pub(crate) is_answered: bool,
+    /// The number of the act whose answer led to the last error, or that failed as a write.
+    pub(crate) failed_at: Option<u64>,
+    /// What the world refused last.
+    pub(crate) refusal: Option<Refusal>,
+    /// Whether a write that failed ended the run.
+    pub(crate) is_cut: bool,
     /// Whether memory was refused, after which nothing is told.
     pub(crate) is_lost: bool,
+}
+
+impl<A: Allocator + Copy, S: Sink> Runner<A> for Story<A, S> {
+    fn run<W: World<A> + Refuses<A>, M: Sink>(
+        &mut self,
+        alloc: A,
+        script: &[u8],
+        args: &[Vec<u8, A>],
+        limits: Limits,
+        world: &mut W,
+        made: &mut Option<M>,
+    ) -> Result<End<A>, NoMemory> {
+        let mut heeded = Heeded {
+            world,
+            acts: 0,
+            refusal: None,
+        };
+        let ended = run_heeded(alloc, script, args, limits, &mut heeded, made, self);
+        self.note_end(&ended, heeded.refusal);
+        ended
+    }
 }
 
 impl<A: Allocator + Copy, S: Sink> Story<A, S> {
@@ -73,6 +107,11 @@ impl<A: Allocator + Copy, S: Sink> Story<A, S> {
             vains: Vains::new(alloc),
             raised: None,
             report: Vec::new(alloc),
+            acts: 0,
+            is_answered: false,
+            failed_at: None,
+            refusal: None,
+            is_cut: false,
             is_lost: false,
         }
     }
@@ -83,8 +122,11 @@ impl<A: Allocator + Copy, S: Sink> Story<A, S> {
     }
 
     /// Tells the end of the story: what came after a wait was over, the error that ended the run,
-    /// the wait that was open, and the status.
+    /// the wait that was open, and the status. Where no run began, there is nothing to tell.
     pub fn end(&mut self, status: u8) {
+        if self.lines.is_none() {
+            return;
+        }
         let told = self.tell_end(status);
         self.note(told);
     }
@@ -97,6 +139,9 @@ impl<A: Allocator + Copy, S: Sink> Story<A, S> {
         self.tell_later()?;
         if status == ERROR_STATUS {
             self.tell_raised()?;
+        }
+        if self.is_cut {
+            self.tell_refusal()?;
         }
         let mut detail = Vec::new(self.alloc);
         detail.extend_from_slice(b"status ")?;

@@ -48,6 +48,7 @@ impl<A: Allocator + Copy, S: Sink> Watch<A, Frame<A>, State<A>, Leaf<A, Waits<A>
     }
 
     fn leads(&mut self, frames: &[Frame<A>], state: &State<A>, leaf: &Leaf<A, Waits<A>>) {
+        self.note_lead(matches!(leaf, Leaf::Has(Err(_))));
         let told = match leaf {
             Leaf::Has(outcome) => self.has(frames, state, outcome),
             Leaf::Asks(act, Waits::Command(_)) => self.ask(frames, state, act),
@@ -64,6 +65,7 @@ impl<A: Allocator + Copy, S: Sink> Watch<A, Frame<A>, State<A>, Leaf<A, Waits<A>
     }
 
     fn answers(&mut self, answer: &Answer<A>) {
+        self.note_answer(answer);
         let told = self.answer(answer);
         self.note(told);
     }

@@ -1,4 +1,4 @@
-//! The program `rx-explain`: runs an Expect script under its record, and tells the story of the run.
+//! The program `rx-explain`: runs an Expect script as `rx` does, and tells the story of the run.
 #![tactic(auto)]
 
 use explain::program::program;

@@ -5,4 +5,4 @@ mod Plays
 mod ReadChains
 mod Replayed
 mod Scripts
-mod Seen
+pub mod Seen

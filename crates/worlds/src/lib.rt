@@ -10,7 +10,7 @@ pub mod program;
 pub mod record_file;
 pub mod recorded;
 mod same_file;
-mod standard;
+pub mod standard;
 pub mod status;
 
 pub use input::Unread;

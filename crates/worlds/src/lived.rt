@@ -11,10 +11,10 @@ ghost use Rattle.worlds.specs.Lived.{Acts, LivedRecorded, Steps, open_in};
 ghost use Rattle.worlds.specs.Runs.{RunsRecorded};
 
 use crate::play::finish;
-use crate::recorded::run_recorded;
+use crate::recorded::{Refuses, Runner};
 use crate::status::Outcome;
 use acts::{Act, Answer, Limits, NoMemory, World};
-use engine::End;
+use engine::{End, Unwatched};
 use live::{Live, System};
 use recorders::{is_lost, put_count};
 use records::Sink;
@@ -47,12 +47,11 @@ where
         script.now args.now limits.ticks S.adds S.has_failed (out.old, err.old) made.old
         (out.new, err.new) made.new result }
 {
-    let ended = run_live(rt, script, args, limits, out, err, made);
-    finish(Outcome::of_end(is_lost(made), None, &ended), err)
+    lived_by(rt, script, args, limits, out, err, made, &mut Unwatched)
 }
 
-/// Runs a script in the live world. Where the system gives no such world, there are no answers.
-fn run_live<R, O: Sink, E: Sink, S: Sink>(
+/// The same, by one who runs the script.
+pub fn lived_by<R, O: Sink, E: Sink, S: Sink, X: Runner<Global>>(
     rt: &R,
     script: &[u8],
     args: &[Vec<u8>],
@@ -60,6 +59,32 @@ fn run_live<R, O: Sink, E: Sink, S: Sink>(
     out: &mut O,
     err: &mut E,
     made: &mut Option<S>,
+    runner: &mut X,
+) -> u8
+where
+    R: Net<Stream = TcpStream>
+        + Processes<Started = SystemProcess>
+        + Files<File = File>
+        + Clock
+        + AllocGlobal,
+    ensures { LivedRecorded O.adds O.has_failed E.adds E.has_failed
+        script.now args.now limits.ticks S.adds S.has_failed (out.old, err.old) made.old
+        (out.new, err.new) made.new result }
+{
+    let ended = run_live(rt, script, args, limits, out, err, made, runner);
+    finish(Outcome::of_end(is_lost(made), None, &ended), err)
+}
+
+/// Runs a script in the live world. Where the system gives no such world, there are no answers.
+fn run_live<R, O: Sink, E: Sink, S: Sink, X: Runner<Global>>(
+    rt: &R,
+    script: &[u8],
+    args: &[Vec<u8>],
+    limits: Limits,
+    out: &mut O,
+    err: &mut E,
+    made: &mut Option<S>,
+    runner: &mut X,
 ) -> Result<End<Global>, NoMemory>
 where
     R: Net<Stream = TcpStream>
@@ -71,8 +96,18 @@ where
         limits.ticks (out.old, err.old) made.old (out.new, err.new) made.new result }
 {
     match Live::new(rt, Unwritten, Unwritten) {
-        Ok(mut live) => run_over(&mut live, rt.alloc(), script, args, limits, out, err, made),
-        Err(_) => run_silent(rt.alloc(), script, args, limits, out, err, made),
+        Ok(mut live) => run_over_by(
+            &mut live,
+            rt.alloc(),
+            script,
+            args,
+            limits,
+            out,
+            err,
+            made,
+            runner,
+        ),
+        Err(_) => run_silent(rt.alloc(), script, args, limits, out, err, made, runner),
     }
 }
 
@@ -98,18 +133,53 @@ pub fn run_over<Y: System + Drop, O: Sink, E: Sink, S: Sink>(
           (out.new, err.new),
         ) made.new result }
 {
+    run_over_by(
+        live,
+        alloc,
+        script,
+        args,
+        limits,
+        out,
+        err,
+        made,
+        &mut Unwatched,
+    )
+}
+
+/// The same, by one who runs the script.
+pub fn run_over_by<Y: System + Drop, O: Sink, E: Sink, S: Sink, X: Runner<Global>>(
+    live: &mut Live<Y, Unwritten, Unwritten>,
+    alloc: Global,
+    script: &[u8],
+    args: &[Vec<u8>],
+    limits: Limits,
+    out: &mut O,
+    err: &mut E,
+    made: &mut Option<S>,
+    runner: &mut X,
+) -> Result<End<Global>, NoMemory>
+    ensures { RunsRecorded (Acts O.adds E.adds Y.Log.contents Y.holds
+        Y.Program.owner Y.step Y.Link.owner) S.adds S.has_failed script.now args.now limits.ticks (
+          open_in live.old.system live.old.log live.old.peers live.old.programs.items,
+          (out.old, err.old),
+        ) made.old (
+          open_in live.new.system live.new.log live.new.peers live.new.programs.items,
+          (out.new, err.new),
+        ) made.new result }
+{
     let mut world = LentLive { live, out, err };
-    run_lent(alloc, script, args, limits, &mut world, made)
+    run_lent(alloc, script, args, limits, &mut world, made, runner)
 }
 
 /// Runs a script in a live world that is lent, which still borrows the same parts afterwards.
-fn run_lent<Y: System + Drop, O: Sink, E: Sink, S: Sink>(
+fn run_lent<Y: System + Drop, O: Sink, E: Sink, S: Sink, X: Runner<Global>>(
     alloc: Global,
     script: &[u8],
     args: &[Vec<u8>],
     limits: Limits,
     world: &mut LentLive<'_, '_, '_, Y, O, E>,
     made: &mut Option<S>,
+    runner: &mut X,
 ) -> Result<End<Global>, NoMemory>
     ensures same_live { world.new.live.ghost_name ≡ world.old.live.ghost_name }
     ensures same_out { world.new.out.ghost_name ≡ world.old.out.ghost_name }
@@ -125,11 +195,11 @@ fn run_lent<Y: System + Drop, O: Sink, E: Sink, S: Sink>(
           (world.new.out.now, world.new.err.now),
         ) made.new result }
 {
-    run_recorded(alloc, script, args, limits, world, made)
+    runner.run(alloc, script, args, limits, world, made)
 }
 
 /// Runs a script where the system gives no live world: there are no answers, and nothing goes out.
-fn run_silent<O: Sink, E: Sink, S: Sink>(
+fn run_silent<O: Sink, E: Sink, S: Sink, X: Runner<Global>>(
     alloc: Global,
     script: &[u8],
     args: &[Vec<u8>],
@@ -137,11 +207,12 @@ fn run_silent<O: Sink, E: Sink, S: Sink>(
     _out: &O,
     _err: &E,
     made: &mut Option<S>,
+    runner: &mut X,
 ) -> Result<End<Global>, NoMemory>
     ensures { RunsRecorded (Steps O.adds E.adds) S.adds S.has_failed script.now args.now
         limits.ticks (_out.now, _err.now) made.old (_out.now, _err.now) made.new result }
 {
-    run_recorded(alloc, script, args, limits, &mut Silent, made)
+    runner.run(alloc, script, args, limits, &mut Silent, made)
 }
 
 /// What stands in a live world for its two writers where a run writes to sinks: nothing is written
@@ -192,6 +263,16 @@ impl<Y: System + Drop, O: Sink, E: Sink> World<Global> for LentLive<'_, '_, '_, 
     }
 }
 
+impl<Y: System + Drop, O, E> Refuses<Global> for LentLive<'_, '_, '_, Y, O, E> {
+    /// What goes out to the two sinks the live world does not know of.
+    fn refusal(&self, act: &Act<Global>) -> Option<io::Error> {
+        match act {
+            Act::Out(_) | Act::Err(_) => None,
+            _ => self.live.refusal(),
+        }
+    }
+}
+
 /// Puts a text into a sink, and where this fails says how many bytes went out.
 fn put_text<S: Sink>(sink: &mut S, text: &[u8]) -> Answer<Global>
     ensures fits { table.fits_write text.now (reply_of result) ≡ true }
@@ -215,5 +296,11 @@ impl World<Global> for Silent {
 
     fn act(&mut self, _act: &Act<Global>) -> Answer<Global> {
         Answer::NoMore
+    }
+}
+
+impl Refuses<Global> for Silent {
+    fn refusal(&self, _act: &Act<Global>) -> Option<io::Error> {
+        None
     }
 }

@@ -12,14 +12,15 @@ ghost use Rattle.worlds.specs.Runs.{RunsRecorded};
 ghost use Rattle.worlds.specs.Status.{line_of, status_of};
 ghost use Rattle.worlds.specs.declared.status.Outcome.TheVariants.{BadRecord};
 
-use crate::recorded::run_seen;
+use crate::recorded::{Refuses, Runner};
 use crate::status::Outcome;
-use acts::{Limits, NoMemory};
-use engine::{End, Frame, Lead, State, Unwatched, Watch};
+use acts::{Act, Limits, NoMemory};
+use engine::{End, Unwatched};
 use recorders::is_lost;
 use records::{Entry, Sink, read_entries};
 use replays::{LentReplay, Recording};
 use std::alloc::Allocator;
+use std::io;
 
 /// The type of the sink where no record is made.
 #[derive(Drop)]
@@ -36,6 +37,13 @@ impl Sink for Nowhere {
 
     fn failed(&self) -> bool {
         false
+    }
+}
+
+impl<A: Allocator, O, E> Refuses<A> for LentReplay<'_, '_, '_, A, O, E> {
+    /// A record does not say why.
+    fn refusal(&self, _act: &Act<A>) -> Option<io::Error> {
+        None
     }
 }
 
@@ -128,7 +136,7 @@ pub fn rerun<A: Allocator + Copy, O: Sink, E: Sink, S: Sink>(
         (map note_of entries.items) (out.old, err.old) made.old (out.new, err.new) made.new
         result }
 {
-    rerun_seen(
+    rerun_by(
         alloc,
         script,
         args,
@@ -141,14 +149,8 @@ pub fn rerun<A: Allocator + Copy, O: Sink, E: Sink, S: Sink>(
     )
 }
 
-/// The same, while someone watches.
-pub fn rerun_seen<
-    A: Allocator + Copy,
-    O: Sink,
-    E: Sink,
-    S: Sink,
-    T: Watch<A, Frame<A>, State<A>, Lead<A>>,
->(
+/// The same, by one who runs the script.
+pub fn rerun_by<A: Allocator + Copy, O: Sink, E: Sink, S: Sink, X: Runner<A>>(
     alloc: A,
     script: &[u8],
     args: &[Vec<u8, A>],
@@ -157,7 +159,7 @@ pub fn rerun_seen<
     out: &mut O,
     err: &mut E,
     made: &mut Option<S>,
-    watch: &mut T,
+    runner: &mut X,
 ) -> u8
     ensures { PlaysRecorded O.adds O.has_failed E.adds E.has_failed
         script.now args.now limits.ticks S.adds S.has_failed
@@ -174,7 +176,7 @@ pub fn rerun_seen<
         out,
         err,
         made,
-        watch,
+        runner,
     );
     let failed = any_failed(out, err, made);
     finish(Outcome::of_end(failed, recording.differs(), &ended), err)
@@ -196,13 +198,7 @@ fn either_failed<O: Sink, E: Sink>(out: &O, err: &E) -> bool
 }
 
 /// Runs a script under the rest of a record, and writes its output to two writers.
-fn run_entries<
-    A: Allocator + Copy,
-    O: Sink,
-    E: Sink,
-    S: Sink,
-    T: Watch<A, Frame<A>, State<A>, Lead<A>>,
->(
+fn run_entries<A: Allocator + Copy, O: Sink, E: Sink, S: Sink, X: Runner<A>>(
     alloc: A,
     script: &[u8],
     args: &[Vec<u8, A>],
@@ -211,7 +207,7 @@ fn run_entries<
     out: &mut O,
     err: &mut E,
     made: &mut Option<S>,
-    watch: &mut T,
+    runner: &mut X,
 ) -> Result<End<A>, NoMemory>
     ensures { RunsRecorded (Replays O.adds O.has_failed E.adds E.has_failed)
         S.adds S.has_failed script.now args.now limits.ticks
@@ -223,24 +219,18 @@ fn run_entries<
         out,
         err,
     };
-    run_replay(alloc, script, args, limits, &mut world, made, watch)
+    run_replay(alloc, script, args, limits, &mut world, made, runner)
 }
 
 /// Runs a script in a replay, which still borrows the same recording and writers afterwards.
-fn run_replay<
-    A: Allocator + Copy,
-    O: Sink,
-    E: Sink,
-    S: Sink,
-    T: Watch<A, Frame<A>, State<A>, Lead<A>>,
->(
+fn run_replay<A: Allocator + Copy, O: Sink, E: Sink, S: Sink, X: Runner<A>>(
     alloc: A,
     script: &[u8],
     args: &[Vec<u8, A>],
     limits: Limits,
     world: &mut LentReplay<'_, '_, '_, A, O, E>,
     made: &mut Option<S>,
-    watch: &mut T,
+    runner: &mut X,
 ) -> Result<End<A>, NoMemory>
     ensures same_recording { world.new.recording.ghost_name ≡ world.old.recording.ghost_name }
     ensures same_out { world.new.out.ghost_name ≡ world.old.out.ghost_name }
@@ -251,7 +241,7 @@ fn run_replay<
         (recorded_in world.new.recording.now, (world.new.out.now, world.new.err.now)) made.new
         result }
 {
-    run_seen(alloc, script, args, limits, world, made, watch)
+    runner.run(alloc, script, args, limits, world, made)
 }
 
 /// Writes the line of an end to standard error, and gives the status. Where the line is not

@@ -12,13 +12,15 @@ ghost use Rattle.worlds.specs.declared.status.Outcome.TheVariants.{Usage};
 
 use crate::folder::{Disk, Folder};
 use crate::input::{Unread, file_in, is_standard_input, read_words, script_in};
-use crate::lived::lived;
-use crate::play::{finish, rerun};
+use crate::lived::lived_by;
+use crate::play::{finish, rerun_by};
 use crate::record_file::create_record;
+use crate::recorded::Runner;
 use crate::standard::hold_closed;
 use crate::status::Outcome;
 use acts::NoMemory;
 use arguments::Arguments;
+use engine::Unwatched;
 use recorders::RecordFile;
 use records::{Counted, Entry, Sink, read_entries};
 use std::alloc::{Allocator, Global};
@@ -84,18 +86,19 @@ where
         (out.old, err.old) (out.new, err.new) result }
 {
     match Arguments::read(words) {
-        Some(call) => perform_call(rt, files, &call, out, err),
+        Some(call) => perform_call(rt, files, &call, out, err, &mut Unwatched),
         None => finish(Outcome::Usage, err),
     }
 }
 
-/// Performs a call, as `perform` does.
-fn perform_call<R, F, O, E>(
+/// Performs a call, as `perform` does, by one who runs its script.
+pub fn perform_call<R, F, O, E, X>(
     rt: &R,
     files: &F,
     call: &Arguments<'_, Global>,
     out: &mut O,
     err: &mut E,
+    runner: &mut X,
 ) -> u8
 where
     R: Net<Stream = TcpStream>
@@ -106,6 +109,7 @@ where
     F: Folder,
     O: Sink,
     E: Sink,
+    X: Runner<Global>,
     requires out { O.has_failed out.old ≡ false }
     requires err { E.has_failed err.old ≡ false }
     ensures { (asked : Call) → Holds call.now asked
@@ -119,11 +123,11 @@ where
     };
     if call.script.is_empty() {
         match own_name(rt.alloc()) {
-            Ok(args) => run_script(rt, files, call, &text, &args, out, err),
+            Ok(args) => run_script(rt, files, call, &text, &args, out, err, runner),
             Err(refusal) => finish(Outcome::NoMemory(refusal), err),
         }
     } else {
-        run_script(rt, files, call, &text, call.script, out, err)
+        run_script(rt, files, call, &text, call.script, out, err, runner)
     }
 }
 
@@ -176,7 +180,7 @@ fn own_name<A: Allocator + Copy>(alloc: A) -> Result<Vec<Vec<u8, A>, A>, NoMemor
 
 /// Runs a script as a call asks for it: live, or under the record that it names, which is read
 /// before the file of a record that is made.
-fn run_script<R, F, O, E>(
+fn run_script<R, F, O, E, X>(
     rt: &R,
     files: &F,
     call: &Arguments<'_, Global>,
@@ -184,6 +188,7 @@ fn run_script<R, F, O, E>(
     args: &[Vec<u8, Global>],
     out: &mut O,
     err: &mut E,
+    runner: &mut X,
 ) -> u8
 where
     R: Net<Stream = TcpStream>
@@ -194,6 +199,7 @@ where
     F: Folder,
     O: Sink,
     E: Sink,
+    X: Runner<Global>,
     requires out { O.has_failed out.old ≡ false }
     requires err { E.has_failed err.old ≡ false }
     ensures { Runs (F.opens files.now) F.File.reads F.Standard.reads (F.makes files.now)
@@ -203,7 +209,7 @@ where
 {
     let Some(name) = call.replay else {
         return match made_of(files, rt.alloc(), call) {
-            Ok(mut made) => lived(rt, script, args, call.limits, out, err, &mut made),
+            Ok(mut made) => lived_by(rt, script, args, call.limits, out, err, &mut made, runner),
             Err(outcome) => finish(outcome, err),
         };
     };
@@ -212,13 +218,23 @@ where
         Err(fault) => return finish(Outcome::of_file(name, fault), err),
     };
     match read_entries(rt.alloc(), &record) {
-        Ok(entries) => run_entries(rt.alloc(), files, call, script, args, entries, out, err),
+        Ok(entries) => run_entries(
+            rt.alloc(),
+            files,
+            call,
+            script,
+            args,
+            entries,
+            out,
+            err,
+            runner,
+        ),
         Err(fault) => finish(Outcome::of_fault(name, fault), err),
     }
 }
 
 /// Runs a script under the entries of a record, as a call asks for it.
-fn run_entries<F: Folder, O: Sink, E: Sink>(
+fn run_entries<F: Folder, O: Sink, E: Sink, X: Runner<Global>>(
     alloc: Global,
     files: &F,
     call: &Arguments<'_, Global>,
@@ -227,6 +243,7 @@ fn run_entries<F: Folder, O: Sink, E: Sink>(
     entries: Vec<Entry<Global>, Global>,
     out: &mut O,
     err: &mut E,
+    runner: &mut X,
 ) -> u8
     requires out { O.has_failed out.old ≡ false }
     requires err { E.has_failed err.old ≡ false }
@@ -236,7 +253,7 @@ fn run_entries<F: Folder, O: Sink, E: Sink>(
         (out.old, err.old) (out.new, err.new) result }
 {
     match made_of(files, alloc, call) {
-        Ok(mut made) => rerun(
+        Ok(mut made) => rerun_by(
             alloc,
             script,
             args,
@@ -245,6 +262,7 @@ fn run_entries<F: Folder, O: Sink, E: Sink>(
             out,
             err,
             &mut made,
+            runner,
         ),
         Err(outcome) => finish(outcome, err),
     }
@@ -287,7 +305,7 @@ fn made_file<F: Folder>(
 }
 
 /// Whether a call reads the file of this name, as its script or its record.
-fn is_read<F: Folder>(files: &F, call: &Arguments<'_, Global>, name: &[u8]) -> bool
+pub fn is_read<F: Folder>(files: &F, call: &Arguments<'_, Global>, name: &[u8]) -> bool
     ensures { IsTrue result → (read : List ℕ) × F.same files.now read name.now }
 {
     let is_script = match call.script.first() {

@@ -4,11 +4,50 @@ ghost use Rattle.std.specs.Prelude.{◌≡◌};
 ghost use Rattle.recorders.specs.Recorder.{MayRecord};
 ghost use Rattle.worlds.specs.Runs.{Runs, RunsRecorded};
 
-use acts::{Limits, NoMemory, World};
+use acts::{Act, Limits, NoMemory, World};
 use engine::{End, Frame, Lead, State, Unwatched, Watch, run_watched};
 use recorders::{LentRecorder, begin};
 use records::Sink;
 use std::alloc::Allocator;
+use std::io;
+
+/// A world that may know why it refused an act.
+pub trait Refuses<A: Allocator> {
+    /// Why this act, the last one, was refused or failed, in the words of the system, where that is
+    /// known.
+    fn refusal(&self, act: &Act<A>) -> Option<io::Error>;
+}
+
+/// One who runs scripts in worlds that are lent, as `run_recorded` does, and may watch the runs.
+pub trait Runner<A: Allocator + Copy> {
+    /// Runs a script in a world that is lent, and makes a record of this run where there is a sink
+    /// for it, to which nothing has been written yet.
+    fn run<W: World<A> + Refuses<A>, S: Sink>(
+        &mut self,
+        alloc: A,
+        script: &[u8],
+        args: &[Vec<u8, A>],
+        limits: Limits,
+        world: &mut W,
+        made: &mut Option<S>,
+    ) -> Result<End<A>, NoMemory>
+        ensures { RunsRecorded W.step S.adds S.has_failed script.now args.now limits.ticks
+            world.old made.old world.new made.new result };
+}
+
+impl<A: Allocator + Copy> Runner<A> for Unwatched {
+    fn run<W: World<A> + Refuses<A>, S: Sink>(
+        &mut self,
+        alloc: A,
+        script: &[u8],
+        args: &[Vec<u8, A>],
+        limits: Limits,
+        world: &mut W,
+        made: &mut Option<S>,
+    ) -> Result<End<A>, NoMemory> {
+        run_recorded(alloc, script, args, limits, world, made)
+    }
+}
 
 /// Runs a script in a world that is lent, and makes a record of this run where there is a sink for
 /// it, to which nothing has been written yet.

@@ -5,11 +5,11 @@ use Rattle.worlds.proofs.lived.run_live.Goals as goal
 
 pub returns-in-Ok : goal.returns-in-Ok
 returns-in-Ok g c =
-    let (begun, begins, runs) = c.run_over.ensures in (
+    let (begun, begins, runs) = c.run_over_by.ensures in (
       begun,
       begins,
       runs_seen _ (MayRecord (Steps g.O.Sink.adds g.E.Sink.adds) g.S.Sink.adds g.S.Sink.has_failed)
           (λ pair. (pair.0.1, pair.1)) (λ before act reply after step. (step.0.0, step.1))
           c.args.script.now c.args.args.now c.args.limits.ticks (_, begun)
-          (_, c.run_over.new.made) c.run_over.result runs,
+          (_, c.run_over_by.new.made) c.run_over_by.result runs,
     )

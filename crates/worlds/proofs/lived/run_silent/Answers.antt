@@ -6,7 +6,7 @@ use Rattle.worlds.proofs.lived.run_silent.Goals as goal
 
 pub returns : goal.returns
 returns g c =
-    let (begun, begins, runs) = c.run_recorded.ensures in
+    let (begun, begins, runs) = c.run.ensures in
     let writers : g.row.O.Denot × g.row.E.Denot = (c.args._out.now, c.args._err.now) in (
       begun,
       begins,
@@ -16,5 +16,5 @@ returns g c =
           let (out, err) = gets_nothing g.O.Sink.adds g.E.Sink.adds writers act reply step.0.1 in
           ((step.0.0, out, err), step.1))
           c.args.script.now c.args.args.now c.args.limits.ticks (_, begun)
-          (c.run_recorded.new.world, c.run_recorded.new.made) c.run_recorded.result runs,
+          (c.run.new.world, c.run.new.made) c.run.result runs,
     )

@@ -13,12 +13,12 @@ returns-in-Ok g c =
     g.O.Sink.adds g.O.Sink.has_failed g.E.Sink.adds g.E.Sink.has_failed
     c.args.script.now c.args.args.now c.args.call.now.limits.ticks replay
     (option_copied c.args.call.now.made) (c.args.out.now, c.args.err.now)
-    (c.lived.new.out, c.lived.new.err) c.lived.result) (sym (ap option_copied c.in_default.is))
+    (c.lived_by.new.out, c.lived_by.new.err) c.lived_by.result) (sym (ap option_copied c.in_default.is))
     (inr (lives_so g.O.Sink.adds g.O.Sink.has_failed g.E.Sink.adds g.E.Sink.has_failed _ _
     c.args.script.now c.args.args.now c.args.call.now.limits.ticks
     (option_copied c.args.call.now.made) (c.args.out.now, c.args.err.now)
-    (c.lived.new.out, c.lived.new.err) c.in-Ok.made c.lived.new.made c.lived.result
-    c.in-Ok.ensures.none c.lived.ensures))
+    (c.lived_by.new.out, c.lived_by.new.err) c.in-Ok.made c.lived_by.new.made c.lived_by.result
+    c.in-Ok.ensures.none c.lived_by.ensures))
 
 pub returns-in-Ok-read_entries : goal.returns-in-Ok-read_entries
 returns-in-Ok-read_entries g c =

@@ -1,7 +1,7 @@
 use Rattle.std.proofs.Common.{◌∙◌, None, ap, subst}
 use Rattle.worlds.specs.Play.{Finishes}
 use Rattle.worlds.specs.Status.{end_outcome}
-use Rattle.worlds.proofs.lived.lived.Goals as goal
+use Rattle.worlds.proofs.lived.lived_by.Goals as goal
 
 pub returns : goal.returns
 returns g c = (

@@ -7,7 +7,7 @@ use Rattle.replays.specs.Replay.{Replays}
 use Rattle.worlds.specs.Play.{Finishes}
 use Rattle.worlds.specs.Runs.{RunsRecorded}
 use Rattle.worlds.specs.Status.{end_outcome}
-use Rattle.worlds.proofs.play.rerun_seen.Goals as goal
+use Rattle.worlds.proofs.play.rerun_by.Goals as goal
 
 pub returns : goal.returns
 returns g c =

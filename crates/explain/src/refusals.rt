@@ -1,0 +1,122 @@
+//! Why the world refused an act, in the words of the system.
+
+ghost use Rattle.std.specs.Prelude.{◌≡◌};
+ghost use Rattle.worlds.specs.Runs.{RunsRecorded};
+
+use crate::telling::Story;
+use acts::{Act, Answer, Limits, NoMemory, World};
+use engine::{End, Frame, Lead, State, Watch};
+use records::Sink;
+use std::alloc::Allocator;
+use std::io;
+use worlds::recorded::{Refuses, run_seen};
+
+/// An act that was refused, or a write that failed.
+#[derive(Clone, Copy, Debug)]
+pub(crate) struct Refusal {
+    /// The number of the act, counted from 1.
+    act: u64,
+    why: io::Error,
+}
+
+/// A world that is lent, and what it refused last.
+#[derive(Drop)]
+pub(crate) struct Heeded<'w, W> {
+    pub world: &'w mut W,
+    /// How many acts were asked for.
+    pub acts: u64,
+    pub refusal: Option<Refusal>,
+}
+
+impl<A: Allocator, W: World<A> + Refuses<A>> World<A> for Heeded<'_, W> {
+    // A step of the world, after which the same one is still lent.
+    ghost step = { λ before act answer after.
+        W.step before.world.now act answer after.world.now
+        × (after.world.ghost_name ≡ before.world.ghost_name) };
+
+    fn act(&mut self, act: &Act<A>) -> Answer<A> {
+        let answer = self.world.act(act);
+        self.acts = self.acts.saturating_add(1);
+        if is_refused(&answer) {
+            self.refusal = match self.world.refusal(act) {
+                Some(why) => Some(Refusal {
+                    act: self.acts,
+                    why,
+                }),
+                None => None,
+            };
+        }
+        answer
+    }
+}
+
+/// Whether an answer says that an act was refused, or that a write failed.
+fn is_refused<A: Allocator>(answer: &Answer<A>) -> bool {
+    matches!(answer, Answer::Refused | Answer::Failed(_))
+}
+
+/// Runs a script in such a world, which still borrows the same one afterwards, while someone
+/// watches.
+pub(crate) fn run_heeded<
+    A: Allocator + Copy,
+    W: World<A> + Refuses<A>,
+    S: Sink,
+    T: Watch<A, Frame<A>, State<A>, Lead<A>>,
+>(
+    alloc: A,
+    script: &[u8],
+    args: &[Vec<u8, A>],
+    limits: Limits,
+    world: &mut Heeded<'_, W>,
+    made: &mut Option<S>,
+    watch: &mut T,
+) -> Result<End<A>, NoMemory>
+    ensures same_world { world.new.world.ghost_name ≡ world.old.world.ghost_name }
+    ensures runs { RunsRecorded W.step S.adds S.has_failed script.now args.now limits.ticks
+        world.old.world.now made.old world.new.world.now made.new result }
+{
+    run_seen(alloc, script, args, limits, world, made, watch)
+}
+
+impl<A: Allocator + Copy, S: Sink> Story<A, S> {
+    /// Takes note that an act was answered.
+    pub(crate) fn note_answer(&mut self, answer: &Answer<A>) {
+        self.acts = self.acts.saturating_add(1);
+        self.is_answered = true;
+        if matches!(answer, Answer::Failed(_)) {
+            self.failed_at = Some(self.acts);
+        }
+    }
+
+    /// Takes note of what a command has come to. An error that comes right after an answer was led
+    /// to by that act.
+    pub(crate) fn note_lead(&mut self, is_error: bool) {
+        self.failed_at = if is_error && self.is_answered {
+            Some(self.acts)
+        } else {
+            None
+        };
+        self.is_answered = false;
+    }
+
+    /// Takes note of how the run ended, and of what the world refused last.
+    pub(crate) fn note_end(&mut self, ended: &Result<End<A>, NoMemory>, refusal: Option<Refusal>) {
+        self.refusal = refusal;
+        self.is_cut = matches!(ended, Ok(End::WriterFailed));
+    }
+
+    /// Tells in the words of the system why the act was refused that ended the run, where that is
+    /// known: the last one before the error, or the write that failed.
+    ///
+    /// # Errors
+    /// `NoMemory`.
+    pub(crate) fn tell_refusal(&mut self) -> Result<(), NoMemory> {
+        match self.refusal {
+            Some(refusal) if Some(refusal.act) == self.failed_at => {
+                let words = format!(in self.alloc; "{}", refusal.why)?;
+                self.tell(None, b"the system says", words.as_bytes())
+            }
+            Some(_) | None => Ok(()),
+        }
+    }
+}
