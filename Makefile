@@ -10,7 +10,7 @@
 #               commands, in a moment
 # make guide    runs what the README, the guide and the man page show, and compares (RX=out/rx)
 # make stories  runs the scripts of stories/ and the examples under their records, and looks what out/rx-explain
-#               tells of them
+#               tells of them; and these and all rows by out/rx too, and looks whether both do the same
 # make rows     runs the rows, and writes how many there are to the stored output of rowtests
 # make rows-now runs them as they stand, without any proof, in a few minutes (FAMILIES="leaving logs")
 # make edits    the edits of edits/ that the prover must refuse, for the crates that changed (SINCE=COMMIT)
@@ -95,6 +95,7 @@ house:
 # The program is not built here, so that another one can be tried, as an installed one.
 stories: built
 	tools/stories
+	tools/as-rx
 
 guide:
 	tools/guide --program $(RX)
