@@ -14,6 +14,7 @@ use crate::deeper::{deeper, nested};
 use crate::test::{Test, of_evaluated, of_text};
 use acts::NoMemory;
 use evaluation::OpenFormula;
+use formulas::KeptFormulas;
 use kept::Kept;
 use state::outcome::raised;
 use state::{Nesting, Outcome, State};
@@ -57,7 +58,14 @@ pub fn begin<A: Allocator + Copy>(
     ensures left { state.new.left ≡ state.old.left }
 {
     match Branches::read(alloc, args)? {
-        Some(branches) => choose(alloc, &state.scopes, &mut state.kept, branches, levels),
+        Some(branches) => choose(
+            alloc,
+            &state.scopes,
+            &mut state.formulas,
+            &mut state.kept,
+            branches,
+            levels,
+        ),
         None => Ok(Nesting::Has(wrong_args(alloc, b"if")?)),
     }
 }
@@ -85,6 +93,7 @@ pub fn resumed<A: Allocator + Copy>(
         Ok(value) => on_with_test(
             alloc,
             &state.scopes,
+            &mut state.formulas,
             &mut state.kept,
             Box::into_inner(own),
             &value,
@@ -97,6 +106,7 @@ pub fn resumed<A: Allocator + Copy>(
 fn on_with_test<A: Allocator + Copy>(
     alloc: A,
     scopes: &Scopes<A>,
+    formulas: &mut KeptFormulas<A>,
     kept: &mut Kept<A>,
     own: Tested<A>,
     value: &Value<A>,
@@ -115,7 +125,7 @@ fn on_with_test<A: Allocator + Copy>(
     let evaluated = formula.resume(alloc, scopes, value)?;
     match of_evaluated(alloc, evaluated)? {
         Test::Holds(true) => run(alloc, kept, body.as_slice(), levels),
-        Test::Holds(false) => choose(alloc, scopes, kept, branches, levels),
+        Test::Holds(false) => choose(alloc, scopes, formulas, kept, branches, levels),
         Test::Script(commands, formula) => {
             let own = Tested {
                 formula,
@@ -133,6 +143,7 @@ fn on_with_test<A: Allocator + Copy>(
 fn choose<A: Allocator + Copy>(
     alloc: A,
     scopes: &Scopes<A>,
+    formulas: &mut KeptFormulas<A>,
     kept: &mut Kept<A>,
     branches: Branches<A>,
     levels: u8,
@@ -147,7 +158,7 @@ fn choose<A: Allocator + Copy>(
         otherwise,
     } = branches;
     'branches: while let Some(Branch { test, body }) = tests.pop_front() {
-        match of_text(alloc, scopes, test.as_slice())? {
+        match of_text(alloc, scopes, formulas, test.as_slice())? {
             Test::Holds(true) => return run(alloc, kept, body.as_slice(), levels),
             Test::Holds(false) => {}
             Test::Script(commands, formula) => {

@@ -1,10 +1,12 @@
 //! `expr w ..` (expr(n)).
 
 ghost use Rattle.std.specs.Prelude.{◌≡◌, ℕ, IfOk};
-ghost use Rattle.state.specs.Prelude.{Nests, Status, FitsState, outcome_of};
+ghost use Rattle.state.specs.Prelude.{gives, Nests, Reaches, Status, FitsState, outcome_of};
 ghost use Rattle.conditions.specs.Expr as definition;
 ghost use Rattle.conditions.specs.Expr.{next_of, scripts_held, told};
+ghost use Rattle.evaluation.specs.Evaluated.{valued};
 ghost use Rattle.evaluation.specs.Scripts.{MeetsFewer};
+ghost use Rattle.formulas.specs.View.{formula_of};
 ghost use Rattle.evaluation.specs.View.{course_of};
 ghost use Rattle.state.specs.Nesting.{Advances, course_of as at_hand};
 
@@ -12,12 +14,14 @@ use crate::arguments::wrong_args;
 use crate::deeper::nested;
 use crate::formula::read;
 use acts::NoMemory;
-use evaluation::{Evaluated, OpenFormula, begin as evaluate};
+use evaluation::{Evaluated, OpenFormula, begin as evaluate, number};
+use formulas::Formula;
 use operators::result;
 use pure::concatenated;
 use state::outcome::raised;
 use state::{Nesting, Outcome, State};
 use std::alloc::Allocator;
+use tclstate::Scopes;
 use tcltext::Value;
 
 /// A formula while a script in it runs, and how many levels may still be nested in the formula.
@@ -45,13 +49,28 @@ pub fn begin<A: Allocator + Copy>(
         return Ok(Nesting::Has(wrong_args(alloc, b"expr")?));
     }
     let text = concatenated(alloc, args)?;
-    match read(alloc, &text)? {
-        Ok(formula) => {
-            let evaluated = evaluate(&formula, alloc, &state.scopes)?;
-            give(alloc, evaluated, levels)
-        }
+    match read(&mut state.formulas, &text)? {
+        Ok(formula) => value_of(alloc, &state.scopes, &formula, levels),
         Err(fault) => Ok(Nesting::Has(raised(alloc, &fault)?)),
     }
+}
+
+/// Gives the value of a formula, or runs the script in it; one of numbers alone is told at once.
+fn value_of<A: Allocator + Copy>(
+    alloc: A,
+    scopes: &Scopes<A>,
+    formula: &Formula<A>,
+    levels: u8,
+) -> Result<Nesting<A, Held<A>>, NoMemory>
+    ensures { (s : Status) → s.scopes ≡ scopes.now → IfOk result (λ nesting.
+        Reaches (valued levels (formula_of formula.now) s (λ t value. gives value t))
+        (at_hand next_of nesting s)) }
+{
+    if let Some(n) = number(formula, scopes) {
+        return Ok(Nesting::Has(Ok(Value::int(alloc, n)?)));
+    }
+    let evaluated = evaluate(formula, alloc, scopes)?;
+    give(alloc, evaluated, levels)
 }
 
 /// Continues the formula after the script in it ended with this outcome.

@@ -111,7 +111,7 @@ fn begin_turns<A: Allocator + Copy>(
         body,
         levels,
     } = start;
-    match read(alloc, test.as_slice())? {
+    match read(&mut state.formulas, test.as_slice())? {
         Ok(test) => {
             let behind = state.kept.get(step.as_slice())?;
             let body = state.kept.get(body.as_slice())?;

@@ -8,20 +8,20 @@ ghost use Rattle.formulas.specs.Seen.{fault_of};
 ghost use Rattle.tclparse.specs.Formula as tree;
 
 use acts::{Fault, NoMemory};
-use formulas::{Formula, ReadError};
+use formulas::{Formula, KeptFormulas, ReadError};
 use state::faults::no_script;
 use std::alloc::Allocator;
 
-/// Reads a word as a formula, or answers the script's error (expr(n)).
+/// Reads a word as a formula, or gives the formula that is kept with it, or answers the script's error (expr(n)).
 pub(crate) fn read<A: Allocator + Copy>(
-    alloc: A,
+    formulas: &mut KeptFormulas<A>,
     text: &[u8],
 ) -> Result<Result<Formula<A>, Fault<A>>, NoMemory>
     ensures reaches { (s : Status) (next : tree.Formula → Course) → IfOk result (λ read.
         Reaches (with_formula text.now s next) (course_of_read read s next)) }
     ensures weighs { IfOk result (λ read. IsWeighed read text.now) }
 {
-    match Formula::read(alloc, text) {
+    match formulas.read(text) {
         Ok(formula) => Ok(Ok(formula)),
         Err(ReadError::Fault(fault)) => Ok(Err(no_formula(fault))),
         Err(ReadError::Memory(refusal)) => Err(refusal),

@@ -5,13 +5,16 @@ ghost use Rattle.state.specs.Prelude.{Course, Reaches, Status};
 ghost use Rattle.conditions.specs.Test.{HasFewer, course_of_test, on_tested};
 ghost use Rattle.conditions.specs.View.{begun_test};
 ghost use Rattle.conditions.specs.Weight.{scripts_in_text};
-ghost use Rattle.evaluation.specs.Scripts.{MeetsFewer};
+ghost use Rattle.evaluation.specs.Evaluated.{tested};
+ghost use Rattle.evaluation.specs.Scripts.{MeetsFewer, scripts_in};
 ghost use Rattle.evaluation.specs.View.{course_of};
+ghost use Rattle.formulas.specs.View.{formula_of};
 
 use crate::formula::read;
 use acts::{Fault, NoMemory, Raise};
-use evaluation::{Evaluated, OpenFormula, begin};
-use operators::truth;
+use evaluation::{Evaluated, OpenFormula, begin, number};
+use formulas::{Formula, KeptFormulas};
+use operators::{holds, truth};
 use std::alloc::Allocator;
 use std::rc::Rc;
 use tclparse::Command;
@@ -32,6 +35,7 @@ pub enum Test<A: Allocator> {
 pub(crate) fn of_text<A: Allocator + Copy>(
     alloc: A,
     scopes: &Scopes<A>,
+    formulas: &mut KeptFormulas<A>,
     text: &[u8],
 ) -> Result<Test<A>, NoMemory>
     ensures reaches { (levels : ℕ) (s : Status) (next : Status → Bool → Course) →
@@ -39,13 +43,28 @@ pub(crate) fn of_text<A: Allocator + Copy>(
         (begun_test levels text.now s next) (course_of_test levels test next s)) }
     ensures fewer { IfOk result (λ test. HasFewer test (scripts_in_text text.now)) }
 {
-    match read(alloc, text)? {
-        Ok(formula) => {
-            let evaluated = begin(&formula, alloc, scopes)?;
-            of_evaluated(alloc, evaluated)
-        }
+    match read(formulas, text)? {
+        Ok(formula) => of_formula(alloc, scopes, &formula),
         Err(fault) => Ok(Test::Fault(fault)),
     }
+}
+
+/// Evaluates a test up to a script in it; one of numbers alone at once.
+pub(crate) fn of_formula<A: Allocator + Copy>(
+    alloc: A,
+    scopes: &Scopes<A>,
+    formula: &Formula<A>,
+) -> Result<Test<A>, NoMemory>
+    ensures reaches { (levels : ℕ) (s : Status) (next : Status → Bool → Course) →
+        s.scopes ≡ scopes.now → IfOk result (λ test. Reaches
+        (tested levels (formula_of formula.now) s next) (course_of_test levels test next s)) }
+    ensures fewer { IfOk result (λ test. HasFewer test (scripts_in (formula_of formula.now))) }
+{
+    if let Some(n) = number(formula, scopes) {
+        return Ok(Test::Holds(holds(n)));
+    }
+    let evaluated = begin(formula, alloc, scopes)?;
+    of_evaluated(alloc, evaluated)
 }
 
 /// Takes a formula's value as a truth value; a script or an error in the formula stays one of the

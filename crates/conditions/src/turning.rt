@@ -13,9 +13,9 @@ ghost use Rattle.state.specs.Nesting.{Advances};
 
 use crate::deeper::{deeper, nested};
 use crate::step::end_after_step;
-use crate::test::{Test, of_evaluated};
+use crate::test::{Test, of_evaluated, of_formula};
 use acts::NoMemory;
-use evaluation::{OpenFormula, begin as evaluate};
+use evaluation::OpenFormula;
 use formulas::Formula;
 use state::nesting::shared;
 use state::outcome::raised;
@@ -66,8 +66,7 @@ pub(crate) fn turn<A: Allocator + Copy>(
     ensures advances { IfOk result (λ nesting.
         Advances scripts_held nesting state.new.left state.old.left (scripts_tested turns.value)) }
 {
-    let evaluated = evaluate(&turns.test, alloc, &state.scopes)?;
-    let test = of_evaluated(alloc, evaluated)?;
+    let test = of_formula(alloc, &state.scopes, &turns.test)?;
     on_test(alloc, state, turns, test)
 }
 

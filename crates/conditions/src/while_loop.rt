@@ -33,7 +33,7 @@ pub fn begin<A: Allocator + Copy>(
     let [test, body] = args else {
         return Ok(Nesting::Has(wrong_args(alloc, b"while")?));
     };
-    match read(alloc, test.as_slice())? {
+    match read(&mut state.formulas, test.as_slice())? {
         Ok(test) => {
             let body = state.kept.get(body.as_slice())?;
             let step = None;

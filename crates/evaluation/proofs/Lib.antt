@@ -1,3 +1,4 @@
 pub mod Outer
 pub mod Steps
 pub mod Closed
+mod Known

@@ -2,3 +2,4 @@ pub mod Evaluated
 pub mod Pending
 pub mod View
 pub mod Scripts
+pub mod Numeric

@@ -3,10 +3,12 @@
 #![tactic(auto)]
 
 mod formula;
+mod numeric;
 mod open;
 mod pending;
 mod resuming;
 
 pub use formula::begin;
+pub use numeric::number;
 pub use open::{Around, Evaluated, OpenCall, OpenFormula, OpenRow};
 pub use pending::Pending;

@@ -1,5 +1,9 @@
 //! What a formula is once it is read.
 
+ghost use Rattle.std.specs.Prelude.{◌≡◌, IfOk};
+ghost use Rattle.formulas.specs.View.{formula_of};
+
+use memory::NoMemory;
 use std::alloc::Allocator;
 use std::rc::Rc;
 use tclparse::{Function, Infix, Part, Unary};
@@ -49,4 +53,23 @@ pub struct Choice<A: Allocator> {
     pub test: Formula<A>,
     pub yes: Formula<A>,
     pub no: Formula<A>,
+}
+
+impl<A: Allocator> Formula<A> {
+    /// The same formula once more; nothing of it is copied.
+    ///
+    /// # Errors
+    /// `NoMemory` where a count of holders is full.
+    pub fn share(&self) -> Result<Formula<A>, NoMemory>
+        ensures { IfOk result (λ same. formula_of same ≡ formula_of self.now) }
+    {
+        match self {
+            Formula::Numeral(digits) => Ok(Formula::Numeral(digits.share()?)),
+            Formula::Text(parts) => Ok(Formula::Text(parts.clone()?)),
+            Formula::Call(function, arguments) => Ok(Formula::Call(*function, arguments.clone()?)),
+            Formula::Prefix(operator, operand) => Ok(Formula::Prefix(*operator, operand.clone()?)),
+            Formula::Row(row) => Ok(Formula::Row(row.clone()?)),
+            Formula::Choice(choice) => Ok(Formula::Choice(choice.clone()?)),
+        }
+    }
 }

@@ -10,6 +10,7 @@ ghost use Rattle.tclstate.specs.Scopes.{Text, scopes as scopes_of};
 
 use acts::{Limits, NoMemory};
 use dialog::LogState;
+use formulas::KeptFormulas;
 use itoa::Buffer;
 use kept::Kept;
 use state::{Ids, State};
@@ -37,6 +38,7 @@ pub fn beginning<A: Allocator + Copy>(
         },
         left: limits.ticks,
         kept: Kept::new(alloc),
+        formulas: KeptFormulas::new(alloc),
     })
 }
 

@@ -3,3 +3,4 @@ mod Asked
 mod Found
 mod Fits
 mod Among
+mod Results

@@ -9,7 +9,7 @@ use Rattle.tcltext.proofs.Numerals.{numeral_read, numeral_spelled}
 use Rattle.operators.specs.Number.{held, number_of}
 use Rattle.tcltext.proofs.Decimals.{is_numeral}
 
-in_range : (n : ℤ) → FitsSigned w64 n → is_in_range n ≡ true
+pub in_range : (n : ℤ) → FitsSigned w64 n → is_in_range n ≡ true
 in_range (pos n) fits = grind (arith, nat_tests, fits.sfits)
 in_range (negsuc n) fits = grind (arith, nat_tests, fits.sfits)
 

@@ -10,3 +10,4 @@ pub mod Member
 pub mod Binary
 pub mod Function
 pub mod Value
+pub mod Numeric

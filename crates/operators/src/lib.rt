@@ -8,6 +8,7 @@ mod functions;
 pub mod laws;
 mod members;
 mod numbers;
+mod numeric;
 mod operand;
 mod ordering;
 mod shifts;
@@ -16,6 +17,7 @@ mod values;
 
 pub use apply::{binary, unary};
 pub use functions::call;
-pub use operand::Operand;
+pub use numeric::{holds, of_both, of_one, told};
+pub use operand::{Operand, number_in};
 pub use truths::truth;
 pub use values::{result, written};

@@ -112,8 +112,8 @@ impl<A: Allocator + Copy> Operand<A> {
     }
 }
 
-/// The number that a text is, if it is one (expr(n), operands).
-pub(crate) fn number_in<A: Allocator>(text: &Value<A>) -> Option<i64>
+/// The number that a text is, if it is one (expr(n), operands). Takes no memory.
+pub fn number_in<A: Allocator>(text: &Value<A>) -> Option<i64>
     ensures { result ≡ number_of text.now }
 {
     text.number()

@@ -2,6 +2,7 @@
 
 use crate::ids::Ids;
 use dialog::LogState;
+use formulas::KeptFormulas;
 use kept::Kept;
 use std::alloc::Allocator;
 use tclstate::{Procs, Scopes};
@@ -22,4 +23,6 @@ pub struct State<A: Allocator> {
     /// The trees of the scripts that ran last within others. They say nothing that the texts of
     /// these scripts do not, so the definition has no such field.
     pub kept: Kept<A>,
+    /// The formulas that were read last, by their texts. They too say nothing that the texts do not.
+    pub formulas: KeptFormulas<A>,
 }

@@ -20,18 +20,16 @@ pub returns-in-Ok-clause-nests : goal.returns-in-Ok-clause-nests
 returns-in-Ok-clause-nests g c = λ s fits.
     let levels = c.args.levels in
     let read = rw c.in-Ok.is at c.in_ok-formula.ensures.reaches in
-    IfOk-weaker c.give.result _ _
-    (λ nesting same. record {
+    IfOk-weaker c.value_of.result _ _
+    (λ nesting reaches. record {
       status = s;
       fits = fits;
       reaches = then_reaches
           (same_reaches (expr_some levels s c.args.args.now c.deref.result.now
           (sym c.if-is_empty.ensures) (c.deref.ensures.value ∙ c.in_ok-text.ensures)))
-          (then_reaches (read s (λ formula. evaluated levels formula s told))
-          (then_reaches (c.in_ok-evaluated-in-Ok.ensures.reaches levels s told fits.scopes)
-          (same_reaches same)));
+          (then_reaches (read s (λ formula. evaluated levels formula s told)) reaches);
     })
-    (c.give.ensures.same s)
+    (c.value_of.ensures s fits.scopes)
 
 pub returns-clause-nests : goal.returns-clause-nests
 returns-clause-nests g c = λ s fits.

@@ -21,8 +21,6 @@ returns-clause-comes g c = λ s fits.
     (then_goes
     (same_goes (ap (λ own. evaluated levels (formula_of own.test) s (on_tested next))
     (sym c.deref.ensures)))
-    (then_goes (reaches_goes
-    (c.in_ok-evaluated.ensures.reaches levels s (on_tested next) fits.scopes))
-    (same_goes (c.in_ok-test.ensures.comes levels s next)))))
+    (reaches_goes (c.in_ok-test.ensures.reaches levels s next fits.scopes))))
     comes)
     (c.on_test.ensures.comes s fits)
