@@ -6,6 +6,7 @@ pub mod Firsts
 pub mod Goes
 pub mod IdLists
 pub mod IdsRead
+pub mod Leads
 pub mod Lines
 pub mod Mentions
 pub mod Nulls
@@ -16,4 +17,5 @@ pub mod Readings
 pub mod Refused
 pub mod Rising
 pub mod RowsMade
+pub mod Scans
 pub mod Vains

@@ -1,18 +1,18 @@
--- Texts that were sought and not found, while bytes come and go.
-use Rattle.std.proofs.Common.{◌≡◌, ℕ, ◌+◌, ◌-◌, ◌≤◌, ◌<◌, List, [], ◌∷◌, ◌++◌, length, map, drop, get_or, zero, suc, refl, sym, ap, subst, arith}
+-- Runs that were sought and not found, while bytes come and go.
+use Rattle.std.proofs.Common.{◌≡◌, ℕ, ◌+◌, ◌-◌, ◌≤◌, ◌<◌, Bool, true, false, List, [], ◌∷◌, ◌++◌, length, drop, get_or, zero, suc, refl, sym, subst, arith}
 use Rattle.std.proofs.Math.ListN.{set}
-use Rattle.std.proofs.lemmas.List.{length-drop, length-append, length-take-le}
 use Rattle.std.specs.List.{AllByRecursion}
-use Rattle.std.specs.Prelude.{slice_range}
+use Rattle.dialog.specs.Lead.{run_by, run_of}
+use Rattle.dialog.specs.Reads.{sought_by}
 use Rattle.dialog.specs.Vain.{ArePassed}
+use Rattle.dialog.specs.declared.lead.Key.{Key}
+use Rattle.dialog.specs.declared.sign.Style.{Style}
+use Rattle.dialog.specs.declared.sign.Style.TheVariants as style
 use Rattle.dialog.specs.declared.vain.Vain.{Vain}
-use Rattle.tcltext.proofs.Patterns.Shifts.{Passed-drop, Passed-here, Passed-more}
-use Rattle.tcltext.specs.Pattern.Glob.{exact}
-use Rattle.tcltext.specs.Pattern.Item.{literal}
-use Rattle.tcltext.specs.Pattern.Match.{SitsNowhere, Whole}
+use Rattle.tcltext.proofs.Patterns.Shifts.{Passed-drop, Passed-more}
 use Rattle.tcltext.specs.Pattern.Passed.{Passed}
 
-all_so : {X : Type 0} (P Q : X → Type 0) → ((x : X) → P x → Q x) → (xs : List X) →
+pub all_so : {X : Type 0} (P Q : X → Type 0) → ((x : X) → P x → Q x) → (xs : List X) →
     AllByRecursion P xs → AllByRecursion Q xs
 all_so P Q so [] all = tt
 all_so P Q so (x ∷ xs) (here, all) = (so x here, all_so P Q so xs all)
@@ -37,53 +37,34 @@ pub all_and : {X : Type 0} (P : X → Type 0) (xs : List X) (y : X) → P y →
 all_and P [] y new all = (new, tt)
 all_and P (x ∷ xs) y new all = (all.0, all_and P xs y new all.1)
 
-passed_gone : (gone count : ℕ) (bytes text : List ℕ) (from : ℕ) → count ≤ length bytes →
-    Passed (exact text) bytes (from - gone) →
-    Passed (exact text) (drop count bytes) (from - (gone + count))
-passed_gone gone count bytes text from inside passed =
+-- a run is tied nowhere
+untied : {A : Type 0} (key : Key A) → (run_of key).at_start ≡ false
+untied key = by key.style key.folds key.text
+  where
+    by : (style : Style) (folds : Bool) (text : List ℕ) →
+        (sought_by folds (run_by style text)).at_start ≡ false
+    by style.Glob true text = refl
+    by style.Glob false text = refl
+    by style.Exact true text = refl
+    by style.Exact false text = refl
+
+passed_gone : {A : Type 0} (gone count : ℕ) (bytes : List ℕ) (key : Key A) (from : ℕ) →
+    count ≤ length bytes → Passed (run_of key) bytes (from - gone) →
+    Passed (run_of key) (drop count bytes) (from - (gone + count))
+passed_gone gone count bytes key from inside passed =
     let place : from - gone - count ≡ from - (gone + count) = omega arith in
-    subst (Passed (exact text) (drop count bytes)) place
-    (Passed-drop (exact text) bytes count (from - gone) refl inside passed)
+    subst (Passed (run_of key) (drop count bytes)) place
+    (Passed-drop (run_of key) bytes count (from - gone) (untied key) inside passed)
 
 -- bytes have gone from the front
 pub are_gone : {A : Type 0} (gone count : ℕ) (bytes : List ℕ) (vains : List (Vain A)) →
     count ≤ length bytes → ArePassed gone bytes vains →
     ArePassed (gone + count) (drop count bytes) vains
 are_gone gone count bytes vains inside are =
-    all_so _ _ (λ vain. passed_gone gone count bytes vain.text vain.from inside) vains are
+    all_so _ _ (λ vain. passed_gone gone count bytes vain.key vain.from inside) vains are
 
 -- bytes have come
 pub are_more : {A : Type 0} (gone : ℕ) (bytes more : List ℕ) (vains : List (Vain A)) →
     ArePassed gone bytes vains → ArePassed gone (bytes ++ more) vains
 are_more gone bytes more vains are =
-    all_so _ _ (λ vain. Passed-more (exact vain.text) bytes more (vain.from - gone)) vains are
-
--- bytes that stand for themselves take as many bytes
-whole_length : (bytes t : List ℕ) → Whole (map literal bytes) t → length t ≡ length bytes
-whole_length [] t whole = ap length whole
-whole_length (b ∷ bytes) t (piece, rest, joined, taken, whole) =
-    omega (
-      arith,
-      ap length joined,
-      length-append piece rest,
-      ap length taken,
-      whole_length bytes rest whole,
-    )
-
--- a text sits nowhere in a window in which fewer bytes than it has follow the place before which it
--- does not begin
-pub nowhere_short : (text w : List ℕ) (known : ℕ) → Passed (exact text) w known →
-    length w - known < length text → SitsNowhere (exact text) w
-nowhere_short text w known passed short = λ s e sits.
-    let low = Passed-here (exact text) w known s e passed sits in
-    let long = length-take-le (e - s) (drop s w)
-    (omega (arith, sits.ordered, sits.within, length-drop s w)) in
-    omega (
-      arith,
-      whole_length text (slice_range w s e) sits.whole,
-      long,
-      sits.ordered,
-      sits.within,
-      low,
-      short,
-    )
+    all_so _ _ (λ vain. Passed-more (run_of vain.key) bytes more (vain.from - gone)) vains are

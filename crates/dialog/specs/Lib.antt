@@ -3,12 +3,14 @@ pub mod Channels
 pub mod Choice
 pub mod Drafts
 pub mod Kinds
+pub mod Lead
 pub mod Lines
 pub mod LogState
 pub mod Misreads
 pub mod Parts
 pub mod Peers
 pub mod Reads
+pub mod Runs
 pub mod Selects
 pub mod Signs
 pub mod Standing

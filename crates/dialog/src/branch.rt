@@ -1,10 +1,13 @@
 //! Branches of `expect`, and the pairs of an id and a branch among which it chooses.
 
-ghost use Rattle.std.specs.Prelude.{◌≡◌, IfOk};
+ghost use Rattle.std.specs.Prelude.{◌≡◌, IfOk, IfSome};
 ghost use Rattle.dialog.specs.Choice.{takes_full, takes_end, takes_timeout};
-ghost use Rattle.dialog.specs.Branches.{pair};
+ghost use Rattle.dialog.specs.Branches.{pair, Sought};
+ghost use Rattle.dialog.specs.Lead.{IsLead, Leads};
 ghost use Rattle.dialog.specs.Views.{awaited_of, branch_of};
+ghost use Rattle.tcltext.specs.Pattern.Item.{Reading};
 
+use crate::lead::Lead;
 use acts::{Id, NoMemory};
 use std::alloc::Allocator;
 use std::marker::Model;
@@ -64,6 +67,8 @@ pub struct Flags {
 #[derive(Drop)]
 pub struct Branch<A: Allocator> {
     awaited: Awaited<A>,
+    /// What is sought first, where the branch seeks a pattern.
+    lead: Option<Lead<A>>,
     flags: Flags,
     body: Value<A>,
 }
@@ -76,6 +81,11 @@ impl<A: Allocator> Model for Branch<A> {
     ghost use Rattle.dialog.specs.Views.{branch_of};
 
     ghost view = { λ b. branch_of b.awaited b.flags b.body };
+
+    ghost use Rattle.dialog.specs.Views.{awaited_of};
+    ghost use Rattle.dialog.specs.Lead.{Leads};
+
+    ghost invariant = { λ b. Leads (awaited_of b.awaited) b.lead };
 }
 
 impl<A: Allocator> Branch<A> {
@@ -85,8 +95,22 @@ impl<A: Allocator> Branch<A> {
     {
         Branch {
             awaited,
+            lead: None,
             flags,
             body,
+        }
+    }
+
+    /// The same branch, with what is sought first of its pattern.
+    pub(crate) fn led(self, lead: Option<Lead<A>>) -> Branch<A>
+        requires { Leads self.awaited lead }
+        ensures { result ≡ self }
+    {
+        Branch {
+            awaited: self.awaited,
+            lead,
+            flags: self.flags,
+            body: self.body,
         }
     }
 }
@@ -147,6 +171,14 @@ impl<A: Allocator> Pair<A> {
         ensures { awaited_of result.now ≡ self.now.branch.awaited }
     {
         &self.branch.awaited
+    }
+
+    /// What is sought first of its pattern, where that is known.
+    pub(crate) fn lead(&self) -> Option<&Lead<A>>
+        ensures { (p : Reading) → self.now.branch.awaited ≡ Sought p →
+            IfSome result (λ lead. IsLead p lead.now) }
+    {
+        self.branch.lead.as_ref()
     }
 
     /// Whether the bytes that its branch finds stay in the buffer (`-notransfer`).

@@ -3,10 +3,12 @@ ghost use Rattle.std.specs.Prelude.{◌≡◌, ◌==◌, ◌&&◌, ◌≤◌, le
 ghost use Rattle.dialog.specs.Choice.{Chosen, Chooses, chosen, looks_at, takes, is_full, is_filled, is_met, Finds, FindsIn, IsFoundFor, IsMet, IsFirst, IsNone, share_at, shortened_to, lines_after, taken_at, taken_of};
 ghost use Rattle.dialog.specs.Branches.{Sought};
 ghost use Rattle.tcltext.specs.declared.pattern.search.Found as found;
+ghost use Rattle.dialog.specs.Lead.{IsLead};
 ghost use Rattle.dialog.specs.Lines.{Line, line_of, at_line, listing};
 ghost use Rattle.dialog.specs.Selects.{Selects, taken_by};
 
 use crate::branch::{Awaited, Pair};
+use crate::lead::Lead;
 use crate::searched::Round;
 use crate::table::Table;
 use acts::{Id, NoMemory};
@@ -211,11 +213,19 @@ impl<A: Allocator + Copy> Table<A> {
         let Awaited::Sought(pattern) = pair.awaited() else {
             return None;
         };
-        self.find(alloc, pair.id(), pattern, round)
+        self.find(alloc, pair.id(), pattern, pair.lead(), round)
     }
 
     /// Where a pattern is found in the window of an id, where the id is open.
-    fn find(&mut self, alloc: A, id: Id, pattern: &Pattern<A>, round: Round) -> Option<Found>
+    fn find(
+        &mut self,
+        alloc: A,
+        id: Id,
+        pattern: &Pattern<A>,
+        lead: Option<&Lead<A>>,
+        round: Round,
+    ) -> Option<Found>
+        requires { IfSome lead (λ lead. IsLead pattern.now lead.now) }
         ensures unchanged { self.new ≡ self.old }
         ensures found { let line = line_of self.old.lines id in MatchOption result
             ((f : found.Found) → ¬ FindsIn (Sought pattern.now) line f)
@@ -224,7 +234,7 @@ impl<A: Allocator + Copy> Table<A> {
         let Some(place) = self.place(id) else {
             return None;
         };
-        self.entries[place].search(alloc, pattern, round)
+        self.entries[place].search(alloc, pattern, lead, round)
     }
 
     /// The choice of a pair: its body, and what it takes. On `Err` the table is unchanged.

@@ -2,6 +2,7 @@
 ghost use Rattle.std.specs.Prelude.{◌≡◌, ◌↔◌, ◌++◌, map, true, false, None, Some, Ok, Err, IfOk, OnOk, IfErr, IfSome};
 ghost use Rattle.dialog.specs.Branches.{pair, Sought};
 ghost use Rattle.dialog.specs.Drafts.{blank, with_ids, with_seconds, with_flag, with_branch, wanted_of};
+ghost use Rattle.dialog.specs.Lead.{Leads};
 ghost use Rattle.dialog.specs.Misreads.{flaw_of};
 ghost use Rattle.dialog.specs.Reads as reads;
 ghost use Rattle.dialog.specs.Reads.{alone, at_end, awaited_by, branch_by, branch_flaw, ids_for, in_front, is_too_long, named_at, sought_by};
@@ -10,6 +11,7 @@ ghost use Rattle.dialog.specs.Views.{awaited_of};
 use crate::branch::{Awaited, Branch, Flags, Pair};
 use crate::branch_error::BranchError;
 use crate::branches::Branches;
+use crate::lead::Lead;
 use crate::sign::{Keyword, Mark, Style};
 use acts::{Id, NoMemory};
 use std::alloc::Allocator;
@@ -178,7 +180,8 @@ fn shared_branch<'a, A: Allocator + Copy>(
         (flaw ≡ reads.TooLong) × (is_too_long (wanted_of wanted.entry) ≡ true))) }
 {
     let awaited = awaited_by(alloc, flags.folds, wanted)?;
-    let branch = shared(alloc, Branch::new(awaited, flags, body))?;
+    let lead = lead_by(alloc, flags.folds, wanted, &awaited)?;
+    let branch = shared(alloc, Branch::new(awaited, flags, body).led(lead))?;
     Ok(branch)
 }
 
@@ -209,6 +212,26 @@ fn awaited_by<A: Allocator + Copy>(
         Wanted::Names(Keyword::Timeout) => Ok(Awaited::Timeout),
         Wanted::Names(Keyword::Default) => Ok(Awaited::Default),
     }
+}
+
+/// What is sought first, where a branch seeks a text.
+fn lead_by<A: Allocator + Copy>(
+    alloc: A,
+    folds: bool,
+    wanted: Wanted<'_>,
+    awaited: &Awaited<A>,
+) -> Result<Option<Lead<A>>, NoMemory>
+    requires { awaited_of awaited.now ≡ awaited_by folds (wanted_of wanted) }
+    ensures { IfOk result (Leads (awaited_of awaited.now)) }
+{
+    let Awaited::Sought(pattern) = awaited else {
+        return Ok(None);
+    };
+    let Wanted::Seeks(style, text) = wanted else {
+        return Ok(None);
+    };
+    let lead = Lead::of(alloc, style, folds, text, pattern)?;
+    Ok(Some(lead))
 }
 
 /// A pattern that is sought, with the letters of the window folded or not (expect(1), `-nocase`).

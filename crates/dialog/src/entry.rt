@@ -1,6 +1,7 @@
 //! An open id with its match buffer.
 ghost use Rattle.std.specs.Prelude.{◌≡◌, ◌≤◌, ◌==◌, ◌↔◌, ◌++◌, length, Err, IfOk, OnOk, OnErr, IfSome, MatchOption};
 ghost use Rattle.dialog.specs.Choice.{front_of, share_by, shortened_to};
+ghost use Rattle.dialog.specs.Lead.{IsLead};
 ghost use Rattle.dialog.specs.Lines.{reached, resized, dropping, row_of_line, without_nulls};
 ghost use Rattle.circular_buffer.specs.Buffer.{keep_last};
 ghost use Rattle.matchbuf.specs.Held.{held};
@@ -9,6 +10,7 @@ ghost use Rattle.dialog.specs.Views.{line_by, kind_of};
 ghost use Rattle.tcltext.specs.Pattern.Match.{IsFound, SitsNowhere};
 
 use crate::kind::Kind;
+use crate::lead::Lead;
 use crate::searched::{Round, Searched};
 use acts::{Id, NoMemory, Row};
 use matchbuf::{MatchBuf, MatchBufError};
@@ -142,13 +144,20 @@ impl<A: Allocator> Entry<A> {
 
 impl<A: Allocator + Copy> Entry<A> {
     /// Finds a pattern in the window. Memory is asked for only where the round may.
-    pub(crate) fn search(&mut self, alloc: A, pattern: &Pattern<A>, round: Round) -> Option<Found>
+    pub(crate) fn search(
+        &mut self,
+        alloc: A,
+        pattern: &Pattern<A>,
+        lead: Option<&Lead<A>>,
+        round: Round,
+    ) -> Option<Found>
+        requires { IfSome lead (λ lead. IsLead pattern.now lead.now) }
         ensures unchanged { self.new ≡ self.old }
         ensures found { let window = self.old.held.bytes in MatchOption result
             (SitsNowhere pattern.now window)
             (λ found. IsFound pattern.now window found.start found.end) }
     {
-        self.buffer.search(alloc, pattern, round)
+        self.buffer.search(alloc, pattern, lead, round)
     }
 
     /// Hands out the match and all before it, or the whole window where there is no match. What is

@@ -1,17 +1,19 @@
-//! A match buffer in which texts are sought again and again.
+//! A match buffer in which patterns are sought again and again.
 
-ghost use Rattle.std.specs.Prelude.{◌≡◌, ◌≤◌, ◌↔◌, ◌++◌, drop, length, take, Err, IfOk, IsTrue, OnOk, OnErr, MatchOption};
+ghost use Rattle.std.specs.Prelude.{◌≡◌, ◌≤◌, ◌↔◌, ◌++◌, drop, length, take, Err, IfOk, IfSome, IsTrue, OnOk, OnErr, MatchOption};
 ghost use Rattle.circular_buffer.specs.Buffer.{keep_last};
+ghost use Rattle.dialog.specs.Lead.{IsLead, run_of};
 ghost use Rattle.matchbuf.specs.Held.{held};
 ghost use Rattle.matchbuf.specs.Size.{IsSize};
 ghost use Rattle.tcltext.specs.Pattern.Match.{IsFound, SitsNowhere};
 
+use crate::lead::Lead;
 use crate::vain::{Vain, forget, make_slot, note, place_of, room};
 use acts::NoMemory;
 use matchbuf::{MatchBuf, MatchBufError};
 use std::alloc::Allocator;
 use std::marker::Model;
-use tcltext::{Found, Pattern, Scratch, find_text};
+use tcltext::{Found, Pattern, Scratch};
 
 /// The searches of one choice. All windows are searched for the same choice by the same number.
 #[derive(Clone, Copy)]
@@ -22,7 +24,7 @@ pub(crate) struct Round {
     pub(crate) grows: bool,
 }
 
-/// A match buffer, and the texts that were sought in it and not found: a search for such a text
+/// A match buffer, and the runs that were sought in it and not found: a search for such a run
 /// continues where the last one ended.
 ///
 /// Each pattern that is sought for a choice has a slot, the first one the first slot. So the same
@@ -141,44 +143,97 @@ impl<A: Allocator> Searched<A> {
 impl<A: Allocator + Copy> Searched<A> {
     /// Finds a pattern in the window. Memory is asked for only where the round may, and a refusal
     /// changes no answer.
-    pub(crate) fn search(&mut self, alloc: A, pattern: &Pattern<A>, round: Round) -> Option<Found>
+    pub(crate) fn search(
+        &mut self,
+        alloc: A,
+        pattern: &Pattern<A>,
+        lead: Option<&Lead<A>>,
+        round: Round,
+    ) -> Option<Found>
+        requires { IfSome lead (λ lead. IsLead pattern.now lead.now) }
         ensures unchanged { self.new ≡ self.old }
         ensures found { let window = self.old.bytes in MatchOption result
             (SitsNowhere pattern.now window)
             (λ found. IsFound pattern.now window found.start found.end) }
     {
         let slot = self.next_slot(round);
-        let needed = pattern.needs();
-        if self.buffer.len() < needed.as_slice().len() {
-            return None;
+        match lead {
+            Some(lead) => self.search_by(alloc, pattern, lead, slot),
+            None => self.find(alloc, pattern),
         }
-        self.search_by(alloc, pattern, slot)
     }
 
-    /// Finds a pattern in the window, by what its slot remembers. Takes no memory.
-    fn search_by(&mut self, alloc: A, pattern: &Pattern<A>, slot: usize) -> Option<Found>
+    /// Finds a pattern in the window, what is sought first of it before all else.
+    fn search_by(
+        &mut self,
+        alloc: A,
+        pattern: &Pattern<A>,
+        lead: &Lead<A>,
+        slot: usize,
+    ) -> Option<Found>
+        requires { IsLead pattern.now lead.now }
         ensures unchanged { self.new ≡ self.old }
         ensures found { let window = self.old.bytes in MatchOption result
             (SitsNowhere pattern.now window)
             (λ found. IsFound pattern.now window found.start found.end) }
     {
-        let Ok(mut scratch) = Scratch::new(alloc, self.buffer.len() as u32) else {
+        let first = self.search_first(alloc, pattern, lead, slot)?;
+        if lead.is_all() {
+            return Some(first);
+        }
+        self.find(alloc, pattern)
+    }
+
+    /// Finds what is sought first of a pattern, by what its slot remembers.
+    fn search_first(
+        &mut self,
+        alloc: A,
+        pattern: &Pattern<A>,
+        lead: &Lead<A>,
+        slot: usize,
+    ) -> Option<Found>
+        requires { IsLead pattern.now lead.now }
+        ensures unchanged { self.new ≡ self.old }
+        ensures found { let window = self.old.bytes in MatchOption result
+            (SitsNowhere (run_of lead.now.key) window)
+            (λ found. IsFound (run_of lead.now.key) window found.start found.end) }
+    {
+        let mut scratch = self.scratch(alloc);
+        let len = self.buffer.len();
+        let known = place_of(&self.vains, slot, lead.key(), self.gone).min(len);
+        // Fewer bytes are left than the run takes.
+        if len - known < lead.size() {
+            return None;
+        }
+        match lead.find(pattern, self.buffer.window(), known, &mut scratch) {
+            Some(found) => Some(found),
+            None => {
+                let next = (len + 1).saturating_sub(lead.size());
+                note(&mut self.vains, slot, lead.key(), next, self.gone);
+                None
+            }
+        }
+    }
+
+    /// Finds a pattern anywhere in the window.
+    fn find(&mut self, alloc: A, pattern: &Pattern<A>) -> Option<Found>
+        ensures unchanged { self.new ≡ self.old }
+        ensures found { let window = self.old.bytes in MatchOption result
+            (SitsNowhere pattern.now window)
+            (λ found. IsFound pattern.now window found.start found.end) }
+    {
+        let mut scratch = self.scratch(alloc);
+        pattern.find(self.buffer.window(), &mut scratch).found
+    }
+
+    /// What a search of the window needs.
+    fn scratch(&self, alloc: A) -> Scratch<A>
+        ensures { result ≡ length self.now.bytes }
+    {
+        let Ok(scratch) = Scratch::new(alloc, self.buffer.len() as u32) else {
             unreachable!()
         };
-        let window = self.buffer.window();
-        let needed = pattern.needs();
-        let text = needed.as_slice();
-        let known = place_of(&self.vains, slot, text, self.gone).min(window.len());
-        // Fewer bytes are left than the text has.
-        if window.len() - known < text.len() {
-            return None;
-        }
-        if find_text(text, window, known).is_none() {
-            let next = (window.len() + 1).saturating_sub(text.len());
-            note(&mut self.vains, slot, needed, next, self.gone);
-            return None;
-        }
-        pattern.find(window, &mut scratch).found
+        scratch
     }
 
     /// A copy of the first bytes.

@@ -1,22 +1,22 @@
-//! Texts that were sought in a buffer and not found.
+//! Runs that were sought in a buffer and not found.
 
 ghost use Rattle.std.specs.Prelude.{◌≡◌, ◌-◌, ◌≤◌, [], ℕ, List, IfOk, drop, length};
+ghost use Rattle.dialog.specs.Lead.{run_of};
 ghost use Rattle.dialog.specs.Vain.{ArePassed};
-ghost use Rattle.tcltext.specs.Pattern.Glob.{exact};
 ghost use Rattle.tcltext.specs.Pattern.Passed.{Passed};
 
+use crate::lead::Key;
 use acts::NoMemory;
 use std::alloc::Allocator;
-use tcltext::Value;
 
 /// How many pairs of an id have a slot from its opening on.
 const FIRST_SLOTS: usize = 8;
 
-/// A text that was sought and not found.
+/// A run that was sought and not found.
 #[derive(Drop)]
 pub(crate) struct Vain<A: Allocator> {
-    text: Value<A>,
-    /// Before this place the text begins nowhere, whatever follows. Places are counted from the
+    key: Key<A>,
+    /// Before this place the run begins nowhere, whatever follows. Places are counted from the
     /// first byte that the buffer held when the list was empty.
     from: usize,
 }
@@ -35,55 +35,56 @@ pub(crate) fn make_slot<A: Allocator>(vains: &mut Vec<Vain<A>, A>, slot: usize)
         ArePassed gone bytes vains.new.items }
 {
     if slot == vains.len() {
-        let text = Value::empty();
-        let _ = vains.push(Vain { text, from: 0 });
+        let key = Key::empty();
+        let _ = vains.push(Vain { key, from: 0 });
     }
 }
 
-/// The place before which a text is known to begin nowhere, whatever follows; 0 where the slot has
-/// another text or where there is no such slot.
+/// The place before which a run is known to begin nowhere, whatever follows; 0 where the slot has
+/// another run or where there is no such slot.
 pub(crate) fn place_of<A: Allocator>(
     vains: &[Vain<A>],
     slot: usize,
-    text: &[u8],
+    key: &Key<A>,
     gone: usize,
 ) -> usize
     ensures { (bytes : List ℕ) → ArePassed gone bytes vains.now →
-        Passed (exact text.now) bytes result }
+        Passed (run_of key.now) bytes result }
 {
     if vains.len() <= slot {
         return 0;
     }
     let vain = &vains[slot];
-    if vain.text.as_slice() == text {
+    if vain.key.is(key) {
         return vain.from.saturating_sub(gone);
     }
     0
 }
 
-/// Records in its slot, where it has one, that a text begins nowhere before the place `next` of the
+/// Records in its slot, where it has one, that a run begins nowhere before the place `next` of the
 /// bytes. Takes no memory.
 pub(crate) fn note<A: Allocator>(
     vains: &mut Vec<Vain<A>, A>,
     slot: usize,
-    text: &Value<A>,
+    key: &Key<A>,
     next: usize,
     gone: usize,
 )
     ensures { (bytes : List ℕ) → ArePassed gone bytes vains.old.items →
-        Passed (exact text.now) bytes next → ArePassed gone bytes vains.new.items }
+        Passed (run_of key.now) bytes next → ArePassed gone bytes vains.new.items }
 {
     let Some(from) = gone.checked_add(next) else {
         return;
     };
+    if vains.len() <= slot {
+        return;
+    }
     // Where the text already has as many holders as can be counted, nothing is recorded, and the
     // next search begins anew.
-    let Ok(text) = text.share() else {
+    let Ok(key) = key.share() else {
         return;
     };
-    if slot < vains.len() {
-        vains[slot] = Vain { text, from };
-    }
+    vains[slot] = Vain { key, from };
 }
 
 /// Counts bytes that are gone from the front of the buffer. Where they are too many to be counted,

@@ -1,0 +1,236 @@
+-- Runs that are sought first, and what a search for one says of the whole pattern.
+use Rattle.std.proofs.Common.{◌≡◌, ℕ, ◌+◌, ◌-◌, ◌≤◌, ◌<◌, true, false, Bool, List, [], ◌∷◌, ◌++◌, IsTrue, length, map, take, drop, refl, sym, ◌∙◌, ap, subst, inl, inr, arith, append_assoc, Option, Some, None, MatchOption}
+use Rattle.std.specs.Prelude.{slice_range}
+use Rattle.std.proofs.lemmas.Bool.{cases_lt, false≢true}
+use Rattle.std.proofs.lemmas.List.{length-drop, length-append, length-map, length-take-le, take-append-le, drop-append-le, drop-drop, take_at, drop_at}
+use Rattle.tcltext.specs.Pattern.Glob.{exact}
+use Rattle.tcltext.specs.Pattern.Item.{Item, Reading, literal, any_byte, one_of, any_run}
+use Rattle.tcltext.specs.Pattern.Match.{Whole, Sits, SitsNowhere, IsFound, compared}
+use Rattle.tcltext.specs.Pattern.Passed.{Passed}
+use Rattle.tcltext.specs.Pattern.Runs.{IsFixed}
+use Rattle.tcltext.specs.declared.pattern.search.Found.{Found}
+use Rattle.tcltext.proofs.Patterns.Folds.{compared-length, compared-range}
+use Rattle.tcltext.proofs.Patterns.Items.{IsFixed-text}
+use Rattle.tcltext.proofs.Patterns.Shifts.{Passed-here, Sits-on}
+use Rattle.tcltext.proofs.Patterns.Spans.{slice_range-joined}
+use Rattle.tcltext.proofs.Patterns.Stars.{drop_behind}
+use Rattle.dialog.specs.Lead.{IsRun, IsNeeded}
+
+-- items of one byte each take as many bytes
+whole_length : (items : List Item) (t : List ℕ) → IsFixed items → Whole items t →
+    length t ≡ length items
+whole_length [] t fixed whole = ap length whole
+whole_length (literal c ∷ items) t fixed (piece, rest, joined, taken, whole) =
+    omega (
+      arith,
+      ap length joined,
+      length-append piece rest,
+      ap length taken,
+      whole_length items rest fixed whole,
+    )
+whole_length (any_byte ∷ items) t fixed (piece, rest, joined, taken, whole) =
+    omega (
+      arith,
+      ap length joined,
+      length-append piece rest,
+      ap length taken.1,
+      whole_length items rest fixed whole,
+    )
+whole_length (one_of bytes ∷ items) t fixed (piece, rest, joined, taken, whole) =
+    omega (
+      arith,
+      ap length joined,
+      length-append piece rest,
+      ap length taken.1,
+      whole_length items rest fixed whole,
+    )
+whole_length (any_run ∷ items) t fixed whole = absurd fixed
+
+-- the end of a run, by its start
+pub run_end : (p : Reading) (size : ℕ) (w : List ℕ) (s e : ℕ) → IsRun p size → Sits p w s e →
+    s + size ≡ e
+run_end p size w s e run sits =
+    let long = length-take-le (e - s) (drop s w)
+    (omega (arith, sits.ordered, sits.within, length-drop s w)) in
+    omega (
+      arith,
+      whole_length p.items (compared p.folds (slice_range w s e)) run.fixed sits.whole,
+      compared-length p.folds (slice_range w s e),
+      run.long,
+      long,
+      sits.ordered,
+    )
+
+no_start : (p : Reading) (n m : ℕ) → p.at_start ≡ false → IsTrue p.at_start → n ≡ m
+no_start p n m is tied = absurd (false≢true (sym is ∙ tied))
+
+no_end : (p : Reading) (n m : ℕ) → p.at_end ≡ false → IsTrue p.at_end → n ≡ m
+no_end p n m is tied = absurd (false≢true (sym is ∙ tied))
+
+-- the bytes up to e, whatever follows the window
+range_before : (w rest : List ℕ) (s e : ℕ) → s ≤ e → e ≤ length w →
+    slice_range (w ++ rest) s e ≡ slice_range w s e
+range_before w rest s e ordered within =
+    ap (take (e - s)) (drop-append-le s w rest (omega arith))
+    ∙ take-append-le (e - s) (drop s w) rest (omega (arith, length-drop s w))
+
+-- a run that sits nowhere in the window begins in its last bytes, whatever follows
+pub run_passed : (p : Reading) (size : ℕ) (w : List ℕ) → IsRun p size → SitsNowhere p w →
+    Passed p w (length w + 1 - size)
+run_passed p size w run nowhere = λ rest s e sits.
+    let end = run_end p size (w ++ rest) s e run sits in
+    elim (cases_lt (length w) e) [
+      | inl behind ↦ omega arith
+      | inr inside ↦ absurd (nowhere s e record {
+        ordered = sits.ordered;
+        within = inside;
+        whole = subst (λ (x : List ℕ). Whole p.items (compared p.folds x))
+            (range_before w rest s e sits.ordered inside) sits.whole;
+        at_start = no_start p s 0 run.at_start;
+        at_end = no_end p e (length w) run.at_end;
+      })
+    ]
+
+-- a run sits nowhere in a window in which fewer bytes than it takes follow the place before which
+-- it does not begin
+pub nowhere_short : (p : Reading) (size : ℕ) (w : List ℕ) (known : ℕ) → IsRun p size →
+    Passed p w known → length w - known < size → SitsNowhere p w
+nowhere_short p size w known run passed short = λ s e sits.
+    let low = Passed-here p w known s e passed sits in
+    omega (arith, run_end p size w s e run sits, sits.within, low, short)
+
+-- the bytes from s up to e, where the first k of the window are left out
+range_off : (w : List ℕ) (k s e : ℕ) → k ≤ s →
+    slice_range w s e ≡ slice_range (drop k w) (s - k) (e - k)
+range_off w k s e low =
+    let size : e - s ≡ e - k - (s - k) = omega arith in
+    let place : s ≡ k + (s - k) = omega arith in
+    ap (λ (n : ℕ). take n (drop s w)) size
+    ∙ ap (λ (n : ℕ). take (e - k - (s - k)) (drop n w)) place
+    ∙ ap (take (e - k - (s - k))) (sym (drop-drop (s - k) k w))
+
+-- where a pattern sits after the first k bytes, it sits in the window without them
+sits_off : (p : Reading) (w : List ℕ) (k s e : ℕ) → p.at_start ≡ false → k ≤ s → Sits p w s e →
+    Sits p (drop k w) (s - k) (e - k)
+sits_off p w k s e is low sits = record {
+  ordered = omega (arith, sits.ordered);
+  within = omega (arith, sits.within, length-drop k w);
+  whole = subst (λ (x : List ℕ). Whole p.items (compared p.folds x)) (range_off w k s e low)
+      sits.whole;
+  at_start = no_start p (s - k) 0 is;
+  at_end = λ tied. omega (arith, sits.at_end tied, length-drop k w);
+}
+
+-- the pattern sits at no place before k
+abbrev pub Low : Reading → List ℕ → ℕ → Type 0
+Low p w k = (s e : ℕ) → Sits p w s e → k ≤ s
+
+-- what is found in the window without its first k bytes, where nothing sits before them
+pub found_on : (p : Reading) (w : List ℕ) (k s e : ℕ) → p.at_start ≡ false → k ≤ length w →
+    Low p w k → IsFound p (drop k w) s e → IsFound p w (k + s) (k + e)
+found_on p w k s e is inside low found =
+    let start : s + k ≡ k + s = omega arith in
+    let end : e + k ≡ k + e = omega arith in
+    let back : k + s - k ≡ s = omega arith in
+    record {
+      sits = subst (λ (n : ℕ). Sits p w n (k + e)) start
+          (subst (λ (n : ℕ). Sits p w (s + k) n) end (Sits-on p w k s e is inside found.sits));
+      least_start = λ s' e' sits.
+          omega (
+            arith,
+            low s' e' sits,
+            found.least_start (s' - k) (e' - k) (sits_off p w k s' e' is (low s' e' sits) sits),
+          );
+      greatest_end = λ e' sits.
+          let off = sits_off p w k (k + s) e' is (omega arith) sits in
+          omega (
+            arith,
+            sits.ordered,
+            found.greatest_end (e' - k) (subst (λ (n : ℕ). Sits p (drop k w) n (e' - k)) back off),
+          );
+    }
+
+pub nowhere_on : (p : Reading) (w : List ℕ) (k : ℕ) → p.at_start ≡ false → Low p w k →
+    SitsNowhere p (drop k w) → SitsNowhere p w
+nowhere_on p w k is low nowhere = λ s e sits.
+    nowhere (s - k) (e - k) (sits_off p w k s e is (low s e sits) sits)
+
+-- a text alone is a run
+pub text_run : (text : List ℕ) → IsRun (exact text) (length text)
+text_run text = record {
+  at_start = refl;
+  at_end = refl;
+  fixed = IsFixed-text text;
+  long = length-map text literal;
+}
+
+-- the parts of a text that the items in front and those after them take
+whole_parts : (items more : List Item) (t : List ℕ) → Whole (items ++ more) t →
+    (front rest : List ℕ) × (t ≡ front ++ rest) × Whole items front × Whole more rest
+whole_parts [] more t whole = ([], t, refl, refl, whole)
+whole_parts (item ∷ items) more t (piece, rest, joined, taken, whole) =
+    let (front, back, split, ours, theirs) = whole_parts items more rest whole in (
+      piece ++ front,
+      back,
+      joined ∙ ap (λ (x : List ℕ). piece ++ x) split ∙ sym (append_assoc piece front back),
+      (piece, front, refl, taken, ours),
+      theirs,
+    )
+
+-- a part of what stands from s up to e
+range_inside : (w front part rest : List ℕ) (s e : ℕ) → s ≤ e →
+    slice_range w s e ≡ front ++ (part ++ rest) →
+    slice_range w (s + length front) (s + length front + length part) ≡ part
+range_inside w front part rest s e ordered split =
+    let whole : drop s w ≡ front ++ (part ++ (rest ++ drop e w)) =
+    sym (slice_range-joined w s e ordered)
+    ∙ ap (λ (x : List ℕ). x ++ drop e w) split
+    ∙ append_assoc front (part ++ rest) (drop e w)
+    ∙ ap (λ (x : List ℕ). front ++ x) (append_assoc part rest (drop e w)) in
+    let behind : drop (s + length front) w ≡ part ++ (rest ++ drop e w) =
+    sym (drop_behind w s (length front) (s + length front) refl)
+    ∙ ap (λ (x : List ℕ). drop (length front) x) whole
+    ∙ drop_at front (part ++ (rest ++ drop e w)) (length front) refl in
+    let size : s + length front + length part - (s + length front) ≡ length part = omega arith in
+    ap (λ (n : ℕ). take n (drop (s + length front) w)) size
+    ∙ ap (take (length part)) behind
+    ∙ take_at part (rest ++ drop e w) (length part) refl
+
+-- a run among the items stands where the pattern sits
+pub part_needed : (p run : Reading) (before after : List Item) → run.at_start ≡ false →
+    run.at_end ≡ false → run.folds ≡ p.folds → p.items ≡ before ++ (run.items ++ after) →
+    IsNeeded run p
+part_needed p run before after start end folds items = λ w nowhere s e sits.
+    let cw : List ℕ = compared p.folds w in
+    let taken : Whole (before ++ (run.items ++ after)) (slice_range cw s e) =
+    subst (λ (x : List Item). Whole x (slice_range cw s e)) items
+    (subst (Whole p.items) (sym (compared-range p.folds w s e)) sits.whole) in
+    let (front, more, split, ours, behind) = whole_parts before (run.items ++ after)
+    (slice_range cw s e) taken in
+    let (part, rest, joined, here, theirs) = whole_parts run.items after more behind in
+    let parts : slice_range cw s e ≡ front ++ (part ++ rest) =
+    split ∙ ap (λ (x : List ℕ). front ++ x) joined in
+    let long = compared-length p.folds w in
+    let size = length-take-le (e - s) (drop s cw)
+    (omega (arith, sits.ordered, sits.within, long, length-drop s cw)) in
+    let start' : ℕ = s + length front in
+    let end' : ℕ = s + length front + length part in
+    let there : part ≡ compared p.folds (slice_range w start' end') =
+    sym (range_inside cw front part rest s e sits.ordered parts)
+    ∙ compared-range p.folds w start' end' in
+    nowhere start' end' record {
+      ordered = omega arith;
+      within = omega (
+        arith,
+        sits.ordered,
+        sits.within,
+        size,
+        ap length parts,
+        length-append front (part ++ rest),
+        length-append part rest,
+      );
+      whole = subst (λ (f : Bool). Whole run.items (compared f (slice_range w start' end')))
+          (sym folds) (subst (Whole run.items) there here);
+      at_start = no_start run start' 0 start;
+      at_end = no_end run end' (length w) end;
+    }

@@ -1,0 +1,56 @@
+-- What a search for a pattern seeks first: a run, which takes as many bytes wherever it stands.
+use Rattle.std.specs.Prelude.{◌≡◌, ℕ, false, List, length, Option, Some, None}
+use Rattle.tcltext.specs.Pattern.Glob.{glob, plain, exact}
+use Rattle.tcltext.specs.Pattern.Item.{Reading}
+use Rattle.tcltext.specs.Pattern.Match.{SitsNowhere}
+use Rattle.tcltext.specs.Pattern.Runs.{IsFixed}
+use Rattle.dialog.specs.Branches.{Awaited, Sought}
+use Rattle.dialog.specs.Reads.{sought_by}
+use Rattle.dialog.specs.declared.lead.Key.{Key}
+use Rattle.dialog.specs.declared.lead.Lead.{Lead}
+use Rattle.dialog.specs.declared.lead.Seeker.{Seeker}
+use Rattle.dialog.specs.declared.lead.Seeker.TheVariants as seeker
+use Rattle.dialog.specs.declared.sign.Style.{Style}
+use Rattle.dialog.specs.declared.sign.Style.TheVariants as style
+
+-- the pattern of a branch that seeks this text (expect(1), -gl and -ex)
+abbrev pub pattern_by : Style → List ℕ → Reading
+pattern_by style.Glob text = glob text
+pattern_by style.Exact text = exact text
+
+-- the run of this text, which is tied nowhere (this project's own rule)
+abbrev pub run_by : Style → List ℕ → Reading
+run_by style.Glob text = plain text
+run_by style.Exact text = exact text
+
+-- the run that a key stands for (this project's own rule)
+abbrev pub run_of : {A : Type 0} → Key A → Reading
+run_of key = sought_by key.folds (run_by key.style key.text)
+
+-- the pattern is tied nowhere, and takes so many bytes wherever it sits (this project's own rule)
+pub record IsRun (p : Reading) (size : ℕ) : Type 0 where
+  pub at_start : p.at_start ≡ false
+  pub at_end : p.at_end ≡ false
+  pub fixed : IsFixed p.items
+  pub long : length p.items ≡ size
+
+-- where the run sits nowhere, the pattern sits nowhere (this project's own rule)
+abbrev pub IsNeeded : Reading → Reading → Type 0
+IsNeeded run p = (window : List ℕ) → SitsNowhere run window → SitsNowhere p window
+
+-- the run of the key is sought as a text, as the pattern itself, or as a pattern of its own
+-- (this project's own rule)
+abbrev pub Seeks : {A : Type 0} → Key A → Reading → Seeker A → Type 0
+Seeks key p seeker.Text = (run_of key ≡ exact key.text) × IsNeeded (run_of key) p
+Seeks key p seeker.Itself = p ≡ run_of key
+Seeks key p (seeker.Part part) = (part ≡ run_of key) × IsNeeded (run_of key) p
+
+-- what is sought first of this pattern (this project's own rule)
+pub record IsLead {A : Type 0} (p : Reading) (lead : Lead A) : Type 0 where
+  pub run : IsRun (run_of lead.key) lead.size
+  pub seeks : Seeks lead.key p lead.seeker
+
+-- what is sought first of what a branch waits for, where it is known (this project's own rule)
+abbrev pub Leads : {A : Type 0} → Awaited → Option (Lead A) → Type 0
+Leads awaited None = Unit {0}
+Leads awaited (Some lead) = (p : Reading) → awaited ≡ Sought p → IsLead p lead
