@@ -12,7 +12,8 @@ use formulas::{Formula, KeptFormulas, ReadError};
 use state::faults::no_script;
 use std::alloc::Allocator;
 
-/// Reads a word as a formula, or gives the formula that is kept with it, or answers the script's error (expr(n)).
+/// Reads a word as a formula, or gives the formula that is kept with it; or answers the script's
+/// error (expr(n)).
 pub(crate) fn read<A: Allocator + Copy>(
     formulas: &mut KeptFormulas<A>,
     text: &[u8],

@@ -16,8 +16,8 @@ use std::str;
 /// How often a loop tries its calls at most, so that it is proved to end. No run comes near it.
 pub const MOST_TRIES: u64 = u64::MAX;
 
-/// The answer to an act that the system refused by this error, which is kept: that there are no more
-/// answers where memory was refused, and else that the act is refused.
+/// The answer to an act that the system refused by this error, which is kept: that there are no
+/// more answers where memory was refused, and else that the act is refused.
 pub fn refused(why: &mut Option<io::Error>, error: io::Error) -> Answer<Global>
     ensures refusal { IsRefusal error (reply_of result) }
     ensures why { why.new ≡ Some error }

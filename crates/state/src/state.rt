@@ -23,6 +23,7 @@ pub struct State<A: Allocator> {
     /// The trees of the scripts that ran last within others. They say nothing that the texts of
     /// these scripts do not, so the definition has no such field.
     pub kept: Kept<A>,
-    /// The formulas that were read last, by their texts. They too say nothing that the texts do not.
+    /// The formulas that were read last, with their texts. They too say nothing that the texts do
+    /// not.
     pub formulas: KeptFormulas<A>,
 }

@@ -42,8 +42,8 @@ abbrev pub MayBeLost : Option (List ℕ) → Bool → Type 0
 MayBeLost None lost = lost ≡ false
 MayBeLost (Some name) lost = Unit {0}
 
--- `opens` and `makes` say what the system may answer where the file of a name is to be read or made,
--- `reads` and `takes` whether a read from a file or from standard input may give an answer and lead
+-- `opens` and `makes` say what the system may answer where the file of a name is to be read or
+-- made, `reads` and `takes` whether a read from a file or from standard input may give an answer and lead
 -- from one state to another, and `same` whether two names may be those of one file; `out` and `err`
 -- say whether a write may lead from one state of a writer to another and add these bytes,
 -- `out_failed` and `err_failed` whether the writer has failed.
