@@ -5,7 +5,7 @@ from dataclasses import dataclass, field
 
 EXAMPLES = f"{os.path.dirname(os.path.realpath(__file__))}/../examples"
 # The files of an example that its script has nothing to do with.
-NOT_RUN = {"README.md", "record", "script.exp", "status", "stdout"}
+NOT_RUN = {"README.md", "record", "script.exp", "status", "stdout", "story"}
 VERBS = {"serves", "says", "leaves", "hears", "ends", "dies"}
 PARTS = {"peers", "script", "here", "logged"}
 SIGNS = {"n": b"\n", "t": b"\t", "r": b"\r", "0": b"\0", "\\": b"\\"}
