@@ -24,8 +24,8 @@ pub struct Read<A: Allocator> {
 }
 
 /// The formulas of texts that were read last. A text has one place, at which only the last text of
-/// that place is kept. Contracts see nothing of what is kept: what a text is read as does not depend
-/// on it.
+/// that place is kept. Contracts see nothing of what is kept: what a text is read as does not
+/// depend on it.
 #[derive(Drop)]
 pub struct KeptFormulas<A: Allocator> {
     places: Vec<Option<Read<A>>, A>,

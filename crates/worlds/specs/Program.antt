@@ -43,9 +43,9 @@ MayBeLost None lost = lost ≡ false
 MayBeLost (Some name) lost = Unit {0}
 
 -- `opens` and `makes` say what the system may answer where the file of a name is to be read or
--- made, `reads` and `takes` whether a read from a file or from standard input may give an answer and lead
--- from one state to another, and `same` whether two names may be those of one file; `out` and `err`
--- say whether a write may lead from one state of a writer to another and add these bytes,
+-- made, `reads` and `takes` whether a read from a file or from standard input may give an answer
+-- and lead from one state to another, and `same` whether two names may be those of one file; `out`
+-- and `err` say whether a write may lead from one state of a writer to another and add these bytes,
 -- `out_failed` and `err_failed` whether the writer has failed.
 module _ {F I M : Type 0} (opens : List ℕ → Result F Error → Type 0)
     (reads : F → Result ℕ Error → F → Type 0) (takes : I → Result ℕ Error → I → Type 0)
