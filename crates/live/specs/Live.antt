@@ -25,10 +25,13 @@ IsWanted _ reply = ⊤
 abbrev pub Lives : Deed → Reply → Type 0
 Lives act reply = (fits act reply ≡ true) × IsWanted act reply
 
--- where an act was refused, the system's error says why (this project's own)
-abbrev pub IsWhy : Reply → Option Error → Type 0
-IsWhy said.Refused why = IsSome why
-IsWhy _ why = ⊤
+-- what is known of why an act was refused, before it and after: where it was refused, the system's
+-- error says why; where it was neither refused nor failed, nothing is learned (this project's own)
+abbrev pub IsWhy : Reply → (before after : Option Error) → Type 0
+IsWhy said.Refused before after = IsSome after
+IsWhy (said.Failed sent) before after = ⊤
+IsWhy said.NoMore before after = ⊤
+IsWhy _ before after = after ≡ before
 
 -- the log gets what is written to it; one that is opened keeps what its file holds, or is begun
 -- anew, and takes the place of the one before; where none is open, no bytes go out; `contents` says

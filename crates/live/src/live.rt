@@ -80,19 +80,34 @@ impl<S: System + Drop, O: Write + Drop, E: Write + Drop> Live<S, O, E> {
     }
 
     /// Why the last act was refused or failed, in the words of the system: none where it was
-    /// neither, or where the system was not asked, as where nothing is open under an id. Standard
-    /// output and standard error that the caller writes itself are not known of here.
+    /// neither, or where the system was not asked, as where nothing is open under an id. Of acts
+    /// that the caller performs itself it is what the caller notes.
     pub fn refusal(&self) -> Option<io::Error>
         ensures { result ≡ self.now.refusal }
     {
         self.refusal
+    }
+
+    /// Notes why an act was refused or failed that the caller performed itself, in place of what
+    /// was known of the act before; none where it was neither.
+    pub fn note(&mut self, why: Option<io::Error>)
+        ensures refusal { self.new.refusal ≡ why }
+        ensures system { self.new.system ≡ self.old.system }
+        ensures out { self.new.out ≡ self.old.out }
+        ensures err { self.new.err ≡ self.old.err }
+        ensures log { self.new.log ≡ self.old.log }
+        ensures peers { self.new.peers ≡ self.old.peers }
+        ensures programs { self.new.programs ≡ self.old.programs }
+    {
+        self.refusal = why;
     }
 }
 
 impl<S: System + Drop, O: Write + Drop, E: Write + Drop> World<Global> for Live<S, O, E> {
     // Each answer fits, the two writers and the log get what went out by it, and nothing else, and
     // what was read from the links and written to them, and which programs were started and which
-    // servers called, is what the acts and their answers say. Why an act was refused is known.
+    // servers called, is what the acts and their answers say. Why the last act was refused is
+    // known, and of no other act.
     ghost step = { λ before act answer after. Lives act answer
         × Appends (O.contents before.out) (O.contents after.out) (out_text act answer)
         × Appends (E.contents before.err) (E.contents after.err) (err_text act answer)
@@ -100,7 +115,7 @@ impl<S: System + Drop, O: Write + Drop, E: Write + Drop> World<Global> for Live<
         × Programs S.Program.owner act answer before.programs.items after.programs.items
         × Works S.step S.Link.owner act answer before.system after.system
         before.peers after.peers
-        × IsWhy answer after.refusal };
+        × IsWhy answer None after.refusal };
 
     #[tactic(auto, using(crate::proofs::Texts::grows_by_none))]
     fn act(&mut self, act: &Act<Global>) -> Answer<Global> {

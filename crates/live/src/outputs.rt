@@ -27,6 +27,7 @@ pub fn write_text<W: Write>(
     why: &mut Option<io::Error>,
 ) -> Answer<Global>
     ensures fits { table.fits_write text.now (reply_of result) ≡ true }
+    ensures why { IsWhy (reply_of result) why.old why.new }
     ensures gets { Appends (W.contents writer.old) (W.contents writer.new)
         (went_out text.now (reply_of result)) }
 {
@@ -76,6 +77,7 @@ pub fn write_log<W: Write>(
     why: &mut Option<io::Error>,
 ) -> Answer<Global>
     ensures fits { table.fits_write text.now (reply_of result) ≡ true }
+    ensures why { IsWhy (reply_of result) why.old why.new }
     ensures some { IfSome log.old (λ file. IsSomeAnd log.new (λ new.
         Appends (W.contents file) (W.contents new) (went_out text.now (reply_of result)))) }
     ensures none { IfNone log.old ((reply_of result ≡ said.Failed 0) × (log.new ≡ None)) }
@@ -96,7 +98,7 @@ pub fn open_log<S: System>(
     why: &mut Option<io::Error>,
 ) -> Answer<Global>
     ensures fits { table.fits_open (reply_of result) ≡ true }
-    ensures why { IsWhy (reply_of result) why.new }
+    ensures why { IsWhy (reply_of result) why.old why.new }
     ensures done { reply_of result ≡ said.Done → IsSomeAnd log.new (λ file.
         IsOpened (S.holds system.old name.now) mode (S.Log.contents file))
         × S.step system.old (call.OpenLog name.now mode) system.new }

@@ -43,7 +43,7 @@ pub fn spawn<S: System>(
     why: &mut Option<io::Error>,
 ) -> Answer<Global>
     ensures fits { table.fits_spawn (reply_of result) ≡ true }
-    ensures why { IsWhy (reply_of result) why.new }
+    ensures why { IsWhy (reply_of result) why.old why.new }
     ensures started { (pid : ℕ) → reply_of result ≡ said.Started pid →
         Opens S.Link.owner id peers.old peers.new
         × IsStart S.step system.old id (map (λ word. word.items) words.now) pid system.new }

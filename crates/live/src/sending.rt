@@ -7,6 +7,7 @@ ghost use Rattle.acts.specs.Fits as table;
 ghost use Rattle.live.specs.Calls.{took};
 ghost use Rattle.live.specs.Early.{Exchanged, Idles, IfAnswered, UnlessMemory};
 ghost use Rattle.live.specs.Kept.{Traded, ids_of, kept_of, only};
+ghost use Rattle.live.specs.Live.{IsWhy};
 ghost use Rattle.live.specs.Outputs.{went_out};
 
 use crate::calls::System;
@@ -28,6 +29,7 @@ pub fn send<S: System>(
     why: &mut Option<io::Error>,
 ) -> Answer<Global>
     ensures fits { table.fits_write text.now (reply_of result) ≡ true }
+    ensures why { IsWhy (reply_of result) why.old why.new }
     ensures deadline { peers.new.deadline ≡ peers.old.deadline }
     ensures ids { ids_of S.Link.owner peers.new.list.items
         ≡ ids_of S.Link.owner peers.old.list.items }
@@ -51,6 +53,7 @@ fn send_to<S: System>(
     why: &mut Option<io::Error>,
 ) -> Answer<Global>
     ensures fits { table.fits_write text.now (reply_of result) ≡ true }
+    ensures why { IsWhy (reply_of result) why.old why.new }
     ensures owner { S.Link.owner peer.new.link ≡ S.Link.owner peer.old.link }
     ensures exchanged { IfAnswered (reply_of result)
         (Exchanged S.step (S.Link.owner peer.old.link) system.old peer.old.early.items

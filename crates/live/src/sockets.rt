@@ -26,7 +26,7 @@ pub fn connect<S: System>(
     why: &mut Option<io::Error>,
 ) -> Answer<Global>
     ensures fits { table.fits_open (reply_of result) ≡ true }
-    ensures why { IsWhy (reply_of result) why.new }
+    ensures why { IsWhy (reply_of result) why.old why.new }
     ensures done { reply_of result ≡ said.Done → Opens S.Link.owner id peers.old peers.new
         × call.Made S.step system.old (call.Connect id host.now port ∷ call.Poll id ∷ [])
         system.new }

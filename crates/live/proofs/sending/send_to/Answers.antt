@@ -5,11 +5,12 @@ use Rattle.live.proofs.sending.send_to.Goals as goal
 
 pub text-preserved : goal.text-preserved
 text-preserved g c =
-    let (front, whole, same, before) = c.text.invariant in
+    let (front, whole, unrefused, same, before) = c.text.invariant in
     let rest = c.text.rest.now in
     let n = c.in-Ok.count in (
       front ++ take n rest,
       onward c.args.text.now front rest n whole,
+      unrefused,
       c.send_some.ensures.owner ∙ same,
       exchanged_on g.S.System.step _ _ _ _ _ _ _ _ front (take n rest) _ before same
           c.in-Ok.ensures.exchanged,
@@ -17,7 +18,7 @@ text-preserved g c =
 
 pub returns-in_default-clause-exchanged : goal.returns-in_default-clause-exchanged
 returns-in_default-clause-exchanged g c =
-    let (front, whole, same, before) = c.text.invariant in
+    let (front, whole, unrefused, same, before) = c.text.invariant in
     exchanged_failed g.S.System.step _ _ _ _ _ _ front _ _ c.failed.ensures whole
     (exchanged_nothing g.S.System.step _ _ _ _ _ _ _ _ front [] before same
     (c.in-Err.ensures.exchanged
