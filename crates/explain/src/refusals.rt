@@ -38,7 +38,7 @@ impl<A: Allocator, W: World<A> + Refuses<A>> World<A> for Heeded<'_, W> {
         let answer = self.world.act(act);
         self.acts = self.acts.saturating_add(1);
         if is_refused(&answer) {
-            self.refusal = match self.world.refusal(act) {
+            self.refusal = match self.world.refusal() {
                 Some(why) => Some(Refusal {
                     act: self.acts,
                     why,

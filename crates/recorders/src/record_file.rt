@@ -7,6 +7,7 @@ ghost use Rattle.recorders.specs.RecordFile.{Gathers, Stores};
 
 use crate::room::{ROOM, Room};
 use records::Sink;
+use std::io;
 
 /// A record's file, over a sink. What is put is gathered until an entry is whole, and then goes out
 /// at once, so that a run that is killed leaves the record of its beginning. It fails at the first
@@ -58,6 +59,13 @@ impl<S: Sink> Sink for RecordFile<S> {
 
     fn failed(&self) -> bool {
         self.failed
+    }
+
+    fn fault(&self) -> Option<io::Error> {
+        if !self.failed {
+            return None;
+        }
+        self.file.fault()
     }
 }
 

@@ -42,6 +42,8 @@ impl<W: Write> Writer for W {
 pub struct Counted<W> {
     writer: W,
     failed: bool,
+    /// The error of the last write that failed.
+    fault: Option<io::Error>,
 }
 
 impl<W> Counted<W> {
@@ -53,6 +55,7 @@ impl<W> Counted<W> {
         Counted {
             writer,
             failed: false,
+            fault: None,
         }
     }
 }
@@ -79,7 +82,7 @@ impl<W: Writer> Sink for Counted<W> {
         if self.failed {
             return 0;
         }
-        let taken = write_some(&mut self.writer, bytes);
+        let taken = write_some(&mut self.writer, bytes, &mut self.fault);
         self.failed = taken == 0 && !bytes.is_empty();
         taken
     }
@@ -87,11 +90,18 @@ impl<W: Writer> Sink for Counted<W> {
     fn failed(&self) -> bool {
         self.failed
     }
+
+    fn fault(&self) -> Option<io::Error> {
+        if !self.failed {
+            return None;
+        }
+        self.fault
+    }
 }
 
-/// Writes some bytes from the front of a text, and says how many: 0 also where the write fails. A
-/// write that was interrupted is tried again.
-fn write_some<W: Writer>(writer: &mut W, text: &[u8]) -> usize
+/// Writes some bytes from the front of a text, and says how many: 0 also where the write fails,
+/// whose error is kept then. A write that was interrupted is tried again.
+fn write_some<W: Writer>(writer: &mut W, text: &[u8], fault: &mut Option<io::Error>) -> usize
     ensures within { result ≤ length text.now }
     ensures held { Appends (W.held writer.old) (W.held writer.new) (take result text.now) }
     ensures tries { Tries W.writes writer.old text.now result writer.new }
@@ -101,7 +111,10 @@ fn write_some<W: Writer>(writer: &mut W, text: &[u8]) -> usize
             Ok(taken) => return taken,
             Err(error) => match error.kind() {
                 ErrorKind::Interrupted => {}
-                _ => return 0,
+                _ => {
+                    *fault = Some(error);
+                    return 0;
+                }
             },
         }
     }

@@ -1,9 +1,10 @@
 //! Destinations of bytes that may fail.
 
-ghost use Rattle.std.specs.Prelude.{◌≡◌, ◌≤◌, ◌++◌, ℕ, Bool, List, decimal, length, take};
+ghost use Rattle.std.specs.Prelude.{◌≡◌, ◌≤◌, ◌++◌, ℕ, Bool, List, None, decimal, false, length, take};
 ghost use Rattle.records.specs.Sink.{Takes, fails_at};
 
 use itoa::Buffer;
+use std::io;
 
 /// A destination of bytes. It takes what it can of each text, and has failed once it took nothing
 /// of a text that is not empty.
@@ -24,6 +25,11 @@ pub trait Sink {
     /// Whether the sink has failed.
     fn failed(&self) -> bool
         ensures { result ≡ has_failed self.now };
+
+    /// Why the sink has failed, in the words of the system: none where it has not, or where the
+    /// system did not say.
+    fn fault(&self) -> Option<io::Error>
+        ensures { has_failed self.now ≡ false → result ≡ None };
 }
 
 /// Puts a whole text into a sink, piece by piece, as long as it does not fail. A sink that has

@@ -49,6 +49,13 @@ fn tries_interrupted_writes_again(rt: HostRuntime) -> Result<(), Fail> {
                 put_all(&mut sink, b"abcde");
                 put_all(&mut sink, b"f");
                 assert_eq!(rt; sink.failed(), room < 6, "{interruptions} {room}");
+                let fault = sink.fault().map(|error| error.kind());
+                let why = if room < 6 && fails {
+                    Some(ErrorKind::Other)
+                } else {
+                    None
+                };
+                assert_eq!(rt; fault, why, "{interruptions} {room}");
                 drop(sink);
                 assert_eq!(rt; &taken[..room], &b"abcdef"[..room]);
             }

@@ -2,6 +2,7 @@
 
 use records::Sink;
 use std::cell::Cell;
+use std::io;
 
 /// A sink that takes one byte at a time, and counts the puts that come after it has failed.
 #[derive(Drop)]
@@ -24,5 +25,9 @@ impl<S: Sink> Sink for Short<'_, S> {
 
     fn failed(&self) -> bool {
         self.inner.failed()
+    }
+
+    fn fault(&self) -> Option<io::Error> {
+        self.inner.fault()
     }
 }

@@ -1,10 +1,10 @@
 //! A run in the live world, as a call of the program.
 
-ghost use Rattle.std.specs.Prelude.{◌≡◌, ◌≢◌, true};
+ghost use Rattle.std.specs.Prelude.{◌≡◌, ◌≢◌, None, true};
 ghost use Rattle.acts.specs.Deed as said;
 ghost use Rattle.acts.specs.Deed.{reply_of};
 ghost use Rattle.acts.specs.Fits as table;
-ghost use Rattle.live.specs.Live.{Lives};
+ghost use Rattle.live.specs.Live.{IsWhy, Lives};
 ghost use Rattle.live.specs.Outputs.{went_out};
 ghost use Rattle.records.specs.Sink.{Gets};
 ghost use Rattle.worlds.specs.Lived.{Acts, LivedRecorded, Steps, open_in};
@@ -239,7 +239,8 @@ struct LentLive<'l, 'o, 'e, Y: System, O, E> {
 }
 
 impl<Y: System + Drop, O: Sink, E: Sink> World<Global> for LentLive<'_, '_, '_, Y, O, E> {
-    // An act of the live world, after which the same parts are still lent.
+    // An act of the live world, after which the same parts are still lent; why the last act was
+    // refused or failed is known, and of no other act.
     ghost step = { λ before act answer after.
         Acts O.adds E.adds Y.Log.contents Y.holds Y.Program.owner Y.step Y.Link.owner (
           open_in before.live.now.system before.live.now.log before.live.now.peers
@@ -252,30 +253,38 @@ impl<Y: System + Drop, O: Sink, E: Sink> World<Global> for LentLive<'_, '_, '_, 
         )
         × (after.live.ghost_name ≡ before.live.ghost_name)
         × (after.out.ghost_name ≡ before.out.ghost_name)
-        × (after.err.ghost_name ≡ before.err.ghost_name) };
+        × (after.err.ghost_name ≡ before.err.ghost_name)
+        × IsWhy answer None after.live.now.refusal };
 
     fn act(&mut self, act: &Act<Global>) -> Answer<Global> {
         match act {
-            Act::Out(text) => put_text(self.out, text),
-            Act::Err(text) => put_text(self.err, text),
+            Act::Out(text) => {
+                let mut why = None;
+                let answer = put_text(self.out, text, &mut why);
+                self.live.note(why);
+                answer
+            }
+            Act::Err(text) => {
+                let mut why = None;
+                let answer = put_text(self.err, text, &mut why);
+                self.live.note(why);
+                answer
+            }
             _ => self.live.act(act),
         }
     }
 }
 
 impl<Y: System + Drop, O, E> Refuses<Global> for LentLive<'_, '_, '_, Y, O, E> {
-    /// What goes out to the two sinks the live world does not know of.
-    fn refusal(&self, act: &Act<Global>) -> Option<io::Error> {
-        match act {
-            Act::Out(_) | Act::Err(_) => None,
-            _ => self.live.refusal(),
-        }
+    fn refusal(&self) -> Option<io::Error> {
+        self.live.refusal()
     }
 }
 
-/// Puts a text into a sink, and where this fails says how many bytes went out.
-fn put_text<S: Sink>(sink: &mut S, text: &[u8]) -> Answer<Global>
+/// Puts a text into a sink, and where this fails says how many bytes went out, and keeps why.
+fn put_text<S: Sink>(sink: &mut S, text: &[u8], why: &mut Option<io::Error>) -> Answer<Global>
     ensures fits { table.fits_write text.now (reply_of result) ≡ true }
+    ensures why { IsWhy (reply_of result) why.old why.new }
     ensures gets { Gets S.adds sink.old (went_out text.now (reply_of result)) sink.new }
     ensures fails { reply_of result ≢ said.Done → S.has_failed sink.new ≡ true }
 {
@@ -283,6 +292,7 @@ fn put_text<S: Sink>(sink: &mut S, text: &[u8]) -> Answer<Global>
     if sent == text.len() {
         Answer::Done
     } else {
+        *why = sink.fault();
         Answer::Failed(sent as u64)
     }
 }
@@ -300,7 +310,7 @@ impl World<Global> for Silent {
 }
 
 impl Refuses<Global> for Silent {
-    fn refusal(&self, _act: &Act<Global>) -> Option<io::Error> {
+    fn refusal(&self) -> Option<io::Error> {
         None
     }
 }

@@ -14,7 +14,7 @@ ghost use Rattle.worlds.specs.declared.status.Outcome.TheVariants.{BadRecord};
 
 use crate::recorded::{Refuses, Runner};
 use crate::status::Outcome;
-use acts::{Act, Limits, NoMemory};
+use acts::{Limits, NoMemory};
 use engine::{End, Unwatched};
 use recorders::is_lost;
 use records::{Entry, Sink, read_entries};
@@ -38,11 +38,15 @@ impl Sink for Nowhere {
     fn failed(&self) -> bool {
         false
     }
+
+    fn fault(&self) -> Option<io::Error> {
+        None
+    }
 }
 
 impl<A: Allocator, O, E> Refuses<A> for LentReplay<'_, '_, '_, A, O, E> {
     /// A record does not say why.
-    fn refusal(&self, _act: &Act<A>) -> Option<io::Error> {
+    fn refusal(&self) -> Option<io::Error> {
         None
     }
 }

@@ -4,7 +4,7 @@ ghost use Rattle.std.specs.Prelude.{◌≡◌};
 ghost use Rattle.recorders.specs.Recorder.{MayRecord};
 ghost use Rattle.worlds.specs.Runs.{Runs, RunsRecorded};
 
-use acts::{Act, Limits, NoMemory, World};
+use acts::{Limits, NoMemory, World};
 use engine::{End, Frame, Lead, State, Unwatched, Watch, run_watched};
 use recorders::{LentRecorder, begin};
 use records::Sink;
@@ -13,9 +13,8 @@ use std::io;
 
 /// A world that may know why it refused an act.
 pub trait Refuses<A: Allocator> {
-    /// Why this act, the last one, was refused or failed, in the words of the system, where that is
-    /// known.
-    fn refusal(&self, act: &Act<A>) -> Option<io::Error>;
+    /// Why the last act was refused or failed, in the words of the system, where that is known.
+    fn refusal(&self) -> Option<io::Error>;
 }
 
 /// One who runs scripts in worlds that are lent, as `run_recorded` does, and may watch the runs.

@@ -7,3 +7,5 @@ mod again;
 mod played;
 #[cfg(test)]
 mod recorded;
+#[cfg(test)]
+mod told;
