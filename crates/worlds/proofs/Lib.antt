@@ -6,3 +6,4 @@ mod ReadChains
 mod Replayed
 mod Scripts
 pub mod Seen
+mod WordChains

@@ -6,3 +6,5 @@ pub mod Program
 pub mod Reads
 pub mod Runs
 pub mod Status
+pub mod Texts
+pub mod Words

@@ -1,5 +1,5 @@
 -- What a call of the program does (this project's own).
-use Rattle.std.specs.Prelude.{◌≡◌, ◌⊎◌, ◌++◌, ℕ, Bool, false, List, [], ◌∷◌, Option, Some, None, Result, Vec, codes}
+use Rattle.std.specs.Prelude.{◌≡◌, ◌⊎◌, ◌++◌, ℕ, Bool, false, List, [], ◌∷◌, Option, Some, None, Result, Ok, Vec, codes}
 use Rattle.std.specs.declared.io.Error.{Error}
 use Rattle.std.specs.Borrow.{Bor}
 use Rattle.memory.specs.declared.NoMemory.{NoMemory as Refusal}
@@ -13,6 +13,7 @@ use Rattle.worlds.specs.Lacking.{IsUnmade, IsUnread, IsUnreadScript}
 use Rattle.worlds.specs.Lived.{Lived}
 use Rattle.worlds.specs.Play.{Declines, Plays, Refuses}
 use Rattle.worlds.specs.Status.{file_outcome}
+use Rattle.worlds.specs.Texts.{IsFirst, IsScriptOf, IsTextOf}
 
 -- how a call ends that gets no memory, or that does not get the file whose name comes first, which
 -- is missing then
@@ -27,15 +28,23 @@ abbrev pub argv_of : List (List ℕ) → List (List ℕ)
 argv_of [] = codes "rx" ∷ []
 argv_of (name ∷ args) = name ∷ args
 
--- the text that a call runs: that of `-c`, and after it that of the script's file, if there is one
-abbrev pub IsText : Call → List ℕ → Type 0
-IsText call text =
-    (file : List ℕ) × (call.script ≡ [] → file ≡ []) × (text ≡ lines call.commands ++ file)
+-- the text that a call runs: that of `-c`, and after it that of the script's file, if there is one;
+-- `is_of` says whether a text is that of the script of a name
+abbrev pub IsText : (is_of : (name text : List ℕ) → Type 0) → Call → List ℕ → Type 0
+IsText is_of call text =
+    (file : List ℕ) × IsFirst is_of call.script file × (text ≡ lines call.commands ++ file)
 
 -- how a call ends that does not get the file of the record that it is to make
 abbrev pub LacksFile : (missing : List ℕ → Type 0) → Option (List ℕ) → Outcome → Type 0
 LacksFile missing None outcome = ⊥
 LacksFile missing (Some name) outcome = IsLack missing (name ∷ []) outcome
+
+-- the file of the record that a call makes was made under its name, where it makes one; `makes`
+-- says what the system may answer where the file of a name is to be made
+abbrev pub IsMade : {M : Type 0} → (makes : List ℕ → Result M Error → Type 0) →
+    Option (List ℕ) → Type 0
+IsMade makes None = Unit {0}
+IsMade {M} makes (Some name) = (file : M) × makes name (Ok file)
 
 -- a record may be lost where one is made
 abbrev pub MayBeLost : Option (List ℕ) → Bool → Type 0
@@ -43,13 +52,15 @@ MayBeLost None lost = lost ≡ false
 MayBeLost (Some name) lost = Unit {0}
 
 -- `opens` and `makes` say what the system may answer where the file of a name is to be read or
--- made, `reads` and `takes` whether a read from a file or from standard input may give an answer
--- and lead from one state to another, and `same` whether two names may be those of one file; `out`
--- and `err` say whether a write may lead from one state of a writer to another and add these bytes,
--- `out_failed` and `err_failed` whether the writer has failed.
+-- made, `left` and `rest` which bytes a file or standard input has left to read, `reads` and
+-- `takes` whether a read from it may give an answer and lead from one state to another, and `same`
+-- what it may answer where it is asked whether two names are those of one file; `out` and `err` say
+-- whether a write may lead from one state of a writer to another and add these bytes, `out_failed`
+-- and `err_failed` whether the writer has failed.
 module _ {F I M : Type 0} (opens : List ℕ → Result F Error → Type 0)
-    (reads : F → Result ℕ Error → F → Type 0) (takes : I → Result ℕ Error → I → Type 0)
-    (makes : List ℕ → Result M Error → Type 0) (same : List ℕ → List ℕ → Type 0)
+    (left : F → Option (List ℕ)) (reads : F → Result ℕ Error → F → Type 0)
+    (rest : I → Option (List ℕ)) (takes : I → Result ℕ Error → I → Type 0)
+    (makes : List ℕ → Result M Error → Type 0) (same : List ℕ → List ℕ → Bool → Type 0)
     {O E : Type 0} (out : O → List ℕ → O → Type 0) (out_failed : O → Bool)
     (err : E → List ℕ → E → Type 0) (err_failed : E → Bool) where
   -- nothing runs, since memory or the file whose name comes first is lacking
@@ -69,14 +80,14 @@ module _ {F I M : Type 0} (opens : List ℕ → Result F Error → Type 0)
     abbrev pub RunsLive : Option (List ℕ) → O × E → O × E → ℕ → Type 0
     RunsLive made before after status =
         LacksRecord made before after status
-        ⊎ ((lost : Bool) × MayBeLost made lost
+        ⊎ (IsMade makes made × (lost : Bool) × MayBeLost made lost
         × Lived out out_failed err err_failed script args ticks lost before after status)
 
     -- the script runs under these entries
     abbrev pub RunsUnder : Option (List ℕ) → List Note → O × E → O × E → ℕ → Type 0
     RunsUnder made entries before after status =
         LacksRecord made before after status
-        ⊎ ((lost : Bool) × MayBeLost made lost
+        ⊎ (IsMade makes made × (lost : Bool) × MayBeLost made lost
         × Plays out out_failed err err_failed script args ticks lost entries before after status)
 
     -- the text of the record of this name is refused, or the script runs under its entries
@@ -92,12 +103,12 @@ module _ {F I M : Type 0} (opens : List ℕ → Result F Error → Type 0)
     Runs (Some name) made before after status =
         Lacks (IsUnread opens reads) (name ∷ []) before after status
         ⊎ ((lent : Bor (List ℕ)) × (lent.now ≡ name) × (text : List ℕ)
-        × RunsRecord lent made text before after status)
+        × IsTextOf opens left name text × RunsRecord lent made text before after status)
 
   -- the text of the script can't be had, or it runs with its name and arguments
   abbrev pub Performs : Type 0 → Call → O × E → O × E → ℕ → Type 0
   Performs A call before after status =
       Lacks (IsUnreadScript opens reads takes) call.script before after status
-      ⊎ ((text : List ℕ) × IsText call text
+      ⊎ ((text : List ℕ) × IsText (IsScriptOf opens left rest) call text
       × (args : List (Vec ℕ A)) × (texts args ≡ argv_of call.script)
       × Runs text args call.ticks call.replay call.made before after status)

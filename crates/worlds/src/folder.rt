@@ -1,6 +1,6 @@
 //! The files that a call of the program names.
 
-ghost use Rattle.std.specs.Prelude.{⊤, ℕ, List, Result, IsTrue};
+ghost use Rattle.std.specs.Prelude.{⊤, ℕ, Bool, List, Result};
 ghost use Rattle.std.specs.declared.io.Error.{Error};
 
 use crate::input::Reader;
@@ -25,8 +25,8 @@ pub trait Folder {
     /// Whether it may answer so where the file of a name is to be made, or emptied.
     ghost makes: { Self → List ℕ → Result Self.Made Error → Type 0 };
 
-    /// Whether two names may be those of one file.
-    ghost same: { Self → List ℕ → List ℕ → Type 0 };
+    /// Whether the system may answer so where it is asked whether two names are those of one file.
+    ghost same: { Self → List ℕ → List ℕ → Bool → Type 0 };
 
     /// Opens the file of a name to be read.
     fn open(&self, name: &str) -> io::Result<Self::File>
@@ -41,7 +41,7 @@ pub trait Folder {
 
     /// Whether these are names of one existing file that keeps what is written to it.
     fn is_same(&self, first: &[u8], second: &[u8]) -> bool
-        ensures { IsTrue result → same self.now first.now second.now };
+        ensures { same self.now first.now second.now result };
 }
 
 /// The files of the system themselves: what its calls answer is taken on trust.
@@ -62,7 +62,7 @@ impl<'a, R: Files + Input> Folder for Disk<'a, R> {
 
     ghost makes = { λ _ _ _. ⊤ };
 
-    ghost same = { λ _ _ _. ⊤ };
+    ghost same = { λ _ _ _ _. ⊤ };
 
     fn open(&self, name: &str) -> io::Result<R::File> {
         fs::open(self.rt, name)

@@ -1,11 +1,14 @@
 //! What comes from outside: the words of a call, and the bytes of files.
 
-ghost use Rattle.std.specs.Prelude.{◌≡◌, ◌≢◌, ◌<◌, ◌≤◌, ◌↔◌, ℕ, List, Option, Result, IfErr, IfOk, IfSome, IsErrOf, IsTrue, OnOk, codes, length, take};
-ghost use Rattle.std.specs.Io.{ReadsAtMost};
+ghost use Rattle.std.specs.Prelude.{◌≡◌, ◌≢◌, ◌<◌, ◌≤◌, ◌↔◌, ⊤, ℕ, List, Option, Result, IfErr, IfOk, IfSome, IsErrOf, IsTrue, OnOk, codes, length, option_map, take};
+ghost use Rattle.std.specs.Io.{ReadsAtMost, WritesAtMost};
 ghost use Rattle.std.specs.Io.KnownBytes.{Consumes, ConsumesCount, IsAtEnd, ReadConsumes};
 ghost use Rattle.std.specs.declared.io.Error.{Error};
+ghost use Rattle.arguments.specs.Arguments.{texts};
 ghost use Rattle.worlds.specs.Lacking.{IsUnread, IsUnreadScript};
 ghost use Rattle.worlds.specs.Reads.{Follows, GivesUp};
+ghost use Rattle.worlds.specs.Texts.{IsScriptOf, IsTextOf};
+ghost use Rattle.worlds.specs.Words.{AreGiven, IsGiven};
 ghost use Rattle.worlds.specs.declared.input.Unread.TheVariants as unread;
 
 use crate::folder::{Disk, Folder};
@@ -53,31 +56,56 @@ impl From<AllocError> for Unread {
     }
 }
 
-/// The arguments of the program after its name, as bytes.
-pub fn read_words<R: Env, A: Allocator + Copy>(
+/// What has the arguments of a call: an `Env`, each of whose answers is one of the system.
+pub trait ArgumentList {
+    /// Whether the system may answer so where the argument at a place is asked for.
+    ghost gives: { Self → ℕ → Option (List ℕ) → Type 0 };
+
+    /// Puts the argument at a place to the front of the room, and says how long it is, as
+    /// `Env::arg`.
+    fn copy_argument(&self, place: usize, room: &mut [u8]) -> Result<usize, FillError>
+        ensures within { WritesAtMost result room.new }
+        ensures gives { IsGiven (gives self.now) place result room.new };
+}
+
+impl<R: Env> ArgumentList for R {
+    // What the system does is not modelled.
+    ghost gives = { λ _ _ _. ⊤ };
+
+    fn copy_argument(&self, place: usize, room: &mut [u8]) -> Result<usize, FillError> {
+        self.arg(place, room)
+    }
+}
+
+/// The arguments of the program after its name, as bytes, in their order.
+pub fn read_words<R: ArgumentList, A: Allocator + Copy>(
     rt: &R,
     alloc: A,
-) -> Result<Vec<Vec<u8, A>, A>, Unread> {
+) -> Result<Vec<Vec<u8, A>, A>, Unread>
+    ensures { IfOk result (λ words. AreGiven (R.gives rt.now) 1 (texts words.items)) }
+{
     let mut words = Vec::new(alloc);
     for place in 1..usize::MAX {
-        let Some(word) = read_word(rt, alloc, place)? else {
-            break;
-        };
-        words.push(word).map_err(NoMemory::from)?;
+        match read_word(rt, alloc, place)? {
+            Some(word) => words.push(word).map_err(NoMemory::from)?,
+            None => return Ok(words),
+        }
     }
-    Ok(words)
+    Err(Unread::Refused)
 }
 
 /// The argument at a place, if there is one. The room for it is doubled until it suffices.
-fn read_word<R: Env, A: Allocator>(
+fn read_word<R: ArgumentList, A: Allocator>(
     rt: &R,
     alloc: A,
     place: usize,
-) -> Result<Option<Vec<u8, A>>, Unread> {
+) -> Result<Option<Vec<u8, A>>, Unread>
+    ensures { IfOk result (λ word. R.gives rt.now place (option_map (λ word. word.items) word)) }
+{
     let mut word = Vec::new(alloc);
     for doublings in 0..=MOST_DOUBLINGS {
         word.resize(FIRST_ROOM << doublings, 0)?;
-        match rt.arg(place, &mut word) {
+        match rt.copy_argument(place, &mut word) {
             Ok(len) => {
                 word.truncate(len);
                 return Ok(Some(word));
@@ -114,14 +142,16 @@ pub fn read_file<R: Files + Input, A: Allocator + Copy>(
     file_in(&Disk { rt }, alloc, name)
 }
 
-/// The text of a script; the name `-` is standard input. It is refused only where the system
-/// refused it.
+/// The text of a script, all that the system gives to read of it; the name `-` is standard input.
+/// It is refused only where the system refused it.
 pub fn script_in<F: Folder, A: Allocator + Copy>(
     files: &F,
     alloc: A,
     name: &[u8],
 ) -> Result<Vec<u8, A>, Unread>
-    ensures { IsErrOf result unread.Refused → IsUnreadScript (F.opens files.now)
+    ensures text { IfOk result (λ text. IsScriptOf (F.opens files.now) F.File.left
+        F.Standard.left name.now text.items) }
+    ensures refused { IsErrOf result unread.Refused → IsUnreadScript (F.opens files.now)
         F.File.reads F.Standard.reads name.now }
 {
     if is_standard_input(name) {
@@ -131,14 +161,17 @@ pub fn script_in<F: Folder, A: Allocator + Copy>(
     }
 }
 
-/// The bytes of a file. It is refused only where the system takes no such name, or refused to open
-/// or to read it: a name that is not UTF-8 is refused.
+/// The bytes of a file, all that the system gives to read of it. It is refused only where the
+/// system takes no such name, or refused to open or to read it: a name that is not UTF-8 is
+/// refused.
 pub fn file_in<F: Folder, A: Allocator + Copy>(
     files: &F,
     alloc: A,
     name: &[u8],
 ) -> Result<Vec<u8, A>, Unread>
-    ensures { IsErrOf result unread.Refused → IsUnread (F.opens files.now) F.File.reads
+    ensures text { IfOk result (λ text. IsTextOf (F.opens files.now) F.File.left name.now
+        text.items) }
+    ensures refused { IsErrOf result unread.Refused → IsUnread (F.opens files.now) F.File.reads
         name.now }
 {
     let Ok(path) = std::str::from_utf8(name) else {

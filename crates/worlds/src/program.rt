@@ -1,12 +1,13 @@
 //! The program, which reads its arguments and files.
 
-ghost use Rattle.std.specs.Prelude.{◌≡◌, [], ◌∷◌, ◌++◌, ℕ, List, false, codes, map, IfErr, IfOk, IsErrOf, IsTrue, None};
+ghost use Rattle.std.specs.Prelude.{◌≡◌, [], ◌∷◌, ◌++◌, ℕ, List, false, true, codes, map, IfErr, IfOk, IsErrOf, IsTrue, None, Ok, OnOk};
 ghost use Rattle.std.specs.Option.{option_copied};
 ghost use Rattle.arguments.specs.Arguments.{Call, Holds, IsCall, lines, texts};
 ghost use Rattle.records.specs.Entry.{note_of};
-ghost use Rattle.worlds.specs.Lacking.{IsUnmade, IsUnreadScript};
+ghost use Rattle.worlds.specs.Lacking.{IsOther, IsOtherRecord, IsOtherScript, IsUnmade, IsUnreadScript};
 ghost use Rattle.worlds.specs.Play.{Declines};
-ghost use Rattle.worlds.specs.Program.{IsLack, IsText, LacksFile, Performs, Runs, RunsUnder};
+ghost use Rattle.worlds.specs.Program.{IsLack, IsMade, IsText, LacksFile, Performs, Runs, RunsUnder};
+ghost use Rattle.worlds.specs.Texts.{IsScriptOf};
 ghost use Rattle.worlds.specs.declared.input.Unread.TheVariants as unread;
 ghost use Rattle.worlds.specs.declared.status.Outcome.TheVariants.{Usage};
 
@@ -81,8 +82,8 @@ where
     // A call runs its script in the live world, or under the record that it names, and makes a
     // record of that where it names one.
     ensures call { (call : Call) → IsCall (texts words.now) call
-        → Performs (F.opens files.now) F.File.reads F.Standard.reads (F.makes files.now)
-        (F.same files.now) O.adds O.has_failed E.adds E.has_failed Global call
+        → Performs (F.opens files.now) F.File.left F.File.reads F.Standard.left F.Standard.reads
+        (F.makes files.now) (F.same files.now) O.adds O.has_failed E.adds E.has_failed Global call
         (out.old, err.old) (out.new, err.new) result }
 {
     match Arguments::read(words) {
@@ -113,8 +114,8 @@ where
     requires out { O.has_failed out.old ≡ false }
     requires err { E.has_failed err.old ≡ false }
     ensures { (asked : Call) → Holds call.now asked
-        → Performs (F.opens files.now) F.File.reads F.Standard.reads (F.makes files.now)
-        (F.same files.now) O.adds O.has_failed E.adds E.has_failed Global asked
+        → Performs (F.opens files.now) F.File.left F.File.reads F.Standard.left F.Standard.reads
+        (F.makes files.now) (F.same files.now) O.adds O.has_failed E.adds E.has_failed Global asked
         (out.old, err.old) (out.new, err.new) result }
 {
     let text = match text_of(files, rt.alloc(), call) {
@@ -137,8 +138,8 @@ fn text_of<'a, F: Folder, A: Allocator + Copy>(
     alloc: A,
     call: &Arguments<'a, A>,
 ) -> Result<Vec<u8, A>, Outcome<'a>>
-    ensures text { IfOk result (λ text. (asked : Call)
-        → Holds call.now asked → IsText asked text.items) }
+    ensures text { IfOk result (λ text. (asked : Call) → Holds call.now asked
+        → IsText (IsScriptOf (F.opens files.now) F.File.left F.Standard.left) asked text.items) }
     ensures lack { IfErr result (λ outcome. IsLack (IsUnreadScript
         (F.opens files.now) F.File.reads F.Standard.reads) (texts call.now.script.now) outcome) }
 {
@@ -158,8 +159,9 @@ fn text_with<F: Folder, A: Allocator + Copy>(
     call: &Arguments<'_, A>,
     name: &[u8],
 ) -> Result<Vec<u8, A>, Unread>
-    ensures text { IfOk result (λ text. (asked : Call) → Holds call.now asked
-        → (file : List ℕ) × (text.items ≡ lines asked.commands ++ file)) }
+    ensures text { IfOk result (λ text. (asked : Call) → Holds call.now asked → (file : List ℕ)
+        × IsScriptOf (F.opens files.now) F.File.left F.Standard.left name.now file
+        × (text.items ≡ lines asked.commands ++ file)) }
     ensures refused { IsErrOf result unread.Refused → IsUnreadScript (F.opens files.now)
         F.File.reads F.Standard.reads name.now }
 {
@@ -202,9 +204,9 @@ where
     X: Runner<Global>,
     requires out { O.has_failed out.old ≡ false }
     requires err { E.has_failed err.old ≡ false }
-    ensures { Runs (F.opens files.now) F.File.reads F.Standard.reads (F.makes files.now)
-        (F.same files.now) O.adds O.has_failed E.adds E.has_failed script.now args.now
-        call.now.limits.ticks (option_copied call.now.replay) (option_copied call.now.made)
+    ensures { Runs (F.opens files.now) F.File.left F.File.reads F.Standard.left F.Standard.reads
+        (F.makes files.now) (F.same files.now) O.adds O.has_failed E.adds E.has_failed script.now
+        args.now call.now.limits.ticks (option_copied call.now.replay) (option_copied call.now.made)
         (out.old, err.old) (out.new, err.new) result }
 {
     let Some(name) = call.replay else {
@@ -247,10 +249,10 @@ fn run_entries<F: Folder, O: Sink, E: Sink, X: Runner<Global>>(
 ) -> u8
     requires out { O.has_failed out.old ≡ false }
     requires err { E.has_failed err.old ≡ false }
-    ensures { RunsUnder (F.opens files.now) F.File.reads F.Standard.reads (F.makes files.now)
-        (F.same files.now) O.adds O.has_failed E.adds E.has_failed script.now args.now
-        call.now.limits.ticks (option_copied call.now.made) (map note_of entries.items)
-        (out.old, err.old) (out.new, err.new) result }
+    ensures { RunsUnder (F.opens files.now) F.File.left F.File.reads F.Standard.left
+        F.Standard.reads (F.makes files.now) (F.same files.now) O.adds O.has_failed E.adds
+        E.has_failed script.now args.now call.now.limits.ticks (option_copied call.now.made)
+        (map note_of entries.items) (out.old, err.old) (out.new, err.new) result }
 {
     match made_of(files, alloc, call) {
         Ok(mut made) => rerun_by(
@@ -275,6 +277,7 @@ fn made_of<'a, F: Folder>(
     call: &Arguments<'a, Global>,
 ) -> Result<Option<RecordFile<Counted<F::Made>>>, Outcome<'a>>
     ensures none { IfOk result (λ made. option_copied call.now.made ≡ None → made ≡ None) }
+    ensures made { OnOk result (IsMade (F.makes files.now) (option_copied call.now.made)) }
     ensures lack { IfErr result (λ outcome. LacksFile (IsUnmade (F.makes files.now)
         (F.same files.now)) (option_copied call.now.made) outcome) }
 {
@@ -295,8 +298,11 @@ fn made_file<F: Folder>(
     call: &Arguments<'_, Global>,
     name: &[u8],
 ) -> Result<RecordFile<Counted<F::Made>>, Unread>
-    ensures { IsErrOf result unread.Refused → IsUnmade (F.makes files.now) (F.same files.now)
-        name.now }
+    ensures made { OnOk result ((file : F.Made) × F.makes files.now name.now (Ok file)) }
+    ensures other { OnOk result (IsOther (F.same files.now) (texts call.now.script.now)
+        (option_copied call.now.replay) name.now) }
+    ensures refused { IsErrOf result unread.Refused → IsUnmade (F.makes files.now)
+        (F.same files.now) name.now }
 {
     if is_read(files, call, name) {
         return Err(Unread::Refused);
@@ -306,15 +312,33 @@ fn made_file<F: Folder>(
 
 /// Whether a call reads the file of this name, as its script or its record.
 pub fn is_read<F: Folder>(files: &F, call: &Arguments<'_, Global>, name: &[u8]) -> bool
-    ensures { IsTrue result → (read : List ℕ) × F.same files.now read name.now }
+    ensures read { IsTrue result → (read : List ℕ) × F.same files.now read name.now true }
+    ensures other { result ≡ false → IsOther (F.same files.now) (texts call.now.script.now)
+        (option_copied call.now.replay) name.now }
 {
-    let is_script = match call.script.first() {
+    is_script(files, call, name) || is_record(files, call, name)
+}
+
+/// Whether a call reads the file of this name as its script.
+fn is_script<F: Folder>(files: &F, call: &Arguments<'_, Global>, name: &[u8]) -> bool
+    ensures read { IsTrue result → (read : List ℕ) × F.same files.now read name.now true }
+    ensures other { result ≡ false → IsOtherScript (F.same files.now) (texts call.now.script.now)
+        name.now }
+{
+    match call.script.first() {
         Some(script) => !is_standard_input(script) && files.is_same(script, name),
         None => false,
-    };
-    let is_record = match call.replay {
+    }
+}
+
+/// Whether a call reads the file of this name as its record.
+fn is_record<F: Folder>(files: &F, call: &Arguments<'_, Global>, name: &[u8]) -> bool
+    ensures read { IsTrue result → (read : List ℕ) × F.same files.now read name.now true }
+    ensures other { result ≡ false → IsOtherRecord (F.same files.now)
+        (option_copied call.now.replay) name.now }
+{
+    match call.replay {
         Some(record) => files.is_same(record, name),
         None => false,
-    };
-    is_script || is_record
+    }
 }

@@ -1,6 +1,6 @@
 //! The file of a record that is made.
 
-ghost use Rattle.std.specs.Prelude.{IsErrOf};
+ghost use Rattle.std.specs.Prelude.{IsErrOf, Ok, OnOk};
 ghost use Rattle.worlds.specs.Lacking.{IsUnmade};
 ghost use Rattle.worlds.specs.declared.input.Unread.TheVariants as unread;
 
@@ -17,8 +17,9 @@ pub fn create_record<F: Folder>(
     alloc: Global,
     name: &[u8],
 ) -> Result<RecordFile<Counted<F::Made>>, Unread>
-    ensures { IsErrOf result unread.Refused → IsUnmade (F.makes files.now) (F.same files.now)
-        name.now }
+    ensures made { OnOk result ((file : F.Made) × F.makes files.now name.now (Ok file)) }
+    ensures refused { IsErrOf result unread.Refused → IsUnmade (F.makes files.now)
+        (F.same files.now) name.now }
 {
     let Ok(path) = std::str::from_utf8(name) else {
         return Err(Unread::Refused);

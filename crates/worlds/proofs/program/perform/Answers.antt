@@ -12,8 +12,9 @@ returns-in-Some-clause-usage g c = λ none.
 pub returns-in-Some-clause-call : goal.returns-in-Some-clause-call
 returns-in-Some-clause-call g c = λ other is.
     let (call, one, holds) = c.in-Some.ensures.call in
-    subst (λ asked. Performs (g.F.Folder.opens c.args.files.now) g.F.File.Reader.reads
-    g.F.Standard.Reader.reads (g.F.Folder.makes c.args.files.now) (g.F.Folder.same c.args.files.now)
+    subst (λ asked. Performs (g.F.Folder.opens c.args.files.now) g.F.File.Reader.left
+    g.F.File.Reader.reads g.F.Standard.Reader.left g.F.Standard.Reader.reads
+    (g.F.Folder.makes c.args.files.now) (g.F.Folder.same c.args.files.now)
     g.O.Sink.adds g.O.Sink.has_failed g.E.Sink.adds g.E.Sink.has_failed
     Global asked (c.args.out.now, c.args.err.now)
     (c.perform_call.new.out, c.perform_call.new.err) c.perform_call.result) (sym (one.1 other is))

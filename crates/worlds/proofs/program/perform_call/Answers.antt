@@ -12,14 +12,15 @@ pub returns-in-Ok-own_name : goal.returns-in-Ok-own_name
 returns-in-Ok-own_name g c = λ asked holds.
     inr (
       c.deref.result.now,
-      subst (IsText asked) (sym c.deref.ensures.value) (c.in-Ok.ensures.text asked holds),
+      subst (IsText _ asked) (sym c.deref.ensures.value) (c.in-Ok.ensures.text asked holds),
       c.deref-in-Ok-own_name.result.now,
       argv_own c.args.call.now.script.now asked.script _
           (sym c.is_empty.ensures ∙ c.if-is_empty.true) holds.script
           (subst (λ words. texts words ≡ codes "rx" ∷ [])
           (sym c.deref-in-Ok-own_name.ensures.value) c.in-Ok-own_name.ensures),
-      runs_asked (g.F.Folder.opens c.args.files.now) g.F.File.Reader.reads
-          g.F.Standard.Reader.reads (g.F.Folder.makes c.args.files.now) (g.F.Folder.same c.args.files.now)
+      runs_asked (g.F.Folder.opens c.args.files.now) g.F.File.Reader.left
+          g.F.File.Reader.reads g.F.Standard.Reader.left g.F.Standard.Reader.reads
+          (g.F.Folder.makes c.args.files.now) (g.F.Folder.same c.args.files.now)
           g.O.Sink.adds g.O.Sink.has_failed g.E.Sink.adds g.E.Sink.has_failed
           c.deref.result.now c.deref-in-Ok-own_name.result.now
           (c.args.out.now, c.args.err.now) (c.run_script.new.out, c.run_script.new.err)
@@ -42,13 +43,14 @@ pub returns : goal.returns
 returns g c = λ asked holds.
     inr (
       c.deref-else-is_empty.result.now,
-      subst (IsText asked) (sym c.deref-else-is_empty.ensures.value)
+      subst (IsText _ asked) (sym c.deref-else-is_empty.ensures.value)
           (c.in-Ok.ensures.text asked holds),
       c.args.call.now.script.now,
       argv_named c.args.call.now.script.now asked.script
           (sym c.is_empty.ensures ∙ c.if-is_empty.false) holds.script,
-      runs_asked (g.F.Folder.opens c.args.files.now) g.F.File.Reader.reads
-          g.F.Standard.Reader.reads (g.F.Folder.makes c.args.files.now) (g.F.Folder.same c.args.files.now)
+      runs_asked (g.F.Folder.opens c.args.files.now) g.F.File.Reader.left
+          g.F.File.Reader.reads g.F.Standard.Reader.left g.F.Standard.Reader.reads
+          (g.F.Folder.makes c.args.files.now) (g.F.Folder.same c.args.files.now)
           g.O.Sink.adds g.O.Sink.has_failed g.E.Sink.adds g.E.Sink.has_failed
           c.deref-else-is_empty.result.now c.args.call.now.script.now
           (c.args.out.now, c.args.err.now)

@@ -6,8 +6,10 @@ use Rattle.worlds.proofs.program.run_entries.Goals as goal
 
 pub returns-in-Ok : goal.returns-in-Ok
 returns-in-Ok g c =
-    inr (plays_so g.O.Sink.adds g.O.Sink.has_failed g.E.Sink.adds g.E.Sink.has_failed _ _
+    let (lost, may_be, plays) =
+    plays_so g.O.Sink.adds g.O.Sink.has_failed g.E.Sink.adds g.E.Sink.has_failed _ _
     c.args.script.now c.args.args.now c.args.call.now.limits.ticks
     (option_copied c.args.call.now.made) (map note_of c.args.entries.items)
     (c.args.out.now, c.args.err.now) (c.rerun_by.new.out, c.rerun_by.new.err) c.in-Ok.made
-    c.rerun_by.new.made c.rerun_by.result c.in-Ok.ensures.none c.rerun_by.ensures)
+    c.rerun_by.new.made c.rerun_by.result c.in-Ok.ensures.none c.rerun_by.ensures in
+    inr (c.in-Ok.ensures.made, lost, may_be, plays)

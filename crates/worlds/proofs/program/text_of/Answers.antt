@@ -1,14 +1,18 @@
 use Rattle.std.proofs.Common.{Err, ap, subst}
 use Rattle.worlds.specs.Lacking.{IsUnreadScript}
-use Rattle.worlds.proofs.Scripts.{lacks_first, some_first}
+use Rattle.worlds.specs.Texts.{IsScriptOf}
+use Rattle.worlds.proofs.Scripts.{lacks_first, text_first}
 use Rattle.worlds.proofs.program.text_of.Goals as goal
 
 pub returns-in-Ok-clause-text : goal.returns-in-Ok-clause-text
 returns-in-Ok-clause-text g c = λ asked holds.
-    let (file, is) = c.in-Ok.ensures.text asked holds in (
+    let is_of =
+    IsScriptOf (g.F.Folder.opens c.args.files.now) g.F.File.Reader.left g.F.Standard.Reader.left in
+    let (file, of_name, is) = c.in-Ok.ensures.text asked holds in (
       file,
-      λ none. absurd (some_first c.args.call.now.script.now c.in-Some.name.now asked.script
-          c.in-Some.ensures.value holds.script none),
+      text_first is_of c.args.call.now.script.now c.in-Some.name.now asked.script file
+          c.in-Some.ensures.value holds.script (subst (λ name. is_of name file)
+          c.deref.ensures.value of_name),
       is,
     )
 
