@@ -16,8 +16,9 @@
 # make edits    the edits of edits/ that the prover must refuse, for the crates that changed (SINCE=COMMIT)
 # make live     out/rx against programs and servers of the distribution
 # make compare  random scripts against tclsh8.6, dialogues against expect (SCRIPTS=N, DIALOGUES=N, SEED=S)
-# make bench    times of out/rx beside those of tclsh8.6 and jimsh, and dialogues beside expect
-# make soak     a long dialogue, live: whether something is lost and whether memory grows
+# make bench    times of out/rx beside those of tclsh8.6 and jimsh, and dialogues beside expect, with
+#               instructions; what is printed is kept in bench/results by its date
+# make soak     long dialogues, live: whether something is lost and whether memory grows
 .PHONY: demo rx install built install-documents uninstall deb test house guide stories rows rows-now edits live \
 	compare bench soak clean
 
@@ -120,11 +121,12 @@ compare: rx
 	compare/dialogues --random $(DIALOGUES) --seed $(SEED)
 
 bench: rx
-	bench/bench
-	bench/dialogues
+	bench/keep
 
 soak: rx
 	bench/soak
+	bench/soak --patterns 50
+	bench/soak --ids 64
 
 clean:
 	rm -rf out crates/*/out

@@ -1,5 +1,8 @@
-"""What the measures of this folder share: the processor's time, the time that passes, the most memory."""
+"""What the measures of this folder share: the processor's time, the time that passes, instructions, the most memory."""
+import os
+import re
 import resource
+import shutil
 import subprocess
 import time
 import zlib
@@ -23,6 +26,21 @@ def timed(words, limit):
     if ran.returncode:
         return None, None, ran.stderr.decode("latin-1").strip()[:60] or f"status {ran.returncode}"
     return spent() - before, passed, ran.stdout
+
+
+def instructions(words, limit):
+    """How many instructions a run takes outside the system's own calls, by callgrind of valgrind: those of the program
+    alone, without the programs that it starts. Nothing where valgrind is missing, or the run fails or takes more than
+    ten times the limit, since it is some fifty times as slow."""
+    if not shutil.which("valgrind"):
+        return None
+    words = ["valgrind", "--tool=callgrind", f"--callgrind-out-file={os.devnull}", *words]
+    try:
+        ran = subprocess.run(words, capture_output=True, timeout=10 * limit, check=False)
+    except subprocess.TimeoutExpired:
+        return None
+    found = re.search(rb"Collected : (\d+)", ran.stderr)
+    return int(found[1]) if found and not ran.returncode else None
 
 
 def resident(number):
