@@ -54,6 +54,11 @@ impl Room {
         requires { count ≤ vec_len self.old.bytes }
         ensures { self.new.bytes.items ≡ drop count self.old.bytes.items }
     {
-        self.bytes.drain(..count);
+        // `drain` turns all bytes round, one by one, also where none is left.
+        if count == self.bytes.len() {
+            self.bytes.clear();
+        } else {
+            self.bytes.drain(..count);
+        }
     }
 }
