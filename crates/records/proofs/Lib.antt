@@ -6,6 +6,7 @@ pub mod Letters
 mod Lines
 pub mod Notes
 pub mod Records
+pub mod Readings
 mod RowTexts
 pub mod Sinks
 mod Spelled

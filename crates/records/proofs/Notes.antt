@@ -267,7 +267,7 @@ one_bad_entry text m n (inr (count, lines, number, whole, bad))
     omega arith
 
 -- one more entry at the end
-AreNotes-more : (notes : List Note) (text : List ℕ) (note : Note) (front : List ℕ)
+pub AreNotes-more : (notes : List Note) (text : List ℕ) (note : Note) (front : List ℕ)
     → AreNotes notes text → AreLinesOf note.rows note.reply front
     → AreNotes (notes ++ note ∷ []) (text ++ front)
 AreNotes-more [] text note front before is =
@@ -280,7 +280,7 @@ AreNotes-more (first ∷ notes) text note front before is = (
   AreNotes-more notes before.1 note front before.4 is,
 )
 
-lines_in-more : (notes : List Note) (note : Note) → lines_in (notes ++ note ∷ []) ≡ lines_in notes
+pub lines_in-more : (notes : List Note) (note : Note) → lines_in (notes ++ note ∷ []) ≡ lines_in notes
     + lines_of note.rows
 lines_in-more [] note = omega arith
 lines_in-more (first ∷ notes) note =
@@ -294,7 +294,7 @@ long_whole reply text is =
     omega (arith, long)
 
 -- the lines of an entry have a newline each
-long_front : (rows : Option (List Row)) (reply : Reply) (front : List ℕ) → AreLinesOf rows reply
+pub long_front : (rows : Option (List Row)) (reply : Reply) (front : List ℕ) → AreLinesOf rows reply
     front → lines_of rows ≤ length front
 long_front None reply front is = long_whole reply front is
 long_front (Some rows) reply front is =

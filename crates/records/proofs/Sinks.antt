@@ -74,7 +74,7 @@ Puts-append adds before mid after [] second same puts =
 Puts-append adds before mid after (p ∷ ps) second (next, put, others) puts =
     (next, put, Puts-append adds next mid after ps second others puts)
 
-Gets-append : {S : Type 0} (adds : S → List ℕ → S → Type 0) (before mid after : S) (x y : List ℕ)
+pub Gets-append : {S : Type 0} (adds : S → List ℕ → S → Type 0) (before mid after : S) (x y : List ℕ)
     → Gets adds before x mid → Gets adds mid y after → Gets adds before (x ++ y) after
 Gets-append adds before mid after x y (xs, puts, is) (ys, puts', is') =
     let whole : x ++ y ≡ concat (xs ++ ys) =

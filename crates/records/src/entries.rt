@@ -98,7 +98,7 @@ fn read_notes<A: Allocator + Copy>(alloc: A, lines: &[u8]) -> Result<Vec<Entry<A
 
 /// The entry that a text begins with, which is not empty, and the text after it. `line` is the
 /// number of the first line, for faults.
-fn read_entry<A: Allocator + Copy>(
+pub(crate) fn read_entry<A: Allocator + Copy>(
     alloc: A,
     text: &[u8],
     line: u64,
@@ -125,7 +125,7 @@ fn read_entry<A: Allocator + Copy>(
 }
 
 /// How many lines an entry has.
-fn count_lines<A: Allocator>(entry: &Entry<A>) -> u64
+pub(crate) fn count_lines<A: Allocator>(entry: &Entry<A>) -> u64
     ensures { result ≡ lines_of (note_of entry.now).rows }
 {
     match &entry.rows {

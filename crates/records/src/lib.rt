@@ -1,23 +1,28 @@
 //! Records of a run's answers as texts, and the sinks that texts are put into.
 #![tactic(auto)]
 
+pub mod ahead;
 pub mod counted;
 mod cut;
 mod digits;
 pub mod entries;
 pub mod entry;
 mod line;
+pub mod reader;
 pub mod record;
 mod rows;
 pub mod sink;
+pub mod source;
 pub mod written;
 
 pub use counted::{Counted, Writer};
 pub use entries::{one_list_of_entries, read_entries};
 pub use entry::Entry;
+pub use reader::{EntryReader, ReadFault};
 pub use record::{RecordFault, one_record, read_record};
 pub use rows::are_rows;
 pub use sink::{Sink, put_all, put_number};
+pub use source::Source;
 pub use written::{
     SinkFailed, write_entries, write_entry, write_header, write_line, write_record, write_waited,
 };

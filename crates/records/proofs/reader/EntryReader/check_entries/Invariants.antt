@@ -1,0 +1,12 @@
+use Rattle.std.proofs.Common.{length, ◌+◌}
+use Rattle.records.specs.Reading.{place_of, unused}
+use Rattle.records.proofs.Readings.{AreSome}
+use Rattle.records.proofs.reader.EntryReader.check_entries.Given as goal
+
+abbrev pub invariant-loop-entry : goal.invariant-loop-entry
+invariant-loop-entry g l =
+    AreSome g.S.Source.gives g.S.Source.most (place_of l.fn.self) l.line (place_of l.self)
+
+abbrev pub decreases-loop-entry : goal.decreases-loop-entry
+decreases-loop-entry g l =
+    length (unused l.self.ahead) + g.S.Source.most l.self.source

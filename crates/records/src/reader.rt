@@ -1,0 +1,191 @@
+//! Records of version 2 that are read entry by entry, as their bytes come.
+
+ghost use Rattle.std.specs.Prelude.{◌≡◌, ◌+◌, ◌^◌, ◌<◌, ℕ, List, [], MatchOption, IfOk, IfErr, OnOk, length, true, false, vec_len};
+ghost use Rattle.records.specs.Entry.{AreLinesOf, note_of, second_header};
+ghost use Rattle.records.specs.declared.reader.ReadFault.TheVariants as fault;
+ghost use Rattle.records.specs.declared.record.RecordFault.TheVariants as unfit;
+
+use crate::ahead::Ahead;
+use crate::cut::cut_at;
+use crate::entries::{SECOND_HEADER, count_lines, read_entry};
+use crate::entry::Entry;
+use crate::record::RecordFault;
+use crate::source::Source;
+use acts::NoMemory;
+use std::alloc::Allocator;
+use thiserror::Error;
+
+/// How many bytes are read at a time at most.
+const PIECE: usize = 65_536;
+
+/// Why an entry was not read.
+#[derive(Clone, Copy, Debug, PartialEq, Eq, Error)]
+pub enum ReadFault {
+    /// What was read is no record, or memory was refused.
+    #[error("no record")]
+    Unfit(RecordFault),
+    /// Reading was given up.
+    #[error("not to be read")]
+    GivenUp,
+}
+
+impl From<RecordFault> for ReadFault {
+    ghost from_gives = { λ found result. result ≡ fault.Unfit found };
+
+    fn from(found: RecordFault) -> ReadFault {
+        ReadFault::Unfit(found)
+    }
+}
+
+impl From<NoMemory> for ReadFault {
+    ghost from_gives = { λ refusal result. result ≡ fault.Unfit (unfit.NoMemory refusal) };
+
+    fn from(refusal: NoMemory) -> ReadFault {
+        ReadFault::Unfit(RecordFault::NoMemory(refusal))
+    }
+}
+
+/// A record that is read as its bytes come. Nothing is kept of what was read but what begins the
+/// next entry.
+#[derive(Drop)]
+pub struct EntryReader<A: Allocator, S> {
+    alloc: A,
+    source: S,
+    ahead: Ahead<A>,
+    piece: Vec<u8, A>,
+    ended: bool,
+    ghost room: { 0 < vec_len piece },
+}
+
+impl<A: Allocator + Copy, S: Source + Drop> EntryReader<A, S> {
+    ghost use Rattle.records.specs.Reading.{AreAll, GivesFault, GivesRecord, HasFault, IsBroken, IsStopped, ReadsOn, place_of, unused};
+
+    /// A record of which nothing was read yet.
+    pub fn new(alloc: A, source: S) -> Result<EntryReader<A, S>, NoMemory>
+        ensures { IfOk result (λ reader. place_of reader ≡ (source, [])) }
+    {
+        let piece = vec![in alloc; 0u8; PIECE]?;
+        Ok(EntryReader {
+            alloc,
+            source,
+            ahead: Ahead::new(alloc),
+            piece,
+            ended: false,
+        })
+    }
+
+    /// Its source, of which more may have been read than was used.
+    pub fn source(&self) -> &S
+        ensures { result.now ≡ self.now.source }
+    {
+        &self.source
+    }
+
+    /// Looks whether its source gives a record, which is read to its end; `false` where it does not
+    /// begin with the header of version 2.
+    pub fn check(&mut self) -> Result<bool, ReadFault>
+        requires none { unused self.old.ahead ≡ [] }
+        requires few { S.most self.old.source < 2 ^ 64 }
+        ensures gives { IfOk result (λ second. second ≡ true
+            → GivesRecord S.gives self.old.source self.new.source) }
+        ensures fault { IfErr result
+            (GivesFault S.gives S.gives_up self.old.source self.new.source) }
+    {
+        if !self.begin()? {
+            return Ok(false);
+        }
+        self.check_entries()?;
+        Ok(true)
+    }
+
+    /// Reads the header of version 2; `false` where it does not stand at the front.
+    pub fn begin(&mut self) -> Result<bool, ReadFault>
+        ensures header { IfOk result (λ second. second ≡ true
+            → ReadsOn S.gives S.most (place_of self.old) second_header (place_of self.new)) }
+        ensures broken { IfErr result
+            (IsBroken S.gives S.gives_up self.old.source self.new.source) }
+    {
+        self.read_ahead()?;
+        let Some(_lines) = self.ahead.text().strip_prefix(SECOND_HEADER) else {
+            return Ok(false);
+        };
+        self.ahead.use_up(SECOND_HEADER.len());
+        Ok(true)
+    }
+
+    /// Reads all entries up to the end, after the header.
+    fn check_entries(&mut self) -> Result<(), ReadFault>
+        requires few { length (unused self.old.ahead) + S.most self.old.source + 4 < 2 ^ 64 }
+        ensures all { OnOk result
+            (AreAll S.gives S.most (place_of self.old) (place_of self.new)) }
+        ensures fault { IfErr result
+            (HasFault S.gives S.gives_up S.most (place_of self.old) (place_of self.new)) }
+    {
+        let mut line = 2;
+        while let Some(entry) = self.next(line)? {
+            line += count_lines(&entry);
+        }
+        Ok(())
+    }
+
+    /// Reads the next entry; `None` at the end. `line` is the number of its first line, for faults.
+    pub fn next(&mut self, line: u64) -> Result<Option<Entry<A>>, ReadFault>
+        requires line { line + 1 < 2 ^ 64 }
+        ensures next { IfOk result (λ found. MatchOption found
+            (ReadsOn S.gives S.most (place_of self.old) [] (place_of self.new)
+            × (unused self.new.ahead ≡ []))
+            (λ entry. (front : List ℕ)
+            × AreLinesOf (note_of entry).rows (note_of entry).reply front
+            × ReadsOn S.gives S.most (place_of self.old) front (place_of self.new))) }
+        ensures stopped { IfErr result
+            (IsStopped S.gives S.gives_up S.most line (place_of self.old) (place_of self.new)) }
+    {
+        self.read_ahead()?;
+        let text = self.ahead.text();
+        if text.is_empty() {
+            return Ok(None);
+        }
+        let (entry, rest) = read_entry(self.alloc, text, line)?;
+        let used = text.len() - rest.len();
+        self.ahead.use_up(used);
+        Ok(Some(entry))
+    }
+
+    /// Reads on until the lines of an entry are there, or up to the end.
+    fn read_ahead(&mut self) -> Result<(), ReadFault>
+        ensures reads { OnOk result
+            (ReadsOn S.gives S.most (place_of self.old) [] (place_of self.new)) }
+        ensures broken { IfErr result
+            (IsBroken S.gives S.gives_up self.old.source self.new.source) }
+    {
+        while !self.ended && !is_whole(self.ahead.text()) {
+            self.read_piece()?;
+        }
+        Ok(())
+    }
+
+    /// Reads a piece more.
+    fn read_piece(&mut self) -> Result<(), ReadFault>
+        ensures reads { OnOk result
+            (ReadsOn S.gives S.most (place_of self.old) [] (place_of self.new)) }
+        ensures less { OnOk result (self.new.ended ≡ false
+            → S.most self.new.source < S.most self.old.source) }
+        ensures broken { IfErr result
+            (IsBroken S.gives S.gives_up self.old.source self.new.source) }
+    {
+        let Some(taken) = self.source.read_some(&mut self.piece) else {
+            return Err(ReadFault::GivenUp);
+        };
+        self.ended = taken == 0;
+        self.ahead.add(&self.piece[..taken])?;
+        Ok(())
+    }
+}
+
+/// Whether the lines of an entry are whole: there is a line, and another one behind that of a wait.
+fn is_whole(text: &[u8]) -> bool {
+    match cut_at(text, b'\n') {
+        Some((line, rest)) => !line.starts_with(b"wait") || cut_at(rest, b'\n').is_some(),
+        None => false,
+    }
+}
