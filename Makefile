@@ -112,6 +112,7 @@ edits:
 
 live: rx
 	live/live --record
+	live/cuts
 
 # The program runs no row here: rt builds only what it has proved.
 compare: rx
