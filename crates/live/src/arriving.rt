@@ -158,7 +158,7 @@ fn look_through<S: System>(
 }
 
 /// Reads for one row once. An id that is not open gives nothing. Without any room for what comes
-/// all would be silent for ever, which no list of peers is made with.
+/// all would be silent for ever, which no list with a link is without.
 fn look_at<S: System>(
     system: &mut S,
     peers: &mut Peers<S::Link>,

@@ -1,6 +1,6 @@
 //! The live world.
 
-ghost use Rattle.std.specs.Prelude.{◌≡◌, [], IfOk, None};
+ghost use Rattle.std.specs.Prelude.{◌≡◌, [], None};
 ghost use Rattle.std.specs.Io.KnownBytes.{Appends};
 ghost use Rattle.live.specs.Live.{IsWhy, Lives, Logs, Programs, Works};
 ghost use Rattle.live.specs.Outputs.{err_text, out_text};
@@ -46,30 +46,30 @@ where
 {
     /// A world in which nothing is open. Errors: memory is refused, or the system gives no poll.
     pub fn new(rt: &'a R, out: O, err: E) -> io::Result<Live<Host<'a, R>, O, E>> {
-        Ok(Live::over(Host::new(rt)?, out, err)?)
+        Ok(Live::over(Host::new(rt)?, out, err))
     }
 }
 
 impl<S: System + Drop, O: Write + Drop, E: Write + Drop> Live<S, O, E> {
-    /// A world over a system, in which nothing is open. Errors: memory is refused.
-    pub fn over(system: S, out: O, err: E) -> io::Result<Live<S, O, E>>
-        ensures system { IfOk result (λ world. world.system ≡ system) }
-        ensures out { IfOk result (λ world. world.out ≡ out) }
-        ensures err { IfOk result (λ world. world.err ≡ err) }
-        ensures log { IfOk result (λ world. world.log ≡ None) }
-        ensures peers { IfOk result (λ world. world.peers.list.items ≡ []) }
-        ensures programs { IfOk result (λ world. world.programs.items ≡ []) }
+    /// A world over a system, in which nothing is open.
+    pub fn over(system: S, out: O, err: E) -> Live<S, O, E>
+        ensures system { result.system ≡ system }
+        ensures out { result.out ≡ out }
+        ensures err { result.err ≡ err }
+        ensures log { result.log ≡ None }
+        ensures peers { result.peers.list.items ≡ [] }
+        ensures programs { result.programs.items ≡ [] }
     {
         let alloc = system.alloc();
-        Ok(Live {
+        Live {
             system,
             out,
             err,
             log: None,
             refusal: None,
-            peers: Peers::new(alloc)?,
+            peers: Peers::new(alloc),
             programs: Vec::new(alloc),
-        })
+        }
     }
 
     /// The system of the world.

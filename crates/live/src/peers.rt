@@ -1,6 +1,7 @@
 //! The programs and servers that are open, under their ids.
 
-ghost use Rattle.std.specs.Prelude.{◌≡◌, [], ◌++◌, ◌-◌, ◌<◌, ◌≤◌, length, max, take, ◌==◌, filter, not, position, IfOk};
+ghost use Rattle.std.specs.Prelude.{◌≡◌, [], ◌+◌, ◌++◌, ◌-◌, ◌<◌, ◌≤◌, length, max, take, ◌==◌, filter, not, position, vec_len, OnOk};
+ghost use Rattle.std.specs.Vec.{vec_capacity};
 ghost use Rattle.std.specs.Io.{StartsWith};
 ghost use Rattle.live.specs.Early.{Exchanged, HandsOn, LooksEarly, UnlessMemory, most_early};
 ghost use Rattle.live.specs.Look.{IsWithin};
@@ -126,22 +127,35 @@ pub struct Peers<L> {
     pub last: Option<Id>,
     /// When the timer runs out.
     pub deadline: Option<Instant>,
-    /// Where reads put their bytes.
+    /// Where reads put their bytes. It is made with the first link.
     pub room: Vec<u8>,
 }
 
 impl<L: Owned + Drop> Peers<L> {
-    /// A list in which nothing is open. Errors: memory is refused.
-    pub fn new(alloc: Global) -> Result<Peers<L>, AllocError>
-        ensures { IfOk result (λ peers. peers.list.items ≡ []) }
+    /// A list in which nothing is open.
+    pub fn new(alloc: Global) -> Peers<L>
+        ensures { result.list.items ≡ [] }
     {
-        Ok(Peers {
+        Peers {
             alloc,
             list: Vec::new(alloc),
             last: None,
             deadline: None,
-            room: vec![in alloc; 0u8; MOST_READ]?,
-        })
+            room: Vec::new(alloc),
+        }
+    }
+
+    /// Makes room for one more link, and with the first one that for reads, so that a run which
+    /// opens nothing does without.
+    pub fn reserve(&mut self) -> Result<(), AllocError>
+        ensures items { self.new.list.items ≡ self.old.list.items }
+        ensures deadline { self.new.deadline ≡ self.old.deadline }
+        ensures ok { OnOk result (vec_len self.new.list + 1 ≤ vec_capacity self.new.list) }
+    {
+        if self.room.is_empty() {
+            self.room.resize(MOST_READ, 0)?;
+        }
+        self.list.reserve(1)
     }
 
     /// Closes the link of an id, where one is open.

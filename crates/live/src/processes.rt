@@ -82,7 +82,7 @@ fn started<S: System>(
     ensures stops { IfErr result (λ error. StartStops S.step system.old id
         (map (λ word. word.items) words.now) error system.new) }
 {
-    peers.list.reserve(1)?;
+    peers.reserve()?;
     programs.reserve(1)?;
     let mut command = command_of(system, words)?;
     let link = system.pipes(id, &mut command)?;

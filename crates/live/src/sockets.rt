@@ -57,7 +57,7 @@ fn connected<S: System>(
     ensures stops { IfErr result (λ error. StopsShort S.step system.old
         (call.Connect id host.now port ∷ call.Poll id ∷ []) error system.new) }
 {
-    peers.list.reserve(1)?;
+    peers.reserve()?;
     let link = system.connect(id, text_of(host)?, port)?;
     system.watch(&link)?;
     peers.list.push_reserved(Peer::new(peers.alloc, link));

@@ -57,10 +57,7 @@ impl Dialogues {
     /// The answers to acts over a system that answers by a list, and how the list was kept to.
     fn performed(&self, acts: &[Act<Global>], script: Script<'_>) -> Result<String, RowFault> {
         let writers = (Vec::<u8>::new(self.alloc), Vec::<u8>::new(self.alloc));
-        let mut live = match Live::over(script, writers.0, writers.1) {
-            Ok(live) => live,
-            Err(error) => return Ok(format!(in self.alloc; "{error}")?),
-        };
+        let mut live = Live::over(script, writers.0, writers.1);
         let mut told = String::new(self.alloc);
         for act in acts {
             push_answer(&mut told, &live.act(act))?;

@@ -6,7 +6,7 @@ use Rattle.live.proofs.processes.started.Goals as goal
 pub returns-clause-started : goal.returns-clause-started
 returns-clause-started g c = (
   (
-    refl,
+    c.reserve.ensures.deadline,
     (
       c.new.result,
       ap g.S.Link.Owned.owner c.new.ensures.link ∙ c.in_ok-link.ensures.owner,

@@ -7,7 +7,7 @@ pub returns-clause-done : goal.returns-clause-done
 returns-clause-done g c =
     let step = g.S.System.step in (
       (
-        refl,
+        c.reserve.ensures.deadline,
         (
           c.new.result,
           ap g.S.Link.Owned.owner c.new.ensures.link ∙ c.in_ok-link.ensures.owner,
