@@ -1,4 +1,5 @@
 pub mod Due
 pub mod Left
 pub mod Recording
+pub mod Reel
 pub mod Replay

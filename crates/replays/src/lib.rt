@@ -4,7 +4,9 @@
 mod due;
 mod left;
 pub mod recording;
+pub mod reel;
 pub mod replay;
 
 pub use recording::Recording;
+pub use reel::{LentReel, Reel};
 pub use replay::{LentReplay, Replay};

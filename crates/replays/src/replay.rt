@@ -3,8 +3,9 @@
 ghost use Rattle.std.specs.Prelude.{◌≡◌, ◌||◌, ℕ, List, map, false};
 ghost use Rattle.acts.specs.Deed.{deed_of, reply_of};
 ghost use Rattle.records.specs.Entry.{note_of, plain_note};
+ghost use Rattle.records.specs.Sink.{Takes};
 ghost use Rattle.replays.specs.Recording.{recorded_in, whole};
-ghost use Rattle.replays.specs.Replay.{Replays, gone_out};
+ghost use Rattle.replays.specs.Replay.{Replays, Writes, gone_out};
 
 use crate::recording::Recording;
 use acts::{Act, Answer, World};
@@ -118,12 +119,25 @@ fn answer_from<A: Allocator, O: Sink, E: Sink>(
         (recorded_in recording.new, (out.new, err.new)) }
 {
     let answer = recording.answer(act);
+    put_answered(out, err, act, &answer);
+    answer
+}
+
+/// Writes the bytes that go out by an act Out or Err that was answered so.
+pub(crate) fn put_answered<A: Allocator, O: Sink, E: Sink>(
+    out: &mut O,
+    err: &mut E,
+    act: &Act<A>,
+    answer: &Answer<A>,
+)
+    ensures { Writes (Takes O.adds O.has_failed) (Takes E.adds E.has_failed)
+        (out.old, err.old) (deed_of act.now) (reply_of answer.now) (out.new, err.new) }
+{
     match act {
-        Act::Out(text) => put_all(out, went_out(text, &answer)),
-        Act::Err(text) => put_all(err, went_out(text, &answer)),
+        Act::Out(text) => put_all(out, went_out(text, answer)),
+        Act::Err(text) => put_all(err, went_out(text, answer)),
         _ => {}
     }
-    answer
 }
 
 /// The bytes that go out of a text that is written, as the answer to the write says.
