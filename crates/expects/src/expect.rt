@@ -15,6 +15,7 @@ use crate::turn::{Begun, Opening, Turn};
 use acts::raise::{bad_flag, not_open};
 use acts::{Fault, Id, NoMemory, Raise};
 use dialog::{BranchError, Branches, Effective, Trigger};
+use kept::Arguments;
 use kinds::failed;
 use state::State;
 use state::faults::no_script;
@@ -43,7 +44,7 @@ pub fn begin<A: Allocator + Copy>(
     ensures plain { IfOk result (λ begun. IsPlainBegun begun) }
 {
     match braced(args) {
-        Some(text) => by_argument(alloc, form, text),
+        Some(text) => by_argument(alloc, &mut state.arguments, form, text),
         None => Ok(Begun::Opens(by_words(alloc, state, form, args, levels)?)),
     }
 }
@@ -62,13 +63,18 @@ fn braced<A: Allocator>(args: &[Value<A>]) -> Option<&[u8]>
 }
 
 /// Reads the words of an argument in braces.
-fn by_argument<A: Allocator + Copy>(alloc: A, form: Form, text: &[u8]) -> Result<Begun<A>, NoMemory>
+fn by_argument<A: Allocator + Copy>(
+    alloc: A,
+    arguments: &mut Arguments<A>,
+    form: Form,
+    text: &[u8],
+) -> Result<Begun<A>, NoMemory>
     ensures reaches { (levels : ℕ) (s : Status) → IfOk result (λ begun.
         Reaches (definition.by_argument (form_of form) levels text.now s)
         (course_of_begun levels begun s)) }
     ensures plain { IfOk result (λ begun. IsPlainBegun begun) }
 {
-    let Words { words, fault } = Words::read(alloc, text)?;
+    let Words { words, fault } = arguments.read(text)?.words;
     match fault {
         None => Ok(Begun::Gathers(words, form)),
         Some(fault) => Ok(Begun::Opens(Opening::Has(raised(alloc, &no_script(fault))?))),

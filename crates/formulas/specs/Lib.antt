@@ -4,4 +4,3 @@ pub mod Seen
 pub mod Group
 pub mod Reads
 pub mod Spellable
-pub mod Kept

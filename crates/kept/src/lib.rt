@@ -1,11 +1,14 @@
 //! Scripts kept by their texts, so that a text that is run again is not read again.
 #![tactic(auto)]
 
+mod argument;
+
 ghost use Rattle.std.specs.Prelude.{◌≡◌, ◌≤◌, ◌⊎◌, [], length, false, IfOk, OnOk, OnErr, option_map};
 ghost use Rattle.std.specs.List.{IsDistinct};
 ghost use Rattle.std.specs.Str.{bytes_eq};
 ghost use Rattle.kept.specs.Kept.{is_among, with_newest, with_text, IsTree};
 
+pub use argument::{Argument, Arguments};
 use indexmap::IndexMap;
 use memory::NoMemory;
 use std::alloc::Allocator;

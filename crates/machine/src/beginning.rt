@@ -12,7 +12,7 @@ use acts::{Limits, NoMemory};
 use dialog::LogState;
 use formulas::KeptFormulas;
 use itoa::Buffer;
-use kept::Kept;
+use kept::{Arguments, Kept};
 use state::{Ids, State};
 use std::alloc::Allocator;
 use tclstate::{Procs, ScopeError, Scopes};
@@ -39,6 +39,7 @@ pub fn beginning<A: Allocator + Copy>(
         left: limits.ticks,
         kept: Kept::new(alloc),
         formulas: KeptFormulas::new(alloc),
+        arguments: Arguments::new(alloc),
     })
 }
 

@@ -3,7 +3,7 @@
 use crate::ids::Ids;
 use dialog::LogState;
 use formulas::KeptFormulas;
-use kept::Kept;
+use kept::{Arguments, Kept};
 use std::alloc::Allocator;
 use tclstate::{Procs, Scopes};
 
@@ -26,4 +26,6 @@ pub struct State<A: Allocator> {
     /// The formulas that were read last, with their texts. They too say nothing that the texts do
     /// not.
     pub formulas: KeptFormulas<A>,
+    /// The arguments in braces that were read last, with their texts, of which the same is true.
+    pub arguments: Arguments<A>,
 }
