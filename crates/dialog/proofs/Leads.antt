@@ -1,12 +1,14 @@
 -- Runs that are sought first, and what a search for one says of the whole pattern.
 use Rattle.std.proofs.Common.{◌≡◌, ℕ, ◌+◌, ◌-◌, ◌≤◌, ◌<◌, true, false, Bool, List, [], ◌∷◌, ◌++◌, IsTrue, length, map, take, drop, refl, sym, ◌∙◌, ap, subst, inl, inr, arith, append_assoc, Option, Some, None, MatchOption}
-use Rattle.std.specs.Prelude.{slice_range}
-use Rattle.std.proofs.lemmas.Bool.{cases_lt, false≢true}
-use Rattle.std.proofs.lemmas.List.{length-drop, length-append, length-map, length-take-le, take-append-le, drop-append-le, drop-drop, take_at, drop_at}
+use Rattle.std.specs.Prelude.{IfNone, slice_range}
+use Rattle.std.proofs.lemmas.Bool.{cases_lt, false≢true, true_from_ne_false}
+use Rattle.std.proofs.lemmas.List.{length-drop, length-append, length-map, length-take-le, take-append-le, drop-append-le, drop-drop, take_all, take_at, drop_at}
+use Rattle.std.proofs.lemmas.Slice.Eq.{bytes_eq-Decides}
+use Rattle.std.specs.Str.{bytes_eq}
 use Rattle.tcltext.specs.Pattern.Glob.{exact}
 use Rattle.tcltext.specs.Pattern.Item.{Item, Reading, literal, any_byte, one_of, any_run}
 use Rattle.tcltext.specs.Pattern.Match.{Whole, Sits, SitsNowhere, IsFound, compared}
-use Rattle.tcltext.specs.Pattern.Passed.{Passed}
+use Rattle.tcltext.specs.Pattern.Passed.{Needs, Passed}
 use Rattle.tcltext.specs.Pattern.Runs.{IsFixed}
 use Rattle.tcltext.specs.declared.pattern.search.Found.{Found}
 use Rattle.tcltext.proofs.Patterns.Folds.{compared-length, compared-range}
@@ -14,7 +16,10 @@ use Rattle.tcltext.proofs.Patterns.Items.{IsFixed-text}
 use Rattle.tcltext.proofs.Patterns.Shifts.{Passed-here, Sits-on}
 use Rattle.tcltext.proofs.Patterns.Spans.{slice_range-joined}
 use Rattle.tcltext.proofs.Patterns.Stars.{drop_behind}
-use Rattle.dialog.specs.Lead.{IsRun, IsNeeded}
+use Rattle.dialog.specs.Lead.{IsRun, IsNeeded, Seeks, is_all, run_of}
+use Rattle.dialog.specs.declared.lead.Key.{Key}
+use Rattle.dialog.specs.declared.lead.Seeker.{Seeker}
+use Rattle.dialog.specs.declared.lead.Seeker.TheVariants as seeker
 
 -- items of one byte each take as many bytes
 whole_length : (items : List Item) (t : List ℕ) → IsFixed items → Whole items t →
@@ -234,3 +239,83 @@ part_needed p run before after start end folds items = λ w nowhere s e sits.
       at_start = no_start run start' 0 start;
       at_end = no_end run end' (length w) end;
     }
+
+-- a text that a text takes is that text
+whole_text : (t x : List ℕ) → Whole (map literal t) x → x ≡ t
+whole_text [] x whole = whole
+whole_text (c ∷ t) x (piece, rest, joined, taken, whole) =
+    joined ∙ ap (λ (front : List ℕ). front ++ rest) taken
+    ∙ ap (λ (behind : List ℕ). c ∷ behind) (whole_text t rest whole)
+
+text_whole : (t : List ℕ) → Whole (map literal t) t
+text_whole [] = refl
+text_whole (c ∷ t) = (c ∷ [], t, refl, refl, text_whole t)
+
+range_all : (t : List ℕ) (e : ℕ) → e ≡ length t → slice_range t 0 e ≡ t
+range_all t e is =
+    let all : e - 0 ≡ e = omega arith in
+    ap (λ (n : ℕ). take n t) all ∙ take_all e t (omega (arith, is))
+
+text_sits : (t : List ℕ) → Sits (exact t) t 0 (length t)
+text_sits t = record {
+  ordered = omega arith;
+  within = omega arith;
+  whole = subst (Whole (map literal t)) (sym (range_all t (length t) refl)) (text_whole t);
+  at_start = no_start (exact t) 0 0 refl;
+  at_end = no_end (exact t) (length t) (length t) refl;
+}
+
+-- a text that sits in one of its length is that one
+sits_all : (t text : List ℕ) (s e : ℕ) → length t ≡ length text → Sits (exact t) text s e →
+    t ≡ text
+sits_all t text s e long sits =
+    let end = run_end (exact t) (length t) text s e (text_run t) sits in
+    let none : s ≡ 0 = omega (arith, end, long, sits.within) in
+    let all : e ≡ length text = omega (arith, end, long, sits.within) in
+    sym (whole_text t (slice_range text s e) sits.whole)
+    ∙ ap (λ (n : ℕ). slice_range text n e) none
+    ∙ range_all text e all
+
+-- a text that an exact pattern needs, and that is as long as the pattern's, is this one
+pub needs_all : (text t : List ℕ) → Needs (exact text) t → length t ≡ length text → t ≡ text
+needs_all text t needs long =
+    let same = bytes_eq-Decides t text in
+    same.0 (true_from_ne_false (bytes_eq t text) (λ differs.
+    needs text (λ s e sits.
+    false≢true (sym differs ∙ same.1 (sits_all t text s e long sits)))
+    0 (length text) (text_sits text)))
+
+-- a run that is the whole pattern
+pub all_is : {A : Type 0} (key : Key A) (p : Reading) (how : Seeker A) → Seeks key p how →
+    IsTrue (is_all how) → p ≡ run_of key
+all_is key p seeker.Text seeks is = absurd (false≢true is)
+all_is key p seeker.Itself seeks is = seeks
+all_is key p seeker.Around seeks is = absurd (false≢true is)
+all_is key p (seeker.Part part) seeks is = absurd (false≢true is)
+
+-- where stars stand beside the run alone, it sits nowhere where the pattern does not behind k
+pub nowhere_behind : (p run : Reading) (w : List ℕ) (k : ℕ) → run.at_start ≡ false →
+    Low run w k → IsNeeded p run → SitsNowhere p (drop k w) → SitsNowhere run w
+nowhere_behind p run w k start low needed nowhere =
+    nowhere_on run w k start low (needed (drop k w) nowhere)
+
+found_behind : {A : Type 0} (key : Key A) (p : Reading) (w : List ℕ) (k : ℕ)
+    (result : Option Found) → (run_of key).at_start ≡ false → Low (run_of key) w k →
+    Seeks key p seeker.Around → IfNone result (SitsNowhere p (drop k w)) →
+    MatchOption result (SitsNowhere (run_of key) w)
+    (λ found. IsTrue (is_all {A = A} seeker.Around) →
+    IsFound (run_of key) w found.start found.end)
+found_behind key p w k None start low seeks nowhere =
+    nowhere_behind p (run_of key) w k start low seeks.1 nowhere
+found_behind key p w k (Some found) start low seeks nowhere = λ is. absurd (false≢true is)
+
+-- what is said of a run by a search behind k for the pattern in which only `*` stand beside it
+pub finds_behind : {A : Type 0} (key : Key A) (p : Reading) (how : Seeker A) (w : List ℕ)
+    (k : ℕ) (result : Option Found) → how ≡ seeker.Around → (run_of key).at_start ≡ false →
+    Low (run_of key) w k → Seeks key p how → IfNone result (SitsNowhere p (drop k w)) →
+    MatchOption result (SitsNowhere (run_of key) w)
+    (λ found. IsTrue (is_all how) → IsFound (run_of key) w found.start found.end)
+finds_behind key p how w k result is start low seeks nowhere =
+    subst (λ h. MatchOption result (SitsNowhere (run_of key) w)
+    (λ found. IsTrue (is_all h) → IsFound (run_of key) w found.start found.end)) (sym is)
+    (found_behind key p w k result start low (subst (Seeks key p) is seeks) nowhere)

@@ -1,20 +1,22 @@
 -- How the signs of a glob are passed, and what its last run says of it.
 use Rattle.std.proofs.Common.{◌≡◌, ◌≢◌, ℕ, zero, suc, ◌+◌, ◌-◌, ◌≤◌, ◌<◌, ◌==◌, Bool, true, false, cond, List, [], ◌∷◌, ◌++◌, length, map, take, drop, refl, sym, ◌∙◌, ap, subst, arith, slice_index, Some}
+use Rattle.std.specs.Prelude.{slice_range}
 use Rattle.std.proofs.Math.Seq.{take-add}
 use Rattle.std.proofs.lemmas.Bool.{false≢true}
-use Rattle.std.proofs.lemmas.List.{append-nil, append_assoc, length-append, length-drop, length-map, map-append, take-append-drop, take_all}
+use Rattle.std.proofs.lemmas.List.{append-nil, append_assoc, length-append, length-drop, length-map, map-append, take-append-drop}
 use Rattle.std.specs.List.{AllByRecursion}
 use Rattle.tcltext.proofs.Patterns.Items.{IsFixed-text}
 use Rattle.tcltext.proofs.Patterns.Tests.{false_from_not_true}
-use Rattle.tcltext.specs.Pattern.Glob.{Sign, bare, quoted, a_set, signs, signs_in_set, signs_behind_backslash, item_of, is_dollar, ends_in_dollar, begins_in_caret, after_caret, glob, plain, exact, folded}
+use Rattle.tcltext.specs.Pattern.Glob.{Sign, bare, quoted, a_set, signs, signs_in_set, signs_behind_backslash, item_of, ends_in_dollar, begins_in_caret, after_caret, glob, plain, exact, folded}
 use Rattle.tcltext.specs.Pattern.Item.{Item, Reading, literal, any_byte, one_of, any_run}
+use Rattle.tcltext.specs.Pattern.Match.{Sits, Whole, compared}
 use Rattle.tcltext.specs.Pattern.Runs.{IsFixed}
 use Rattle.dialog.specs.Branches.{Awaited, Sought, FullBuffer, Eof, Timeout, Default}
 use Rattle.dialog.specs.Lead.{IsLead, IsRun, IsNeeded, Leads, pattern_by}
 use Rattle.dialog.specs.declared.lead.Lead.{Lead}
 use Rattle.dialog.specs.Parts.{Seeks}
 use Rattle.dialog.specs.Reads.{sought_by, awaited_by}
-use Rattle.dialog.specs.Runs.{IsFree, IsOne, AreOnes, AreFree, Reads, IsSign, IsFront, IsWithin, is_bare}
+use Rattle.dialog.specs.Runs.{IsFree, IsOne, AreOnes, AreFree, AreStars, Reads, IsSign, IsFront, IsWithin, IsAlone, is_bare}
 use Rattle.dialog.specs.Signs.{style_of}
 use Rattle.dialog.specs.declared.sign.Style.{Style}
 use Rattle.dialog.specs.declared.sign.Style.TheVariants as style
@@ -299,6 +301,76 @@ met_last text rest run size caret met none =
       long = met.long;
     }
 
+-- nothing but `*` stands before and after the last run that was met
+pub record MetAlone (text rest run : List ℕ) : Type 0 where
+  pub before : List Sign
+  pub after : List Sign
+  pub split : signs text ≡ before ++ (signs run ++ (after ++ signs rest))
+  pub stars_before : AreStars before
+  pub stars_after : AreStars after
+
+pub alone_first : (text run rest : List ℕ) (size : ℕ) → IsFront text run rest size →
+    MetAlone text rest run
+alone_first text run rest size front = record {
+  before = [];
+  after = [];
+  split = front.split;
+  stars_before = tt;
+  stars_after = tt;
+}
+
+-- a run that takes a byte was met after a `*`, and none before it
+pub alone_next : (text rest run more next later : List ℕ) (size size' : ℕ) →
+    Met text rest run size → MetAlone text rest run → size ≡ 0 → rest ≡ 42 ∷ more →
+    IsFront more next later size' → MetAlone text later next
+alone_next text rest run more next later size size' met alone none is front =
+    let empty : signs run ≡ [] = nothing (signs run) (met.long ∙ none) in
+    record {
+      before = alone.before ++ (signs run ++ (alone.after ++ bare 42 ∷ []));
+      after = [];
+      split = alone.split
+          ∙ ap (λ (x : List Sign). alone.before ++ (signs run ++ (alone.after ++ x)))
+          (after_star rest more next later size' is front)
+          ∙ four alone.before (signs run) alone.after (signs next) (signs later) (bare 42);
+      stars_before = all_join _ alone.before _ alone.stars_before
+          (all_join _ (signs run) _ (subst AreStars (sym empty) tt)
+          (all_join _ alone.after (bare 42 ∷ []) alone.stars_after (refl, tt)));
+      stars_after = tt;
+    }
+
+-- nothing that takes a byte was met after a `*`
+pub alone_nothing : (text rest run more next later : List ℕ) (size' : ℕ) →
+    MetAlone text rest run → rest ≡ 42 ∷ more → IsFront more next later size' → size' ≡ 0 →
+    MetAlone text later run
+alone_nothing text rest run more next later size' alone is front none =
+    let empty : signs next ≡ [] = nothing (signs next) (front.long ∙ none) in
+    record {
+      before = alone.before;
+      after = alone.after ++ bare 42 ∷ [];
+      split = alone.split
+          ∙ ap (λ (x : List Sign). alone.before ++ (signs run ++ (alone.after ++ x)))
+          (after_star rest more next later size' is front)
+          ∙ ap (λ (x : List Sign). alone.before ++ (signs run ++ (alone.after ++ bare 42 ∷ (x
+          ++ signs later)))) empty
+          ∙ ap (λ (x : List Sign). alone.before ++ (signs run ++ x))
+          (sym (append_assoc alone.after (bare 42 ∷ []) (signs later)));
+      stars_before = alone.stars_before;
+      stars_after = all_join _ alone.after (bare 42 ∷ []) alone.stars_after (refl, tt);
+    }
+
+-- the whole text was read
+pub alone_last : (text rest run : List ℕ) → MetAlone text rest run → rest ≡ [] →
+    IsAlone text run
+alone_last text rest run alone none = record {
+  before = alone.before;
+  after = alone.after;
+  split = alone.split
+      ∙ ap (λ (x : List ℕ). alone.before ++ (signs run ++ (alone.after ++ signs x))) none
+      ∙ ap (λ (x : List Sign). alone.before ++ (signs run ++ x)) (append-nil alone.after);
+  stars_before = alone.stars_before;
+  stars_after = alone.stars_after;
+}
+
 -- the run of a text, with letters folded or not
 pub scanned_run : (folds : Bool) (run : List ℕ) (size : ℕ) → AreOnes (signs run) →
     length (signs run) ≡ size → IsRun (sought_by folds (plain run)) size
@@ -343,6 +415,54 @@ within_needed folds text run size p is within =
     subst (IsNeeded (sought_by folds (plain run))) (sym same)
     (plain_needed folds text run within.before within.after within.split)
 
+-- stars in front of items need no byte
+stars_in_front : (stars : List Sign) (items : List Item) (t : List ℕ) → AreStars stars →
+    Whole items t → Whole (map item_of stars ++ items) t
+stars_in_front [] items t are whole = whole
+stars_in_front (s ∷ ss) items t (here, more) whole =
+    subst (λ (x : Sign). Whole (item_of x ∷ (map item_of ss ++ items)) t) (sym here)
+    ([], t, refl, tt, stars_in_front ss items t more whole)
+
+-- neither do stars behind them
+stars_behind : (items : List Item) (stars : List Sign) (t : List ℕ) → AreStars stars →
+    Whole items t → Whole (items ++ map item_of stars) t
+stars_behind [] [] t are whole = whole
+stars_behind [] (s ∷ ss) t (here, more) whole =
+    subst (λ (x : Sign). Whole (item_of x ∷ map item_of ss) t) (sym here)
+    ([], t, refl, tt, stars_behind [] ss t more whole)
+stars_behind (item ∷ items) stars t are (piece, rest, joined, taken, whole) =
+    (piece, rest, joined, taken, stars_behind items stars rest are whole)
+
+-- a pattern of stars round a run sits where the run sits
+round_sits : (p run : Reading) (before after : List Sign) (w : List ℕ) (s e : ℕ) →
+    p.at_start ≡ false → p.at_end ≡ false → run.folds ≡ p.folds →
+    p.items ≡ map item_of before ++ (run.items ++ map item_of after) →
+    AreStars before → AreStars after → Sits run w s e → Sits p w s e
+round_sits p run before after w s e start end folds items stars_before stars_after sits =
+    record {
+      ordered = sits.ordered;
+      within = sits.within;
+      whole = subst (λ (x : List Item). Whole x (compared p.folds (slice_range w s e)))
+          (sym items)
+          (stars_in_front before (run.items ++ map item_of after) _ stars_before
+          (stars_behind run.items after _ stars_after
+          (subst (λ (f : Bool). Whole run.items (compared f (slice_range w s e))) folds
+          sits.whole)));
+      at_start = λ tied. absurd (false≢true (sym start ∙ tied));
+      at_end = λ tied. absurd (false≢true (sym end ∙ tied));
+    }
+
+plain_round : (folds : Bool) (text run : List ℕ) → IsAlone text run →
+    IsNeeded (sought_by folds (plain text)) (sought_by folds (plain run))
+plain_round true text run alone = λ w nowhere s e sits.
+    nowhere s e (round_sits (folded (plain text)) (folded (plain run)) alone.before alone.after
+    w s e refl refl refl (items_split text run alone.before alone.after alone.split)
+    alone.stars_before alone.stars_after sits)
+plain_round false text run alone = λ w nowhere s e sits.
+    nowhere s e (round_sits (plain text) (plain run) alone.before alone.after w s e refl refl
+    refl (items_split text run alone.before alone.after alone.split) alone.stars_before
+    alone.stars_after sits)
+
 exact_run : (folds : Bool) (text : List ℕ) → IsRun (sought_by folds (exact text)) (length text)
 exact_run true text = record {
   at_start = refl;
@@ -362,16 +482,20 @@ text_lead folds text value p is same = (
   is ∙ ap (λ (x : List ℕ). sought_by folds (exact x)) (sym same),
 )
 
--- a glob that is one run
-pub run_lead : (folds : Bool) (text run value : List ℕ) (size : ℕ) (p : Reading) →
-    p ≡ sought_by folds (glob text) → IsWithin text run size → run ≡ text → value ≡ text →
-    IsRun (sought_by folds (plain value)) size × (p ≡ sought_by folds (plain value))
-run_lead folds text run value size p is within whole same =
-    let there : run ≡ value = whole ∙ sym same in (
-      subst (λ (x : List ℕ). IsRun (sought_by folds (plain x)) size) there
+-- the one run of a glob, beside which only `*` stand
+pub alone_lead : (folds : Bool) (text run value : List ℕ) (size : ℕ) (p : Reading) →
+    p ≡ sought_by folds (glob text) → IsWithin text run size → IsAlone text run → value ≡ run →
+    IsRun (sought_by folds (plain value)) size × IsNeeded (sought_by folds (plain value)) p
+    × IsNeeded p (sought_by folds (plain value))
+alone_lead folds text run value size p is within alone same =
+    let whole : p ≡ sought_by folds (plain text) = is ∙ ap (sought_by folds) within.untied in (
+      subst (λ (x : List ℕ). IsRun (sought_by folds (plain x)) size) (sym same)
           (scanned_run folds run size within.ones within.long),
-      is ∙ ap (sought_by folds) within.untied
-          ∙ ap (λ (x : List ℕ). sought_by folds (plain x)) (sym same),
+      subst (λ (x : List ℕ). IsNeeded (sought_by folds (plain x)) p) (sym same)
+          (within_needed folds text run size p is within),
+      subst (λ (x : List ℕ). IsNeeded p (sought_by folds (plain x))) (sym same)
+          (subst (λ (x : Reading). IsNeeded x (sought_by folds (plain run))) (sym whole)
+          (plain_round folds text run alone)),
     )
 
 -- a run of a glob

@@ -1,5 +1,5 @@
 -- What a search for a pattern seeks first: a run, which takes as many bytes wherever it stands.
-use Rattle.std.specs.Prelude.{◌≡◌, ℕ, false, List, length, Option, Some, None}
+use Rattle.std.specs.Prelude.{◌≡◌, ℕ, Bool, true, false, List, length, Option, Some, None}
 use Rattle.tcltext.specs.Pattern.Glob.{glob, plain, exact}
 use Rattle.tcltext.specs.Pattern.Item.{Reading}
 use Rattle.tcltext.specs.Pattern.Match.{SitsNowhere}
@@ -38,12 +38,20 @@ pub record IsRun (p : Reading) (size : ℕ) : Type 0 where
 abbrev pub IsNeeded : Reading → Reading → Type 0
 IsNeeded run p = (window : List ℕ) → SitsNowhere run window → SitsNowhere p window
 
--- the run of the key is sought as a text, as the pattern itself, or as a pattern of its own
--- (this project's own rule)
+-- the run of the key is sought as a text, as the pattern itself, which is the run or is found
+-- where the run is, or as a pattern of its own (this project's own rule)
 abbrev pub Seeks : {A : Type 0} → Key A → Reading → Seeker A → Type 0
 Seeks key p seeker.Text = (run_of key ≡ exact key.text) × IsNeeded (run_of key) p
 Seeks key p seeker.Itself = p ≡ run_of key
-Seeks key p (seeker.Part part) = (part ≡ run_of key) × IsNeeded (run_of key) p
+Seeks key p seeker.Around = IsNeeded (run_of key) p × IsNeeded p (run_of key)
+Seeks key p (seeker.Part part) = (part.value ≡ run_of key) × IsNeeded (run_of key) p
+
+-- the run is the whole pattern (this project's own rule)
+abbrev pub is_all : {A : Type 0} → Seeker A → Bool
+is_all seeker.Text = false
+is_all seeker.Itself = true
+is_all seeker.Around = false
+is_all (seeker.Part part) = false
 
 -- what is sought first of this pattern (this project's own rule)
 pub record IsLead {A : Type 0} (p : Reading) (lead : Lead A) : Type 0 where

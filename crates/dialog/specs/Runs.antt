@@ -1,7 +1,7 @@
 -- Runs of a glob: parts of its text whose signs take one byte each.
 use Rattle.std.specs.Prelude.{◌≡◌, ◌==◌, ℕ, ◌≤◌, Bool, true, false, List, [], ◌∷◌, ◌++◌, length, take, if◌then◌else◌}
 use Rattle.std.specs.List.{AllByRecursion}
-use Rattle.tcltext.specs.Pattern.Glob.{Sign, signs, glob, plain, is_dollar, item_of}
+use Rattle.tcltext.specs.Pattern.Glob.{Sign, bare, signs, glob, plain, is_dollar, item_of}
 use Rattle.tcltext.specs.Pattern.Runs.{IsFixed}
 
 -- the byte is a sign by itself, and neither a `*` nor a `$` (string(n), match)
@@ -56,3 +56,15 @@ pub record IsWithin (text run : List ℕ) (size : ℕ) : Type 0 where
   pub split : signs text ≡ before ++ (signs run ++ after)
   pub ones : AreOnes (signs run)
   pub long : length (signs run) ≡ size
+
+-- all of the signs are bare `*`
+abbrev pub AreStars : List Sign → Type 0
+AreStars all = AllByRecursion (λ sign. sign ≡ bare 42) all
+
+-- nothing but `*` stands before and after that run of the text
+pub record IsAlone (text run : List ℕ) : Type 0 where
+  pub before : List Sign
+  pub after : List Sign
+  pub split : signs text ≡ before ++ (signs run ++ after)
+  pub stars_before : AreStars before
+  pub stars_after : AreStars after

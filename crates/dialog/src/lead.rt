@@ -1,14 +1,13 @@
 //! What is sought first of a pattern, so that a search for it goes on where the last one ended.
 
-ghost use Rattle.std.specs.Prelude.{◌≡◌, ℕ, ◌≤◌, false, length, IfOk, IfSome, IsTrue, MatchOption};
-ghost use Rattle.dialog.specs.Lead.{IsLead, pattern_by, run_of};
+ghost use Rattle.std.specs.Prelude.{◌≡◌, ℕ, ◌≤◌, false, drop, length, IfNone, IfOk, IfSome, IsTrue, MatchOption};
+ghost use Rattle.dialog.specs.Lead.{IsLead, is_all, pattern_by, run_of};
 ghost use Rattle.dialog.specs.Reads.{sought_by};
-ghost use Rattle.dialog.specs.Runs.{IsWithin};
+ghost use Rattle.dialog.specs.Runs.{IsAlone, IsWithin};
 ghost use Rattle.tcltext.specs.Pattern.Glob.{exact, glob, plain};
-ghost use Rattle.tcltext.specs.Pattern.Item.{Reading};
 ghost use Rattle.tcltext.specs.Pattern.Match.{IsFound, Sits, SitsNowhere};
 
-use crate::run::{Run, last_run};
+use crate::run::{LastRun, last_run};
 use crate::sign::Style;
 use acts::NoMemory;
 use std::alloc::Allocator;
@@ -63,10 +62,12 @@ impl<A: Allocator> Key<A> {
 pub(crate) enum Seeker<A: Allocator> {
     /// As the text of the key.
     Text,
-    /// As the pattern itself.
+    /// As the pattern itself, which is the run.
     Itself,
+    /// As the pattern itself, in which nothing but `*` stands beside the run.
+    Around,
     /// As a pattern of its own, which is a part of the whole one.
-    Part(Pattern<A>),
+    Part(Box<Pattern<A>, A>),
 }
 
 /// What is sought first of a pattern: a run that takes as many bytes wherever it stands, and
@@ -96,13 +97,13 @@ impl<A: Allocator> Lead<A> {
 
     /// Whether the run is the whole pattern, so that this is found where the run is.
     pub(crate) fn is_all(&self) -> bool
-        ensures { IsTrue result → (p : Reading) → IsLead p self.now → p ≡ run_of self.now.key }
+        ensures { result ≡ is_all self.now.seeker }
     {
         matches!(self.seeker, Seeker::Itself)
     }
 
-    /// Finds the run in a window, if it is known to stand at no place before `from`. Takes no
-    /// memory.
+    /// Finds the run in a window, if it is known to stand at no place before `from`. The place is
+    /// that of the run where this is the whole pattern. Takes no memory.
     pub(crate) fn find(
         &self,
         pattern: &Pattern<A>,
@@ -116,11 +117,13 @@ impl<A: Allocator> Lead<A> {
         requires low { (s e : ℕ) → Sits (run_of self.now.key) window.now s e → from ≤ s }
         ensures found { MatchOption result
             (SitsNowhere (run_of self.now.key) window.now)
-            (λ found. IsFound (run_of self.now.key) window.now found.start found.end) }
+            (λ found. IsTrue (is_all self.now.seeker) →
+            IsFound (run_of self.now.key) window.now found.start found.end) }
     {
         match &self.seeker {
             Seeker::Text => find_text_from(self.key.text.as_slice(), window, from),
             Seeker::Itself => find_from(pattern, window, from, scratch),
+            Seeker::Around => find_behind(pattern, window, from, scratch),
             Seeker::Part(part) => find_from(part, window, from, scratch),
         }
     }
@@ -157,7 +160,7 @@ impl<A: Allocator + Copy> Lead<A> {
         requires { pattern.now ≡ sought_by folds (exact text.now) }
         ensures lead { IfOk result (IsLead pattern.now) }
     {
-        let value = text_of(alloc, text, pattern.needs())?;
+        let value = exact_text(alloc, folds, text, pattern)?;
         Ok(Lead {
             key: Key {
                 style: Style::Exact,
@@ -169,8 +172,8 @@ impl<A: Allocator + Copy> Lead<A> {
         })
     }
 
-    /// What is sought first of a glob. Where the text that it needs is only a part of it, that text
-    /// is sought, so that no other pattern has to be made.
+    /// What is sought first of a glob. Where it needs a text, that text is sought, so that nothing
+    /// has to be made.
     fn of_glob(
         alloc: A,
         folds: bool,
@@ -180,17 +183,16 @@ impl<A: Allocator + Copy> Lead<A> {
         requires { pattern.now ≡ sought_by folds (glob text.now) }
         ensures lead { IfOk result (IsLead pattern.now) }
     {
-        let needed = pattern.needs().as_slice().len();
-        if 0 < needed && needed < text.len() {
+        if !pattern.needs().as_slice().is_empty() {
             return Lead::of_needs(pattern);
         }
-        let Some(run) = last_run(text) else {
+        let Some(last) = last_run(text) else {
             return Lead::of_needs(pattern);
         };
-        if run.text == text {
-            return Lead::of_run(alloc, folds, text, run, pattern);
+        if last.is_alone {
+            return Lead::of_alone(alloc, folds, text, last, pattern);
         }
-        Lead::of_part(alloc, folds, text, run, pattern)
+        Lead::of_part(alloc, folds, text, last, pattern)
     }
 
     /// The text that stands in every window in which the pattern is found.
@@ -208,28 +210,28 @@ impl<A: Allocator + Copy> Lead<A> {
         Ok(Lead { key, size, seeker })
     }
 
-    /// A glob itself, where it is one run.
-    fn of_run(
+    /// The one run of a glob, beside which only `*` stand.
+    fn of_alone(
         alloc: A,
         folds: bool,
         text: &[u8],
-        run: Run<'_>,
+        last: LastRun<'_>,
         pattern: &Pattern<A>,
     ) -> Result<Lead<A>, NoMemory>
         requires glob { pattern.now ≡ sought_by folds (glob text.now) }
-        requires within { IsWithin text.now run.text.now run.size }
-        requires whole { run.text.now ≡ text.now }
+        requires within { IsWithin text.now last.text.now last.size }
+        requires alone { IsAlone text.now last.text.now }
         ensures lead { IfOk result (IsLead pattern.now) }
     {
-        let value = text_of(alloc, text, pattern.needs())?;
+        let value = Value::from_slice(alloc, last.text)?;
         Ok(Lead {
             key: Key {
                 style: Style::Glob,
                 folds,
                 text: value,
             },
-            size: run.size,
-            seeker: Seeker::Itself,
+            size: last.size,
+            seeker: Seeker::Around,
         })
     }
 
@@ -238,25 +240,26 @@ impl<A: Allocator + Copy> Lead<A> {
         alloc: A,
         folds: bool,
         text: &[u8],
-        run: Run<'_>,
+        last: LastRun<'_>,
         pattern: &Pattern<A>,
     ) -> Result<Lead<A>, NoMemory>
         requires glob { pattern.now ≡ sought_by folds (glob text.now) }
-        requires within { IsWithin text.now run.text.now run.size }
+        requires within { IsWithin text.now last.text.now last.size }
         ensures lead { IfOk result (IsLead pattern.now) }
     {
-        let read = run_pattern(alloc, folds, run.text)?;
+        let read = run_pattern(alloc, folds, last.text)?;
         let Some(part) = read else {
             return Lead::of_needs(pattern);
         };
-        let value = Value::from_slice(alloc, run.text)?;
+        let value = Value::from_slice(alloc, last.text)?;
+        let part = Box::new(alloc, part)?;
         Ok(Lead {
             key: Key {
                 style: Style::Glob,
                 folds,
                 text: value,
             },
-            size: run.size,
+            size: last.size,
             seeker: Seeker::Part(part),
         })
     }
@@ -278,15 +281,19 @@ fn run_pattern<A: Allocator + Copy>(
     }
 }
 
-/// A text as a value, which is not copied where the pattern needs just this text.
-fn text_of<A: Allocator + Copy>(
+/// The text of an exact pattern as a value. It is not copied where the pattern needs a text that
+/// is as long, which is just this text.
+fn exact_text<A: Allocator + Copy>(
     alloc: A,
+    folds: bool,
     text: &[u8],
-    needed: &Value<A>,
+    pattern: &Pattern<A>,
 ) -> Result<Value<A>, NoMemory>
+    requires { pattern.now ≡ sought_by folds (exact text.now) }
     ensures { IfOk result (λ value. value ≡ text.now) }
 {
-    if needed.as_slice() == text {
+    let needed = pattern.needs();
+    if !folds && needed.as_slice().len() == text.len() {
         return Ok(needed.share()?);
     }
     Ok(Value::from_slice(alloc, text)?)
@@ -333,4 +340,19 @@ fn find_from<A: Allocator>(
         }),
         None => None,
     }
+}
+
+/// Finds a pattern in what stands in a window from `from` on.
+fn find_behind<A: Allocator>(
+    pattern: &Pattern<A>,
+    window: &[u8],
+    from: usize,
+    scratch: &mut Scratch<A>,
+) -> Option<Found>
+    requires inside { from ≤ length window.now }
+    requires room { length window.now ≤ scratch.old }
+    ensures { IfNone result (SitsNowhere pattern.now (drop from window.now)) }
+{
+    let (_, rest) = window.split_at(from);
+    pattern.find(rest, scratch).found
 }

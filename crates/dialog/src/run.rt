@@ -1,7 +1,7 @@
 //! Runs of a glob: parts of its text whose signs take one byte each.
 
-ghost use Rattle.std.specs.Prelude.{◌≡◌, ◌∷◌, IfSome};
-ghost use Rattle.dialog.specs.Runs.{IsFront, IsSign, IsWithin, is_bare};
+ghost use Rattle.std.specs.Prelude.{◌≡◌, ◌∷◌, IfSome, IsTrue};
+ghost use Rattle.dialog.specs.Runs.{IsAlone, IsFront, IsSign, IsWithin, is_bare};
 ghost use Rattle.tcltext.specs.Pattern.Glob.{begins_in_caret};
 
 use memchr::memchr;
@@ -13,23 +13,43 @@ pub(crate) struct Run<'a> {
     pub(crate) size: usize,
 }
 
+/// The last run of a glob.
+#[derive(Clone, Copy)]
+pub(crate) struct LastRun<'a> {
+    pub(crate) text: &'a [u8],
+    pub(crate) size: usize,
+    /// Only `*` stand before and after it.
+    pub(crate) is_alone: bool,
+}
+
 /// The last part between the `*` of a glob that takes a byte, or the empty one. There is none where
 /// the glob may be tied to an end of the window, or where a set or a backslash in it is not closed.
-pub(crate) fn last_run(text: &[u8]) -> Option<Run<'_>>
-    ensures within { IfSome result (λ run. IsWithin text.now run.text.now run.size) }
+pub(crate) fn last_run(text: &[u8]) -> Option<LastRun<'_>>
+    ensures within { IfSome result (λ last. IsWithin text.now last.text.now last.size) }
+    ensures alone { IfSome result (λ last. IsTrue last.is_alone →
+        IsAlone text.now last.text.now) }
 {
     if begins_in_caret(text) {
         return None;
     }
-    let (mut last, mut rest) = front_run(text);
+    let (mut run, mut rest) = front_run(text);
+    let mut is_alone = true;
     while let Some(more) = after_star(rest) {
         let (next, after) = front_run(more);
         if next.size > 0 {
-            last = next;
+            is_alone = is_alone && run.size == 0;
+            run = next;
         }
         rest = after;
     }
-    if rest.is_empty() { Some(last) } else { None }
+    if !rest.is_empty() {
+        return None;
+    }
+    Some(LastRun {
+        text: run.text,
+        size: run.size,
+        is_alone,
+    })
 }
 
 /// Whether a glob is tied to the window's beginning (expect(1), expect).

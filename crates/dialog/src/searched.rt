@@ -2,7 +2,7 @@
 
 ghost use Rattle.std.specs.Prelude.{◌≡◌, ◌≤◌, ◌↔◌, ◌++◌, drop, length, take, Err, IfOk, IfSome, IsTrue, OnOk, OnErr, MatchOption};
 ghost use Rattle.circular_buffer.specs.Buffer.{keep_last};
-ghost use Rattle.dialog.specs.Lead.{IsLead, run_of};
+ghost use Rattle.dialog.specs.Lead.{IsLead, is_all, run_of};
 ghost use Rattle.matchbuf.specs.Held.{held};
 ghost use Rattle.matchbuf.specs.Size.{IsSize};
 ghost use Rattle.tcltext.specs.Pattern.Match.{IsFound, SitsNowhere};
@@ -196,10 +196,14 @@ impl<A: Allocator + Copy> Searched<A> {
         ensures unchanged { self.new ≡ self.old }
         ensures found { let window = self.old.bytes in MatchOption result
             (SitsNowhere (run_of lead.now.key) window)
-            (λ found. IsFound (run_of lead.now.key) window found.start found.end) }
+            (λ found. IsTrue (is_all lead.now.seeker) →
+            IsFound (run_of lead.now.key) window found.start found.end) }
     {
-        let mut scratch = self.scratch(alloc);
         let len = self.buffer.len();
+        if len < lead.size() {
+            return None;
+        }
+        let mut scratch = self.scratch(alloc);
         let known = place_of(&self.vains, slot, lead.key(), self.gone).min(len);
         // Fewer bytes are left than the run takes.
         if len - known < lead.size() {

@@ -1,11 +1,15 @@
-use Rattle.std.proofs.Common.{sym, subst}
+use Rattle.std.proofs.Common.{◌∙◌, IsTrue, sym, subst}
 use Rattle.tcltext.specs.Pattern.Item.{Reading}
 use Rattle.tcltext.specs.Pattern.Match.{IsFound}
+use Rattle.dialog.specs.Lead.{is_all}
+use Rattle.dialog.proofs.Leads.{all_is}
 use Rattle.dialog.proofs.searched.Searched.search_by.Goals as goal
 
 pub returns-then-is_all-clause-found : goal.returns-then-is_all-clause-found
 returns-then-is_all-clause-found g c =
     let found = c.in_ok-first.first in
+    let lead = c.args.lead.now in
+    let all : IsTrue (is_all lead.seeker) = sym c.is_all.ensures ∙ c.if-is_all.true in
     subst (λ (p : Reading). IsFound p c.args.self.now.bytes found.start found.end)
-    (sym (c.is_all.ensures c.if-is_all.true c.args.pattern.now c.requires))
-    c.in_ok-first.ensures.found
+    (sym (all_is lead.key c.args.pattern.now lead.seeker c.requires.seeks all))
+    (c.in_ok-first.ensures.found all)

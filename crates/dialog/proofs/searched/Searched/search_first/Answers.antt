@@ -9,6 +9,16 @@ use Rattle.tcltext.proofs.Patterns.Shifts.{Passed-here}
 use Rattle.dialog.proofs.Leads.{nowhere_short, run_passed}
 use Rattle.dialog.proofs.searched.Searched.search_first.Goals as goal
 
+pub returns-then-len-size-clause-found : goal.returns-then-len-size-clause-found
+returns-then-len-size-clause-found g c =
+    let key = c.args.lead.now.key in
+    let bytes = c.self.inside.buffer.bytes in
+    let short : length bytes - 0 < c.args.lead.now.size =
+    omega (arith, c.len-len.ensures.len, c.size.ensures, c.if-len-size.true) in
+    subst (SitsNowhere (run_of key)) (ap (λ (h : Held). h.bytes) c.self.view_is)
+    (nowhere_short (run_of key) c.args.lead.now.size bytes 0 c.requires.run
+    (λ rest s e sits. omega arith) short)
+
 pub returns-then-len-known-clause-found : goal.returns-then-len-known-clause-found
 returns-then-len-known-clause-found g c =
     let key = c.args.lead.now.key in
