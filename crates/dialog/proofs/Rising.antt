@@ -1,10 +1,12 @@
 -- The numbers of the open ids rise, whatever is done to the table.
-use Rattle.std.proofs.Common.{◌≡◌, ◌∙◌, ℕ, zero, suc, ◌+◌, ◌<◌, ◌≤◌, length, get_or, ◌==◌, ◌^◌, nat_le, nat_lt, Bool, true, false, List, [], ◌∷◌, ◌++◌, map, Option, Some, None, if◌then◌else◌, refl, sym, ap, subst, arith}
+use Rattle.std.proofs.Common.{◌≡◌, ◌∙◌, ℕ, zero, suc, ◌+◌, ◌<◌, ◌≤◌, length, get_or, ◌==◌, ◌^◌, nat_le, nat_lt, Bool, true, false, cond, List, [], ◌∷◌, ◌++◌, map, Option, Some, None, if◌then◌else◌, refl, sym, ap, subst, arith}
 use Rattle.std.proofs.Math.ListN.{set}
-use Rattle.std.proofs.lemmas.Bool.{leb-false}
+use Rattle.std.proofs.lemmas.Bool.{eq-eqb, eqb-true, false_from_ne_true, leb-false}
+use Rattle.std.specs.List.{position}
 use Rattle.std.specs.Option.{option_map}
 use Rattle.std.proofs.lemmas.List.{append-nil, length-set}
 use Rattle.acts.specs.declared.id.Id.{Id}
+use Rattle.dialog.proofs.Lines.{place, place-position}
 use Rattle.dialog.specs.Lines.{Line, Listing, IsFirstOut, AllBeyond, Rise, id_of, next_id, without, numbers, number_after, upcoming}
 use Rattle.dialog.specs.Peers.{Peer, FitsPeers, line, numbers_of, opened}
 
@@ -182,3 +184,34 @@ pub rise_open : (ls : List Line) (more : List ℕ) (ps : List Peer) → FitsPeer
 rise_open ls more ps fits rise =
     subst Rise (ap numbers (sym fits.lines) ∙ numbers_fit (opened ps))
     (rise_front (numbers ls) more rise)
+
+beyond_at : (n : ℕ) (ls : List Line) (more : List ℕ) (k : ℕ) (x : Line) →
+    AllBeyond n (numbers ls ++ more) → k < length ls → x ≡ get_or ls k x → n < x.id.0
+beyond_at n [] more k x beyond below has = absurd (omega (arith, below))
+beyond_at n (l ∷ ls) more zero x beyond below has =
+    subst (λ (m : Line). n < m.id.0) (sym has) beyond.0
+beyond_at n (l ∷ ls) more (suc k) x beyond below has =
+    beyond_at n ls more k x beyond.1 (omega (arith, below)) has
+
+-- where the numbers rise an id stands at one place alone
+place_here : (i : Id) (ls : List Line) (more : List ℕ) (k : ℕ) (x : Line) →
+    Rise (numbers ls ++ more) → k < length ls → x ≡ get_or ls k x → x.id.0 ≡ i.0 →
+    place i ls ≡ Some k
+place_here i [] more k x rise below has is = absurd (omega (arith, below))
+place_here i (l ∷ ls) more zero x rise below has is =
+    ap (λ (b : Bool). cond b (Some 0) (option_map (λ k. k + 1) (place i ls)))
+    (eq-eqb l.id.0 i.0 (sym (ap (λ (m : Line). m.id.0) has) ∙ is))
+place_here i (l ∷ ls) more (suc k) x rise below has is =
+    let less : l.id.0 < x.id.0 = beyond_at l.id.0 ls more k x rise.0 (omega (arith, below)) has in
+    let sum : k + 1 ≡ suc k = omega arith in
+    ap (λ (b : Bool). cond b (Some 0) (option_map (λ k. k + 1) (place i ls)))
+    (false_from_ne_true (l.id.0 == i.0)
+    (λ same. absurd (omega (arith, less, is, eqb-true l.id.0 i.0 same))))
+    ∙ ap (option_map (λ k. k + 1)) (place_here i ls more k x rise.1 (omega (arith, below)) has is)
+    ∙ ap Some sum
+
+pub position_here : (i : Id) (ls : List Line) (more : List ℕ) (k : ℕ) (x : Line) →
+    Rise (numbers ls ++ more) → k < length ls → x ≡ get_or ls k x → x.id.0 ≡ i.0 →
+    Some k ≡ position (λ l. l.id.0 == i.0) ls
+position_here i ls more k x rise below has is =
+    sym (place-position i ls ∙ place_here i ls more k x rise below has is)
