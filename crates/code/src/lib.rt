@@ -5,8 +5,6 @@
 mod emit;
 mod formula;
 mod instruction;
-#[cfg(test)]
-mod tests;
 
 pub use emit::code_of;
 pub use formula::formula_code;

@@ -7,8 +7,6 @@ mod operating;
 mod spot;
 mod stepping;
 mod stopped;
-#[cfg(test)]
-mod tests;
 
 pub use advancing::advance;
 pub use spot::Spot;

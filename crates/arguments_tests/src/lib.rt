@@ -1,5 +1,0 @@
-//! Tests of `arguments`, apart from it so that its proofs are not made twice.
-#![tactic(auto)]
-
-#[cfg(test)]
-mod words;

@@ -1,5 +1,0 @@
-//! Tests of `kept`, apart from it so that its proofs are not made twice.
-#![tactic(auto)]
-
-#[cfg(test)]
-mod texts;

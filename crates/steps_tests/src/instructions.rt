@@ -1,0 +1,72 @@
+//! The code of a script and of a formula, instruction by instruction.
+
+use code::{Instruction, code_of, formula_code};
+use formulas::Formula;
+use std::alloc::Allocator;
+use std::test::Fail;
+use tclparse::{Binary, Function, Script, Unary};
+
+/// Puts the name of an instruction, with what it holds, after a text.
+fn show<A: Allocator>(shown: &mut Vec<u8, A>, it: &Instruction<A>) -> Result<(), Fail> {
+    let (name, text): (&[u8], &[u8]) = match it {
+        Instruction::Next => (b"next", b""),
+        Instruction::Text(text) => (b"text ", text.as_slice()),
+        Instruction::Variable(name) => (b"variable ", name.as_slice()),
+        Instruction::Element(name) => (b"element ", name.as_slice()),
+        Instruction::Join => (b"join", b""),
+        Instruction::Enter => (b"enter", b""),
+        Instruction::Leave => (b"leave", b""),
+        Instruction::Count(1) => (b"count 1", b""),
+        Instruction::Spread => (b"spread", b""),
+        Instruction::Command(1) => (b"command 1", b""),
+        Instruction::Command(2) => (b"command 2", b""),
+        Instruction::Counted => (b"counted", b""),
+        Instruction::Fault(_) => (b"fault", b""),
+        Instruction::Numeral(digits) => (b"numeral ", digits.as_slice()),
+        Instruction::Prefix(Unary::Not) => (b"not", b""),
+        Instruction::Binary(Binary::Add) => (b"add", b""),
+        Instruction::Call(Function::Max, 2) => (b"max 2", b""),
+        Instruction::AndAlso(9) => (b"and also 9", b""),
+        Instruction::OrElse(10) => (b"or else 10", b""),
+        Instruction::Truth => (b"truth", b""),
+        Instruction::Unless(15) => (b"unless 15", b""),
+        Instruction::Jump(16) => (b"jump 16", b""),
+        _ => (b"another", b""),
+    };
+    shown.extend_from_slice(name)?;
+    shown.extend_from_slice(text)?;
+    shown.extend_from_slice(b"\n")?;
+    Ok(())
+}
+
+#[test]
+fn the_instructions_of_words_follow_one_another(rt: HostRuntime) -> Result<(), Fail> {
+    let text = b"puts \"$a b\"; f {*}$l($i) [g]; h \"";
+    let script = Script::read(rt.alloc(), text)?;
+    let code = code_of(rt.alloc(), &script)?;
+    let mut shown = Vec::new(rt.alloc());
+    for it in &code {
+        show(&mut shown, it)?;
+    }
+    let wanted: &[u8] = b"next\ntext puts\nvariable a\ntext  b\njoin\ncommand 2\n\
+        next\ntext f\ncount 1\nvariable i\nelement l\nspread\nenter\nnext\ntext g\ncommand 1\n\
+        leave\ncounted\nfault\n";
+    assert_eq!(&rt; shown.as_slice(), wanted);
+    Ok(())
+}
+
+#[test]
+fn the_operators_of_a_formula_follow_their_operands(rt: HostRuntime) -> Result<(), Fail> {
+    let text = b"$a || !1 && 2 + 3 ? max(4, 5) : $b";
+    let formula = Formula::read(rt.alloc(), text).ok().ok_or("a formula")?;
+    let code = formula_code(rt.alloc(), &formula)?;
+    let mut shown = Vec::new(rt.alloc());
+    for it in &code {
+        show(&mut shown, it)?;
+    }
+    let wanted: &[u8] = b"variable a\nor else 10\nnumeral 1\nnot\nand also 9\n\
+        numeral 2\nnumeral 3\nadd\ntruth\ntruth\nunless 15\nnumeral 4\nnumeral 5\nmax 2\n\
+        jump 16\nvariable b\n";
+    assert_eq!(&rt; shown.as_slice(), wanted);
+    Ok(())
+}

@@ -1,0 +1,7 @@
+//! Tests of `code` and `steps`, apart from them so that their proofs are not made twice.
+#![tactic(auto)]
+
+#[cfg(test)]
+mod instructions;
+#[cfg(test)]
+mod running;

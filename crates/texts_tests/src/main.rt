@@ -1,0 +1,44 @@
+//! Tests of the public calls of `tcltext`, `tclparse` and `words`: tables of what tclsh 8.6 makes
+//! of texts, scripts and words, and of this project's own rules, long texts, and patterns compared
+//! with two slow searches.
+#![tactic(auto)]
+
+mod escapes;
+mod lists;
+mod long;
+mod long_scripts;
+mod numbers;
+mod patterns;
+mod show;
+mod slow;
+mod starved;
+mod substitution;
+mod trees;
+
+use crate::escapes::Escapes;
+use crate::lists::Lists;
+use crate::long::Long;
+use crate::long_scripts::LongScripts;
+use crate::numbers::Numbers;
+use crate::patterns::Patterns;
+use crate::slow::random::run_random;
+use crate::starved::run_starved;
+use crate::substitution::Substitution;
+use crate::trees::Trees;
+use std::io;
+use std::process::ExitCode;
+use tables::{Memory, run_table};
+
+fn main(rt: HostRuntime) -> io::Result<ExitCode> {
+    let mut is_well = run_table(&rt, &Escapes, "escapes", Memory::RefusedInTurn)?;
+    is_well &= run_table(&rt, &Lists, "lists", Memory::RefusedInTurn)?;
+    is_well &= run_table(&rt, &Numbers, "numbers", Memory::RefusedInTurn)?;
+    is_well &= run_table(&rt, &Patterns, "patterns", Memory::RefusedInTurn)?;
+    is_well &= run_table(&rt, &Long, "long", Memory::Whole)?;
+    is_well &= run_starved(&rt)?;
+    is_well &= run_random(&rt)?;
+    is_well &= run_table(&rt, &Trees, "trees", Memory::RefusedInTurn)?;
+    is_well &= run_table(&rt, &LongScripts, "long-scripts", Memory::Whole)?;
+    is_well &= run_table(&rt, &Substitution, "words", Memory::RefusedInTurn)?;
+    Ok(ExitCode::from(if is_well { 0 } else { 1 }))
+}
