@@ -1,5 +1,5 @@
 -- A session among the runs of its script.
-use Rattle.std.proofs.Common.{◌≡◌, ◌∙◌, ℕ, ◌+◌, ◌*◌, ◌^◌, ◌<◌, ◌≤◌, ◌↔◌, ◌⊎◌, inl, inr, List, [], ◌∷◌, ◌++◌, length, Option, Some, None, sum_by, refl, sym, ap, subst, arith}
+use Rattle.std.proofs.Common.{◌≡◌, ◌∙◌, ℕ, ◌+◌, ◌^◌, ◌<◌, ◌≤◌, ◌⊎◌, inl, inr, List, [], ◌∷◌, ◌++◌, length, Option, Some, None, sum_by, refl, sym, ap, subst, arith}
 use Rattle.std.proofs.lemmas.List.{append-nil, length-append}
 use Rattle.std.proofs.lemmas.List.Sums.{sum_by-cons}
 use Rattle.state.specs.Prelude.{Deed, Reply, deed_of, reply_of, Ends, Asks, Dialogue, IsTree, Status}
@@ -19,7 +19,6 @@ use Rattle.machine.specs.declared.phase.Phase.{Phase}
 use Rattle.machine.specs.declared.phase.Phase.TheVariants as phase
 use Rattle.engine.specs.declared.session.Session.{Session}
 use Rattle.machine.specs.declared.waits.Waits.{Waits}
-use Rattle.machine.specs.declared.end.End.{End}
 use Rattle.machine.proofs.Silent.{goes_exact}
 use Rattle.plan.specs.Exact.{Same, Begins, Rests}
 use Rattle.plan.specs.Runs.{Runs, ends}
@@ -34,7 +33,6 @@ use Rattle.runs.specs.Scripts.{plan_of}
 use Rattle.runs.proofs.AllRuns.{acts_are_bounded, waits_hold}
 use Rattle.runs.proofs.Finite.{finite}
 use Rattle.state.specs.Rows.{HoldTogether, Holds, RowsHold}
-use Rattle.state.specs.declared.state.State.{State}
 
 -- rows that each hold at most their size together hold at most the sum of the sizes
 rows_together : (rows : List Row) → RowsHold rows →

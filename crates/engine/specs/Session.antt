@@ -1,6 +1,6 @@
 -- Sessions, as their callers see them.
-use Rattle.std.specs.Prelude.{◌≡◌, ℕ, ◌≤◌, ◌↔◌, List, [], ◌∷◌, ◌++◌, length, Option, Some, None}
-use Rattle.state.specs.Prelude.{Deed, Reply, deed_of, NoMemory, Dialogue, IsTree, Status, FitsState}
+use Rattle.std.specs.Prelude.{◌≡◌, ℕ, ◌↔◌, List, [], ◌∷◌, ◌++◌, length, Option, Some, None}
+use Rattle.state.specs.Prelude.{Deed, deed_of, NoMemory, Dialogue, IsTree, Status, FitsState}
 use Rattle.acts.specs.History.{History}
 use Rattle.acts.specs.Limits.{IsLimit}
 use Rattle.acts.specs.declared.answer.Answer.{Answer}
@@ -11,8 +11,6 @@ use Rattle.machine.specs.declared.end.End.{End}
 use Rattle.machine.specs.declared.phase.Phase.{Phase}
 use Rattle.machine.specs.declared.phase.Phase.TheVariants as phase
 use Rattle.engine.specs.declared.session.Session.{Session}
-use Rattle.engine.specs.declared.session.Step.{Step}
-use Rattle.engine.specs.declared.session.Step.TheVariants as step
 use Rattle.plan.specs.Exact.{Same, Begins, Rests}
 use Rattle.plan.specs.Runs.{Runs}
 use Rattle.runs.specs.Bounds.{BeginsRun}

@@ -1,7 +1,7 @@
-use Rattle.std.proofs.Common.{◌≡◌, ◌∙◌, [], ◌∷◌, Ok, refl, sym, ap, rules}
+use Rattle.std.proofs.Common.{◌≡◌, ◌∙◌, [], ◌∷◌, refl, sym, ap, rules}
 use Rattle.machine.specs.Frames.{onward_of, stack}
 use Rattle.machine.specs.View.{words_of}
-use Rattle.runs.specs.Run.{initial, whole}
+use Rattle.runs.specs.Run.{initial}
 use Rattle.state.specs.Outcome.{Outcome, Gives}
 use Rattle.machine.proofs.Machines.{whole_goes}
 use Rattle.machine.proofs.Silent.{goes_exact, same_goes, then_goes}
