@@ -1,5 +1,5 @@
--- A session in a world.
-use Rattle.std.proofs.Common.{◌≡◌, ◌∙◌, ℕ, ◌+◌, ◌-◌, ◌<◌, ◌≤◌, List, [], ◌∷◌, ◌++◌, length, Option, Some, None, refl, sym, ap, subst, append_assoc, arith}
+-- A session in a world, while someone watches.
+use Rattle.std.proofs.Common.{◌≡◌, ◌∙◌, ℕ, ◌-◌, ◌<◌, List, [], ◌∷◌, ◌++◌, Option, Some, None, Result, Ok, Err, IfOk, IfErr, refl, sym, ap, subst, append_assoc, arith}
 use Rattle.std.proofs.lemmas.List.{append-nil, length-append}
 use Rattle.acts.specs.Deed.{Deed, Reply, deed_of, reply_of}
 use Rattle.acts.specs.History.{History, Past}
@@ -8,16 +8,16 @@ use Rattle.acts.specs.declared.answer.Answer.{Answer}
 use Rattle.machine.specs.Phases.{IsTold, deed_in, paired}
 use Rattle.engine.specs.Session.{IsAt, AsksFirst, EndsSo, Tells, end_in}
 use Rattle.engine.specs.Step.{AsksFor}
+use Rattle.engine.specs.Watching.{BeganTold, RanTold}
 use Rattle.machine.specs.View.{ending_of}
 use Rattle.machine.specs.declared.end.End.{End}
 use Rattle.machine.specs.declared.phase.Phase.{Phase}
 use Rattle.machine.specs.declared.phase.Phase.TheVariants as phase
 use Rattle.engine.specs.declared.session.Session.{Session}
 use Rattle.engine.proofs.Sessions.{left_bounded, session_tells}
-use Rattle.plan.specs.Exact.{Begins}
 use Rattle.plan.proofs.Kept.{throughout_first}
 use Rattle.runs.specs.Bounds.{BeginsRun, most_acts}
-use Rattle.runs.specs.Run.{Run, Ran, Began, HoldsThroughout}
+use Rattle.runs.specs.Run.{Run, Ran, Began}
 use Rattle.runs.proofs.AllRuns.{any_answer_leads_on, each_script_runs, waits_hold}
 use Rattle.state.specs.Rows.{Holds}
 
@@ -188,3 +188,73 @@ pub never_began : {W : Type 0} {Step : W → Deed → Reply → W → Type 0} {w
     (args : List (List ℕ)) (limit : ℕ) → Began Step w w text args limit
 never_began {Step = Step} {w = w} text args limit =
     began Step w w text args limit [] refl (each_script_runs text args limit)
+
+-- the session is after some acts and answers, which led the world from first to now, and who
+-- watches was told these
+pub record Watching {A W T : Type 0} (Step : W → Deed → Reply → W → Type 0)
+    (told : T → History → T → Type 0) (first now : W × T) (text : List ℕ) (args : List (List ℕ))
+    (limit : ℕ) (session : Session A) : Type 0 where
+  pub going : Going Step first.0 now.0 text args limit session
+  pub heard : told first.1 going.history now.1
+
+module _ {A W T : Type 0} {Step : W → Deed → Reply → W → Type 0}
+    {told : T → History → T → Type 0}
+    (joins : (x y z : T) (h k : History) → told x h y → told y k z → told x (h ++ k) z)
+    {a : W} {x y : T} {text : List ℕ} {args : List (List ℕ)} {limit : ℕ} where
+  -- the first call, before which a run was told to begin
+  pub begins_told : {z : T} (old new : Session A) → IsAt old text args limit [] →
+      IsAt new text args limit (paired (deed_in old.phase) (no_answer {A = A})) →
+      told x [] y → told y [] z → Watching Step told (a, x) (a, z) text args limit new
+  unfolding goes sets_out
+  begins_told {z = z} old new start at first next = record {
+    going = goes old new (sets_out {Step = Step} {w = a} old start) at;
+    heard = joins x y z [] [] first next;
+  }
+
+  module _ {b c : W} {z : T} (old : Session A) (act : Act A) (answer : Answer A)
+      (w : Watching Step told (a, x) (b, y) text args limit old) (is : AsksFor old.phase act)
+      (step : Step b (deed_of act) (reply_of answer) c)
+      (next : told y ((deed_of act, reply_of answer) ∷ []) z) where
+    abbrev heard_on : told x (w.going.history ++ (deed_of act, reply_of answer) ∷ []) z
+    heard_on =
+        joins x y z w.going.history ((deed_of act, reply_of answer) ∷ []) w.heard next
+
+    -- a call with an answer
+    pub goes_on_told : (new : Session A) →
+        IsAt new text args limit (w.going.history ++ paired (deed_in old.phase) (Some answer)) →
+        Watching Step told (a, x) (c, z) text args limit new
+    unfolding goes_on
+    goes_on_told new at = record {
+      going = goes_on old new act answer w.going is step at;
+      heard = heard_on;
+    }
+
+    -- memory was refused to a call with an answer
+    pub refused_on_told : IsTold old.phase → BeganTold Step told (a, x) (c, z) text args limit
+    unfolding refused_on began
+    refused_on_told is_told = (refused_on old act answer is_told w.going is step, heard_on)
+
+  pub is_over_told : {b : W} (session : Session A) (end : End A)
+      (w : Watching Step told (a, x) (b, y) text args limit session) →
+      IsTold session.phase → end_in session.phase ≡ Some end →
+      RanTold Step told (a, x) (b, y) text args limit (ending_of end)
+  unfolding is_over
+  is_over_told session end w is_told is = (is_over session end w.going is_told is, w.heard)
+
+-- nothing was done and no act was told
+pub never_told : {W T : Type 0} {Step : W → Deed → Reply → W → Type 0}
+    (told : T → History → T → Type 0) {w : W} {x y : T} (text : List ℕ) (args : List (List ℕ))
+    (limit : ℕ) → told x [] y → BeganTold Step told (w, x) (w, y) text args limit
+unfolding never_began began
+never_told told text args limit silent = (never_began text args limit, silent)
+
+-- a run that someone watches is a run
+pub ran_of : {X E : Type 0} (r : Result X E) {P : X → Type 0} (Q : (x : X) → P x → Type 0) →
+    IfOk r (λ x. (p : P x) × Q x p) → IfOk r P
+ran_of (Ok x) Q holds = holds.0
+ran_of (Err e) Q holds = holds
+
+pub began_of : {X E : Type 0} (r : Result X E) {P : E → Type 0} (Q : (e : E) → P e → Type 0) →
+    IfErr r (λ e. (p : P e) × Q e p) → IfErr r P
+began_of (Ok x) Q holds = holds
+began_of (Err e) Q holds = holds.0

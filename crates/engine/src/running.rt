@@ -1,6 +1,7 @@
 //! A whole run of a script in a world.
 
 ghost use Rattle.std.specs.Prelude.{IfOk, IfErr};
+ghost use Rattle.engine.specs.Watching.{BeganTold, RanTold};
 ghost use Rattle.machine.specs.View.{ending_of, words_of};
 ghost use Rattle.runs.specs.Run.{Began, Ran};
 
@@ -34,7 +35,8 @@ pub fn run<A: Allocator + Copy, W: World<A>>(
     run_watched(alloc, script, args, limits, world, &mut Unwatched)
 }
 
-/// The same, while someone watches it, who has no part in it.
+/// The same, while someone watches it, who is told of each act with its answer and has no part in
+/// the run.
 pub fn run_watched<A: Allocator + Copy, W: World<A>, T: Watch<A, Frame<A>, State<A>, Lead<A>>>(
     alloc: A,
     script: &[u8],
@@ -43,11 +45,14 @@ pub fn run_watched<A: Allocator + Copy, W: World<A>, T: Watch<A, Frame<A>, State
     world: &mut W,
     watch: &mut T,
 ) -> Result<End<A>, NoMemory>
+    // Who watches was told these acts with their answers, each once and in their order, and no
+    // others.
     ensures ran { IfOk result (λ end.
-        Ran W.step world.old world.new script.now (words_of args.now) limits.ticks
-        (ending_of end)) }
+        RanTold W.step T.told (world.old, watch.old) (world.new, watch.new)
+        script.now (words_of args.now) limits.ticks (ending_of end)) }
     ensures began { IfErr result (λ _.
-        Began W.step world.old world.new script.now (words_of args.now) limits.ticks) }
+        BeganTold W.step T.told (world.old, watch.old) (world.new, watch.new)
+        script.now (words_of args.now) limits.ticks) }
 {
     watch.starts(script, args);
     let mut session = Session::start(alloc, script, args, limits)?;
@@ -55,9 +60,8 @@ pub fn run_watched<A: Allocator + Copy, W: World<A>, T: Watch<A, Frame<A>, State
     'acts: loop {
         let answer = match session.step() {
             Step::Act(act) => {
-                watch.asks(act);
                 let answer = world.act(act);
-                watch.answers(&answer);
+                watch.answers(act, &answer);
                 answer
             }
             Step::End(_) => break,

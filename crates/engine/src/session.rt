@@ -100,6 +100,7 @@ impl<A: Allocator + Copy> Session<A> {
         ensures refused { IfErr result (λ refusal. IsRefused refusal self.new) }
         ensures fails { IfErr result (λ _. MayFail self.old.phase answer) }
         ensures again { GivesAgain (λ _ end. self.new.phase ≡ end) self.old.phase result }
+        ensures watched { T.told watch.old [] watch.new }
     {
         let alloc = *self.frames.allocator();
         // A placeholder while the session goes on; nothing sees it.

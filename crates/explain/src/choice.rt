@@ -2,7 +2,7 @@
 
 use crate::branches::Branch;
 use crate::lines::push_count;
-use crate::telling::{Detail, Story};
+use crate::telling::{Detail, Teller};
 use crate::wait::{Over, Wait, awaited_in};
 use acts::{Id, NoMemory};
 use dialog::{Keyword, Pair};
@@ -14,7 +14,7 @@ use std::alloc::Allocator;
 use story::{Difference, Ending, Vain, Why, push_line, push_sought, push_why, why_in_vain};
 use tcltext::{Found, Value};
 
-impl<A: Allocator + Copy, S: Sink> Story<A, S> {
+impl<A: Allocator + Copy, S: Sink> Teller<A, S> {
     /// The wait of a turn that begins.
     ///
     /// # Errors

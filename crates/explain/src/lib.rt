@@ -18,6 +18,8 @@ mod telling;
 mod told;
 mod vain;
 mod wait;
+mod watched;
 mod watching;
 
-pub use telling::{Detail, Story};
+pub use telling::Detail;
+pub use watched::Story;

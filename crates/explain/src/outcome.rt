@@ -5,7 +5,7 @@ use crate::bounds::faulty_start;
 use crate::lines::push_count;
 use crate::sources::{Raising, sources};
 use crate::spots::{Running, Spot};
-use crate::telling::Story;
+use crate::telling::Teller;
 use acts::NoMemory;
 use machine::frame::Frame;
 use records::Sink;
@@ -15,7 +15,7 @@ use std::alloc::Allocator;
 /// How many commands around that of an error are told at most.
 const MOST_AROUND: usize = 20;
 
-impl<A: Allocator + Copy, S: Sink> Story<A, S> {
+impl<A: Allocator + Copy, S: Sink> Teller<A, S> {
     /// Takes note of an outcome of what began: of the commands that may raise an error before
     /// anything else begins.
     ///

@@ -2,7 +2,8 @@
 
 ghost use Rattle.std.specs.Prelude.{◌≡◌, false};
 
-use crate::telling::{Detail, Story};
+use crate::telling::Detail;
+use crate::watched::Story;
 use arguments::Arguments;
 use records::{Counted, Sink, put_all};
 use std::alloc::Global;

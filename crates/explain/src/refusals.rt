@@ -1,9 +1,9 @@
 //! Why the world refused an act, in the words of the system.
 
 ghost use Rattle.std.specs.Prelude.{◌≡◌};
-ghost use Rattle.worlds.specs.Runs.{RunsRecorded};
+ghost use Rattle.worlds.specs.Runs.{RecordedTold};
 
-use crate::telling::Story;
+use crate::telling::Teller;
 use acts::{Act, Answer, Limits, NoMemory, World};
 use engine::{End, Frame, Lead, State, Watch};
 use records::Sink;
@@ -72,31 +72,27 @@ pub(crate) fn run_heeded<
     watch: &mut T,
 ) -> Result<End<A>, NoMemory>
     ensures same_world { world.new.world.ghost_name ≡ world.old.world.ghost_name }
-    ensures runs { RunsRecorded W.step S.adds S.has_failed script.now args.now limits.ticks
-        world.old.world.now made.old world.new.world.now made.new result }
+    ensures runs { RecordedTold W.step S.adds S.has_failed T.told script.now args.now limits.ticks
+        (world.old.world.now, watch.old) made.old (world.new.world.now, watch.new) made.new
+        result }
 {
     run_seen(alloc, script, args, limits, world, made, watch)
 }
 
-impl<A: Allocator + Copy, S: Sink> Story<A, S> {
-    /// Takes note that an act was answered.
-    pub(crate) fn note_answer(&mut self, answer: &Answer<A>) {
-        self.acts = self.acts.saturating_add(1);
-        self.is_answered = true;
+impl<A: Allocator + Copy, S: Sink> Teller<A, S> {
+    /// Takes note that the act of this number was answered.
+    pub(crate) fn note_answer(&mut self, answer: &Answer<A>, number: u64) {
+        self.answered = Some(number);
         if matches!(answer, Answer::Failed(_)) {
-            self.failed_at = Some(self.acts);
+            self.failed_at = Some(number);
         }
     }
 
     /// Takes note of what a command has come to. An error that comes right after an answer was led
     /// to by that act.
     pub(crate) fn note_lead(&mut self, is_error: bool) {
-        self.failed_at = if is_error && self.is_answered {
-            Some(self.acts)
-        } else {
-            None
-        };
-        self.is_answered = false;
+        let answered = self.answered.take();
+        self.failed_at = if is_error { answered } else { None };
     }
 
     /// Takes note of how the run ended, and of what the world refused last.

@@ -1,6 +1,6 @@
 //! Where the commands in progress stand in the text of a script.
 
-use crate::telling::Story;
+use crate::telling::Teller;
 use acts::NoMemory;
 use kept::Kept;
 use machine::frame::{Frame, Script, WordsOf};
@@ -73,7 +73,7 @@ pub(crate) struct Running {
     pub command: Option<Spot>,
 }
 
-impl<A: Allocator + Copy, S: Sink> Story<A, S> {
+impl<A: Allocator + Copy, S: Sink> Teller<A, S> {
     /// Where the commands in progress stand in the script of the run, the outermost first. Left out
     /// is a command of a text that is no part of the script as it is written, such as one that was
     /// put together for `eval`.

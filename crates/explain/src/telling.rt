@@ -1,22 +1,20 @@
-//! The story of a run, as it is told.
+//! The lines of a story, as they are told.
 
 use crate::blame::Raised;
 use crate::branches::Branches;
 use crate::grounds::Grounds;
 use crate::lines::{Lines, push_count};
-use crate::refusals::{Heeded, Refusal, run_heeded};
+use crate::refusals::Refusal;
 use crate::shown::push_command;
 use crate::spots::Spot;
 use crate::told::{push_answer, push_bytes, push_id};
 use crate::vain::{Later, Vains};
 use crate::wait::{Over, Wait};
-use acts::{Answer, Id, Limits, NoMemory, World};
-use engine::End;
+use acts::{Answer, Id, NoMemory};
 use memchr::memchr;
 use records::{Sink, put_all};
 use std::alloc::Allocator;
 use story::{Heard, push_line};
-use worlds::recorded::{Refuses, Runner};
 
 /// The status of a run that an error ended.
 const ERROR_STATUS: u8 = 1;
@@ -30,9 +28,9 @@ pub enum Detail {
     Brief,
 }
 
-/// The story of a run, which is told to a sink line by line as the run goes.
+/// One who tells the story of a run to a sink, line by line as the run goes.
 #[derive(Drop)]
-pub struct Story<A: Allocator, S: Sink> {
+pub(crate) struct Teller<A: Allocator, S: Sink> {
     pub(crate) alloc: A,
     pub(crate) sink: S,
     pub(crate) detail: Detail,
@@ -52,10 +50,8 @@ pub struct Story<A: Allocator, S: Sink> {
     pub(crate) raised: Option<Raised<A>>,
     /// What was written to standard error last: where an error ended the run, its text.
     pub(crate) report: Vec<u8, A>,
-    /// How many acts were answered.
-    pub(crate) acts: u64,
-    /// Whether nothing has come since of what the last answer led to.
-    pub(crate) is_answered: bool,
+    /// The number of the act that was answered last, until something has come of that.
+    pub(crate) answered: Option<u64>,
     /// The number of the act whose answer led to the last error, or that failed as a write.
     pub(crate) failed_at: Option<u64>,
     /// What the world refused last.
@@ -66,32 +62,11 @@ pub struct Story<A: Allocator, S: Sink> {
     pub(crate) is_lost: bool,
 }
 
-impl<A: Allocator + Copy, S: Sink> Runner<A> for Story<A, S> {
-    fn run<W: World<A> + Refuses<A>, M: Sink>(
-        &mut self,
-        alloc: A,
-        script: &[u8],
-        args: &[Vec<u8, A>],
-        limits: Limits,
-        world: &mut W,
-        made: &mut Option<M>,
-    ) -> Result<End<A>, NoMemory> {
-        let mut heeded = Heeded {
-            world,
-            acts: 0,
-            refusal: None,
-        };
-        let ended = run_heeded(alloc, script, args, limits, &mut heeded, made, self);
-        self.note_end(&ended, heeded.refusal);
-        ended
-    }
-}
-
-impl<A: Allocator + Copy, S: Sink> Story<A, S> {
-    /// A story of which nothing is told yet. The first `commands` bytes of the script are the texts
+impl<A: Allocator + Copy, S: Sink> Teller<A, S> {
+    /// One who has told nothing yet. The first `commands` bytes of the script are the texts
     /// of `-c`. Takes no memory.
-    pub fn new(alloc: A, sink: S, detail: Detail, commands: usize) -> Story<A, S> {
-        Story {
+    pub(crate) fn new(alloc: A, sink: S, detail: Detail, commands: usize) -> Teller<A, S> {
+        Teller {
             alloc,
             sink,
             detail,
@@ -107,8 +82,7 @@ impl<A: Allocator + Copy, S: Sink> Story<A, S> {
             vains: Vains::new(alloc),
             raised: None,
             report: Vec::new(alloc),
-            acts: 0,
-            is_answered: false,
+            answered: None,
             failed_at: None,
             refusal: None,
             is_cut: false,
@@ -117,13 +91,13 @@ impl<A: Allocator + Copy, S: Sink> Story<A, S> {
     }
 
     /// Whether the story could not be told to its end: its sink failed, or memory was refused.
-    pub fn failed(&self) -> bool {
+    pub(crate) fn failed(&self) -> bool {
         self.is_lost || self.sink.failed()
     }
 
     /// Tells the end of the story: what came after a wait was over, the error that ended the run,
     /// the wait that was open, and the status. Where no run began, there is nothing to tell.
-    pub fn end(&mut self, status: u8) {
+    pub(crate) fn end(&mut self, status: u8) {
         if self.lines.is_none() {
             return;
         }

@@ -3,7 +3,7 @@
 use crate::branches::{Branch, Wanted};
 use crate::shown::push_command;
 use crate::spots::Spot;
-use crate::telling::{Detail, Story};
+use crate::telling::{Detail, Teller};
 use crate::told::push_id;
 use crate::wait::{Over, Wait, cause_of};
 use acts::{Id, NoMemory};
@@ -45,7 +45,7 @@ impl<A: Allocator + Copy> Vains<A> {
     }
 }
 
-impl<A: Allocator + Copy, S: Sink> Story<A, S> {
+impl<A: Allocator + Copy, S: Sink> Teller<A, S> {
     /// Tells that the wait in progress is over, and why each of its patterns was not found. Where a
     /// keyword was chosen, it says so.
     ///

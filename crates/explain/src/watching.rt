@@ -1,14 +1,14 @@
-//! What a story is told of a run.
+//! What of a run is told and remembered: what begins, and what follows.
 
 use crate::lines::Lines;
-use crate::telling::{Detail, Story};
+use crate::telling::{Detail, Teller};
 use crate::told::push_act;
 use acts::{Act, Answer, NoMemory};
 use dialog::Trigger;
 use expects::form::Form;
 use expects::turn::{Turn, Waits as TurnWaits};
+use machine::Waits;
 use machine::frame::Frame;
-use machine::{Waits, Watch};
 use records::Sink;
 use state::{Leaf, Outcome, State};
 use std::alloc::Allocator;
@@ -16,13 +16,15 @@ use tclparse::Words;
 use tcltext::Value;
 use words::{Gathered, begin};
 
-impl<A: Allocator + Copy, S: Sink> Watch<A, Frame<A>, State<A>, Leaf<A, Waits<A>>> for Story<A, S> {
-    fn starts(&mut self, script: &[u8], args: &[Vec<u8, A>]) {
+impl<A: Allocator + Copy, S: Sink> Teller<A, S> {
+    /// Takes note of the script of a run that begins.
+    pub(crate) fn starts(&mut self, script: &[u8], args: &[Vec<u8, A>]) {
         let told = self.start(script, args);
         self.note(told);
     }
 
-    fn begins(&mut self, frames: &[Frame<A>], state: &State<A>, words: &[Value<A>]) {
+    /// Takes note of the branches that a command says which begins with these words.
+    pub(crate) fn begins(&mut self, frames: &[Frame<A>], state: &State<A>, words: &[Value<A>]) {
         let [name, args @ ..] = words else {
             return;
         };
@@ -42,12 +44,19 @@ impl<A: Allocator + Copy, S: Sink> Watch<A, Frame<A>, State<A>, Leaf<A, Waits<A>
         }
     }
 
-    fn says(&mut self, words: &[Value<A>]) {
+    /// Takes note of words that say branches.
+    pub(crate) fn says(&mut self, words: &[Value<A>]) {
         let told = self.branches.read(self.alloc, words, self.stands);
         self.note(told);
     }
 
-    fn leads(&mut self, frames: &[Frame<A>], state: &State<A>, leaf: &Leaf<A, Waits<A>>) {
+    /// Takes note of what has come of what began or was answered: an outcome, or an act.
+    pub(crate) fn leads(
+        &mut self,
+        frames: &[Frame<A>],
+        state: &State<A>,
+        leaf: &Leaf<A, Waits<A>>,
+    ) {
         self.note_lead(matches!(leaf, Leaf::Has(Err(_))));
         let told = match leaf {
             Leaf::Has(outcome) => self.has(frames, state, outcome),
@@ -57,21 +66,17 @@ impl<A: Allocator + Copy, S: Sink> Watch<A, Frame<A>, State<A>, Leaf<A, Waits<A>
         self.note(told);
     }
 
-    fn asks(&mut self, act: &Act<A>) {
+    /// Takes note of an act, the one of this number, and of its answer.
+    pub(crate) fn answers(&mut self, act: &Act<A>, answer: &Answer<A>, number: u64) {
         if let Act::Err(text) = act {
             let told = self.see_report(text);
             self.note(told);
         }
-    }
-
-    fn answers(&mut self, answer: &Answer<A>) {
-        self.note_answer(answer);
+        self.note_answer(answer, number);
         let told = self.answer(answer);
         self.note(told);
     }
-}
 
-impl<A: Allocator + Copy, S: Sink> Story<A, S> {
     /// Takes note of the script.
     fn start(&mut self, script: &[u8], args: &[Vec<u8, A>]) -> Result<(), NoMemory> {
         let name = match args.first() {

@@ -1,6 +1,6 @@
 //! The steps of a session between two acts.
 
-ghost use Rattle.std.specs.Prelude.{IfOk};
+ghost use Rattle.std.specs.Prelude.{[], IfOk};
 ghost use Rattle.state.specs.Prelude.{Status, FitsState, outcome_of};
 ghost use Rattle.machine.specs.Frames.{onward_of, stack};
 ghost use Rattle.machine.specs.Phases.{IsTold, Stands};
@@ -30,6 +30,7 @@ pub fn advance<A: Allocator + Copy, T: Watch<A, Frame<A>, State<A>, Leaf<A, Wait
         IfOk result (λ phase. Stands phase (stack frames.new) state.new answers
         (onward_of (stack frames.old) s (outcome_of outcome))) }
     ensures told { IfOk result IsTold }
+    ensures watched { T.told watch.old [] watch.new }
 {
     'commands: loop {
         let unwound = unwind(alloc, frames, state, outcome)?;

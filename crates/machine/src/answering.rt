@@ -1,6 +1,6 @@
 //! Answers to a session's acts: what each leads to.
 
-ghost use Rattle.std.specs.Prelude.{◌≡◌, ◌<◌, ◌+◌, length, IfOk, IfErr, ◌^◌};
+ghost use Rattle.std.specs.Prelude.{◌≡◌, ◌<◌, ◌+◌, [], length, IfOk, IfErr, ◌^◌};
 ghost use Rattle.state.specs.Prelude.{deed_of, reply_of, Dialogue, Status, FitsState};
 ghost use Rattle.machine.specs.Frames.{left_of, stack};
 ghost use Rattle.machine.specs.Phases.{GivesAgain, IsPlan, IsTold, Leads, MayFail, Stands, after_acts, deed_in, paired};
@@ -38,6 +38,7 @@ pub fn forward<A: Allocator + Copy, T: Watch<A, Frame<A>, State<A>, Leaf<A, Wait
     ensures told { IfOk result IsTold }
     ensures fails { IfErr result (λ _. MayFail phase answer) }
     ensures again { GivesAgain (λ now end. now ≡ end) phase result }
+    ensures watched { T.told watch.old [] watch.new }
 {
     match phase {
         Phase::Has(outcome) => advance(alloc, frames, state, *answers, outcome, watch),
@@ -77,6 +78,7 @@ fn answered<A: Allocator + Copy, T: Watch<A, Frame<A>, State<A>, Leaf<A, Waits<A
         (left_of (replied (deed_of act) s (next_of waits (deed_of act)) (reply_of answer))
         (stack frames.old))) }
     ensures told { IfOk result IsTold }
+    ensures watched { T.told watch.old [] watch.new }
 {
     let stop = if is_no_more(&answer) {
         Stop::NoMore

@@ -58,6 +58,7 @@ pub(crate) fn start<A: Allocator + Copy, T: Watch<A, Frame<A>, State<A>, Leaf<A,
         (left_of (course_of_next next s) (stack frames.old))) }
     ensures load { IfOk result (λ leaf. again_in leaf + load (stack frames.new) state.new
         ≤ more_of next + load (stack frames.old) state.old) }
+    ensures watched { T.told watch.old [] watch.new }
 {
     match next {
         Next::Command(words, levels) => begin(alloc, frames, state, words, levels, watch),
@@ -84,6 +85,7 @@ fn go_on<A: Allocator + Copy, T: Watch<A, Frame<A>, State<A>, Leaf<A, Waits<A>>>
         (left_of (call_of whose levels s words.now) (stack frames.old))) }
     ensures load { IfOk result (λ leaf. again_in leaf + load (stack frames.new) state.new
         ≤ call_load whose + load (stack frames.old) state.old) }
+    ensures watched { T.told watch.old [] watch.new }
 {
     match whose {
         WordsOf::Command => call(alloc, frames, state, words, levels, watch),
@@ -109,6 +111,7 @@ fn begin<A: Allocator + Copy, T: Watch<A, Frame<A>, State<A>, Leaf<A, Waits<A>>>
         (stack frames.old))) }
     ensures load { IfOk result (λ leaf. again_in leaf + load (stack frames.new) state.new
         ≤ 2 + load (stack frames.old) state.old) }
+    ensures watched { T.told watch.old [] watch.new }
 {
     match gather(alloc, frames, state, words, levels, WordsOf::Command)? {
         Ok(values) => call(alloc, frames, state, &values, levels, watch),
@@ -130,6 +133,7 @@ fn call<A: Allocator + Copy, T: Watch<A, Frame<A>, State<A>, Leaf<A, Waits<A>>>>
         (left_of (command levels s words.now) (stack frames.old))) }
     ensures load { IfOk result (λ leaf. again_in leaf + load (stack frames.new) state.new
         ≤ 1 + load (stack frames.old) state.old) }
+    ensures watched { T.told watch.old [] watch.new }
 {
     let [name, args @ ..] = words else {
         return Ok(empty());

@@ -8,7 +8,8 @@ use Rattle.machine.specs.View.{ending_of, words_of}
 use Rattle.recorders.specs.Recorder.{MayRecord, Notes}
 use Rattle.runs.specs.Ending.{Ending}
 use Rattle.runs.specs.Run.{Began, Ran}
-use Rattle.worlds.specs.Runs.{Runs}
+use Rattle.engine.specs.Watching.{BeganTold, RanTold}
+use Rattle.worlds.specs.Runs.{Runs, RunsTold}
 
 -- `see` takes each step of a world to a step of the part of it that is seen
 module _ {W V : Type 0} (S : W → Deed → Reply → W → Type 0) (T : V → Deed → Reply → V → Type 0)
@@ -38,6 +39,15 @@ module _ {W V : Type 0} (S : W → Deed → Reply → W → Type 0) (T : V → D
       holds = began.holds;
     }
 
+    -- who was told of the run of a world was told of that of its part
+    pub told_seen : {X : Type 0} (told : X → History → X → Type 0) (x y : X)
+        (ended : Result (End A) Refusal) →
+        RunsTold S told script args ticks (first, x) (now, y) ended →
+        RunsTold T told script args ticks (see first, x) (see now, y) ended
+    unfolding runs_seen
+    told_seen told x y (Ok end) runs = (runs_seen (Ok end) runs.0, runs.1)
+    told_seen told x y (Err refusal) runs = (runs_seen (Err refusal) runs.0, runs.1)
+
 -- each step of a world keeps what `name` reads from it
 module _ {W N : Type 0} (S : W → Deed → Reply → W → Type 0) (name : W → N)
     (kept : (before : W) (act : Deed) (reply : Reply) (after : W) → S before act reply after →
@@ -54,14 +64,24 @@ module _ {W N : Type 0} (S : W → Deed → Reply → W → Type 0) (name : W �
   runs_kept script args ticks first now (Err refusal) began =
       past_kept first now began.history began.past
 
--- what is known of the result of a run, as one fact
-pub runs_of : {W A : Type 0} (S : W → Deed → Reply → W → Type 0) (script : List ℕ)
-    (args : List (Vec ℕ A)) (ticks : ℕ) (first now : W) (ended : Result (End A) Refusal) →
-    IfOk ended (λ end. Ran S first now script (words_of args) ticks (ending_of end)) →
-    IfErr ended (λ _. Began S first now script (words_of args) ticks) →
-    Runs S script args ticks first now ended
-runs_of S script args ticks first now (Ok end) ran began = ran
-runs_of S script args ticks first now (Err refusal) ran began = began
+-- what is known of the result of a run that someone watches, as one fact
+pub told_of : {W T A : Type 0} (S : W → Deed → Reply → W → Type 0)
+    (told : T → History → T → Type 0) (script : List ℕ) (args : List (Vec ℕ A)) (ticks : ℕ)
+    (first now : W × T) (ended : Result (End A) Refusal) →
+    IfOk ended (λ end. RanTold S told first now script (words_of args) ticks (ending_of end)) →
+    IfErr ended (λ _. BeganTold S told first now script (words_of args) ticks) →
+    RunsTold S told script args ticks first now ended
+told_of S told script args ticks first now (Ok end) ran began = ran
+told_of S told script args ticks first now (Err refusal) ran began = began
+
+-- a run that someone watches is a run
+pub untold : {W T A : Type 0} (S : W → Deed → Reply → W → Type 0)
+    (told : T → History → T → Type 0) (script : List ℕ) (args : List (Vec ℕ A)) (ticks : ℕ)
+    (first now : W × T) (ended : Result (End A) Refusal) →
+    RunsTold S told script args ticks first now ended →
+    Runs S script args ticks first.0 now.0 ended
+untold S told script args ticks first now (Ok end) runs = runs.0
+untold S told script args ticks first now (Err refusal) runs = runs.0
 
 -- a run of which a record may be made is a run of the world
 module _ {V S : Type 0} (Step : V → Deed → Reply → V → Type 0) (adds : S → List ℕ → S → Type 0)

@@ -2,7 +2,7 @@
 
 ghost use Rattle.std.specs.Prelude.{◌≡◌};
 ghost use Rattle.recorders.specs.Recorder.{MayRecord};
-ghost use Rattle.worlds.specs.Runs.{Runs, RunsRecorded};
+ghost use Rattle.worlds.specs.Runs.{RecordedTold, RunsRecorded, RunsTold};
 
 use acts::{Limits, NoMemory, World};
 use engine::{End, Frame, Lead, State, Unwatched, Watch, run_watched};
@@ -19,6 +19,12 @@ pub trait Refuses<A: Allocator> {
 
 /// One who runs scripts in worlds that are lent, as `run_recorded` does, and may watch the runs.
 pub trait Runner<A: Allocator + Copy> {
+    ghost use Rattle.acts.specs.History.{History};
+
+    /// Whether who runs a script may come from one state to another by being told these acts with
+    /// their answers, in this order.
+    ghost told: { Self → History → Self → Type 0 };
+
     /// Runs a script in a world that is lent, and makes a record of this run where there is a sink
     /// for it, to which nothing has been written yet.
     fn run<W: World<A> + Refuses<A>, S: Sink>(
@@ -30,11 +36,16 @@ pub trait Runner<A: Allocator + Copy> {
         world: &mut W,
         made: &mut Option<S>,
     ) -> Result<End<A>, NoMemory>
-        ensures { RunsRecorded W.step S.adds S.has_failed script.now args.now limits.ticks
-            world.old made.old world.new made.new result };
+        ensures { RecordedTold W.step S.adds S.has_failed told script.now args.now limits.ticks
+            (world.old, self.old) made.old (world.new, self.new) made.new result };
 }
 
 impl<A: Allocator + Copy> Runner<A> for Unwatched {
+    ghost use Rattle.std.specs.Prelude.{⊤};
+
+    // Nothing is kept.
+    ghost told = { λ _ _ _. ⊤ };
+
     fn run<W: World<A> + Refuses<A>, S: Sink>(
         &mut self,
         alloc: A,
@@ -44,7 +55,7 @@ impl<A: Allocator + Copy> Runner<A> for Unwatched {
         world: &mut W,
         made: &mut Option<S>,
     ) -> Result<End<A>, NoMemory> {
-        run_recorded(alloc, script, args, limits, world, made)
+        run_seen(alloc, script, args, limits, world, made, &mut Unwatched)
     }
 }
 
@@ -79,8 +90,9 @@ pub fn run_seen<
     made: &mut Option<S>,
     watch: &mut T,
 ) -> Result<End<A>, NoMemory>
-    ensures { RunsRecorded W.step S.adds S.has_failed script.now args.now limits.ticks
-        world.old made.old world.new made.new result }
+    // Who watches was told each act with its answer, once and in order.
+    ensures { RecordedTold W.step S.adds S.has_failed T.told script.now args.now limits.ticks
+        (world.old, watch.old) made.old (world.new, watch.new) made.new result }
 {
     begin(made);
     let mut recorder = LentRecorder { world, made };
@@ -98,9 +110,9 @@ fn run_lent<A: Allocator + Copy, W: World<A>, S: Sink, T: Watch<A, Frame<A>, Sta
 ) -> Result<End<A>, NoMemory>
     ensures same_world { recorder.new.world.ghost_name ≡ recorder.old.world.ghost_name }
     ensures same_made { recorder.new.made.ghost_name ≡ recorder.old.made.ghost_name }
-    ensures runs { Runs (MayRecord W.step S.adds S.has_failed) script.now args.now limits.ticks
-        (recorder.old.world.now, recorder.old.made.now)
-        (recorder.new.world.now, recorder.new.made.now) result }
+    ensures runs { RunsTold (MayRecord W.step S.adds S.has_failed) T.told script.now args.now
+        limits.ticks ((recorder.old.world.now, recorder.old.made.now), watch.old)
+        ((recorder.new.world.now, recorder.new.made.now), watch.new) result }
 {
     run_watched(alloc, script, args, limits, recorder, watch)
 }

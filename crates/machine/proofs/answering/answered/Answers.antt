@@ -1,4 +1,4 @@
-use Rattle.std.proofs.Common.{sym, subst}
+use Rattle.std.proofs.Common.{[], sym, subst}
 use Rattle.acts.specs.Deed.{deed_of, reply_of}
 use Rattle.machine.specs.Frames.{left_of, stack}
 use Rattle.machine.specs.Phases.{Leads}
@@ -37,3 +37,7 @@ returns-in-Asks-clause-stands g c = λ s fits.
     (sym c.if-not-fits.ensures)))
     (subst (λ leaf. Leads leaf (stack c.go_on.new.frames) c.go_on.new.state (left_of next frames))
     c.in-Asks.is (c.in_ok-leaf.ensures s fits))
+
+pub returns-in-Has-clause-watched : goal.returns-in-Has-clause-watched
+returns-in-Has-clause-watched g c =
+    g.met.T.Watch.joins _ _ _ [] [] c.leads.ensures c.advance.ensures.watched

@@ -1,32 +1,48 @@
 use Rattle.recorders.specs.Recorder.{MayRecord}
 use Rattle.worlds.specs.Lived.{Acts, open_in}
-use Rattle.worlds.proofs.Seen.{runs_kept, runs_seen}
+use Rattle.worlds.proofs.Seen.{runs_kept, runs_seen, untold}
 use Rattle.worlds.proofs.lived.run_lent.Goals as goal
 
 pub returns-clause-same_live : goal.returns-clause-same_live
 returns-clause-same_live g c =
-    let (begun, begins, runs) = c.run.ensures in
+    let (begun, begins, told) = c.run.ensures in
+    let runs =
+    untold _ g.X.Runner.told c.args.script.now c.args.args.now c.args.limits.ticks
+    ((c.args.world.now, begun), c.args.runner.now) ((c.run.new.world, c.run.new.made), c.run.new.self)
+    c.run.result told in
     runs_kept _ (λ pair. pair.0.live.ghost_name) (λ before act reply after step. step.0.1)
     c.args.script.now c.args.args.now c.args.limits.ticks (c.args.world.now, begun)
     (c.run.new.world, c.run.new.made) c.run.result runs
 
 pub returns-clause-same_out : goal.returns-clause-same_out
 returns-clause-same_out g c =
-    let (begun, begins, runs) = c.run.ensures in
+    let (begun, begins, told) = c.run.ensures in
+    let runs =
+    untold _ g.X.Runner.told c.args.script.now c.args.args.now c.args.limits.ticks
+    ((c.args.world.now, begun), c.args.runner.now) ((c.run.new.world, c.run.new.made), c.run.new.self)
+    c.run.result told in
     runs_kept _ (λ pair. pair.0.out.ghost_name) (λ before act reply after step. step.0.2)
     c.args.script.now c.args.args.now c.args.limits.ticks (c.args.world.now, begun)
     (c.run.new.world, c.run.new.made) c.run.result runs
 
 pub returns-clause-same_err : goal.returns-clause-same_err
 returns-clause-same_err g c =
-    let (begun, begins, runs) = c.run.ensures in
+    let (begun, begins, told) = c.run.ensures in
+    let runs =
+    untold _ g.X.Runner.told c.args.script.now c.args.args.now c.args.limits.ticks
+    ((c.args.world.now, begun), c.args.runner.now) ((c.run.new.world, c.run.new.made), c.run.new.self)
+    c.run.result told in
     runs_kept _ (λ pair. pair.0.err.ghost_name) (λ before act reply after step. step.0.3)
     c.args.script.now c.args.args.now c.args.limits.ticks (c.args.world.now, begun)
     (c.run.new.world, c.run.new.made) c.run.result runs
 
 pub returns-clause-runs : goal.returns-clause-runs
 returns-clause-runs g c =
-    let (begun, begins, runs) = c.run.ensures in (
+    let (begun, begins, told) = c.run.ensures in
+    let runs =
+    untold _ g.X.Runner.told c.args.script.now c.args.args.now c.args.limits.ticks
+    ((c.args.world.now, begun), c.args.runner.now) ((c.run.new.world, c.run.new.made), c.run.new.self)
+    c.run.result told in (
       begun,
       begins,
       runs_seen _ (MayRecord (Acts g.O.Sink.adds g.E.Sink.adds g.Y.Log.Write.contents
