@@ -1,5 +1,5 @@
 -- What is read of a source, step by step.
-use Rattle.std.proofs.Common.{◌≡◌, ◌+◌, ◌-◌, ◌<◌, ◌≤◌, ℕ, List, [], ◌∷◌, ◌++◌, Option, Some, None, length, take, refl, sym, ap, ◌∙◌, subst, append_assoc, append-nil, inr, arith}
+use Rattle.std.proofs.Common.{◌≡◌, ◌+◌, ◌<◌, ◌≤◌, ℕ, List, [], ◌∷◌, ◌++◌, Option, Some, None, length, take, refl, sym, ap, ◌∙◌, subst, append_assoc, append-nil, inr, arith}
 use Rattle.std.proofs.lemmas.List.{length-append, length-take-le}
 use Rattle.acts.specs.declared.row.Row.{Row}
 use Rattle.records.specs.declared.reader.ReadFault.{ReadFault}
@@ -9,7 +9,7 @@ use Rattle.records.specs.declared.record.RecordFault.TheVariants as fault
 use Rattle.records.specs.Entry.{AreLinesOf, AreNotes, Note, lines_in, lines_of, second_header}
 use Rattle.records.specs.Fault.{IsNoteFault}
 use Rattle.records.specs.Sink.{Gets}
-use Rattle.records.specs.Reading.{AreAll, GivesFault, GivesRecord, HasFault, IsBroken, IsStopped, ReadsOn}
+use Rattle.records.specs.Reading.{AreAll, GivesFault, GivesRecord, HasFault, IsAtEnd, IsBroken, IsStopped, ReadsOn}
 use Rattle.records.proofs.Notes.{AreNotes-more, entries_fault, lines_in-more, long_front, notes_fault}
 use Rattle.records.proofs.Sinks.{Gets-append}
 
@@ -67,43 +67,67 @@ module _ {S : Type 0} (gives : S → List ℕ → S → Type 0) (most : S → �
       let same = ap length whole in
       omega (arith, long, also, same, within)
 
-  -- what holds while all entries are read: those that were read so far, with the number of the next
-  -- line, which stays below what is there and what the source gives at most
-  abbrev pub AreSome : S × List ℕ → ℕ → S × List ℕ → Type 0
-  AreSome before line after =
-      (notes : List Note) × (lines : List ℕ) × AreNotes notes lines
-      × ReadsOn gives most before lines after × (line ≡ lines_in notes + 2)
-      × (line + length after.1 + most after.0 ≤ length before.1 + most before.0 + 2)
+  -- what holds while all entries are read: those that were read so far, as many as were counted,
+  -- with the number of the next line, which stays below what is there and what the source gives at
+  -- most
+  pub record AreSome (before : S × List ℕ) (count line : ℕ) (after : S × List ℕ) : Type 0 where
+    pub notes : List Note
+    pub lines : List ℕ
+    pub are : AreNotes notes lines
+    pub counted : length notes ≡ count
+    pub reads : ReadsOn gives most before lines after
+    pub number : line ≡ lines_in notes + 2
+    pub few : count + 2 ≤ line
+    pub room : line + length after.1 + most after.0 ≤ length before.1 + most before.0 + 2
 
-  pub AreSome-none : (place : S × List ℕ) → AreSome place 2 place
-  AreSome-none place = ([], [], refl, ReadsOn-none place, refl, omega arith)
+  pub AreSome-none : (place : S × List ℕ) → AreSome place 0 2 place
+  AreSome-none place = record {
+    notes = [];
+    lines = [];
+    are = refl;
+    counted = refl;
+    reads = ReadsOn-none place;
+    number = refl;
+    few = omega arith;
+    room = omega arith;
+  }
 
-  pub AreSome-more : (before mid after : S × List ℕ) (line next : ℕ) (note : Note)
-      (front : List ℕ) → AreSome before line mid → AreLinesOf note.rows note.reply front →
+  pub AreSome-more : (before mid after : S × List ℕ) (count line next : ℕ) (note : Note)
+      (front : List ℕ) → AreSome before count line mid → AreLinesOf note.rows note.reply front →
       ReadsOn gives most mid front after → next ≡ line + lines_of note.rows →
-      AreSome before next after
-  AreSome-more before mid after line next note front (notes, lines, are, reads, number, room) is
-      more count =
+      AreSome before (count + 1) next after
+  AreSome-more before mid after count line next note front some is more number =
       let short = long_front note.rows note.reply front is in
       let less = ReadsOn-long mid after front more in
-      let counted = lines_in-more notes note in (
-        notes ++ note ∷ [],
-        lines ++ front,
-        AreNotes-more notes lines note front are is,
-        ReadsOn-then before mid after lines front reads more,
-        omega (arith, number, count, counted),
-        omega (arith, room, count, short, less),
-      )
+      let one = some_lines_of note.rows in
+      let lines = lines_in-more some.notes note in
+      let one_more = length-append some.notes (note ∷ []) in
+      let counted = some.counted in
+      let few = some.few in
+      let room = some.room in
+      let was = some.number in record {
+        notes = some.notes ++ note ∷ [];
+        lines = some.lines ++ front;
+        are = AreNotes-more some.notes some.lines note front some.are is;
+        counted = omega (arith, one_more, counted);
+        reads = ReadsOn-then before mid after some.lines front some.reads more;
+        number = omega (arith, was, number, lines);
+        few = omega (arith, few, number, one);
+        room = omega (arith, room, number, short, less);
+      }
 
-  pub AreSome-all : (before mid after : S × List ℕ) (line : ℕ) → AreSome before line mid →
-      ReadsOn gives most mid [] after → after.1 ≡ [] → AreAll gives most before after
-  AreSome-all before mid after line (notes, lines, are, reads, number, room) more none = (
-    notes,
-    lines,
-    are,
-    subst (λ used. ReadsOn gives most before used after) (append-nil lines)
-        (ReadsOn-then before mid after lines [] reads more),
+  pub AreSome-all : (before mid after : S × List ℕ) (count line : ℕ) →
+      AreSome before count line mid → ReadsOn gives most mid [] after → after.1 ≡ [] →
+      IsAtEnd gives after.0 → AreAll gives most count before after
+  AreSome-all before mid after count line some more none end = (
+    some.notes,
+    some.lines,
+    some.are,
+    some.counted,
+    subst (λ used. ReadsOn gives most before used after) (append-nil some.lines)
+        (ReadsOn-then before mid after some.lines [] some.reads more),
     none,
+    end,
   )
 
   -- an entry takes some bytes
@@ -117,10 +141,10 @@ module _ {S : Type 0} (gives : S → List ℕ → S → Type 0) (most : S → �
       omega (arith, short, some, less)
 
   -- what is read behind a header, to its end
-  pub record_given : (before : S) (mid after : S × List ℕ) →
-      ReadsOn gives most (before, []) second_header mid → AreAll gives most mid after →
-      GivesRecord gives before after.0
-  record_given before mid after header (notes, lines, are, reads, none) =
+  pub record_given : (count : ℕ) (before : S) (mid after : S × List ℕ) →
+      ReadsOn gives most (before, []) second_header mid → AreAll gives most count mid after →
+      GivesRecord gives count before after.0
+  record_given count before mid after header (notes, lines, are, counted, reads, none, end) =
       let (read, gets, whole, within) =
       ReadsOn-then (before, []) mid after second_header lines header reads in (
         notes,
@@ -132,6 +156,8 @@ module _ {S : Type 0} (gives : S → List ℕ → S → Type 0) (most : S → �
               ∙ append-nil (second_header ++ lines),
           are,
         ),
+        counted,
+        end,
       )
 
   module _ (up : S → S → Type 0) where
@@ -160,21 +186,22 @@ module _ {S : Type 0} (gives : S → List ℕ → S → Type 0) (most : S → �
     fault_stops line before after (fault.NoMemory refusal) reads is = tt
 
     -- what stops after some entries is a fault of all that was read
-    pub stopped_on : (before mid after : S × List ℕ) (line : ℕ) (found : ReadFault) →
-        AreSome before line mid → IsStopped gives up most line mid after found →
+    pub stopped_on : (before mid after : S × List ℕ) (count line : ℕ) (found : ReadFault) →
+        AreSome before count line mid → IsStopped gives up most line mid after found →
         HasFault gives up most before after found
-    stopped_on before mid after line (Unfit fault.Header) some stopped = absurd stopped
-    stopped_on before mid after line (Unfit (fault.Line n))
-        (notes, lines, are, reads, number, room) (more, is) =
-        let (read, gets, whole, within) = ReadsOn-then before mid after lines [] reads more in (
+    stopped_on before mid after count line (Unfit fault.Header) some stopped = absurd stopped
+    stopped_on before mid after count line (Unfit (fault.Line n)) some (more, is) =
+        let (read, gets, whole, within) =
+        ReadsOn-then before mid after some.lines [] some.reads more in (
           read,
           gets,
-          notes_fault notes (before.1 ++ read) lines after.1 line (fault.Line n)
-              (whole ∙ ap (λ front. front ++ after.1) (append-nil lines)) are number is,
+          notes_fault some.notes (before.1 ++ read) some.lines after.1 line (fault.Line n)
+              (whole ∙ ap (λ front. front ++ after.1) (append-nil some.lines)) some.are some.number
+              is,
         )
-    stopped_on before mid after line (Unfit (fault.NoMemory refusal)) some stopped = tt
-    stopped_on before mid after line GivenUp
-        (notes, lines, are, (read, gets, whole, within), number, room) stopped =
+    stopped_on before mid after count line (Unfit (fault.NoMemory refusal)) some stopped = tt
+    stopped_on before mid after count line GivenUp some stopped =
+        let (read, gets, whole, within) = some.reads in
         broken_on before.0 mid.0 after.0 read GivenUp gets stopped
 
     -- what breaks before the entries, or in them

@@ -1,11 +1,11 @@
 -- What is read of a source, entry by entry.
-use Rattle.std.specs.Prelude.{◌≡◌, ◌+◌, ◌≤◌, ℕ, List, [], ◌++◌, drop, length}
+use Rattle.std.specs.Prelude.{◌≡◌, true, false, ◌+◌, ◌≤◌, ℕ, List, [], ◌++◌, drop, length}
 use Rattle.records.specs.declared.ahead.Ahead.{Ahead}
 use Rattle.records.specs.declared.reader.ReadFault.{ReadFault}
 use Rattle.records.specs.declared.reader.EntryReader.{EntryReader}
 use Rattle.records.specs.declared.reader.ReadFault.TheVariants.{GivenUp, Unfit}
 use Rattle.records.specs.declared.record.RecordFault.TheVariants as fault
-use Rattle.records.specs.Entry.{AreEntries, AreLinesOf, AreNotes, IsBadLine, Note}
+use Rattle.records.specs.Entry.{AreEntries, AreNotes, IsBadLine, Note}
 use Rattle.records.specs.Fault.{IsNoteFault, IsNotesFault, IsRefused}
 use Rattle.records.specs.Sink.{Gets}
 
@@ -17,8 +17,21 @@ unused ahead = drop ahead.used ahead.bytes.items
 abbrev pub place_of : {A S : Type 0} → EntryReader A S → S × List ℕ
 place_of reader = (reader.source, unused reader.ahead)
 
--- `gives` says whether a read may give some bytes and lead from one state of a source to another,
--- `most` how many bytes the source gives at most.
+-- a reader of which nothing was read yet
+abbrev pub IsFresh : {A S : Type 0} → EntryReader A S → Type 0
+IsFresh reader = (unused reader.ahead ≡ []) × (reader.ended ≡ false)
+
+-- `gives` says whether a read may give some bytes and lead from one state of a source to another.
+module _ {S : Type 0} (gives : S → List ℕ → S → Type 0) where
+  -- a source is at its end: the last read of it gave nothing
+  abbrev pub IsAtEnd : S → Type 0
+  IsAtEnd source = (before : S) × gives before [] source
+
+  -- where a reader takes its source to be at its end, it is
+  abbrev pub KnowsEnd : {A : Type 0} → EntryReader A S → Type 0
+  KnowsEnd reader = reader.ended ≡ true → IsAtEnd reader.source
+
+-- `gives` as above, `most` says how many bytes the source gives at most.
 module _ {S : Type 0} (gives : S → List ℕ → S → Type 0) (most : S → ℕ) where
   -- what was there and what was read of the source, joined, is what was used and what is there now
   abbrev pub ReadsOn : S × List ℕ → List ℕ → S × List ℕ → Type 0
@@ -26,16 +39,17 @@ module _ {S : Type 0} (gives : S → List ℕ → S → Type 0) (most : S → �
       (read : List ℕ) × Gets gives before.0 read after.0 × (before.1 ++ read ≡ used ++ after.1)
       × (length read + most after.0 ≤ most before.0)
 
-  -- what is there and what is read, up to the end, are the lines of entries
-  abbrev pub AreAll : S × List ℕ → S × List ℕ → Type 0
-  AreAll before after =
-      (notes : List Note) × (lines : List ℕ) × AreNotes notes lines × ReadsOn before lines after
-      × (after.1 ≡ [])
+  -- what is there and what is read, up to the end, are the lines of so many entries
+  abbrev pub AreAll : ℕ → S × List ℕ → S × List ℕ → Type 0
+  AreAll count before after =
+      (notes : List Note) × (lines : List ℕ) × AreNotes notes lines × (length notes ≡ count)
+      × ReadsOn before lines after × (after.1 ≡ []) × IsAtEnd gives after.0
 
--- what is read is a record
-abbrev pub GivesRecord : {S : Type 0} → (S → List ℕ → S → Type 0) → S → S → Type 0
-GivesRecord gives before after =
+-- what is read, up to the end, is a record of so many entries
+abbrev pub GivesRecord : {S : Type 0} → (S → List ℕ → S → Type 0) → ℕ → S → S → Type 0
+GivesRecord gives count before after =
     (notes : List Note) × (text : List ℕ) × Gets gives before text after × AreEntries notes text
+    × (length notes ≡ count) × IsAtEnd gives after
 
 -- `gives` as above; `up` says whether reading may be given up by a read that leads from one state
 -- to another.

@@ -22,7 +22,7 @@ pub use reader::{EntryReader, ReadFault};
 pub use record::{RecordFault, one_record, read_record};
 pub use rows::are_rows;
 pub use sink::{Sink, put_all, put_number};
-pub use source::Source;
+pub use source::{Source, first_room, widen};
 pub use written::{
     SinkFailed, write_entries, write_entry, write_header, write_line, write_record, write_waited,
 };

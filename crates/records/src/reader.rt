@@ -1,6 +1,6 @@
 //! Records of version 2 that are read entry by entry, as their bytes come.
 
-ghost use Rattle.std.specs.Prelude.{◌≡◌, ◌+◌, ◌^◌, ◌<◌, ℕ, List, [], MatchOption, IfOk, IfErr, OnOk, length, true, false, vec_len};
+ghost use Rattle.std.specs.Prelude.{◌≡◌, ◌+◌, ◌^◌, ◌<◌, ℕ, List, [], MatchOption, IfOk, IfErr, IfNone, IfSome, OnOk, length, true, false, vec_len};
 ghost use Rattle.records.specs.Entry.{AreLinesOf, note_of, second_header};
 ghost use Rattle.records.specs.declared.reader.ReadFault.TheVariants as fault;
 ghost use Rattle.records.specs.declared.record.RecordFault.TheVariants as unfit;
@@ -10,13 +10,10 @@ use crate::cut::cut_at;
 use crate::entries::{SECOND_HEADER, count_lines, read_entry};
 use crate::entry::Entry;
 use crate::record::RecordFault;
-use crate::source::Source;
+use crate::source::{Source, first_room, widen};
 use acts::NoMemory;
 use std::alloc::Allocator;
 use thiserror::Error;
-
-/// How many bytes are read at a time at most.
-const PIECE: usize = 65_536;
 
 /// Why an entry was not read.
 #[derive(Clone, Copy, Debug, PartialEq, Eq, Error)]
@@ -58,13 +55,14 @@ pub struct EntryReader<A: Allocator, S> {
 }
 
 impl<A: Allocator + Copy, S: Source + Drop> EntryReader<A, S> {
-    ghost use Rattle.records.specs.Reading.{AreAll, GivesFault, GivesRecord, HasFault, IsBroken, IsStopped, ReadsOn, place_of, unused};
+    ghost use Rattle.records.specs.Reading.{AreAll, GivesFault, GivesRecord, HasFault, IsAtEnd, IsBroken, IsFresh, IsStopped, KnowsEnd, ReadsOn, place_of, unused};
 
     /// A record of which nothing was read yet.
     pub fn new(alloc: A, source: S) -> Result<EntryReader<A, S>, NoMemory>
-        ensures { IfOk result (λ reader. place_of reader ≡ (source, [])) }
+        ensures place { IfOk result (λ reader. place_of reader ≡ (source, [])) }
+        ensures fresh { IfOk result (λ reader. IsFresh reader) }
     {
-        let piece = vec![in alloc; 0u8; PIECE]?;
+        let piece = first_room(alloc)?;
         Ok(EntryReader {
             alloc,
             source,
@@ -81,27 +79,27 @@ impl<A: Allocator + Copy, S: Source + Drop> EntryReader<A, S> {
         &self.source
     }
 
-    /// Looks whether its source gives a record, which is read to its end; `false` where it does not
-    /// begin with the header of version 2.
-    pub fn check(&mut self) -> Result<bool, ReadFault>
-        requires none { unused self.old.ahead ≡ [] }
+    /// Counts the entries of the record that its source gives, which is read to its end; `None`
+    /// where it does not begin with the header of version 2.
+    pub fn count(&mut self) -> Result<Option<u64>, ReadFault>
+        requires fresh { IsFresh self.old }
         requires few { S.most self.old.source < 2 ^ 64 }
-        ensures gives { IfOk result (λ second. second ≡ true
-            → GivesRecord S.gives self.old.source self.new.source) }
+        ensures gives { IfOk result (λ found. IfSome found (λ count.
+            GivesRecord S.gives count self.old.source self.new.source)) }
         ensures fault { IfErr result
             (GivesFault S.gives S.gives_up self.old.source self.new.source) }
     {
         if !self.begin()? {
-            return Ok(false);
+            return Ok(None);
         }
-        self.check_entries()?;
-        Ok(true)
+        Ok(Some(self.count_entries()?))
     }
 
     /// Reads the header of version 2; `false` where it does not stand at the front.
     pub fn begin(&mut self) -> Result<bool, ReadFault>
         ensures header { IfOk result (λ second. second ≡ true
             → ReadsOn S.gives S.most (place_of self.old) second_header (place_of self.new)) }
+        ensures known { OnOk result (KnowsEnd S.gives self.old → KnowsEnd S.gives self.new) }
         ensures broken { IfErr result
             (IsBroken S.gives S.gives_up self.old.source self.new.source) }
     {
@@ -113,19 +111,22 @@ impl<A: Allocator + Copy, S: Source + Drop> EntryReader<A, S> {
         Ok(true)
     }
 
-    /// Reads all entries up to the end, after the header.
-    fn check_entries(&mut self) -> Result<(), ReadFault>
+    /// Counts the entries after the header, all of which are read up to the end.
+    fn count_entries(&mut self) -> Result<u64, ReadFault>
         requires few { length (unused self.old.ahead) + S.most self.old.source + 4 < 2 ^ 64 }
-        ensures all { OnOk result
-            (AreAll S.gives S.most (place_of self.old) (place_of self.new)) }
+        requires known { KnowsEnd S.gives self.old }
+        ensures all { IfOk result (λ count.
+            AreAll S.gives S.most count (place_of self.old) (place_of self.new)) }
         ensures fault { IfErr result
             (HasFault S.gives S.gives_up S.most (place_of self.old) (place_of self.new)) }
     {
         let mut line = 2;
+        let mut count = 0;
         while let Some(entry) = self.next(line)? {
             line += count_lines(&entry);
+            count += 1;
         }
-        Ok(())
+        Ok(count)
     }
 
     /// Reads the next entry; `None` at the end. `line` is the number of its first line, for faults.
@@ -137,6 +138,8 @@ impl<A: Allocator + Copy, S: Source + Drop> EntryReader<A, S> {
             (λ entry. (front : List ℕ)
             × AreLinesOf (note_of entry).rows (note_of entry).reply front
             × ReadsOn S.gives S.most (place_of self.old) front (place_of self.new))) }
+        ensures known { OnOk result (KnowsEnd S.gives self.old → KnowsEnd S.gives self.new) }
+        ensures ended { IfOk result (λ found. IfNone found (self.new.ended ≡ true)) }
         ensures stopped { IfErr result
             (IsStopped S.gives S.gives_up S.most line (place_of self.old) (place_of self.new)) }
     {
@@ -155,6 +158,8 @@ impl<A: Allocator + Copy, S: Source + Drop> EntryReader<A, S> {
     fn read_ahead(&mut self) -> Result<(), ReadFault>
         ensures reads { OnOk result
             (ReadsOn S.gives S.most (place_of self.old) [] (place_of self.new)) }
+        ensures known { OnOk result (KnowsEnd S.gives self.old → KnowsEnd S.gives self.new) }
+        ensures ended { OnOk result (unused self.new.ahead ≡ [] → self.new.ended ≡ true) }
         ensures broken { IfErr result
             (IsBroken S.gives S.gives_up self.old.source self.new.source) }
     {
@@ -170,6 +175,7 @@ impl<A: Allocator + Copy, S: Source + Drop> EntryReader<A, S> {
             (ReadsOn S.gives S.most (place_of self.old) [] (place_of self.new)) }
         ensures less { OnOk result (self.new.ended ≡ false
             → S.most self.new.source < S.most self.old.source) }
+        ensures known { OnOk result (KnowsEnd S.gives self.new) }
         ensures broken { IfErr result
             (IsBroken S.gives S.gives_up self.old.source self.new.source) }
     {
@@ -178,12 +184,14 @@ impl<A: Allocator + Copy, S: Source + Drop> EntryReader<A, S> {
         };
         self.ended = taken == 0;
         self.ahead.add(&self.piece[..taken])?;
-        Ok(())
+        Ok(widen(&mut self.piece, taken)?)
     }
 }
 
 /// Whether the lines of an entry are whole: there is a line, and another one behind that of a wait.
-fn is_whole(text: &[u8]) -> bool {
+fn is_whole(text: &[u8]) -> bool
+    ensures { text.now ≡ [] → result ≡ false }
+{
     match cut_at(text, b'\n') {
         Some((line, rest)) => !line.starts_with(b"wait") || cut_at(rest, b'\n').is_some(),
         None => false,

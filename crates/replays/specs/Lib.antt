@@ -1,4 +1,5 @@
 pub mod Due
+pub mod Laws
 pub mod Left
 pub mod Recording
 pub mod Reel

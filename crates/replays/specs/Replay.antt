@@ -26,8 +26,13 @@ module _ {O E : Type 0} (out : O → List ℕ → O → Type 0) (err : E → Lis
 -- bytes, `out_failed` and `err_failed` whether a writer has failed.
 module _ {O E : Type 0} (out : O → List ℕ → O → Type 0) (out_failed : O → Bool)
     (err : E → List ℕ → E → Type 0) (err_failed : E → Bool) where
+  -- a step of a replay by what answers the acts, which is its state beside the two writers
+  abbrev pub ReplaysBy : {R : Type 0} → (answers : R → Deed → Reply → R → Type 0) →
+      R × (O × E) → Deed → Reply → R × (O × E) → Type 0
+  ReplaysBy answers before act reply after =
+      answers before.0 act reply after.0
+      × Writes (Takes out out_failed) (Takes err err_failed) before.1 act reply after.1
+
   -- a step of a replay, whose state is how far the recorded run was replayed, and the two writers
   abbrev pub Replays : Recorded × (O × E) → Deed → Reply → Recorded × (O × E) → Type 0
-  Replays before act reply after =
-      Answers before.0 act reply after.0
-      × Writes (Takes out out_failed) (Takes err err_failed) before.1 act reply after.1
+  Replays = ReplaysBy Answers

@@ -1,10 +1,11 @@
 //! The answers of a recorded run.
 
 ghost use Rattle.std.specs.Prelude.{◌≡◌, ◌+◌, ◌^◌, ◌<◌, map};
-ghost use Rattle.acts.specs.Deed.{deed_of, reply_of};
+ghost use Rattle.acts.specs.Deed.{reply_of};
 ghost use Rattle.records.specs.Entry.{note_of, plain_note};
 ghost use Rattle.replays.specs.Left.{left_len};
 
+use crate::answerer::Answerer;
 use crate::due::is_due;
 use crate::left::Left;
 use acts::{Act, Answer};
@@ -24,7 +25,7 @@ pub struct Recording<A: Allocator> {
 }
 
 impl<A: Allocator> Recording<A> {
-    ghost use Rattle.replays.specs.Recording.{Answers, recorded_in, whole};
+    ghost use Rattle.replays.specs.Recording.{recorded_in, whole};
 
     /// A recorded run of these answers, without rows.
     pub fn of_answers(answers: Vec<Answer<A>, A>) -> Recording<A>
@@ -48,11 +49,22 @@ impl<A: Allocator> Recording<A> {
         }
     }
 
-    /// The answer to an act.
-    pub fn answer(&mut self, act: &Act<A>) -> Answer<A>
-        ensures { Answers (recorded_in self.old) (deed_of act.now) (reply_of result)
-            (recorded_in self.new) }
+    /// The number of the act that differed from the run that was recorded, counted from 1; `None`
+    /// if none did.
+    pub fn differs(&self) -> Option<u64>
+        ensures { result ≡ (recorded_in self.now).differs }
     {
+        self.differs
+    }
+}
+
+impl<A: Allocator> Answerer<A> for Recording<A> {
+    ghost use Rattle.replays.specs.Recording.{Answers, recorded_in};
+
+    ghost answers = { λ before act reply after.
+        Answers (recorded_in before) act reply (recorded_in after) };
+
+    fn answer(&mut self, act: &Act<A>) -> Answer<A> {
         if self.differs.is_some() {
             return Answer::NoMore;
         }
@@ -65,13 +77,5 @@ impl<A: Allocator> Recording<A> {
         }
         self.answered += 1;
         next.answer
-    }
-
-    /// The number of the act that differed from the run that was recorded, counted from 1; `None`
-    /// if none did.
-    pub fn differs(&self) -> Option<u64>
-        ensures { result ≡ (recorded_in self.now).differs }
-    {
-        self.differs
     }
 }

@@ -5,8 +5,9 @@ ghost use Rattle.acts.specs.Deed.{deed_of, reply_of};
 ghost use Rattle.records.specs.Entry.{note_of, plain_note};
 ghost use Rattle.records.specs.Sink.{Takes};
 ghost use Rattle.replays.specs.Recording.{recorded_in, whole};
-ghost use Rattle.replays.specs.Replay.{Replays, Writes, gone_out};
+ghost use Rattle.replays.specs.Replay.{Replays, ReplaysBy, Writes, gone_out};
 
+use crate::answerer::Answerer;
 use crate::recording::Recording;
 use acts::{Act, Answer, World};
 use records::{Entry, Sink, put_all};
@@ -84,47 +85,46 @@ impl<A: Allocator, O: Sink, E: Sink> World<A> for Replay<A, O, E> {
 
 /// A replay whose recorded run and writers are lent to it.
 #[derive(Drop)]
-pub struct LentReplay<'a, 'o, 'e, A: Allocator, O, E> {
-    pub recording: &'a mut Recording<A>,
+pub struct LentReplay<'a, 'o, 'e, R, O, E> {
+    pub recorded: &'a mut R,
     pub out: &'o mut O,
     pub err: &'e mut E,
 }
 
-impl<A: Allocator, O: Sink, E: Sink> World<A> for LentReplay<'_, '_, '_, A, O, E> {
+impl<A: Allocator, R: Answerer<A>, O: Sink, E: Sink> World<A> for LentReplay<'_, '_, '_, R, O, E> {
     // A step of a replay, after which the same recorded run and writers are still lent.
     ghost step = { λ before act answer after.
-        Replays O.adds O.has_failed E.adds E.has_failed
-        (recorded_in before.recording.now, (before.out.now, before.err.now))
+        ReplaysBy O.adds O.has_failed E.adds E.has_failed R.answers
+        (before.recorded.now, (before.out.now, before.err.now))
         act answer
-        (recorded_in after.recording.now, (after.out.now, after.err.now))
-        × (after.recording.ghost_name ≡ before.recording.ghost_name)
+        (after.recorded.now, (after.out.now, after.err.now))
+        × (after.recorded.ghost_name ≡ before.recorded.ghost_name)
         × (after.out.ghost_name ≡ before.out.ghost_name)
         × (after.err.ghost_name ≡ before.err.ghost_name) };
 
     fn act(&mut self, act: &Act<A>) -> Answer<A> {
-        answer_from(self.recording, self.out, self.err, act)
+        answer_from(self.recorded, self.out, self.err, act)
     }
 }
 
 /// Gives the answer to an act, and writes the bytes that go out by an act Out or Err.
-fn answer_from<A: Allocator, O: Sink, E: Sink>(
-    recording: &mut Recording<A>,
+fn answer_from<A: Allocator, R: Answerer<A>, O: Sink, E: Sink>(
+    recorded: &mut R,
     out: &mut O,
     err: &mut E,
     act: &Act<A>,
 ) -> Answer<A>
-    ensures { Replays O.adds O.has_failed E.adds E.has_failed
-        (recorded_in recording.old, (out.old, err.old))
-        (deed_of act.now) (reply_of result)
-        (recorded_in recording.new, (out.new, err.new)) }
+    ensures { ReplaysBy O.adds O.has_failed E.adds E.has_failed R.answers
+        (recorded.old, (out.old, err.old)) (deed_of act.now) (reply_of result)
+        (recorded.new, (out.new, err.new)) }
 {
-    let answer = recording.answer(act);
+    let answer = recorded.answer(act);
     put_answered(out, err, act, &answer);
     answer
 }
 
 /// Writes the bytes that go out by an act Out or Err that was answered so.
-pub(crate) fn put_answered<A: Allocator, O: Sink, E: Sink>(
+fn put_answered<A: Allocator, O: Sink, E: Sink>(
     out: &mut O,
     err: &mut E,
     act: &Act<A>,

@@ -1,11 +1,13 @@
 use Rattle.std.proofs.Common.{length, ◌+◌}
-use Rattle.records.specs.Reading.{place_of, unused}
+use Rattle.records.specs.Reading.{KnowsEnd, place_of, unused}
 use Rattle.records.proofs.Readings.{AreSome}
-use Rattle.records.proofs.reader.EntryReader.check_entries.Given as goal
+use Rattle.records.proofs.reader.EntryReader.count_entries.Given as goal
 
 abbrev pub invariant-loop-entry : goal.invariant-loop-entry
 invariant-loop-entry g l =
-    AreSome g.S.Source.gives g.S.Source.most (place_of l.fn.self) l.line (place_of l.self)
+    AreSome g.S.Source.gives g.S.Source.most (place_of l.fn.self) l.count l.line
+    (place_of l.self)
+    × KnowsEnd g.S.Source.gives l.self
 
 abbrev pub decreases-loop-entry : goal.decreases-loop-entry
 decreases-loop-entry g l =
