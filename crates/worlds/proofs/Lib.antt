@@ -3,6 +3,7 @@ mod Lent
 mod Lives
 mod Plays
 mod ReadChains
+pub mod RecordFiles
 mod Replayed
 mod Scripts
 pub mod Seen

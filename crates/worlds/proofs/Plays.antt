@@ -1,15 +1,17 @@
 -- What the text of a record leads to.
 use Rattle.std.proofs.Common.{◌≡◌, ◌⊎◌, ℕ, Bool, false, List, Option, Some, None, Result, Vec, refl, ap, subst, inl, inr}
 use Rattle.std.specs.Borrow.{Bor}
+use Rattle.memory.specs.declared.NoMemory.{NoMemory as Refusal}
+use Rattle.acts.specs.Deed.{Deed, Reply}
+use Rattle.machine.specs.declared.end.End.{End}
 use Rattle.records.specs.declared.record.RecordFault.TheVariants as fault
 use Rattle.records.specs.Entry.{AreEntries, HasSecondHeader, IsBadLine, Note}
 use Rattle.records.specs.Record.{HasHeader}
 use Rattle.records.proofs.Notes.{no_bad_entry, one_bad_entry, one_entries}
 use Rattle.recorders.specs.Recorder.{is_lost}
-use Rattle.replays.specs.Recording.{whole}
-use Rattle.replays.specs.Replay.{Replays}
+use Rattle.worlds.specs.declared.status.Outcome.{Outcome}
 use Rattle.worlds.specs.declared.status.Outcome.TheVariants.{BadRecord}
-use Rattle.worlds.specs.Play.{Declines, Plays, PlaysRecorded, Replayed, Starves}
+use Rattle.worlds.specs.Play.{Declines, Plays, PlaysBy, PlaysRecordedBy, Replayed, Starves}
 use Rattle.worlds.specs.Program.{MayBeLost}
 use Rattle.worlds.proofs.Seen.{none_kept, runs_alone}
 
@@ -53,56 +55,49 @@ module _ {O E A : Type 0} (out : O → List ℕ → O → Type 0) (out_failed : 
       inl (subst (λ list. Plays out out_failed err err_failed script args ticks false list before
       after status) (one_entries found entries text are also) plays)
 
--- a replay of which a record may be made is a replay
-module _ {O E S A : Type 0} (out : O → List ℕ → O → Type 0) (out_failed : O → Bool)
+-- a run of which a record may be made is a run; `Step` says how its world changes, and `outcome` how
+-- it ends
+module _ {O E S A R : Type 0} (Step : R × (O × E) → Deed → Reply → R × (O × E) → Type 0)
+    (outcome : Bool → R → Result (End A) Refusal → Outcome)
+    (out : O → List ℕ → O → Type 0) (out_failed : O → Bool)
     (err : E → List ℕ → E → Type 0) (err_failed : E → Bool)
     (adds : S → List ℕ → S → Type 0) (failed : S → Bool)
-    (script : List ℕ) (args : List (Vec ℕ A)) (ticks : ℕ) where
-  pub plays : (entries : List Note) (before after : O × E) (empty kept : Option S) (status : ℕ) →
-      PlaysRecorded out out_failed err err_failed script args ticks adds failed entries before
-      empty after kept status →
-      Plays out out_failed err err_failed script args ticks (is_lost failed kept) entries before
-      after status
-  plays entries before after empty kept status (left, told, ended, (begun, begins, runs), finishes) = (
+    (script : List ℕ) (args : List (Vec ℕ A)) (ticks : ℕ) (begun : R) (before after : O × E)
+    (status : ℕ) where
+  -- the run, of which this sink got the record
+  abbrev Recorded : Option S → Option S → Type 0
+  Recorded empty kept =
+      PlaysRecordedBy out out_failed err err_failed script args ticks adds failed Step outcome begun
+      before empty after kept status
+
+  -- the run, whose record may be lost
+  abbrev Played : Bool → Type 0
+  Played lost =
+      PlaysBy out out_failed err err_failed script args ticks Step outcome lost begun before after
+      status
+
+  plays : (empty kept : Option S) → Recorded empty kept → Played (is_lost failed kept)
+  plays empty kept (left, told, ended, (first, begins, runs), finishes) = (
     left,
     told,
     ended,
-    runs_alone (Replays out out_failed err err_failed) adds failed script args ticks
-        ((whole entries, before), begun) ((left, (after.0, told)), kept) ended runs,
+    runs_alone Step adds failed script args ticks ((begun, before), first)
+        ((left, (after.0, told)), kept) ended runs,
     finishes,
   )
 
   -- where no record is made, none is lost
-  pub none_lost : (entries : List Note) (before after : O × E) (kept : Option S) (status : ℕ) →
-      PlaysRecorded out out_failed err err_failed script args ticks adds failed entries before None
-      after kept status →
-      is_lost failed kept ≡ false
-  none_lost entries before after kept status (left, told, ended, (begun, begins, runs), finishes) =
-      ap (is_lost failed) (none_kept (Replays out out_failed err err_failed) adds failed script args
-      ticks ((whole entries, before), begun) ((left, (after.0, told)), kept) ended begins runs)
+  none_lost : (kept : Option S) → Recorded None kept → is_lost failed kept ≡ false
+  none_lost kept (left, told, ended, (first, begins, runs), finishes) =
+      ap (is_lost failed) (none_kept Step adds failed script args ticks ((begun, before), first)
+      ((left, (after.0, told)), kept) ended begins runs)
 
-  pub plays_alone : (entries : List Note) (before after : O × E) (kept : Option S) (status : ℕ) →
-      PlaysRecorded out out_failed err err_failed script args ticks adds failed entries before None
-      after kept status →
-      Plays out out_failed err err_failed script args ticks false entries before after status
-  plays_alone entries before after kept status all =
-      subst (λ lost. Plays out out_failed err err_failed script args ticks lost entries before after
-      status) (none_lost entries before after kept status all)
-      (plays entries before after None kept status all)
+  pub plays_alone : (kept : Option S) → Recorded None kept → Played false
+  plays_alone kept all = subst Played (none_lost kept all) (plays None kept all)
 
-  -- whether a record is made or not, the run is one under the entries
-  pub plays_so : (made : Option (List ℕ)) (entries : List Note) (before after : O × E)
-      (empty kept : Option S) (status : ℕ) → (made ≡ None → empty ≡ None) →
-      PlaysRecorded out out_failed err err_failed script args ticks adds failed entries before
-      empty after kept status →
-      (lost : Bool) × MayBeLost made lost
-      × Plays out out_failed err err_failed script args ticks lost entries before after status
-  plays_so None entries before after empty kept status none all = (
-    false,
-    refl,
-    plays_alone entries before after kept status (subst (λ begun. PlaysRecorded out
-        out_failed err err_failed script args ticks adds failed entries before begun after kept
-        status) (none refl) all),
-  )
-  plays_so (Some name) entries before after empty kept status none all =
-      (is_lost failed kept, tt, plays entries before after empty kept status all)
+  -- whether a record is made or not, it is that run
+  pub plays_so : (made : Option (List ℕ)) (empty kept : Option S) → (made ≡ None → empty ≡ None) →
+      Recorded empty kept → (lost : Bool) × MayBeLost made lost × Played lost
+  plays_so None empty kept none all =
+      (false, refl, plays_alone kept (subst (λ first. Recorded first kept) (none refl) all))
+  plays_so (Some name) empty kept none all = (is_lost failed kept, tt, plays empty kept all)

@@ -9,7 +9,7 @@ use Rattle.recorders.specs.Recorder.{MayRecord, Notes}
 use Rattle.runs.specs.Ending.{Ending}
 use Rattle.runs.specs.Run.{Began, Ran}
 use Rattle.engine.specs.Watching.{BeganTold, RanTold}
-use Rattle.worlds.specs.Runs.{Runs, RunsTold}
+use Rattle.worlds.specs.Runs.{Runs, RunsRecorded, RunsTold}
 
 -- `see` takes each step of a world to a step of the part of it that is seen
 module _ {W V : Type 0} (S : W → Deed → Reply → W → Type 0) (T : V → Deed → Reply → V → Type 0)
@@ -47,6 +47,26 @@ module _ {W V : Type 0} (S : W → Deed → Reply → W → Type 0) (T : V → D
     unfolding runs_seen
     told_seen told x y (Ok end) runs = (runs_seen (Ok end) runs.0, runs.1)
     told_seen told x y (Err refusal) runs = (runs_seen (Err refusal) runs.0, runs.1)
+
+-- the same of a run of which a record may be made
+pub recorded_seen : {W V S A : Type 0} (Step : W → Deed → Reply → W → Type 0)
+    (Part : V → Deed → Reply → V → Type 0) (see : W → V)
+    (steps : (before : W) (act : Deed) (reply : Reply) (after : W) → Step before act reply after →
+    Part (see before) act reply (see after))
+    (adds : S → List ℕ → S → Type 0) (failed : S → Bool)
+    (script : List ℕ) (args : List (Vec ℕ A)) (ticks : ℕ) (first now : W) (empty kept : Option S)
+    (ended : Result (End A) Refusal) →
+    RunsRecorded Step adds failed script args ticks first empty now kept ended →
+    RunsRecorded Part adds failed script args ticks (see first) empty (see now) kept ended
+recorded_seen Step Part see steps adds failed script args ticks first now empty kept ended
+    (begun, begins, runs) = (
+      begun,
+      begins,
+      runs_seen (MayRecord Step adds failed) (MayRecord Part adds failed)
+          (λ pair. (see pair.0, pair.1))
+          (λ before act reply after step. (steps before.0 act reply after.0 step.0, step.1))
+          script args ticks (first, begun) (now, kept) ended runs,
+    )
 
 -- each step of a world keeps what `name` reads from it
 module _ {W N : Type 0} (S : W → Deed → Reply → W → Type 0) (name : W → N)

@@ -4,6 +4,7 @@ pub mod Lived
 pub mod Play
 pub mod Program
 pub mod Reads
+pub mod RecordSource
 pub mod Runs
 pub mod Status
 pub mod Texts

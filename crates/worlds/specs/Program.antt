@@ -11,7 +11,10 @@ use Rattle.arguments.specs.Arguments.{Call, lines, texts}
 use Rattle.records.specs.Entry.{AreEntries, Note}
 use Rattle.worlds.specs.Lacking.{IsUnmade, IsUnread, IsUnreadScript}
 use Rattle.worlds.specs.Lived.{Lived}
-use Rattle.worlds.specs.Play.{Declines, Plays, Refuses}
+use Rattle.replays.specs.Reel.{Reeled}
+use Rattle.worlds.specs.Play.{Declines, Plays, PlaysOn, Refuses}
+use Rattle.worlds.specs.RecordSource.{Gives, GivesUpIn, IsReelOf}
+use Rattle.worlds.specs.declared.record_source.FileSource.{FileSource}
 use Rattle.worlds.specs.Status.{file_outcome}
 use Rattle.worlds.specs.Texts.{IsFirst, IsScriptOf, IsTextOf}
 
@@ -76,19 +79,29 @@ module _ {F I M : Type 0} (opens : List ℕ → Result F Error → Type 0)
       × Declines out out_failed err err_failed outcome before after status
 
   module _ {A : Type 0} (script : List ℕ) (args : List (Vec ℕ A)) (ticks : ℕ) where
+    -- the file of the record that is to be made can't be had, or the script runs so, where that
+    -- record may be lost
+    abbrev pub RunsSo : (runs : Bool → O × E → O × E → ℕ → Type 0) → Option (List ℕ) →
+        O × E → O × E → ℕ → Type 0
+    RunsSo runs made before after status =
+        LacksRecord made before after status
+        ⊎ (IsMade makes made × (lost : Bool) × MayBeLost made lost × runs lost before after status)
+
     -- the script runs in the live world
     abbrev pub RunsLive : Option (List ℕ) → O × E → O × E → ℕ → Type 0
-    RunsLive made before after status =
-        LacksRecord made before after status
-        ⊎ (IsMade makes made × (lost : Bool) × MayBeLost made lost
-        × Lived out out_failed err err_failed script args ticks lost before after status)
+    RunsLive = RunsSo (Lived out out_failed err err_failed script args ticks)
 
     -- the script runs under these entries
     abbrev pub RunsUnder : Option (List ℕ) → List Note → O × E → O × E → ℕ → Type 0
-    RunsUnder made entries before after status =
-        LacksRecord made before after status
-        ⊎ (IsMade makes made × (lost : Bool) × MayBeLost made lost
-        × Plays out out_failed err err_failed script args ticks lost entries before after status)
+    RunsUnder made entries =
+        RunsSo (λ lost. Plays out out_failed err err_failed script args ticks lost entries) made
+
+    -- the script runs under what is read of the record of this name as the run goes on
+    abbrev pub RunsOn : Bor (List ℕ) → Option (List ℕ) → Reeled (FileSource F) → O × E → O × E →
+        ℕ → Type 0
+    RunsOn name made reeled =
+        RunsSo (λ lost. PlaysOn out out_failed err err_failed script args ticks (Gives left)
+        (GivesUpIn reads) (λ source. source.left) name lost reeled) made
 
     -- the text of the record of this name is refused, or the script runs under its entries
     abbrev pub RunsRecord : Bor (List ℕ) → Option (List ℕ) → List ℕ → O × E → O × E → ℕ → Type 0
@@ -97,13 +110,22 @@ module _ {F I M : Type 0} (opens : List ℕ → Result F Error → Type 0)
         ⊎ ((entries : List Note) × AreEntries entries text
         × RunsUnder made entries before after status)
 
-    -- the script runs in the live world where no record is named, and else under that record
+    -- the record of this name can't be had, or the script runs under its text
+    abbrev pub RunsText : Bor (List ℕ) → Option (List ℕ) → O × E → O × E → ℕ → Type 0
+    RunsText name made before after status =
+        Lacks (IsUnread opens reads) (name.now ∷ []) before after status
+        ⊎ ((text : List ℕ) × IsTextOf opens left name.now text
+        × RunsRecord name made text before after status)
+
+    -- the script runs in the live world where no record is named, and else under that record: by
+    -- its text, or, where it was found to be a record, by what is read of it as the run goes on
     abbrev pub Runs : (replay made : Option (List ℕ)) → O × E → O × E → ℕ → Type 0
     Runs None made before after status = RunsLive made before after status
     Runs (Some name) made before after status =
-        Lacks (IsUnread opens reads) (name ∷ []) before after status
-        ⊎ ((lent : Bor (List ℕ)) × (lent.now ≡ name) × (text : List ℕ)
-        × IsTextOf opens left name text × RunsRecord lent made text before after status)
+        (lent : Bor (List ℕ)) × (lent.now ≡ name)
+        × (RunsText lent made before after status
+        ⊎ ((reeled : Reeled (FileSource F)) × IsReelOf left opens name reeled
+        × RunsOn lent made reeled before after status))
 
   -- the text of the script can't be had, or it runs with its name and arguments
   abbrev pub Performs : Type 0 → Call → O × E → O × E → ℕ → Type 0

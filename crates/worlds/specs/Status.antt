@@ -9,6 +9,8 @@ use Rattle.worlds.specs.declared.input.Unread.{Unread}
 use Rattle.worlds.specs.declared.input.Unread.TheVariants as unread
 use Rattle.records.specs.declared.record.RecordFault.{RecordFault}
 use Rattle.records.specs.declared.record.RecordFault.TheVariants as fault
+use Rattle.replays.specs.declared.halt.Halt.{Halt}
+use Rattle.replays.specs.declared.halt.Halt.TheVariants as halt
 use Rattle.worlds.specs.declared.status.Outcome.{Outcome}
 use Rattle.worlds.specs.declared.status.Outcome.TheVariants.{Exit, ScriptError, Usage, CannotOpen, Limit, OutputFailed, UnfitAnswer, NoMoreAnswers, WaitDiffers, BadRecord, NoMemory}
 
@@ -28,6 +30,16 @@ abbrev pub end_outcome : {A : Type 0} → Bool → Option ℕ → Result (End A)
 end_outcome true differs ended = OutputFailed
 end_outcome false (Some number) ended = WaitDiffers number
 end_outcome false None ended = run_outcome ended
+
+-- the same where the record of this name was read as the run went on, and for this reason there
+-- were no more answers, though entries were left
+abbrev pub reel_outcome : {A : Type 0} → Bool → Bor (List ℕ) → Option Halt →
+    Result (End A) Refusal → Outcome
+reel_outcome true name halt ended = OutputFailed
+reel_outcome false name (Some (halt.Differs number)) ended = WaitDiffers number
+reel_outcome false name (Some halt.Unread) ended = CannotOpen name
+reel_outcome false name (Some (halt.NoMemory refusal)) ended = NoMemory refusal
+reel_outcome false name None ended = run_outcome ended
 
 -- a file of this name that was not read
 abbrev pub file_outcome : Bor (List ℕ) → Unread → Outcome

@@ -4,7 +4,7 @@ ghost use Rattle.std.specs.Prelude.{⊤, ℕ, Bool, List, Result};
 ghost use Rattle.std.specs.declared.io.Error.{Error};
 
 use crate::input::Reader;
-use crate::same_file::is_same_file;
+use crate::same_file::{is_kept, is_same_file};
 use std::fs::{self, Files};
 use std::io::{self, Input, Write};
 
@@ -38,6 +38,9 @@ pub trait Folder {
 
     /// Standard input.
     fn standard(&self) -> Self::Standard;
+
+    /// Whether the file of a name keeps its bytes, so that it can be read once more.
+    fn is_lasting(&self, name: &str) -> bool;
 
     /// Whether these are names of one existing file that keeps what is written to it.
     fn is_same(&self, first: &[u8], second: &[u8]) -> bool
@@ -74,6 +77,10 @@ impl<'a, R: Files + Input> Folder for Disk<'a, R> {
 
     fn standard(&self) -> R::Reader {
         self.rt.reader()
+    }
+
+    fn is_lasting(&self, name: &str) -> bool {
+        is_kept(self.rt, name)
     }
 
     fn is_same(&self, first: &[u8], second: &[u8]) -> bool {

@@ -1,6 +1,6 @@
 //! What comes from outside: the words of a call, and the bytes of files.
 
-ghost use Rattle.std.specs.Prelude.{◌≡◌, ◌≢◌, ◌<◌, ◌≤◌, ◌↔◌, ⊤, ℕ, List, Option, Result, IfErr, IfOk, IfSome, IsErrOf, IsTrue, OnOk, codes, length, option_map, take};
+ghost use Rattle.std.specs.Prelude.{◌≡◌, ◌≢◌, ◌<◌, ◌≤◌, ◌↔◌, ⊤, ℕ, List, Option, Result, IfErr, IfOk, IfSome, IsErrOf, IsTrue, OnOk, codes, length, option_map, take, vec_len};
 ghost use Rattle.std.specs.Io.{ReadsAtMost, WritesAtMost};
 ghost use Rattle.std.specs.Io.KnownBytes.{Consumes, ConsumesCount, IsAtEnd, ReadConsumes};
 ghost use Rattle.std.specs.declared.io.Error.{Error};
@@ -13,6 +13,7 @@ ghost use Rattle.worlds.specs.declared.input.Unread.TheVariants as unread;
 
 use crate::folder::{Disk, Folder};
 use acts::NoMemory;
+use records::{first_room, widen};
 use std::alloc::{AllocError, Allocator};
 use std::env::FillError;
 use std::fs::Files;
@@ -25,9 +26,6 @@ const FIRST_ROOM: usize = 256;
 
 /// How often the room for a word is doubled at most: to 2^62 bytes.
 const MOST_DOUBLINGS: u32 = 54;
-
-/// How many bytes of a file are read at a time.
-const CHUNK: usize = 65_536;
 
 /// Why bytes from outside were not read.
 #[derive(Clone, Copy, Debug, PartialEq, Eq, Error)]
@@ -220,20 +218,21 @@ pub fn read_all<A: Allocator + Copy, R: Reader>(
     ensures refused { IsErrOf result unread.Refused → GivesUp R.reads reader.old reader.new }
 {
     let mut text = Vec::new(alloc);
-    let mut chunk = vec![in alloc; 0u8; CHUNK]?;
+    let mut chunk = first_room(alloc)?;
     'chunks: for _read in 0..u64::MAX {
         let taken = read_some(reader, &mut chunk)?;
         if taken == 0 {
             return Ok(text);
         }
         text.extend_from_slice(&chunk[..taken])?;
+        widen(&mut chunk, taken)?;
     }
     Err(Unread::Refused)
 }
 
 /// Reads some bytes to the front of a chunk, and says how many: none only at the end. A read that
 /// was interrupted is tried again.
-fn read_some<R: Reader>(reader: &mut R, chunk: &mut [u8]) -> Result<usize, Unread>
+pub(crate) fn read_some<R: Reader>(reader: &mut R, chunk: &mut [u8]) -> Result<usize, Unread>
     requires { 0 < length chunk.old }
     ensures within { IfOk result (λ taken. taken ≤ length chunk.new) }
     ensures len { length chunk.new ≡ length chunk.old }

@@ -8,6 +8,7 @@ pub mod lived;
 pub mod play;
 pub mod program;
 pub mod record_file;
+pub mod record_source;
 pub mod recorded;
 mod same_file;
 pub mod standard;

@@ -5,9 +5,9 @@ ghost use Rattle.records.specs.Entry.{AreEntries, HasSecondHeader, IsBadLine, No
 ghost use Rattle.records.specs.Record.{HasHeader};
 ghost use Rattle.records.specs.Sink.{Takes};
 ghost use Rattle.recorders.specs.Recorder as spec;
-ghost use Rattle.replays.specs.Recording.{recorded_in};
-ghost use Rattle.replays.specs.Replay.{Replays};
-ghost use Rattle.worlds.specs.Play.{Declines, Plays, PlaysRecorded, Replayed, Starves};
+ghost use Rattle.replays.specs.Reel.{reeled_in};
+ghost use Rattle.replays.specs.Replay.{ReplaysBy};
+ghost use Rattle.worlds.specs.Play.{Declines, Plays, PlaysRecorded, PlaysRecordedOn, Replayed, Starves};
 ghost use Rattle.worlds.specs.Runs.{RunsRecorded};
 ghost use Rattle.worlds.specs.Status.{line_of, status_of};
 ghost use Rattle.worlds.specs.declared.status.Outcome.TheVariants.{BadRecord};
@@ -17,8 +17,8 @@ use crate::status::Outcome;
 use acts::{Limits, NoMemory};
 use engine::{End, Unwatched};
 use recorders::is_lost;
-use records::{Entry, Sink, read_entries};
-use replays::{LentReplay, Recording};
+use records::{Entry, Sink, Source, read_entries};
+use replays::{Answerer, LentReplay, Recording, Reel};
 use std::alloc::Allocator;
 use std::io;
 
@@ -44,7 +44,7 @@ impl Sink for Nowhere {
     }
 }
 
-impl<A: Allocator, O, E> Refuses<A> for LentReplay<'_, '_, '_, A, O, E> {
+impl<A: Allocator, R, O, E> Refuses<A> for LentReplay<'_, '_, '_, R, O, E> {
     /// A record does not say why.
     fn refusal(&self) -> Option<io::Error> {
         None
@@ -171,7 +171,7 @@ pub fn rerun_by<A: Allocator + Copy, O: Sink, E: Sink, S: Sink, X: Runner<A>>(
         result }
 {
     let mut recording = Recording::of_entries(entries);
-    let ended = run_entries(
+    let ended = run_recording(
         alloc,
         script,
         args,
@@ -184,6 +184,37 @@ pub fn rerun_by<A: Allocator + Copy, O: Sink, E: Sink, S: Sink, X: Runner<A>>(
     );
     let failed = any_failed(out, err, made);
     finish(Outcome::of_end(failed, recording.differs(), &ended), err)
+}
+
+/// The same under the record of the file `name`, which is read as the run goes on.
+pub fn rerun_reel<A, F, O, E, S, X>(
+    alloc: A,
+    script: &[u8],
+    args: &[Vec<u8, A>],
+    limits: Limits,
+    name: &[u8],
+    mut reel: Reel<A, F>,
+    out: &mut O,
+    err: &mut E,
+    made: &mut Option<S>,
+    runner: &mut X,
+) -> u8
+where
+    A: Allocator + Copy,
+    F: Source + Drop,
+    O: Sink,
+    E: Sink,
+    S: Sink,
+    X: Runner<A>,
+    ensures { PlaysRecordedOn O.adds O.has_failed E.adds E.has_failed
+        script.now args.now limits.ticks S.adds S.has_failed F.gives F.gives_up F.most name.entry
+        (reeled_in reel) (out.old, err.old) made.old (out.new, err.new) made.new result }
+{
+    let ended = run_recording(
+        alloc, script, args, limits, &mut reel, out, err, made, runner,
+    );
+    let failed = any_failed(out, err, made);
+    finish(Outcome::of_reel(failed, name, reel.halt(), &ended), err)
 }
 
 /// Whether the sink of a record that is made, or one of two writers, has failed.
@@ -201,48 +232,58 @@ fn either_failed<O: Sink, E: Sink>(out: &O, err: &E) -> bool
     out.failed() || err.failed()
 }
 
-/// Runs a script under the rest of a record, and writes its output to two writers.
-fn run_entries<A: Allocator + Copy, O: Sink, E: Sink, S: Sink, X: Runner<A>>(
+/// Runs a script under the rest of a recorded run, and writes its output to two writers.
+fn run_recording<A, R, O, E, S, X>(
     alloc: A,
     script: &[u8],
     args: &[Vec<u8, A>],
     limits: Limits,
-    recording: &mut Recording<A>,
+    recorded: &mut R,
     out: &mut O,
     err: &mut E,
     made: &mut Option<S>,
     runner: &mut X,
 ) -> Result<End<A>, NoMemory>
-    ensures { RunsRecorded (Replays O.adds O.has_failed E.adds E.has_failed)
+where
+    A: Allocator + Copy,
+    R: Answerer<A>,
+    O: Sink,
+    E: Sink,
+    S: Sink,
+    X: Runner<A>,
+    ensures { RunsRecorded (ReplaysBy O.adds O.has_failed E.adds E.has_failed R.answers)
         S.adds S.has_failed script.now args.now limits.ticks
-        (recorded_in recording.old, (out.old, err.old)) made.old
-        (recorded_in recording.new, (out.new, err.new)) made.new result }
+        (recorded.old, (out.old, err.old)) made.old (recorded.new, (out.new, err.new)) made.new
+        result }
 {
-    let mut world = LentReplay {
-        recording,
-        out,
-        err,
-    };
+    let mut world = LentReplay { recorded, out, err };
     run_replay(alloc, script, args, limits, &mut world, made, runner)
 }
 
-/// Runs a script in a replay, which still borrows the same recording and writers afterwards.
-fn run_replay<A: Allocator + Copy, O: Sink, E: Sink, S: Sink, X: Runner<A>>(
+/// Runs a script in a replay, which still borrows the same recorded run and writers afterwards.
+fn run_replay<A, R, O, E, S, X>(
     alloc: A,
     script: &[u8],
     args: &[Vec<u8, A>],
     limits: Limits,
-    world: &mut LentReplay<'_, '_, '_, A, O, E>,
+    world: &mut LentReplay<'_, '_, '_, R, O, E>,
     made: &mut Option<S>,
     runner: &mut X,
 ) -> Result<End<A>, NoMemory>
-    ensures same_recording { world.new.recording.ghost_name ≡ world.old.recording.ghost_name }
+where
+    A: Allocator + Copy,
+    R: Answerer<A>,
+    O: Sink,
+    E: Sink,
+    S: Sink,
+    X: Runner<A>,
+    ensures same_recorded { world.new.recorded.ghost_name ≡ world.old.recorded.ghost_name }
     ensures same_out { world.new.out.ghost_name ≡ world.old.out.ghost_name }
     ensures same_err { world.new.err.ghost_name ≡ world.old.err.ghost_name }
-    ensures runs { RunsRecorded (Replays O.adds O.has_failed E.adds E.has_failed)
+    ensures runs { RunsRecorded (ReplaysBy O.adds O.has_failed E.adds E.has_failed R.answers)
         S.adds S.has_failed script.now args.now limits.ticks
-        (recorded_in world.old.recording.now, (world.old.out.now, world.old.err.now)) made.old
-        (recorded_in world.new.recording.now, (world.new.out.now, world.new.err.now)) made.new
+        (world.old.recorded.now, (world.old.out.now, world.old.err.now)) made.old
+        (world.new.recorded.now, (world.new.out.now, world.new.err.now)) made.new
         result }
 {
     runner.run(alloc, script, args, limits, world, made)

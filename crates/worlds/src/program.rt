@@ -4,9 +4,10 @@ ghost use Rattle.std.specs.Prelude.{◌≡◌, [], ◌∷◌, ◌++◌, ℕ, Lis
 ghost use Rattle.std.specs.Option.{option_copied};
 ghost use Rattle.arguments.specs.Arguments.{Call, Holds, IsCall, lines, texts};
 ghost use Rattle.records.specs.Entry.{note_of};
+ghost use Rattle.replays.specs.Reel.{reeled_in};
 ghost use Rattle.worlds.specs.Lacking.{IsOther, IsOtherRecord, IsOtherScript, IsUnmade, IsUnreadScript};
 ghost use Rattle.worlds.specs.Play.{Declines};
-ghost use Rattle.worlds.specs.Program.{IsLack, IsMade, IsText, LacksFile, Performs, Runs, RunsUnder};
+ghost use Rattle.worlds.specs.Program.{IsLack, IsMade, IsText, LacksFile, Performs, Runs, RunsOn, RunsText, RunsUnder};
 ghost use Rattle.worlds.specs.Texts.{IsScriptOf};
 ghost use Rattle.worlds.specs.declared.input.Unread.TheVariants as unread;
 ghost use Rattle.worlds.specs.declared.status.Outcome.TheVariants.{Usage};
@@ -14,8 +15,9 @@ ghost use Rattle.worlds.specs.declared.status.Outcome.TheVariants.{Usage};
 use crate::folder::{Disk, Folder};
 use crate::input::{Unread, file_in, is_standard_input, read_words, script_in};
 use crate::lived::lived_by;
-use crate::play::{finish, rerun_by};
+use crate::play::{finish, rerun_by, rerun_reel};
 use crate::record_file::create_record;
+use crate::record_source::{FileSource, reel_in};
 use crate::recorded::Runner;
 use crate::standard::hold_closed;
 use crate::status::Outcome;
@@ -24,6 +26,7 @@ use arguments::Arguments;
 use engine::Unwatched;
 use recorders::RecordFile;
 use records::{Counted, Entry, Sink, read_entries};
+use replays::Reel;
 use std::alloc::{Allocator, Global};
 use std::fs::File;
 use std::io::Write;
@@ -215,22 +218,96 @@ where
             Err(outcome) => finish(outcome, err),
         };
     };
-    let record = match file_in(files, rt.alloc(), name) {
-        Ok(record) => record,
-        Err(fault) => return finish(Outcome::of_file(name, fault), err),
-    };
-    match read_entries(rt.alloc(), &record) {
-        Ok(entries) => run_entries(
+    match reel_in(files, rt.alloc(), name) {
+        Some(reel) => run_reel(
             rt.alloc(),
             files,
             call,
             script,
             args,
-            entries,
+            name,
+            reel,
             out,
             err,
             runner,
         ),
+        None => run_record(
+            rt.alloc(),
+            files,
+            call,
+            script,
+            args,
+            name,
+            out,
+            err,
+            runner,
+        ),
+    }
+}
+
+/// Runs a script under the record of a name, which is read as the run goes on.
+fn run_reel<F: Folder, O: Sink, E: Sink, X: Runner<Global>>(
+    alloc: Global,
+    files: &F,
+    call: &Arguments<'_, Global>,
+    script: &[u8],
+    args: &[Vec<u8, Global>],
+    name: &[u8],
+    reel: Reel<Global, FileSource<F::File>>,
+    out: &mut O,
+    err: &mut E,
+    runner: &mut X,
+) -> u8
+    requires out { O.has_failed out.old ≡ false }
+    requires err { E.has_failed err.old ≡ false }
+    ensures { RunsOn (F.opens files.now) F.File.left F.File.reads F.Standard.left
+        F.Standard.reads (F.makes files.now) (F.same files.now) O.adds O.has_failed E.adds
+        E.has_failed script.now args.now call.now.limits.ticks name.entry
+        (option_copied call.now.made) (reeled_in reel) (out.old, err.old) (out.new, err.new)
+        result }
+{
+    match made_of(files, alloc, call) {
+        Ok(mut made) => rerun_reel(
+            alloc,
+            script,
+            args,
+            call.limits,
+            name,
+            reel,
+            out,
+            err,
+            &mut made,
+            runner,
+        ),
+        Err(outcome) => finish(outcome, err),
+    }
+}
+
+/// Runs a script under the record of a name, all of which is read before.
+fn run_record<F: Folder, O: Sink, E: Sink, X: Runner<Global>>(
+    alloc: Global,
+    files: &F,
+    call: &Arguments<'_, Global>,
+    script: &[u8],
+    args: &[Vec<u8, Global>],
+    name: &[u8],
+    out: &mut O,
+    err: &mut E,
+    runner: &mut X,
+) -> u8
+    requires out { O.has_failed out.old ≡ false }
+    requires err { E.has_failed err.old ≡ false }
+    ensures { RunsText (F.opens files.now) F.File.left F.File.reads F.Standard.left
+        F.Standard.reads (F.makes files.now) (F.same files.now) O.adds O.has_failed E.adds
+        E.has_failed script.now args.now call.now.limits.ticks name.entry
+        (option_copied call.now.made) (out.old, err.old) (out.new, err.new) result }
+{
+    let record = match file_in(files, alloc, name) {
+        Ok(record) => record,
+        Err(fault) => return finish(Outcome::of_file(name, fault), err),
+    };
+    match read_entries(alloc, &record) {
+        Ok(entries) => run_entries(alloc, files, call, script, args, entries, out, err, runner),
         Err(fault) => finish(Outcome::of_fault(name, fault), err),
     }
 }

@@ -1,4 +1,4 @@
-//! Whether two names are those of one file.
+//! Whether a file keeps what is written to it, and whether two names are those of one file.
 
 use std::fs::{self, Files};
 use std::os::unix::fs::MetadataExt;
@@ -17,6 +17,11 @@ pub fn is_same_file<R: Files>(rt: &R, first: &[u8], second: &[u8]) -> bool {
         (Some(first), Some(second)) => first == second,
         _ => false,
     }
+}
+
+/// Whether the file of this name exists and keeps what is written to it.
+pub fn is_kept<R: Files>(rt: &R, name: &str) -> bool {
+    fs::metadata(rt, name).is_ok_and(|found| found.is_file())
 }
 
 /// The place of the file of this name, where there is one that keeps what is written to it.

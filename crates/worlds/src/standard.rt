@@ -12,7 +12,10 @@ const NOTHING: &str = "/dev/null";
 /// and output would go there. A write to an output that is held fails, as it does where the output
 /// is closed, and so does a read from an input.
 pub fn hold_closed<R: Files<File = File>>(rt: &R) -> [Option<File>; 3] {
-    [hold_next(rt), hold_next(rt), hold_next(rt)]
+    match hold_next(rt) {
+        Some(first) => [Some(first), hold_next(rt), hold_next(rt)],
+        None => [None, None, None],
+    }
 }
 
 /// Takes the lowest descriptor that is closed, if it is one of the three.

@@ -3,12 +3,13 @@
 ghost use Rattle.std.specs.Prelude.{◌≡◌, ◌++◌};
 ghost use Rattle.records.specs.Sink.{Takes};
 ghost use Rattle.worlds.specs.declared.status.Outcome.TheVariants as outcome;
-ghost use Rattle.worlds.specs.Status.{end_outcome, fault_outcome, file_outcome, line_of, run_outcome, status_of, words_outcome};
+ghost use Rattle.worlds.specs.Status.{end_outcome, fault_outcome, file_outcome, line_of, reel_outcome, run_outcome, status_of, words_outcome};
 
 use crate::input::Unread;
 use acts::NoMemory;
 use engine::End;
 use records::{RecordFault, Sink, put_all, put_number};
+use replays::Halt;
 use std::alloc::Allocator;
 
 /// The line that is written where the arguments are not those of a call.
@@ -91,6 +92,27 @@ impl<'a> Outcome<'a> {
         }
         match differs {
             Some(number) => Outcome::WaitDiffers(number),
+            None => Outcome::of_run(ended),
+        }
+    }
+
+    /// How a run ended whose record, of this name, was read as it went on: by the fault of a writer,
+    /// whatever else ended it, and else by why there were no more answers though entries were left.
+    pub fn of_reel<A: Allocator>(
+        writer_failed: bool,
+        name: &'a [u8],
+        halt: Option<Halt>,
+        ended: &Result<End<A>, NoMemory>,
+    ) -> Outcome<'a>
+        ensures { result ≡ reel_outcome writer_failed name.entry halt ended.now }
+    {
+        if writer_failed {
+            return Outcome::OutputFailed;
+        }
+        match halt {
+            Some(Halt::Differs(number)) => Outcome::WaitDiffers(number),
+            Some(Halt::Unread) => Outcome::CannotOpen(name),
+            Some(Halt::NoMemory(refusal)) => Outcome::NoMemory(refusal),
             None => Outcome::of_run(ended),
         }
     }

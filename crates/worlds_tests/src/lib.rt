@@ -17,6 +17,8 @@ mod recorded;
 #[cfg(test)]
 mod replayed;
 #[cfg(test)]
+mod reread;
+#[cfg(test)]
 mod status;
 #[cfg(test)]
 mod told;

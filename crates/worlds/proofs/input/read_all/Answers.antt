@@ -6,7 +6,7 @@ use Rattle.worlds.proofs.input.read_all.Goals as goal
 
 pub chunks-init : goal.chunks-init
 chunks-init g c = (
-  c.in_ok-chunk.ensures.len,
+  c.in_ok-chunk.ensures,
   rw c.new-text.ensures.items (Consumes-none (g.R.Reader.left c.args.reader.now)),
   ([], omega arith, refl),
 )
@@ -33,7 +33,7 @@ chunks-preserved g c =
     (drop (length c.read_some.new.chunk) c.chunks.chunk.items) c.chunks.chunk.len filled_up in
     let more = c.in_ok-extend_from_slice.ensures.items
     ∙ ap (λ bytes. c.chunks.text.items ++ take c.in_ok-taken.taken bytes) chunk in (
-      long,
+      c.widen.ensures,
       rw more (Consumes-then (g.R.Reader.left c.args.reader.now)
           (g.R.Reader.left c.chunks.reader) (g.R.Reader.left c.read_some.new.reader)
           c.chunks.text.items (take c.in_ok-taken.taken c.read_some.new.chunk) before read),

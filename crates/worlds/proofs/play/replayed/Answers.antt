@@ -2,7 +2,8 @@ use Rattle.std.proofs.Common.{◌≡◌, None, map, refl, ◌∙◌, ap, subst, 
 use Rattle.records.specs.Entry.{note_of}
 use Rattle.records.specs.declared.record.RecordFault.TheVariants as fault
 use Rattle.worlds.specs.Play.{Declines}
-use Rattle.worlds.specs.Status.{fault_outcome}
+use Rattle.replays.specs.Recording.{whole}
+use Rattle.worlds.specs.Status.{end_outcome, fault_outcome}
 use Rattle.worlds.proofs.Plays.{bad_line_told, entries_played, header_read, plays_alone}
 use Rattle.worlds.proofs.play.replayed.Goals as goal
 
@@ -47,10 +48,11 @@ returns-in-Ok-clause-ends g c =
     inr (
       map note_of c.in-Ok.entries.items,
       c.in-Ok.ensures.read,
-      plays_alone g.O.Sink.adds g.O.Sink.has_failed g.E.Sink.adds g.E.Sink.has_failed _ _
-          c.args.script.now c.args.args.now c.args.limits.ticks (map note_of c.in-Ok.entries.items)
-          (c.args.out.now, c.args.err.now) (c.rerun.new.out, c.rerun.new.err) c.rerun.new.made
-          c.rerun.result c.rerun.ensures,
+      plays_alone _ (λ failed left. end_outcome failed left.differs) g.O.Sink.adds
+          g.O.Sink.has_failed g.E.Sink.adds g.E.Sink.has_failed _ _ c.args.script.now
+          c.args.args.now c.args.limits.ticks (whole (map note_of c.in-Ok.entries.items))
+          (c.args.out.now, c.args.err.now) (c.rerun.new.out, c.rerun.new.err) c.rerun.result
+          c.rerun.new.made c.rerun.ensures,
     )
 
 pub returns-in-Ok-clause-bad_line : goal.returns-in-Ok-clause-bad_line

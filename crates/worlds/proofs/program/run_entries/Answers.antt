@@ -1,15 +1,18 @@
 use Rattle.std.proofs.Common.{map, inr}
 use Rattle.std.specs.Option.{option_copied}
 use Rattle.records.specs.Entry.{note_of}
+use Rattle.replays.specs.Recording.{whole}
+use Rattle.worlds.specs.Status.{end_outcome}
 use Rattle.worlds.proofs.Plays.{plays_so}
 use Rattle.worlds.proofs.program.run_entries.Goals as goal
 
 pub returns-in-Ok : goal.returns-in-Ok
 returns-in-Ok g c =
     let (lost, may_be, plays) =
-    plays_so g.O.Sink.adds g.O.Sink.has_failed g.E.Sink.adds g.E.Sink.has_failed _ _
-    c.args.script.now c.args.args.now c.args.call.now.limits.ticks
-    (option_copied c.args.call.now.made) (map note_of c.args.entries.items)
-    (c.args.out.now, c.args.err.now) (c.rerun_by.new.out, c.rerun_by.new.err) c.in-Ok.made
-    c.rerun_by.new.made c.rerun_by.result c.in-Ok.ensures.none c.rerun_by.ensures in
+    plays_so _ (λ failed left. end_outcome failed left.differs) g.O.Sink.adds g.O.Sink.has_failed
+    g.E.Sink.adds g.E.Sink.has_failed _ _ c.args.script.now c.args.args.now
+    c.args.call.now.limits.ticks (whole (map note_of c.args.entries.items))
+    (c.args.out.now, c.args.err.now) (c.rerun_by.new.out, c.rerun_by.new.err) c.rerun_by.result
+    (option_copied c.args.call.now.made) c.in-Ok.made c.rerun_by.new.made c.in-Ok.ensures.none
+    c.rerun_by.ensures in
     inr (c.in-Ok.ensures.made, lost, may_be, plays)
