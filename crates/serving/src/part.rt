@@ -14,16 +14,19 @@ pub enum Part<'a> {
     Say(&'a str),
     /// Nothing is written to it, and it stays open until the other side closes.
     Hush,
+    /// What comes is handed back, until the other side closes.
+    Echo,
     /// Nothing is done.
     Shut,
 }
 
 impl<'a> Part<'a> {
-    /// The part that words name: `say T`, `hush` or `shut`.
+    /// The part that words name: `say T`, `hush`, `echo` or `shut`.
     pub fn read<A: Allocator>(words: &'a [String<A>]) -> Option<Part<'a>> {
         match words {
             [name, text] if name.as_str() == "say" => Some(Part::Say(text.as_str())),
             [name] if name.as_str() == "hush" => Some(Part::Hush),
+            [name] if name.as_str() == "echo" => Some(Part::Echo),
             [name] if name.as_str() == "shut" => Some(Part::Shut),
             _ => None,
         }
@@ -34,6 +37,7 @@ impl<'a> Part<'a> {
         match self {
             Part::Say(text) => stream.write_all(text.as_bytes()),
             Part::Hush => hear_out(&mut stream),
+            Part::Echo => hand_back(&mut stream),
             Part::Shut => Ok(()),
         }
     }
@@ -46,6 +50,19 @@ fn hear_out<R: Read>(stream: &mut R) -> io::Result<()> {
         if stream.read(&mut chunk)? == 0 {
             break;
         }
+    }
+    Ok(())
+}
+
+/// Writes what comes back to where it comes from, up to its end.
+fn hand_back<S: Read + Write>(stream: &mut S) -> io::Result<()> {
+    let mut chunk = [0u8; CHUNK];
+    'chunks: for _ in 0..u64::MAX {
+        let count = stream.read(&mut chunk)?;
+        if count == 0 {
+            break;
+        }
+        stream.write_all(&chunk[..count])?;
     }
     Ok(())
 }

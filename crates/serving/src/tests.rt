@@ -51,6 +51,14 @@ fn hushes_and_hears_the_other_side_out(rt: HostRuntime) -> Result<(), Fail> {
 }
 
 #[test]
+fn hands_back_what_it_hears(rt: HostRuntime) -> Result<(), Fail> {
+    let words = words_of(&rt, &["echo"])?;
+    let heard = heard(&rt, named(&words)?, b"HELO\r\n\0\xff")?;
+    assert_eq!(rt; heard.as_slice(), b"HELO\r\n\0\xff".as_slice());
+    Ok(())
+}
+
+#[test]
 fn shuts_at_once(rt: HostRuntime) -> Result<(), Fail> {
     let words = words_of(&rt, &["shut"])?;
     let heard = heard(&rt, named(&words)?, b"")?;
@@ -59,11 +67,12 @@ fn shuts_at_once(rt: HostRuntime) -> Result<(), Fail> {
 }
 
 /// Words that are no part.
-const OTHERS: [&[&str]; 6] = [
+const OTHERS: [&[&str]; 7] = [
     &[],
     &["say"],
     &["say", "a", "b"],
     &["hush", "a"],
+    &["echo", "a"],
     &["shut", "a"],
     &["Hush"],
 ];
