@@ -8,10 +8,11 @@ use Rattle.acts.specs.declared.act.Timer.{Timer}
 use Rattle.acts.specs.Deed.{Reply}
 use Rattle.acts.specs.Deed as said
 use Rattle.acts.specs.Fits.{fits_wait, has_row}
-use Rattle.std.specs.Prelude.{Option}
+use Rattle.std.specs.Prelude.{None, Option}
 use Rattle.std.specs.declared.time.Instant.{Instant}
 use Rattle.live.specs.Arriving.{IsDue, IsLate, comes}
 use Rattle.live.specs.Calls.{Call}
+use Rattle.live.specs.Live.{IsWhy}
 
 -- no row passes a test that is always false
 no_row : (rows : List Row) → list_any {X = Row} (λ row. false) rows ≡ true → ⊥
@@ -55,3 +56,16 @@ comes_due ids rows which said.Refused deadline left found calls = (tt, tt)
 comes_due ids rows which (said.Exited status) deadline left found calls = (tt, tt)
 comes_due ids rows which said.TimedOut deadline left found calls = absurd (no_row rows found)
 comes_due ids rows which said.NoMore deadline left found calls = (tt, tt)
+
+-- what fits a wait is no refusal, by which nothing is learned
+pub wait_why : (rows : List Row) (timer : Timer) (reply : Reply) →
+    fits_wait rows timer reply ≡ true → IsWhy reply None None
+wait_why rows timer said.Done fits = refl
+wait_why rows timer (said.Failed sent) fits = tt
+wait_why rows timer (said.Started pid) fits = refl
+wait_why rows timer said.Refused fits = absurd (false≢true fits)
+wait_why rows timer (said.Exited status) fits = refl
+wait_why rows timer (said.Arrive id bytes) fits = refl
+wait_why rows timer (said.Ended id) fits = refl
+wait_why rows timer said.TimedOut fits = refl
+wait_why rows timer said.NoMore fits = tt

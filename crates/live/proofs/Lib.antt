@@ -3,6 +3,7 @@ pub mod Chains
 pub mod Exchanging
 pub mod Hearing
 pub mod Looking
+pub mod Order
 pub mod Programs
 pub mod Refusing
 pub mod Seeing

@@ -123,7 +123,7 @@ hears_paused step which deadline now a b c kept left same (first, led, before, n
     )
 
 -- what holds, holds where there is an answer
-if_so : (reply : Reply) (P : Type 0) → P → IfAnswered reply P
+pub if_so : (reply : Reply) (P : Type 0) → P → IfAnswered reply P
 if_so said.Done P holds = holds
 if_so (said.Failed sent) P holds = holds
 if_so (said.Started pid) P holds = holds
@@ -133,6 +133,19 @@ if_so (said.Arrive id bytes) P holds = holds
 if_so (said.Ended id) P holds = holds
 if_so said.TimedOut P holds = holds
 if_so said.NoMore P holds = tt
+
+-- each of two holds where there is an answer
+pub both_so : (reply : Reply) (P Q : Type 0) → IfAnswered reply P → IfAnswered reply Q →
+    IfAnswered reply (P × Q)
+both_so said.Done P Q one other = (one, other)
+both_so (said.Failed sent) P Q one other = (one, other)
+both_so (said.Started pid) P Q one other = (one, other)
+both_so said.Refused P Q one other = (one, other)
+both_so (said.Exited status) P Q one other = (one, other)
+both_so (said.Arrive id bytes) P Q one other = (one, other)
+both_so (said.Ended id) P Q one other = (one, other)
+both_so said.TimedOut P Q one other = (one, other)
+both_so said.NoMore P Q one other = tt
 
 -- the timer starts, nothing comes for a while, and then an answer that tells of no time
 pub waits_so : {S : Type 0} (step : S → Call → S → Type 0) (a b c d : S) (ids : List Id)

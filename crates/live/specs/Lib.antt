@@ -3,7 +3,8 @@ pub mod Calls
 pub mod Early
 pub mod Kept
 pub mod Live
-pub mod Outputs
 pub mod Look
+pub mod Outputs
 pub mod Refusing
+pub mod Turns
 pub mod Waiting

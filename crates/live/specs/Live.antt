@@ -13,6 +13,7 @@ use Rattle.live.specs.Early.{IfAnswered}
 use Rattle.live.specs.Kept.{Traded, ids_of, kept_of, only}
 use Rattle.live.specs.Outputs.{IsOpened, went_out}
 use Rattle.live.specs.Refusing.{IsRefusal, StartStops, StopsShort}
+use Rattle.live.specs.Turns.{KeepsTurns}
 use Rattle.live.specs.declared.peers.Peer.{Peer}
 use Rattle.live.specs.declared.peers.Peers.{Peers}
 
@@ -65,7 +66,7 @@ IsStart {S} step before id words pid after =
 -- a link of this id is open, after the others in the table, and nothing has come from it
 abbrev pub Opens : {L : Type 0} → (L → Id) → Id → (before after : Peers L) → Type 0
 Opens {L} owner id before after =
-    (after.deadline ≡ before.deadline)
+    (after.deadline ≡ before.deadline) × (after.last ≡ before.last)
     × ((peer : Peer L) × (owner peer.link ≡ id) × (peer.early.items ≡ [])
     × (after.list.items ≡ before.list.items ++ peer ∷ []))
 
@@ -99,7 +100,7 @@ Programs whose act reply before after = after ≡ before
 abbrev pub Works : {S L : Type 0} → (S → Call → S → Type 0) → (L → Id) → Deed → Reply →
     (a b : S) → (before after : Peers L) → Type 0
 Works step owner (said.Send id text) reply a b before after =
-    (after.deadline ≡ before.deadline)
+    (after.deadline ≡ before.deadline) × (after.last ≡ before.last)
     × (ids_of owner after.list.items ≡ ids_of owner before.list.items)
     × IfAnswered reply (Traded step a (kept_of owner before.list.items)
     (only id (went_out text reply)) (λ other. []) (kept_of owner after.list.items) b)
@@ -107,22 +108,26 @@ Works step owner (said.Wait rows timer) reply a b before after =
     (ids_of owner after.list.items ≡ ids_of owner before.list.items)
     × IfAnswered reply (Waits step a (ids_of owner before.list.items) rows
     (kept_of owner before.list.items) timer before.deadline after.deadline reply
+    (kept_of owner after.list.items) b
+    × KeepsTurns step a (ids_of owner before.list.items) rows before.last after.last reply
     (kept_of owner after.list.items) b)
 Works step owner (said.Sleep seconds) reply a b before after =
     step a (call.Sleep seconds) b × (after ≡ before)
 Works step owner (said.Close id) reply a b before after =
-    (b ≡ a) × (after.deadline ≡ before.deadline)
+    (b ≡ a) × (after.deadline ≡ before.deadline) × (after.last ≡ before.last)
     × (after.list.items ≡ filter (λ peer. not ((owner peer.link).0 == id.0)) before.list.items)
 Works step owner (said.Spawn id words) (said.Started pid) a b before after =
     Opens owner id before after × IsStart step a id words pid b
 Works step owner (said.Spawn id words) reply a b before after =
-    (after.deadline ≡ before.deadline) × (after.list.items ≡ before.list.items)
+    (after.deadline ≡ before.deadline) × (after.last ≡ before.last)
+    × (after.list.items ≡ before.list.items)
     × ((error : Error) × IsRefusal error reply × StartStops step a id words error b)
 Works step owner (said.Connect id host port) said.Done a b before after =
     Opens owner id before after
     × call.Made step a (call.Connect id host port ∷ call.Poll id ∷ []) b
 Works step owner (said.Connect id host port) reply a b before after =
-    (after.deadline ≡ before.deadline) × (after.list.items ≡ before.list.items)
+    (after.deadline ≡ before.deadline) × (after.last ≡ before.last)
+    × (after.list.items ≡ before.list.items)
     × ((error : Error) × IsRefusal error reply
     × StopsShort step a (call.Connect id host port ∷ call.Poll id ∷ []) error b)
 Works step owner (said.OpenLog name mode) said.Done a b before after =

@@ -1,11 +1,14 @@
 //! Waiting for what programs and servers say.
 
-ghost use Rattle.std.specs.Prelude.{◌≡◌, [], ◌∷◌, ◌≤◌, true, length, option_map, IfOk, IfSome};
+ghost use Rattle.std.specs.Prelude.{◌≡◌, ◌==◌, [], ◌∷◌, ◌≤◌, true, length, option_map, position, IfOk, IfSome, None};
 ghost use Rattle.acts.specs.Deed.{reply_of};
 ghost use Rattle.acts.specs.Fits as table;
 ghost use Rattle.live.specs.Arriving.{Rests, Sees, Waits, comes, is_of, is_wanted};
 ghost use Rattle.live.specs.Early.{IfAnswered};
 ghost use Rattle.live.specs.Kept.{ids_of, kept_of};
+ghost use Rattle.live.specs.Live.{IsWhy};
+ghost use Rattle.live.specs.Turns as turns;
+ghost use Rattle.live.specs.Turns.{IsFirst, KeepsTurns, in_turn, last_of};
 
 use crate::calls::{Owned, System};
 use crate::link::Look;
@@ -18,6 +21,7 @@ use std::io::{self, ErrorKind};
 
 /// Waits for bytes or an end under one of the ids of the rows, or for the timer. The answer is that
 /// there are no more answers where memory or the system refuses, or nothing could ever come.
+#[tactic(auto, using(crate::proofs::Arrivals::wait_why))]
 pub fn wait<S: System>(
     system: &mut S,
     peers: &mut Peers<S::Link>,
@@ -26,12 +30,16 @@ pub fn wait<S: System>(
 ) -> Answer<Global>
     ensures fits { table.fits_wait rows.now timer (reply_of result) ≡ true }
     ensures wanted { is_wanted rows.now (reply_of result) ≡ true }
+    ensures why { IsWhy (reply_of result) None None }
     ensures ids { ids_of S.Link.owner peers.new.list.items
         ≡ ids_of S.Link.owner peers.old.list.items }
     ensures waits { IfAnswered (reply_of result) (Waits S.step system.old
         (ids_of S.Link.owner peers.old.list.items) rows.now
         (kept_of S.Link.owner peers.old.list.items) timer peers.old.deadline peers.new.deadline
-        (reply_of result) (kept_of S.Link.owner peers.new.list.items) system.new) }
+        (reply_of result) (kept_of S.Link.owner peers.new.list.items) system.new
+        × KeepsTurns S.step system.old (ids_of S.Link.owner peers.old.list.items) rows.now
+        peers.old.last peers.new.last (reply_of result)
+        (kept_of S.Link.owner peers.new.list.items) system.new) }
 {
     match next(system, peers, rows, timer) {
         Ok(answer) => answer,
@@ -56,7 +64,10 @@ fn next<S: System>(
     ensures waits { IfOk result (λ answer. IfAnswered (reply_of answer) (Waits S.step system.old
         (ids_of S.Link.owner peers.old.list.items) rows.now
         (kept_of S.Link.owner peers.old.list.items) timer peers.old.deadline peers.new.deadline
-        (reply_of answer) (kept_of S.Link.owner peers.new.list.items) system.new)) }
+        (reply_of answer) (kept_of S.Link.owner peers.new.list.items) system.new
+        × KeepsTurns S.step system.old (ids_of S.Link.owner peers.old.list.items) rows.now
+        peers.old.last peers.new.last (reply_of answer)
+        (kept_of S.Link.owner peers.new.list.items) system.new)) }
 {
     peers.deadline = time_from(system, peers.deadline, timer)?;
     if is_over(system, peers.deadline, timer)? {
@@ -124,6 +135,12 @@ fn look_round<S: System>(
         (ids_of S.Link.owner peers.old.list.items) rows.now
         (kept_of S.Link.owner peers.old.list.items) (option_map reply_of found)
         (kept_of S.Link.owner peers.new.list.items) system.new) }
+    ensures first { IfOk result (λ found. IfSome found (λ answer. IsFirst S.step system.old
+        (ids_of S.Link.owner peers.old.list.items) (in_turn rows.now peers.old.last)
+        (kept_of S.Link.owner peers.old.list.items) (reply_of answer)
+        (kept_of S.Link.owner peers.new.list.items) system.new)) }
+    ensures last { IfOk result (λ found.
+        peers.new.last ≡ last_of (option_map reply_of found) peers.old.last) }
 {
     let (before, behind) = rows.split_at(turn_of(rows, peers.last));
     match look_through(system, peers, behind)? {
@@ -147,6 +164,12 @@ fn look_through<S: System>(
         (ids_of S.Link.owner peers.old.list.items) rows.now
         (kept_of S.Link.owner peers.old.list.items) (option_map reply_of found)
         (kept_of S.Link.owner peers.new.list.items) system.new) }
+    ensures first { IfOk result (λ found. IfSome found (λ answer. IsFirst S.step system.old
+        (ids_of S.Link.owner peers.old.list.items) rows.now
+        (kept_of S.Link.owner peers.old.list.items) (reply_of answer)
+        (kept_of S.Link.owner peers.new.list.items) system.new)) }
+    ensures last { IfOk result (λ found.
+        peers.new.last ≡ last_of (option_map reply_of found) peers.old.last) }
 {
     for row in rows {
         match look_at(system, peers, *row)? {
@@ -173,6 +196,8 @@ fn look_at<S: System>(
         (ids_of S.Link.owner peers.old.list.items) (row ∷ [])
         (kept_of S.Link.owner peers.old.list.items) (option_map reply_of found)
         (kept_of S.Link.owner peers.new.list.items) system.new) }
+    ensures last { IfOk result (λ found.
+        peers.new.last ≡ last_of (option_map reply_of found) peers.old.last) }
 {
     let Some(place) = place_of(&peers.list, row.id) else {
         return Ok(None);
@@ -198,10 +223,21 @@ fn look_at<S: System>(
 
 /// The place of the row that is read first: the row after that of the last id.
 fn turn_of(rows: &[Row], last: Option<Id>) -> usize
-    ensures { result ≤ length rows.now }
+    ensures turn { result ≡ turns.turn_of rows.now last }
+    ensures within { result ≤ length rows.now }
 {
-    let place = rows.iter().position(|row| Some(row.id) == last);
-    place
-        .map_or(0, |place| place.saturating_add(1))
-        .min(rows.len())
+    let Some(last) = last else {
+        return 0;
+    };
+    match row_of(rows, last) {
+        Some(place) => place + 1,
+        None => 0,
+    }
+}
+
+/// The place of the first row of an id.
+fn row_of(rows: &[Row], id: Id) -> Option<usize>
+    ensures { result ≡ position (λ row. row.id.0 == id.0) rows.now }
+{
+    rows.iter().position(|row| row.id == id)
 }

@@ -150,6 +150,7 @@ impl<L: Owned + Drop> Peers<L> {
     pub fn reserve(&mut self) -> Result<(), AllocError>
         ensures items { self.new.list.items ≡ self.old.list.items }
         ensures deadline { self.new.deadline ≡ self.old.deadline }
+        ensures last { self.new.last ≡ self.old.last }
         ensures ok { OnOk result (vec_len self.new.list + 1 ≤ vec_capacity self.new.list) }
     {
         if self.room.is_empty() {
@@ -161,6 +162,7 @@ impl<L: Owned + Drop> Peers<L> {
     /// Closes the link of an id, where one is open.
     pub fn close(&mut self, id: Id)
         ensures deadline { self.new.deadline ≡ self.old.deadline }
+        ensures last { self.new.last ≡ self.old.last }
         ensures others { self.new.list.items
             ≡ filter (λ peer. not ((L.owner peer.link).0 == id.0)) self.old.list.items }
     {

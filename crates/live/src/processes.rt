@@ -52,7 +52,7 @@ pub fn spawn<S: System>(
     ensures kept { ((pid : ℕ) → reply_of result ≢ said.Started pid) →
         programs.new.items ≡ programs.old.items }
     ensures refused { ((pid : ℕ) → reply_of result ≢ said.Started pid) →
-        (peers.new.deadline ≡ peers.old.deadline)
+        (peers.new.deadline ≡ peers.old.deadline) × (peers.new.last ≡ peers.old.last)
         × (peers.new.list.items ≡ peers.old.list.items)
         × ((error : Error) × IsRefusal error (reply_of result) × StartStops S.step system.old id
         (map (λ word. word.items) words.now) error system.new) }
@@ -78,7 +78,7 @@ fn started<S: System>(
         programs.new.items) }
     ensures kept { OnErr result (programs.new.items ≡ programs.old.items) }
     ensures refused { OnErr result ((peers.new.deadline ≡ peers.old.deadline)
-        × (peers.new.list.items ≡ peers.old.list.items)) }
+        × (peers.new.last ≡ peers.old.last) × (peers.new.list.items ≡ peers.old.list.items)) }
     ensures stops { IfErr result (λ error. StartStops S.step system.old id
         (map (λ word. word.items) words.now) error system.new) }
 {

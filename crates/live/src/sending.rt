@@ -31,6 +31,7 @@ pub fn send<S: System>(
     ensures fits { table.fits_write text.now (reply_of result) ≡ true }
     ensures why { IsWhy (reply_of result) why.old why.new }
     ensures deadline { peers.new.deadline ≡ peers.old.deadline }
+    ensures last { peers.new.last ≡ peers.old.last }
     ensures ids { ids_of S.Link.owner peers.new.list.items
         ≡ ids_of S.Link.owner peers.old.list.items }
     ensures traded { IfAnswered (reply_of result) (Traded S.step system.old

@@ -31,7 +31,7 @@ pub fn connect<S: System>(
         × call.Made S.step system.old (call.Connect id host.now port ∷ call.Poll id ∷ [])
         system.new }
     ensures refused { reply_of result ≢ said.Done → (peers.new.deadline ≡ peers.old.deadline)
-        × (peers.new.list.items ≡ peers.old.list.items)
+        × (peers.new.last ≡ peers.old.last) × (peers.new.list.items ≡ peers.old.list.items)
         × ((error : Error) × IsRefusal error (reply_of result) × StopsShort S.step system.old
         (call.Connect id host.now port ∷ call.Poll id ∷ []) error system.new) }
 {
@@ -53,7 +53,7 @@ fn connected<S: System>(
         × call.Made S.step system.old (call.Connect id host.now port ∷ call.Poll id ∷ [])
         system.new) }
     ensures refused { OnErr result ((peers.new.deadline ≡ peers.old.deadline)
-        × (peers.new.list.items ≡ peers.old.list.items)) }
+        × (peers.new.last ≡ peers.old.last) × (peers.new.list.items ≡ peers.old.list.items)) }
     ensures stops { IfErr result (λ error. StopsShort S.step system.old
         (call.Connect id host.now port ∷ call.Poll id ∷ []) error system.new) }
 {

@@ -1,7 +1,9 @@
 use Rattle.std.proofs.Common.{option_map}
+use Rattle.std.proofs.lemmas.Option.{IfSome_then}
 use Rattle.std.proofs.lemmas.Result.{IfOk-weaker}
 use Rattle.acts.specs.Deed.{reply_of}
 use Rattle.live.specs.Kept.{ids_of}
+use Rattle.live.proofs.Order.{turns_first, turns_later}
 use Rattle.live.proofs.Silence.{sees_then, sees_turned}
 use Rattle.live.proofs.arriving.look_round.Goals as goal
 
@@ -19,3 +21,22 @@ returns-in-None-clause-sees g c =
     (option_map reply_of found) (rw c.in-None.is at c.in_ok-answer.ensures.sees)
     c.look_through.ensures.ids later))
     c.look_through-in-None.ensures.sees
+
+pub returns-in-Some-clause-first : goal.returns-in-Some-clause-first
+returns-in-Some-clause-first g c =
+    turns_first g.S.System.step _ _ _ c.args.rows.now c.split_at.result.0.now
+    c.split_at.result.1.now _ c.turn_of.result _ _ (reply_of c.in-Some.answer)
+    c.turn_of.ensures.turn c.split_at.ensures.front c.split_at.ensures.back
+    (rw c.in-Some.is at c.in_ok-answer.ensures.first)
+
+pub returns-in-None-clause-first : goal.returns-in-None-clause-first
+returns-in-None-clause-first g c =
+    let owner = g.S.Link.Owned.owner in
+    let ids = ids_of owner c.args.peers.now.list.items in
+    let now = ids_of owner c.look_through.new.peers.list.items in
+    IfOk-weaker c.look_through-in-None.result _ _ (λ found firsts. IfSome_then found firsts (λ answer.
+    turns_later g.S.System.step _ _ _ ids now c.args.rows.now c.split_at.result.0.now
+    c.split_at.result.1.now _ c.turn_of.result _ _ _ (reply_of answer) c.turn_of.ensures.turn
+    c.split_at.ensures.front c.split_at.ensures.back
+    (rw c.in-None.is at c.in_ok-answer.ensures.sees) c.look_through.ensures.ids))
+    c.look_through-in-None.ensures.first

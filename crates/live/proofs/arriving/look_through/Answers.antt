@@ -1,8 +1,11 @@
-use Rattle.std.proofs.Common.{◌∙◌, [], Some, None, refl, sym, subst, take}
+use Rattle.std.proofs.Common.{◌∙◌, [], Some, None, ap, drop, refl, suc, sym, subst, take}
 use Rattle.std.proofs.lemmas.List.{take_all, take_more}
+use Rattle.std.proofs.Math.Seq.{split_at}
 use Rattle.acts.specs.Deed.{reply_of}
 use Rattle.live.specs.Arriving.{Sees}
 use Rattle.live.specs.Kept.{ids_of, kept_of}
+use Rattle.live.specs.Turns.{last_of}
+use Rattle.live.proofs.Order.{first_here}
 use Rattle.live.proofs.Silence.{sees_none, sees_then}
 use Rattle.live.proofs.arriving.look_through.Goals as goal
 
@@ -10,6 +13,7 @@ pub loop-row-init : goal.loop-row-init
 loop-row-init g c =
     let owner = g.S.Link.Owned.owner in record {
       deadline = refl;
+      last = refl;
       same = refl;
       sees = sees_none g.S.System.step c.args.system.now
           (ids_of owner c.args.peers.now.list.items) (kept_of owner c.args.peers.now.list.items);
@@ -48,6 +52,7 @@ loop-row-preserved g c =
     let ids = ids_of owner c.args.peers.now.list.items in
     let kept = kept_of owner c.args.peers.now.list.items in record {
       deadline = c.look_at.ensures.deadline ∙ c.loop-row.invariant.deadline;
+      last = rw c.in-None.is at c.in_ok-answer.ensures.last ∙ c.loop-row.invariant.last;
       same = c.look_at.ensures.ids ∙ c.loop-row.invariant.same;
       sees = subst (λ done. Sees g.S.System.step c.args.system.now ids done kept None
           (kept_of owner c.look_at.new.peers.list.items) c.look_at.new.system)
@@ -65,3 +70,21 @@ returns-clause-sees g c =
     (kept_of owner c.args.peers.now.list.items) None (kept_of owner c.loop-row.peers.list.items)
     c.loop-row.system) (take_all c.loop-row.row-index c.args.rows.now c.loop-row-test.false)
     c.loop-row.invariant.sees
+
+pub returns-in-Some-clause-last : goal.returns-in-Some-clause-last
+returns-in-Some-clause-last g c =
+    rw c.in-Some.is at c.in_ok-answer.ensures.last
+    ∙ ap (λ at. last_of (Some (reply_of c.in-Some.answer)) at) c.loop-row.invariant.last
+
+pub returns-clause-last : goal.returns-clause-last
+returns-clause-last g c = c.loop-row.invariant.last
+
+pub returns-in-Some-clause-first : goal.returns-in-Some-clause-first
+returns-in-Some-clause-first g c =
+    let owner = g.S.Link.Owned.owner in
+    let i = c.loop-row.row-index in
+    first_here g.S.System.step _ _ _ (ids_of owner c.args.peers.now.list.items) _
+    c.args.rows.now (take i c.args.rows.now) (drop (suc i) c.args.rows.now) _ _ _ _
+    (reply_of c.in-Some.answer) (split_at c.args.rows.now i _ c.loop-row-test.true)
+    (rw c.in-Some.is at c.in_ok-answer.ensures.of_row) c.loop-row.invariant.sees
+    c.loop-row.invariant.same (rw c.in-Some.is at c.in_ok-answer.ensures.sees)

@@ -9,6 +9,7 @@ invariant-loop-row g l =
     let kept = kept_of g.S.Link.Owned.owner in
     let ids = ids_of g.S.Link.Owned.owner in record {
       deadline : l.peers.deadline ≡ l.initial.peers.deadline;
+      last : l.peers.last ≡ l.initial.peers.last;
       same : ids l.peers.list.items ≡ ids l.initial.peers.list.items;
       sees : Sees g.S.System.step l.initial.system (ids l.initial.peers.list.items)
           (take l.row-index l.rows) (kept l.initial.peers.list.items) None

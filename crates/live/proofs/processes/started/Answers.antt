@@ -7,6 +7,7 @@ pub returns-clause-started : goal.returns-clause-started
 returns-clause-started g c = (
   (
     c.reserve.ensures.deadline,
+    c.reserve.ensures.last,
     (
       c.new.result,
       ap g.S.Link.Owned.owner c.new.ensures.link ∙ c.in_ok-link.ensures.owner,

@@ -8,6 +8,7 @@ returns-clause-done g c =
     let step = g.S.System.step in (
       (
         c.reserve.ensures.deadline,
+        c.reserve.ensures.last,
         (
           c.new.result,
           ap g.S.Link.Owned.owner c.new.ensures.link ∙ c.in_ok-link.ensures.owner,
