@@ -1,7 +1,7 @@
 -- The code of words and of commands.
-use Rattle.std.proofs.Common.{◌≡◌, ◌∙◌, ℕ, ◌+◌, Bool, true, false, List, [], ◌∷◌, ◌++◌, length, refl, sym, ap, subst}
-use Rattle.code.specs.Blocks.{Block, CommandBlock, CommandsBlock, IsReal, Keeps, PartsBlock, WordBlock}
-use Rattle.code.specs.Code.{At, WordsAt, CommandsAt, begins, begins_counted, one, counts, spread, next, done}
+use Rattle.std.proofs.Common.{◌≡◌, ℕ, ◌+◌, Bool, true, false, List, [], ◌∷◌, ◌++◌, length, refl, sym, subst}
+use Rattle.code.specs.Blocks.{Block, CommandBlock, CommandsBlock, IsReal, OwnBlock, PartsBlock, WordBlock, WordsBlock}
+use Rattle.code.specs.Code.{At, WordsAt, CommandAt, CommandsAt, by_words, begins, begins_counted, one, counts, spread, next, done}
 use Rattle.code.specs.declared.instruction.Instruction.{Instruction}
 use Rattle.code.specs.declared.instruction.Instruction.TheVariants as i
 use Rattle.code.proofs.Built.{extended, kept_on, longer, onward, same, stands}
@@ -84,28 +84,42 @@ module _ {A : Type 0} where
   begins_at false count place code at = begins at
   begins_at true count place code at = begins_counted at
 
-  -- a command, once no word is left
-  pub command_block : (counted : Bool) (count : ℕ) (old first between new : List (Instruction A))
-      (rest whole : Words) → first ≡ old ++ i.Next ∷ [] →
-      WordsLeft counted count first between rest whole → rest ≡ no_words →
-      new ≡ between ++ begins_by counted count ∷ [] → CommandBlock old new whole
-  command_block counted count old first between new rest whole put left is ends =
+  -- all words, once none is left
+  pub words_block : (counted : Bool) (count : ℕ) (old between new : List (Instruction A))
+      (rest whole : Words) → WordsLeft counted count old between rest whole → rest ≡ no_words →
+      new ≡ between ++ begins_by counted count ∷ [] → WordsBlock old new whole
+  words_block counted count old between new rest whole left is ends =
       let last = begins_by counted count in record {
-        extends = onward (extended old first i.Next put)
-            (onward left.extends (extended between new last ends));
+        extends = onward left.extends (extended between new last ends);
         lies = λ later kept.
-            let on = kept_on (extended between new last ends) kept in (
-              stands old first later i.Next tt put (kept_on left.extends on),
-              subst (λ n. WordsAt later false 0 n whole (length new))
-                  (longer old first i.Next put) (left.lies later on (length new)
-                  (subst (λ w. WordsAt later counted count (length between) w (length new))
-                  (sym is)
-                  (subst (λ n. WordsAt later counted count (length between) no_words n)
-                  (sym (longer between new last ends))
-                  (begins_at counted count (length between) later
-                  (stands between new later last (begins_really counted count last refl) ends kept))))),
-            );
+            left.lies later (kept_on (extended between new last ends) kept) (length new)
+            (subst (λ w. WordsAt later counted count (length between) w (length new)) (sym is)
+            (subst (λ n. WordsAt later counted count (length between) no_words n)
+            (sym (longer between new last ends))
+            (begins_at counted count (length between) later
+            (stands between new later last (begins_really counted count last refl) ends kept))));
       }
+
+  -- a command that has code of its own
+  pub own_command_block : (old first new : List (Instruction A)) (ws : Words) →
+      first ≡ old ++ i.Next ∷ [] → OwnBlock true first new ws → CommandBlock old new ws
+  own_command_block old first new ws put block = record {
+    extends = onward (extended old first i.Next put) block.extends;
+    lies = λ later kept. (
+      stands old first later i.Next tt put (kept_on block.extends kept),
+      subst (λ n. CommandAt later n ws (length new)) (longer old first i.Next put)
+          (block.lies later kept),
+    );
+  }
+
+  -- a command that has none
+  pub command_block : (old first new : List (Instruction A)) (ws : Words) →
+      first ≡ old ++ i.Next ∷ [] → WordsBlock first new ws → CommandBlock old new ws
+  command_block old first new ws put block =
+      own_command_block old first new ws put (record {
+        extends = block.extends;
+        lies = λ later kept. by_words (block.lies later kept);
+      })
 
   -- The commands that are left: where they lie, all of them lie.
   abbrev pub CommandsLeft : List (Instruction A) → List (Instruction A) → Commands → Commands →

@@ -1,13 +1,13 @@
 -- The code of formulas.
-use Rattle.std.proofs.Common.{◌≡◌, ◌∙◌, ℕ, ◌+◌, ◌≤◌, false, List, [], ◌∷◌, ◌++◌, length, refl, sym, ap, subst, arith}
+use Rattle.std.proofs.Common.{◌≡◌, ◌∙◌, ℕ, ◌+◌, List, [], ◌∷◌, ◌++◌, length, sym, ap, subst, arith}
 use Rattle.std.specs.Prelude.{slice_set}
 use Rattle.std.proofs.lemmas.List.{length-set}
 use Rattle.code.specs.Blocks.{ArgumentsBlock, Block, Extends, FormulaBlock, Keeps, LinkBlock, LinksBlock, PartsBlock, RightBlock}
-use Rattle.code.specs.Code.{At, PartsAt}
-use Rattle.code.specs.Formula.{FormulaAt, LinksAt, ArgumentsAt, number, parts, called, prefixed, joined, chosen, no_more, both, and_also, or_else, no_argument, argument}
+use Rattle.code.specs.Code.{At, FormulaAt, LinksAt, ArgumentsAt, number, parts, called, prefixed, in_row, chosen, no_more, both, and_also, or_else, no_argument, argument}
 use Rattle.code.specs.declared.instruction.Instruction.{Instruction}
 use Rattle.code.specs.declared.instruction.Instruction.TheVariants as i
-use Rattle.code.proofs.Built.{extended, filled, filled_after, grows, holes, kept_on, kept_set, kept_then, longer, onward, same, stands, stands_filled}
+use Rattle.code.proofs.Built.{extended, filled, filled_after, holes, kept_on, kept_then, longer, onward, same, stands, stands_filled}
+use Rattle.code.proofs.Forks.{filled_length, forked, second_begins}
 use Rattle.tclparse.specs.Formula.{Formula, numeral, text, call, prefix, row, choice, Links, no_links, link, Formulas, no_formulas, formula}
 use Rattle.tclparse.specs.Tree.{Parts}
 use Rattle.tclparse.specs.declared.operator.Binary.{Binary}
@@ -70,77 +70,39 @@ module _ {A : Type 0} where
     extends = onward first.extends others.extends;
     lies = λ later kept.
         subst (λ h. FormulaAt later (length old) h (length new)) (sym is)
-        (joined (first.lies later (kept_on others.extends kept)) (others.lies later kept));
+        (in_row (first.lies later (kept_on others.extends kept)) (others.lies later kept));
   }
 
-  -- a test, and the two formulas of which it chooses one; both jumps are filled once their places
-  -- are known
-  pub choice_block : (old tested one_hole chosen_yes two_holes one_filled all new : List (Instruction A))
+  -- a test, and the two formulas of which it chooses one
+  pub choice_block : (old tested hole chosen_one two filled_one all new : List (Instruction A))
       (test one other f : Formula) → FormulaBlock old tested test →
-      one_hole ≡ tested ++ i.Hole ∷ [] → FormulaBlock one_hole chosen_yes one →
-      two_holes ≡ chosen_yes ++ i.Hole ∷ [] →
-      one_filled ≡ slice_set two_holes (length tested) (i.Unless (length two_holes)) →
-      FormulaBlock one_filled all other →
-      new ≡ slice_set all (length chosen_yes) (i.Jump (length all)) → f ≡ choice test one other →
+      hole ≡ tested ++ i.Hole ∷ [] → FormulaBlock hole chosen_one one →
+      two ≡ chosen_one ++ i.Hole ∷ [] →
+      filled_one ≡ slice_set two (length tested) (i.Unless (length two)) →
+      FormulaBlock filled_one all other →
+      new ≡ slice_set all (length chosen_one) (i.Jump (length all)) → f ≡ choice test one other →
       FormulaBlock old new f
-  choice_block old tested one_hole chosen_yes two_holes one_filled all new test one other f
-      test_block put_one yes_block put_two fill_one no_block fill_two is =
-      let n = length tested in
-      let m = length chosen_yes in
-      let unless = i.Unless (length two_holes) in
-      let jump = i.Jump (length all) in
-      let first = extended tested one_hole i.Hole put_one in
-      let second = extended chosen_yes two_holes i.Hole put_two in
-      let hole_one : At two_holes n i.Hole =
-      second.kept n i.Hole (yes_block.extends.kept n i.Hole (holes tested one_hole put_one)) in
-      let longer_one = longer tested one_hole i.Hole put_one in
-      let longer_two = longer chosen_yes two_holes i.Hole put_two in
-      let far = grows one_hole chosen_yes yes_block.extends in
-      let near = grows old tested test_block.extends in
-      let hole_two : At all m i.Hole =
-      no_block.extends.kept m i.Hole
-      (subst (λ code. At code m i.Hole) (sym fill_one)
-      (kept_set two_holes n m unless i.Hole
-      (λ same. absurd (omega (arith, same, far, longer_one)))
-      (holes chosen_yes two_holes put_two))) in
-      let up_to_two = onward test_block.extends (onward first (onward yes_block.extends second)) in
-      let up_to_filled : Extends old one_filled =
-      subst (λ code. Extends old code) (sym fill_one)
-      (filled_after old two_holes n unless near up_to_two) in
-      let up_to_new : Extends old new =
-      subst (λ code. Extends old code) (sym fill_two)
-      (filled_after old all m jump (omega (arith, near, far, longer_one))
-      (onward up_to_filled no_block.extends)) in
-      let length_filled : length one_filled ≡ m + 1 =
-      ap length fill_one ∙ length-set two_holes n unless ∙ longer_two in
-      let length_new : length new ≡ length all = ap length fill_two ∙ length-set all m jump in
+  choice_block old tested hole chosen_one two filled_one all new test one other f tests put_one
+      first put_two fill_one second fill_two is =
+      let fork = forked tested hole chosen_one two filled_one all new (λ n. i.Unless n) (λ n. tt)
+      (λ later. FormulaAt later (length hole) one (length chosen_one))
+      (λ later. FormulaAt later (length filled_one) other (length all))
+      put_one first put_two fill_one second fill_two in
       record {
-        extends = up_to_new;
+        extends = onward tests.extends fork.extends;
         lies = λ later kept.
-            let kept_all : Keeps all later =
-            kept_then (subst (λ code. Keeps all code) (sym fill_two) (filled all m jump hole_two))
-            kept in
-            let kept_filled = kept_on no_block.extends kept_all in
-            let kept_two : Keeps two_holes later =
-            kept_then (subst (λ code. Keeps two_holes code) (sym fill_one)
-            (filled two_holes n unless hole_one)) kept_filled in
-            let kept_yes = kept_on second kept_two in
-            let kept_test = kept_on first (kept_on yes_block.extends kept_yes) in
-            let unless_at : At later n (i.Unless (m + 1)) =
-            subst (λ k. At later n (i.Unless k)) longer_two
-            (stands_filled two_holes later n unless tt hole_one
-            (subst (λ code. Keeps code later) fill_one kept_filled)) in
-            let jump_at : At later m (i.Jump (length new)) =
-            subst (λ k. At later m (i.Jump k)) (sym length_new)
-            (stands_filled all later m jump tt hole_two
-            (subst (λ code. Keeps code later) fill_two kept)) in
+            let lies = fork.lies later kept in
             subst (λ h. FormulaAt later (length old) h (length new)) (sym is)
-            (chosen (test_block.lies later kept_test) unless_at
-            (subst (λ k. FormulaAt later k one m) longer_one (yes_block.lies later kept_yes))
-            jump_at
-            (subst (λ k. FormulaAt later (m + 1) other k) (sym length_new)
-            (subst (λ k. FormulaAt later k other (length all)) length_filled
-            (no_block.lies later kept_all))));
+            (chosen (tests.lies later (kept_on fork.extends kept)) lies.0
+            (subst (λ k. FormulaAt later k one (length chosen_one))
+            (longer tested hole i.Hole put_one) lies.1)
+            lies.2
+            (subst (λ k. FormulaAt later (length chosen_one + 1) other k)
+            (sym (filled_length all new (length chosen_one) (i.Jump (length all)) fill_two))
+            (subst (λ k. FormulaAt later k other (length all))
+            (second_begins chosen_one two filled_one (length tested) (i.Unless (length two)) put_two
+            fill_one)
+            lies.3)));
       }
 
   -- a hole, a right operand, and its truth value

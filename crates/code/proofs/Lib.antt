@@ -1,6 +1,9 @@
 pub mod Built
+pub mod Forks
 pub mod Places
 pub mod Parts
 pub mod Commands
 pub mod Scripts
 pub mod Formulas
+pub mod Literals
+pub mod Conditionals

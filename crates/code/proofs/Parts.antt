@@ -1,7 +1,7 @@
 -- The code of the parts of a word.
-use Rattle.std.proofs.Common.{◌≡◌, ◌∙◌, ℕ, ◌+◌, Bool, true, false, List, [], ◌∷◌, ◌++◌, length, refl, sym, ap, subst}
-use Rattle.code.specs.Blocks.{Block, CommandsBlock, Keeps, PartsBlock, ValueBlock}
-use Rattle.code.specs.Code.{At, JoinsAt, PartsAt, CommandsAt, first, joined, over, empty, text, value, item, bracket}
+use Rattle.std.proofs.Common.{◌≡◌, ℕ, true, false, List, [], ◌∷◌, ◌++◌, length, sym, subst}
+use Rattle.code.specs.Blocks.{Block, CommandsBlock, PartsBlock, ValueBlock}
+use Rattle.code.specs.Code.{JoinsAt, PartsAt, CommandsAt, first, joined, over, empty, text, value, item, bracket}
 use Rattle.code.specs.declared.instruction.Instruction.{Instruction}
 use Rattle.code.specs.declared.instruction.Instruction.TheVariants as i
 use Rattle.code.proofs.Built.{extended, kept_on, longer, onward, stands}

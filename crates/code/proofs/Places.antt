@@ -4,7 +4,7 @@ use Rattle.formulas.specs.View.{formula_of, formulas_then, link_view, links_then
 use Rattle.formulas.specs.declared.tree.Formula.{Formula, Numeral, the_lemmas}
 use Rattle.formulas.specs.declared.tree.Link.{Link}
 use Rattle.tclparse.specs.Formula.{no_formulas, no_links, formula, numeral}
-use Rattle.tclparse.specs.Tree.{Parts, no_parts, Words, no_words, Commands, no_commands, command}
+use Rattle.tclparse.specs.Tree.{no_parts, no_words, no_commands, command}
 use Rattle.tclparse.specs.View.{part_view, parts_then, word_view, words_then, command_view, commands_then}
 use Rattle.tclparse.specs.declared.tree.Part.{Part}
 use Rattle.tclparse.specs.declared.tree.Word.{Word}

@@ -1,9 +1,9 @@
 -- What a call puts after the code that stands there already.
-use Rattle.std.specs.Prelude.{⊤, ◌≡◌, ℕ, ◌+◌, Bool, true, false, List, length}
-use Rattle.code.specs.Code.{At, JoinsAt, PartsAt, WordsAt, CommandsAt}
+use Rattle.std.specs.Prelude.{⊤, ◌≡◌, ℕ, ◌+◌, Bool, true, false, List, Option, length}
+use Rattle.code.specs.Code.{At, JoinsAt, PartsAt, WordsAt, CommandAt, CommandsAt, ScriptAt, BranchesAt, BehindAt, BodyAt, FormulaAt, LinksAt, ArgumentsAt}
 use Rattle.code.specs.declared.instruction.Instruction.{Instruction}
 use Rattle.code.specs.declared.instruction.Instruction.TheVariants as i
-use Rattle.code.specs.Formula.{FormulaAt, LinksAt, ArgumentsAt}
+use Rattle.tclparse.specs.Fault.{Fault}
 use Rattle.tclparse.specs.Formula.{Formula, Formulas, Links}
 use Rattle.tclparse.specs.Tree.{Parts, Words, Commands}
 
@@ -45,16 +45,49 @@ WordBlock counted counting count old new front = Block old new (λ later.
     (t : Words) (end : ℕ) → WordsAt later counting (count + 1) (length new) t end →
     WordsAt later counted count (length old) (front t) end)
 
+-- all words of a command
+abbrev pub WordsBlock : {A : Type 0} → List (Instruction A) → List (Instruction A) → Words → Type 0
+WordsBlock old new ws = Block old new (λ later.
+    WordsAt later false 0 (length old) ws (length new))
+
+-- the code that a command has of its own, where it has any; else nothing was put
+abbrev pub OwnBlock : {A : Type 0} → Bool → List (Instruction A) → List (Instruction A) → Words →
+    Type 0
+OwnBlock false old new ws = new ≡ old
+OwnBlock true old new ws = Block old new (λ later. CommandAt later (length old) ws (length new))
+
 -- a command, which begins with its tick
 abbrev pub CommandBlock : {A : Type 0} → List (Instruction A) → List (Instruction A) → Words →
     Type 0
 CommandBlock old new ws = Block old new (λ later.
-    At later (length old) i.Next × WordsAt later false 0 (length old + 1) ws (length new))
+    At later (length old) i.Next × CommandAt later (length old + 1) ws (length new))
 
 -- commands one after the other
 abbrev pub CommandsBlock : {A : Type 0} → List (Instruction A) → List (Instruction A) → Commands →
     Type 0
 CommandsBlock old new cs = Block old new (λ later. CommandsAt later (length old) cs (length new))
+
+-- a script
+abbrev pub ScriptBlock : {A : Type 0} → List (Instruction A) → List (Instruction A) → Commands →
+    Option Fault → Type 0
+ScriptBlock old new cs f = Block old new (λ later.
+    ScriptAt later (length old) cs f (length new))
+
+-- the words after if
+abbrev pub BranchesBlock : {A : Type 0} → List (Instruction A) → List (Instruction A) →
+    List (List ℕ) → Type 0
+BranchesBlock old new args = Block old new (λ later.
+    BranchesAt later (length old) args (length new))
+
+-- the words after a body
+abbrev pub BehindBlock : {A : Type 0} → List (Instruction A) → List (Instruction A) →
+    List (List ℕ) → Type 0
+BehindBlock old new args = Block old new (λ later. BehindAt later (length old) args (length new))
+
+-- a body
+abbrev pub BodyBlock : {A : Type 0} → List (Instruction A) → List (Instruction A) → List ℕ →
+    Type 0
+BodyBlock old new text = Block old new (λ later. BodyAt later (length old) text (length new))
 
 -- a formula
 abbrev pub FormulaBlock : {A : Type 0} → List (Instruction A) → List (Instruction A) → Formula →

@@ -1,11 +1,20 @@
 -- Where the code of a tree stands.
-use Rattle.std.specs.Prelude.{◌≡◌, ℕ, ◌+◌, Bool, true, false, List, [], Option, Some, None, slice_get}
+use Rattle.std.specs.Prelude.{◌≡◌, ℕ, ◌+◌, Bool, true, false, List, [], ◌∷◌, codes, Option, Some, None, Ok, slice_get}
+use Rattle.std.specs.Str.{bytes_eq}
 use Rattle.code.specs.declared.instruction.Instruction.{Instruction}
 use Rattle.code.specs.declared.instruction.Instruction.TheVariants as i
 use Rattle.tclparse.specs.Fault.{Fault}
+use Rattle.tclparse.specs.Formula.{Formula, Formulas, Links}
+use Rattle.tclparse.specs.Formula as tree
+use Rattle.tclparse.specs.FormulaGrammar.{IsFormula}
+use Rattle.tclparse.specs.Grammar.{IsScript}
 use Rattle.tclparse.specs.Seen.{fault_of}
 use Rattle.tclparse.specs.Tree.{Parts, no_parts, variable, element, script, Words, no_words, word, Commands, no_commands, command, bytes_then}
 use Rattle.tclparse.specs.declared.fault.Fault as read
+use Rattle.tclparse.specs.declared.operator.Binary.{Binary}
+use Rattle.tclparse.specs.declared.operator.Function.{Function}
+use Rattle.tclparse.specs.declared.operator.Infix.TheVariants.{Both, AndAlso, OrElse}
+use Rattle.tclparse.specs.declared.operator.Unary.{Unary}
 
 -- this instruction stands at this place
 abbrev pub At : {A : Type 0} → List (Instruction A) → ℕ → Instruction A → Type 0
@@ -16,6 +25,17 @@ At code place it = slice_get code place ≡ Some it
 pub data JoinsAt {A : Type 0} (code : List (Instruction A)) : Bool → ℕ → ℕ → Type 0 where
   first : {place : ℕ} → JoinsAt code false place place
   joined : {place : ℕ} → At code place i.Join → JoinsAt code true place (place + 1)
+
+-- a fault that ends a script, where it has one
+pub data FaultAt {A : Type 0} (code : List (Instruction A)) : Option Fault → ℕ → ℕ → Type 0 where
+  none : {place : ℕ} → FaultAt code None place place
+  fault : {place : ℕ} {fault : read.Fault} → At code place (i.Fault fault) →
+      FaultAt code (Some (fault_of fault)) place (place + 1)
+
+-- words that are texts as they stand (Tcl(n), rule 6)
+abbrev pub literals : List (List ℕ) → Words
+literals [] = no_words
+literals (text ∷ texts) = word false (bytes_then text no_parts) (literals texts)
 
 -- The code of the tree stands from the first place up to the second.
 mutual
@@ -58,18 +78,95 @@ mutual
         WordsAt code true (count + 1) (mid + 1) ws end →
         WordsAt code true count place (word true ps ws) end
 
+  -- a command begins by its words; or it has code of its own, which stands after that of its words
+  -- and is done where no procedure hides the command (Tcl(n), rule 2; proc(n))
+  pub data CommandAt {A : Type 0} (code : List (Instruction A)) : ℕ → Words → ℕ → Type 0 where
+    by_words : {place end : ℕ} {ws : Words} → WordsAt code false 0 place ws end →
+        CommandAt code place ws end
+    own : {place mid end : ℕ} {name : List ℕ} {args : List (List ℕ)} →
+        At code place (i.Unhidden name (mid + 1)) →
+        WordsAt code false 0 (place + 1) (literals (name ∷ args)) mid →
+        At code mid (i.Jump end) → OwnAt code name (mid + 1) args end →
+        CommandAt code place (literals (name ∷ args)) end
+
   -- commands one after the other, before which there is a value on top (Tcl(n), rule 1)
   pub data CommandsAt {A : Type 0} (code : List (Instruction A)) : ℕ → Commands → ℕ → Type 0 where
     done : {place : ℕ} → CommandsAt code place no_commands place
     next : {place mid end : ℕ} {ws : Words} {cs : Commands} → At code place i.Next →
-        WordsAt code false 0 (place + 1) ws mid → CommandsAt code mid cs end →
+        CommandAt code (place + 1) ws mid → CommandsAt code mid cs end →
         CommandsAt code place (command ws cs) end
 
--- a fault that ends a script, where it has one
-pub data FaultAt {A : Type 0} (code : List (Instruction A)) : Option Fault → ℕ → ℕ → Type 0 where
-  none : {place : ℕ} → FaultAt code None place place
-  fault : {place : ℕ} {fault : read.Fault} → At code place (i.Fault fault) →
-      FaultAt code (Some (fault_of fault)) place (place + 1)
+  -- what the command of this name does with the words after it
+  pub data OwnAt {A : Type 0} (code : List (Instruction A)) :
+      List ℕ → ℕ → List (List ℕ) → ℕ → Type 0 where
+    conditional : {place end : ℕ} {args : List (List ℕ)} → BranchesAt code place args end →
+        OwnAt code (codes "if") place args end
+
+  -- a test, a body that runs where it holds, and what is done where it does not; the test and the
+  -- body are what their words are read as (if(n))
+  pub data BranchesAt {A : Type 0} (code : List (Instruction A)) :
+      ℕ → List (List ℕ) → ℕ → Type 0 where
+    branch : {place unless jump end : ℕ} {test body : List ℕ} {behind : List (List ℕ)}
+        {f : Formula} → bytes_eq body (codes "then") ≡ false → IsFormula (Ok f) test →
+        FormulaAt code place f unless → At code unless (i.Unless (jump + 1)) →
+        BodyAt code (unless + 1) body jump → At code jump (i.Jump end) →
+        BehindAt code (jump + 1) behind end → BranchesAt code place (test ∷ body ∷ behind) end
+
+  -- the words after a body: none, where the value is empty, or else and the last body (if(n))
+  pub data BehindAt {A : Type 0} (code : List (Instruction A)) :
+      ℕ → List (List ℕ) → ℕ → Type 0 where
+    no_else : {place : ℕ} → At code place (i.Text []) → BehindAt code place [] (place + 1)
+    with_else : {place end : ℕ} {body : List ℕ} → BodyAt code place body end →
+        BehindAt code place (codes "else" ∷ body ∷ []) end
+
+  -- what a text is read as, as a script that runs one level deeper
+  pub data BodyAt {A : Type 0} (code : List (Instruction A)) : ℕ → List ℕ → ℕ → Type 0 where
+    deeper : {place mid leave : ℕ} {body : List ℕ} {cs : Commands} {f : Option Fault} →
+        IsScript cs f body → At code place i.Enter → CommandsAt code (place + 1) cs mid →
+        FaultAt code f mid leave → At code leave i.Leave → BodyAt code place body (leave + 1)
+
+  -- a formula: its value is put on top (expr(n))
+  pub data FormulaAt {A : Type 0} (code : List (Instruction A)) : ℕ → Formula → ℕ → Type 0 where
+    number : {place : ℕ} {digits : List ℕ} → At code place (i.Numeral digits) →
+        FormulaAt code place (tree.numeral digits) (place + 1)
+    parts : {place end : ℕ} {ps : Parts} → PartsAt code false place ps end →
+        FormulaAt code place (tree.text ps) end
+    called : {place mid count : ℕ} {function : Function} {fs : Formulas} →
+        ArgumentsAt code place fs count mid → At code mid (i.Call function count) →
+        FormulaAt code place (tree.call function fs) (mid + 1)
+    prefixed : {place mid : ℕ} {operator : Unary} {f : Formula} → FormulaAt code place f mid →
+        At code mid (i.Prefix operator) → FormulaAt code place (tree.prefix operator f) (mid + 1)
+    in_row : {place mid end : ℕ} {f : Formula} {ls : Links} → FormulaAt code place f mid →
+        LinksAt code mid ls end → FormulaAt code place (tree.row f ls) end
+    chosen : {place unless jump end : ℕ} {test yes no : Formula} →
+        FormulaAt code place test unless → At code unless (i.Unless (jump + 1)) →
+        FormulaAt code (unless + 1) yes jump → At code jump (i.Jump end) →
+        FormulaAt code (jump + 1) no end → FormulaAt code place (tree.choice test yes no) end
+
+  -- operators in a row, after the value of what stands before them: the value of the row takes its
+  -- place (expr(n), operators)
+  pub data LinksAt {A : Type 0} (code : List (Instruction A)) : ℕ → Links → ℕ → Type 0 where
+    no_more : {place : ℕ} → LinksAt code place tree.no_links place
+    both : {place mid end : ℕ} {operator : Binary} {f : Formula} {ls : Links} →
+        FormulaAt code place f mid → At code mid (i.Binary operator) →
+        LinksAt code (mid + 1) ls end → LinksAt code place (tree.link (Both operator) f ls) end
+    and_also : {place mid end : ℕ} {f : Formula} {ls : Links} →
+        At code place (i.AndAlso (mid + 1)) → FormulaAt code (place + 1) f mid →
+        At code mid i.Truth → LinksAt code (mid + 1) ls end →
+        LinksAt code place (tree.link AndAlso f ls) end
+    or_else : {place mid end : ℕ} {f : Formula} {ls : Links} →
+        At code place (i.OrElse (mid + 1)) → FormulaAt code (place + 1) f mid →
+        At code mid i.Truth → LinksAt code (mid + 1) ls end →
+        LinksAt code place (tree.link OrElse f ls) end
+
+  -- this many arguments of a function: their values are put on top, one after the other
+  -- (mathfunc(n))
+  pub data ArgumentsAt {A : Type 0} (code : List (Instruction A)) :
+      ℕ → Formulas → ℕ → ℕ → Type 0 where
+    no_argument : {place : ℕ} → ArgumentsAt code place tree.no_formulas 0 place
+    argument : {place mid end count : ℕ} {f : Formula} {fs : Formulas} →
+        FormulaAt code place f mid → ArgumentsAt code mid fs count end →
+        ArgumentsAt code place (tree.formula f fs) (count + 1) end
 
 -- a script: its commands, and its fault (Tcl(n))
 pub record ScriptAt {A : Type 0} (code : List (Instruction A)) (place : ℕ) (cs : Commands)

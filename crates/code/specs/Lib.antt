@@ -1,3 +1,3 @@
 pub mod Code
-pub mod Formula
 pub mod Blocks
+pub mod Conditional

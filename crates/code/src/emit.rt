@@ -1,13 +1,13 @@
 //! Code is put after the code that stands there already: that of parts, of words, and of commands.
 
-ghost use Rattle.std.specs.Prelude.{◌≡◌, length, option_map, IfOk, OnOk};
-ghost use Rattle.code.specs.Blocks.{CommandBlock, CommandsBlock, PartsBlock, ValueBlock, WordBlock};
-ghost use Rattle.code.specs.Code.{ScriptAt};
+ghost use Rattle.std.specs.Prelude.{option_map, IfOk, OnOk};
+ghost use Rattle.code.specs.Blocks.{CommandBlock, CommandsBlock, PartsBlock, ScriptBlock, ValueBlock, WordBlock, WordsBlock};
 ghost use Rattle.tclparse.specs.Seen.{fault_of};
 ghost use Rattle.tclparse.specs.Tree.{no_commands, no_parts, no_words};
 ghost use Rattle.tclparse.specs.View.{commands_of, commands_then, part_view, parts_then, word_view, words_then};
 
 use crate::instruction::Instruction;
+use crate::nest::Nest;
 use memory::NoMemory;
 use std::alloc::Allocator;
 use tclparse::{Command, Part, Script, Word};
@@ -15,9 +15,10 @@ use tcltext::Value;
 
 /// Puts code that puts the value of a part on top.
 #[cycle(emit)]
-fn emit_value<A: Allocator + Copy>(
+fn emit_value<A: Allocator + Copy, N: Nest<A>>(
     code: &mut Vec<Instruction<A>, A>,
     part: &Part<A>,
+    nest: &N,
 ) -> Result<(), NoMemory>
     ensures { OnOk result (ValueBlock code.old.items code.new.items (part_view part.now)) }
 {
@@ -31,13 +32,13 @@ fn emit_value<A: Allocator + Copy>(
             code.push(Instruction::Variable(name))?;
         }
         Part::Element(name, index) => {
-            emit_parts(code, index)?;
+            emit_parts(code, index, nest)?;
             let name = name.share()?;
             code.push(Instruction::Element(name))?;
         }
         Part::Bracket(commands) => {
             code.push(Instruction::Enter)?;
-            emit_commands(code, commands)?;
+            emit_commands(code, commands, nest)?;
             code.push(Instruction::Leave)?;
         }
     }
@@ -46,9 +47,10 @@ fn emit_value<A: Allocator + Copy>(
 
 /// Puts code that puts the value of a word on top.
 #[cycle(emit)]
-pub(crate) fn emit_parts<A: Allocator + Copy>(
+pub(crate) fn emit_parts<A: Allocator + Copy, N: Nest<A>>(
     code: &mut Vec<Instruction<A>, A>,
     parts: &[Part<A>],
+    nest: &N,
 ) -> Result<(), NoMemory>
     ensures { OnOk result (PartsBlock code.old.items code.new.items
         (parts_then parts.now no_parts)) }
@@ -57,9 +59,9 @@ pub(crate) fn emit_parts<A: Allocator + Copy>(
         code.push(Instruction::Text(Value::empty()))?;
         return Ok(());
     };
-    emit_value(code, first)?;
+    emit_value(code, first, nest)?;
     for part in rest {
-        emit_value(code, part)?;
+        emit_value(code, part, nest)?;
         code.push(Instruction::Join)?;
     }
     Ok(())
@@ -68,40 +70,41 @@ pub(crate) fn emit_parts<A: Allocator + Copy>(
 /// Puts the code of a word of a command, before which this many words stand, and says whether the
 /// words of the command are counted from now on.
 #[cycle(emit)]
-fn emit_word<A: Allocator + Copy>(
+fn emit_word<A: Allocator + Copy, N: Nest<A>>(
     code: &mut Vec<Instruction<A>, A>,
     word: &Word<A>,
     count: usize,
     counted: bool,
+    nest: &N,
 ) -> Result<bool, NoMemory>
     ensures { IfOk result (λ counts. WordBlock counted counts count code.old.items code.new.items
         (word_view word.now)) }
 {
     if !word.expands {
-        emit_parts(code, &word.parts)?;
+        emit_parts(code, &word.parts, nest)?;
         return Ok(counted);
     }
     if !counted {
         code.push(Instruction::Count(count))?;
     }
-    emit_parts(code, &word.parts)?;
+    emit_parts(code, &word.parts, nest)?;
     code.push(Instruction::Spread)?;
     Ok(true)
 }
 
-/// Puts the code of a command.
+/// Puts code that puts the values of the words of a command on top, and begins the command.
 #[cycle(emit)]
-fn emit_command<A: Allocator + Copy>(
+pub(crate) fn emit_words<A: Allocator + Copy, N: Nest<A>>(
     code: &mut Vec<Instruction<A>, A>,
     words: &[Word<A>],
+    nest: &N,
 ) -> Result<(), NoMemory>
-    ensures { OnOk result (CommandBlock code.old.items code.new.items
+    ensures { OnOk result (WordsBlock code.old.items code.new.items
         (words_then words.now no_words)) }
 {
-    code.push(Instruction::Next)?;
     let mut counted = false;
     for (count, word) in words.iter().enumerate() {
-        counted = emit_word(code, word, count, counted)?;
+        counted = emit_word(code, word, count, counted, nest)?;
     }
     code.push(if counted {
         Instruction::Counted
@@ -111,36 +114,51 @@ fn emit_command<A: Allocator + Copy>(
     Ok(())
 }
 
+/// Puts the code of a command.
+#[cycle(emit)]
+fn emit_command<A: Allocator + Copy, N: Nest<A>>(
+    code: &mut Vec<Instruction<A>, A>,
+    words: &[Word<A>],
+    nest: &N,
+) -> Result<(), NoMemory>
+    ensures { OnOk result (CommandBlock code.old.items code.new.items
+        (words_then words.now no_words)) }
+{
+    code.push(Instruction::Next)?;
+    if !nest.put(code, words)? {
+        emit_words(code, words, nest)?;
+    }
+    Ok(())
+}
+
 /// Puts the code of commands.
 #[cycle(emit)]
-fn emit_commands<A: Allocator + Copy>(
+fn emit_commands<A: Allocator + Copy, N: Nest<A>>(
     code: &mut Vec<Instruction<A>, A>,
     commands: &[Command<A>],
+    nest: &N,
 ) -> Result<(), NoMemory>
     ensures { OnOk result (CommandsBlock code.old.items code.new.items
         (commands_then commands.now no_commands)) }
 {
     for command in commands {
-        emit_command(code, &command.words)?;
+        emit_command(code, &command.words, nest)?;
     }
     Ok(())
 }
 
-/// The code of a script: its commands one after the other, and its fault, if it has one.
-///
-/// # Errors
-/// `NoMemory`, after which nothing stays allocated.
-pub fn code_of<A: Allocator + Copy>(
-    alloc: A,
+/// Puts the code of a script: its commands one after the other, and its fault, if it has one.
+pub(crate) fn emit_script<A: Allocator + Copy, N: Nest<A>>(
+    code: &mut Vec<Instruction<A>, A>,
     script: &Script<A>,
-) -> Result<Vec<Instruction<A>, A>, NoMemory>
-    ensures { IfOk result (λ code. ScriptAt code.items 0 (commands_of script.now.commands)
-        (option_map fault_of script.now.fault) (length code.items)) }
+    nest: &N,
+) -> Result<(), NoMemory>
+    ensures { OnOk result (ScriptBlock code.old.items code.new.items
+        (commands_of script.now.commands) (option_map fault_of script.now.fault)) }
 {
-    let mut code = Vec::new(alloc);
-    emit_commands(&mut code, &script.commands)?;
+    emit_commands(code, &script.commands, nest)?;
     if let Some(fault) = script.fault {
         code.push(Instruction::Fault(fault))?;
     }
-    Ok(code)
+    Ok(())
 }

@@ -55,6 +55,9 @@ pub enum Instruction<A: Allocator> {
     Unless(usize),
     /// This place is next.
     Jump(usize),
+    /// Where no procedure has this name, this place is next: there stands the code that the command
+    /// of this name has of its own (proc(n)).
+    Unhidden(Value<A>, usize),
     /// Nothing yet: a jump will stand here. No code that is whole has it.
     Hole,
 }

@@ -2,10 +2,13 @@
 //! tree.
 #![tactic(auto)]
 
+mod conditional;
 mod emit;
 mod formula;
 mod instruction;
+mod literal;
+mod nest;
+mod whole;
 
-pub use emit::code_of;
-pub use formula::formula_code;
 pub use instruction::Instruction;
+pub use whole::{code_of, formula_code};

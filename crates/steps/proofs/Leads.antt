@@ -3,11 +3,13 @@ pub mod Silent
 pub mod Operands
 pub mod Standing
 pub mod Grows
-pub mod Scripts
-pub mod Parts
 pub mod Meanings
+pub mod Scripts
+pub mod Bodies
+pub mod Parts
 pub mod Formulas
 pub mod Operators
 pub mod Words
+pub mod Conditionals
 pub mod Opened
 pub mod Each

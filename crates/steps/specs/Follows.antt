@@ -1,7 +1,6 @@
 -- What an instruction did is what was left to be done.
 use Rattle.std.specs.Prelude.{◌≡◌, ℕ, ◌+◌, ◌≤◌, List, [], length, slice_get}
-use Rattle.code.specs.Code.{ScriptAt}
-use Rattle.code.specs.Formula.{FormulaAt}
+use Rattle.code.specs.Code.{FormulaAt, ScriptAt}
 use Rattle.code.specs.declared.instruction.Instruction.{Instruction}
 use Rattle.evaluation.specs.Evaluated.{evaluated}
 use Rattle.plan.specs.Plan.{and_then, onward}

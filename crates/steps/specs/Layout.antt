@@ -1,12 +1,15 @@
 -- Where the code of what is left to be done stands.
-use Rattle.std.specs.Prelude.{◌≡◌, ℕ, suc, ◌+◌, ◌≤◌, List, [], ◌∷◌, Bool, true, false, None, is_some, length, slice_get}
-use Rattle.code.specs.Code.{At, JoinsAt, PartsAt, WordsAt, ScriptAt}
-use Rattle.code.specs.Formula.{FormulaAt, LinksAt, ArgumentsAt}
+use Rattle.std.specs.Prelude.{◌≡◌, ℕ, suc, ◌+◌, ◌≤◌, List, [], ◌∷◌, Bool, true, false, Option, Some, None, Ok, is_some, length, slice_get}
+use Rattle.code.specs.Code.{At, JoinsAt, PartsAt, WordsAt, CommandAt, ScriptAt, BodyAt, FormulaAt, LinksAt, ArgumentsAt}
 use Rattle.code.specs.declared.instruction.Instruction.{Instruction}
 use Rattle.code.specs.declared.instruction.Instruction.TheVariants as i
-use Rattle.steps.specs.Operand.{Outer, Prefixed, Row, Right, Holds, Argument, Test, Chosen}
-use Rattle.steps.specs.Places.{Head, Has, Part, Joins, Gathers, Evaluates, Values, Frame, Rest, Bracket}
+use Rattle.conditions.specs.Branches.{Branch}
+use Rattle.state.specs.Prelude.{ScriptTree}
+use Rattle.steps.specs.Operand.{Outer, Prefixed, Row, Right, Holds, Argument, Test, Chosen, Condition}
+use Rattle.steps.specs.Places.{Head, Has, Part, Joins, Gathers, Evaluates, Values, Starts, Chooses, Enters, Frame, Rest, Bracket, Body, Skip}
 use Rattle.steps.specs.Word.{Around, Open, Word, Plain, Expands, Operand}
+use Rattle.tclparse.specs.Formula.{Formula}
+use Rattle.tclparse.specs.FormulaGrammar.{IsFormula}
 
 module _ {A : Type 0} (code : List (Instruction A)) where
   -- words that are not counted: their number stands in the instruction that begins the command
@@ -21,6 +24,30 @@ module _ {A : Type 0} (code : List (Instruction A)) where
       At code place (i.Element o.array) ×
       ((mid : ℕ) × (stop : ℕ) × JoinsAt code (is_some o.so_far) (place + 1) mid ×
       PartsAt code true mid o.parts stop × AroundAt stop os end)
+
+  -- the body that a script is, one level deeper
+  pub record EntersAt (place : ℕ) (tree : ScriptTree) (end : ℕ) : Type 0 where
+    pub enters : At code place i.Enter
+    pub stop : ℕ
+    pub script : ScriptAt code (place + 1) tree.commands tree.fault stop
+    pub leaves : At code stop i.Leave
+    pub ends : end ≡ stop + 1
+
+  -- the branches of if that are left, each a test, its body, a jump behind all of them, and what is
+  -- left after it; and then the last body, or the empty text
+  abbrev pub ChoosesAt : ℕ → List Branch → Option (List ℕ) → ℕ → Type 0
+  ChoosesAt place [] None end = At code place (i.Text []) × (end ≡ place + 1)
+  ChoosesAt place [] (Some body) end = BodyAt code place body end
+  ChoosesAt place (branch ∷ more) otherwise end =
+      (f : Formula) × (mid : ℕ) × IsFormula (Ok f) branch.test × FormulaAt code place f mid ×
+      ((jump : ℕ) × At code mid (i.Unless (jump + 1)) × BodyAt code (mid + 1) branch.body jump ×
+      At code jump (i.Jump end) × (jump + 1 ≤ end) × ChoosesAt (jump + 1) more otherwise end)
+
+  -- after the value of a test: its body, and what is left after it
+  abbrev pub ConditionAt : ℕ → List ℕ → List Branch → Option (List ℕ) → ℕ → Type 0
+  ConditionAt place body more otherwise end =
+      (jump : ℕ) × At code place (i.Unless (jump + 1)) × BodyAt code (place + 1) body jump ×
+      At code jump (i.Jump end) × (jump + 1 ≤ end) × ChoosesAt (jump + 1) more otherwise end
 
   -- after the value of an operand comes what it is evaluated for
   abbrev pub OperandAt : ℕ → List Outer → ℕ → Type 0
@@ -44,6 +71,8 @@ module _ {A : Type 0} (code : List (Instruction A)) where
       FormulaAt code (jump + 1) other mid × OperandAt mid outer end
   OperandAt place (Chosen ∷ outer) end =
       (mid : ℕ) × At code place (i.Jump mid) × (place + 1 ≤ mid) × OperandAt mid outer end
+  OperandAt place (Condition body more otherwise ∷ outer) end =
+      ConditionAt place body more otherwise end
 
   -- after the value of a word come the words after it
   abbrev pub WordAt : ℕ → Word → ℕ → Type 0
@@ -85,6 +114,9 @@ module _ {A : Type 0} (code : List (Instruction A)) where
   HeadAt place (Evaluates f outer) end =
       (mid : ℕ) × FormulaAt code place f mid × OperandAt mid outer end
   HeadAt place (Values value outer) end = OperandAt place outer end
+  HeadAt place (Starts ws) end = CommandAt code place ws end
+  HeadAt place (Chooses more otherwise) end = ChoosesAt place more otherwise end
+  HeadAt place (Enters tree) end = EntersAt place tree end
 
   -- from here on the code does what the frames do with the value on top
   abbrev pub FramesAt : ℕ → List Frame → Type 0
@@ -94,3 +126,6 @@ module _ {A : Type 0} (code : List (Instruction A)) where
   FramesAt place (Bracket word ∷ frames) =
       At code place i.Leave ×
       ((end : ℕ) × JoinedAt (place + 1) word end × FramesAt end frames)
+  FramesAt place (Body ∷ frames) = At code place i.Leave × FramesAt (place + 1) frames
+  FramesAt place (Skip ∷ frames) =
+      (end : ℕ) × At code place (i.Jump end) × (place + 1 ≤ end) × FramesAt end frames

@@ -13,6 +13,8 @@ use Rattle.steps.specs.Formulas.{calling, choosing, joining_both, jumping, prefi
 use Rattle.steps.specs.Moves.{fails, on_top, with_operands}
 use Rattle.steps.specs.Spot.{Spot, Did, Went, Reads, Begins, Over, Stuck, with_top}
 use Rattle.tclparse.specs.Seen.{fault_of}
+use Rattle.tclstate.specs.Pairs.{found}
+use Rattle.tclstate.specs.Procs.{Procedure}
 use Rattle.tclstate.specs.Scopes.{Trouble, read}
 use Rattle.tcltext.specs.Flaw as list
 
@@ -90,6 +92,11 @@ abbrev pub beginning_counted : Spot → Status → Did
 beginning_counted spot s =
     on_top spot.marks (λ below marks. beginning below (record spot { marks = marks }) s)
 
+-- where no procedure hides a command, this place is next (proc(n))
+abbrev pub unhidden : Option Procedure → ℕ → Spot → Status → Did
+unhidden None place spot s = jumping place spot s
+unhidden (Some procedure) place spot s = Went spot s
+
 -- what an instruction does, where the next place is at hand
 abbrev pub does : {A : Type 0} → Instruction A → Spot → Status → Did
 does i.Next spot s = ticking spot s
@@ -113,6 +120,7 @@ does (i.OrElse place) spot s = choosing place true spot s
 does i.Truth spot s = telling spot s
 does (i.Unless place) spot s = unless place spot s
 does (i.Jump place) spot s = jumping place spot s
+does (i.Unhidden name place) spot s = unhidden (found s.procedures name) place spot s
 does i.Hole spot s = Stuck
 
 -- the next place

@@ -1,5 +1,7 @@
 -- A formula that is being evaluated, as the proof sees it.
-use Rattle.std.specs.Prelude.{ℕ, List, [], ◌∷◌, ◌++◌, if◌then◌else◌, reverse}
+use Rattle.std.specs.Prelude.{ℕ, List, [], ◌∷◌, ◌++◌, Option, if◌then◌else◌, reverse}
+use Rattle.conditions.specs.Branches.{Branch}
+use Rattle.conditions.specs.Conditional.{chosen}
 use Rattle.evaluation.specs.Evaluated.{arguments, evaluated, linked, on_truth, told}
 use Rattle.operators.specs.Binary.{binary}
 use Rattle.operators.specs.Function as function
@@ -15,7 +17,8 @@ use Rattle.tclparse.specs.declared.operator.Unary.{Unary}
 -- what an operand is evaluated for: a prefix operator; the operators after it in a row; an operator
 -- with this left operand, in a row; the truth value of && or ||, in a row; a function with these
 -- values so far, the last one first; a choice; what is chosen, after which the code goes on
--- elsewhere (expr(n))
+-- elsewhere; if, with the body that runs where the value is true and what is done where it is not
+-- (expr(n); if(n))
 pub data Outer : Type 0 where
   Prefixed : (operator : Unary) → Outer
   Row : (links : Links) → Outer
@@ -24,6 +27,7 @@ pub data Outer : Type 0 where
   Argument : (function : Function) (before : List (List ℕ)) (rest : Formulas) → Outer
   Test : (one other : Formula) → Outer
   Chosen : Outer
+  Condition : (body : List ℕ) (more : List Branch) (otherwise : Option (List ℕ)) → Outer
 
 -- what follows the value of an operand, by what it is evaluated for, the innermost first (expr(n))
 abbrev pub operand_on : ℕ → List Outer → Status → List ℕ → Course
@@ -45,6 +49,8 @@ operand_on levels (Test one other ∷ outer) = λ s value.
     if holds then evaluated levels one s (operand_on levels outer)
     else evaluated levels other s (operand_on levels outer))
 operand_on levels (Chosen ∷ outer) = operand_on levels outer
+operand_on levels (Condition body more otherwise ∷ outer) = λ s value.
+    on_truth (truth_of value) s (λ holds. chosen levels body more otherwise s holds)
 
 -- the operands that wait, on top of these
 abbrev pub waiting : List Outer → List (List ℕ) → List (List ℕ)
@@ -56,3 +62,4 @@ waiting (Holds links ∷ outer) below = waiting outer below
 waiting (Argument g before rest ∷ outer) below = before ++ waiting outer below
 waiting (Test one other ∷ outer) below = waiting outer below
 waiting (Chosen ∷ outer) below = waiting outer below
+waiting (Condition body more otherwise ∷ outer) below = below

@@ -1,10 +1,12 @@
 -- What is left to be done at a place of the code, as the proof sees it.
 use Rattle.std.specs.Prelude.{ℕ, suc, List, [], ◌∷◌, ◌++◌, Bool, true, false, Option, length, reverse}
+use Rattle.conditions.specs.Branches.{Branch}
+use Rattle.conditions.specs.Conditional.{chooses, passes}
 use Rattle.evaluation.specs.Evaluated.{evaluated}
 use Rattle.plan.specs.Plan.{and_then, onward, after}
 use Rattle.runs.specs.Commands.{command}
 use Rattle.runs.specs.Scripts.{script}
-use Rattle.state.specs.Prelude.{Course, Dialogue, gives, on_value, Outcome, Status}
+use Rattle.state.specs.Prelude.{Course, Dialogue, gives, inside, on_value, Outcome, ScriptTree, Status}
 use Rattle.steps.specs.Operand.{Outer, operand_on, waiting}
 use Rattle.steps.specs.Spot.{Spot}
 use Rattle.steps.specs.Word.{Open, bytes_of, course_with, is_counted, operands_of}
@@ -16,7 +18,8 @@ use Rattle.words.specs.Words.{words}
 -- what is being done at a place: a value is on top; an open word goes on with its next part; a
 -- value is put after the bytes of an open word; a command goes on with its next word, after these
 -- words, the last one first, which are counted or not; a formula is evaluated; the value of an
--- operand is on top
+-- operand is on top; a command begins with its first word, or with its own code; the branches of if
+-- that are left are looked through; a body begins
 pub data Head : Type 0 where
   Has : (value : List ℕ) → Head
   Part : (word : Open) → Head
@@ -24,13 +27,18 @@ pub data Head : Type 0 where
   Gathers : (counted : Bool) (before : List (List ℕ)) (rest : Words) → Head
   Evaluates : (formula : Formula) (outer : List Outer) → Head
   Values : (value : List ℕ) (outer : List Outer) → Head
+  Starts : (words : Words) → Head
+  Chooses : (more : List Branch) (otherwise : Option (List ℕ)) → Head
+  Enters : (tree : ScriptTree) → Head
 
 -- what is done with a value once it is on top: the commands of a script that are left follow; or a
--- script in brackets is over, and its value is put after the bytes of an open word (Tcl(n), rules 1
--- and 7)
+-- script in brackets is over, and its value is put after the bytes of an open word; or a body is
+-- over, and its outcome is passed on; or the code goes on elsewhere (Tcl(n), rules 1 and 7; if(n))
 pub data Frame : Type 0 where
   Rest : (commands : Commands) (fault : Option Fault) → Frame
   Bracket : (word : Open) → Frame
+  Body : Frame
+  Skip : Frame
 
 -- what is being done, as a course
 abbrev pub course_of : ℕ → Head → Status → Course
@@ -41,14 +49,20 @@ course_of levels (Gathers counted before rest) s =
     words levels rest (reverse before) s (command levels)
 course_of levels (Evaluates f outer) s = evaluated levels f s (operand_on levels outer)
 course_of levels (Values value outer) s = operand_on levels outer s value
+course_of levels (Starts ws) s = words levels ws [] s (command levels)
+course_of levels (Chooses more otherwise) s = chooses levels more otherwise s
+course_of levels (Enters tree) s = inside levels tree s passes
 
--- what is done next, the top frame first; a word around a script in brackets stands one level up
+-- what is done next, the top frame first; what is around a script in brackets, or around a body,
+-- stands one level up
 abbrev pub nexts : ℕ → List Frame → List (Status → Outcome → Course)
 nexts levels [] = []
 nexts levels (Rest cs f ∷ frames) =
     on_value (script levels cs f) ∷ nexts levels frames
 nexts levels (Bracket word ∷ frames) =
     on_value (λ s value. course_of (suc levels) (Joins value word) s) ∷ nexts (suc levels) frames
+nexts levels (Body ∷ frames) = passes ∷ nexts (suc levels) frames
+nexts levels (Skip ∷ frames) = nexts levels frames
 
 -- what is done with an outcome: the frames from the top down, and then what is done last
 abbrev pub onward_of : {X : Type 0} → (Status → Outcome → Dialogue X) → ℕ → List Frame →
@@ -66,6 +80,8 @@ abbrev pub beneath : List Frame → List (List ℕ)
 beneath [] = []
 beneath (Rest cs f ∷ frames) = beneath frames
 beneath (Bracket word ∷ frames) = operands_of word (beneath frames)
+beneath (Body ∷ frames) = beneath frames
+beneath (Skip ∷ frames) = beneath frames
 
 -- where words are counted, one more mark
 abbrev pub marked : Bool → ℕ → List ℕ → List ℕ
@@ -78,6 +94,8 @@ marks_beneath [] = []
 marks_beneath (Rest cs f ∷ frames) = marks_beneath frames
 marks_beneath (Bracket word ∷ frames) =
     marked (is_counted word.word) (length (beneath frames)) (marks_beneath frames)
+marks_beneath (Body ∷ frames) = marks_beneath frames
+marks_beneath (Skip ∷ frames) = marks_beneath frames
 
 -- all operands
 abbrev pub operands_at : Head → List Frame → List (List ℕ)
@@ -87,6 +105,9 @@ operands_at (Joins value word) frames = value ∷ operands_of word (beneath fram
 operands_at (Gathers counted before rest) frames = before ++ beneath frames
 operands_at (Evaluates f outer) frames = waiting outer (beneath frames)
 operands_at (Values value outer) frames = value ∷ waiting outer (beneath frames)
+operands_at (Starts ws) frames = beneath frames
+operands_at (Chooses more otherwise) frames = beneath frames
+operands_at (Enters tree) frames = beneath frames
 
 -- all marks
 abbrev pub marks_at : Head → List Frame → List ℕ
@@ -97,6 +118,9 @@ marks_at (Gathers counted before rest) frames =
     marked counted (length (beneath frames)) (marks_beneath frames)
 marks_at (Evaluates f outer) frames = marks_beneath frames
 marks_at (Values value outer) frames = marks_beneath frames
+marks_at (Starts ws) frames = marks_beneath frames
+marks_at (Chooses more otherwise) frames = marks_beneath frames
+marks_at (Enters tree) frames = marks_beneath frames
 
 -- where the run of the code stands
 abbrev pub spot_at : ℕ → ℕ → Head → List Frame → Spot
@@ -107,8 +131,10 @@ spot_at place levels head frames = record {
   levels = levels;
 }
 
--- how many scripts in brackets are open
+-- how many scripts in brackets and bodies are open
 abbrev pub brackets : List Frame → ℕ
 brackets [] = 0
 brackets (Rest cs f ∷ frames) = brackets frames
 brackets (Bracket word ∷ frames) = suc (brackets frames)
+brackets (Body ∷ frames) = suc (brackets frames)
+brackets (Skip ∷ frames) = brackets frames

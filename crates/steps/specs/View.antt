@@ -5,6 +5,7 @@ use Rattle.steps.specs.declared.spot.Spot as coded
 use Rattle.steps.specs.declared.stopped.Stopped.{Stopped}
 use Rattle.steps.specs.declared.stopped.Stopped.TheVariants as stopped
 use Rattle.steps.specs.Spot.{Spot, Did, Went, Begins, Over, Stuck}
+use Rattle.tclstate.specs.Procs.{Procs}
 
 -- where the run of a code stands
 abbrev pub spot_of : {A : Type 0} → coded.Spot A → Spot
@@ -22,6 +23,7 @@ did_of (Some (stopped.Begins words)) spot s = Begins words.items spot s
 did_of (Some (stopped.Over outcome)) spot s = Over (outcome_of outcome) s
 did_of (Some stopped.Stuck) spot s = Stuck
 
--- a state of the definition with these variables and these ticks left
-abbrev pub with_parts : Scopes → ℕ → Status → Status
-with_parts scopes left s = record s { scopes = scopes; left = left }
+-- a state of the definition with these variables, these procedures and these ticks left
+abbrev pub with_parts : Scopes → Procs → ℕ → Status → Status
+with_parts scopes procedures left s =
+    record s { scopes = scopes; procedures = procedures; left = left }

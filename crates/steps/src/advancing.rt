@@ -11,7 +11,7 @@ use crate::stopped::Stopped;
 use code::Instruction;
 use memory::NoMemory;
 use std::alloc::Allocator;
-use tclstate::Scopes;
+use tclstate::{Procs, Scopes};
 
 /// Does instructions one after the other, up to the next command or to the end of the code.
 ///
@@ -22,14 +22,15 @@ pub fn advance<A: Allocator + Copy>(
     code: &[Instruction<A>],
     spot: &mut Spot<A>,
     scopes: &Scopes<A>,
+    procs: &Procs<A>,
     left: &mut u64,
 ) -> Result<Stopped<A>, NoMemory>
     ensures { (s : Status) → IfOk result (λ stopped. Arrives code.now (spot_of spot.old)
-        (with_parts scopes.now left.old s)
-        (did_of (Some stopped) (spot_of spot.new) (with_parts scopes.now left.new s))) }
+        (with_parts scopes.now procs.now left.old s)
+        (did_of (Some stopped) (spot_of spot.new) (with_parts scopes.now procs.now left.new s))) }
 {
     'steps: loop {
-        if let Some(stopped) = step(alloc, code, spot, scopes, left)? {
+        if let Some(stopped) = step(alloc, code, spot, scopes, procs, left)? {
             return Ok(stopped);
         }
     }

@@ -70,8 +70,8 @@ impl<A: Allocator + Copy> Spot<A> {
     /// Drops the value on top, and takes a tick.
     pub fn tick(&mut self, left: &mut u64) -> Option<Stopped<A>>
         ensures does { (s : Status) →
-            did_of result (spot_of self.new) (with_parts s.scopes left.new s)
-            ≡ ticking (spot_of self.old) (with_parts s.scopes left.old s) }
+            did_of result (spot_of self.new) (with_parts s.scopes s.procedures left.new s)
+            ≡ ticking (spot_of self.old) (with_parts s.scopes s.procedures left.old s) }
         ensures place { self.new.place ≡ self.old.place }
     {
         let Some(_) = self.operands.pop() else {

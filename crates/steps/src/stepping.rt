@@ -4,8 +4,9 @@ ghost use Rattle.std.specs.Prelude.{◌≡◌, ◌<◌, ◌≤◌, length, slice
 ghost use Rattle.state.specs.Piece.{ListText};
 ghost use Rattle.state.specs.Prelude.{Status};
 ghost use Rattle.steps.specs.Does.{Does};
-ghost use Rattle.steps.specs.Machine.{does as said, entering, indexing, machine, reading, spread as spread_of, spreading};
+ghost use Rattle.steps.specs.Machine.{does as said, entering, indexing, machine, reading, spread as spread_of, spreading, unhidden};
 ghost use Rattle.steps.specs.Spot.{Reads as reads_text};
+ghost use Rattle.tclstate.specs.Pairs.{found};
 ghost use Rattle.steps.specs.View.{did_of, spot_of, with_parts};
 
 use crate::operating::{apply, choose, join_both, jump, jump_unless, number, prefix, tell};
@@ -17,7 +18,7 @@ use meanings::elements;
 use state::faults::no_script;
 use state::variables::trouble;
 use std::alloc::Allocator;
-use tclstate::Scopes;
+use tclstate::{Procs, Scopes};
 use tcltext::Value;
 
 /// Puts the value of a variable, or of an element, on top.
@@ -106,17 +107,36 @@ fn spread<A: Allocator + Copy>(alloc: A, spot: &mut Spot<A>) -> Result<Option<St
     Ok(spread_text(alloc, spot, text.as_slice())?)
 }
 
+/// Where no procedure has this name, the place is next.
+fn jump_unhidden<A: Allocator + Copy>(
+    spot: &mut Spot<A>,
+    procs: &Procs<A>,
+    name: &[u8],
+    place: usize,
+) -> Option<Stopped<A>>
+    ensures does { (s : Status) → s.procedures ≡ procs.now →
+        did_of result (spot_of spot.new) s
+        ≡ unhidden (found s.procedures name.now) place (spot_of spot.old) s }
+    ensures place { spot.old.place ≤ spot.new.place }
+{
+    match procs.get(name) {
+        Some(_) => None,
+        None => jump(spot, place),
+    }
+}
+
 /// Does what an instruction says, where the next place is at hand.
 fn perform<A: Allocator + Copy>(
     alloc: A,
     instruction: &Instruction<A>,
     spot: &mut Spot<A>,
     scopes: &Scopes<A>,
+    procs: &Procs<A>,
     left: &mut u64,
 ) -> Result<Option<Stopped<A>>, NoMemory>
     ensures does { (s : Status) → IfOk result (λ stopped. Does
-        (said instruction.now (spot_of spot.old) (with_parts scopes.now left.old s))
-        (did_of stopped (spot_of spot.new) (with_parts scopes.now left.new s))) }
+        (said instruction.now (spot_of spot.old) (with_parts scopes.now procs.now left.old s))
+        (did_of stopped (spot_of spot.new) (with_parts scopes.now procs.now left.new s))) }
     ensures place { spot.old.place ≤ spot.new.place }
 {
     match instruction {
@@ -141,6 +161,9 @@ fn perform<A: Allocator + Copy>(
         Instruction::Truth => Ok(tell(alloc, spot)?),
         Instruction::Unless(place) => Ok(jump_unless(alloc, spot, *place)?),
         Instruction::Jump(place) => Ok(jump(spot, *place)),
+        Instruction::Unhidden(name, place) => {
+            Ok(jump_unhidden(spot, procs, name.as_slice(), *place))
+        }
         Instruction::Hole => Ok(Some(Stopped::Stuck)),
     }
 }
@@ -154,12 +177,13 @@ pub fn step<A: Allocator + Copy>(
     code: &[Instruction<A>],
     spot: &mut Spot<A>,
     scopes: &Scopes<A>,
+    procs: &Procs<A>,
     left: &mut u64,
 ) -> Result<Option<Stopped<A>>, NoMemory>
     ensures does { (s : Status) → IfOk result (λ stopped. Does
         (machine (slice_get code.now spot.old.place) (spot_of spot.old)
-        (with_parts scopes.now left.old s))
-        (did_of stopped (spot_of spot.new) (with_parts scopes.now left.new s))) }
+        (with_parts scopes.now procs.now left.old s))
+        (did_of stopped (spot_of spot.new) (with_parts scopes.now procs.now left.new s))) }
     ensures onward { IfOk result (λ stopped. IfNone stopped
         ((spot.old.place < length code.now) × (spot.old.place < spot.new.place))) }
 {
@@ -167,5 +191,5 @@ pub fn step<A: Allocator + Copy>(
         return Ok(Some(spot.finish()));
     };
     spot.place += 1;
-    Ok(perform(alloc, instruction, spot, scopes, left)?)
+    Ok(perform(alloc, instruction, spot, scopes, procs, left)?)
 }

@@ -31,6 +31,8 @@ fn show<A: Allocator>(shown: &mut Vec<u8, A>, it: &Instruction<A>) -> Result<(),
         Instruction::Truth => (b"truth", b""),
         Instruction::Unless(15) => (b"unless 15", b""),
         Instruction::Jump(16) => (b"jump 16", b""),
+        Instruction::Unhidden(name, 7) => (b"unhidden 7 ", name.as_slice()),
+        Instruction::Command(3) => (b"command 3", b""),
         _ => (b"another", b""),
     };
     shown.extend_from_slice(name)?;
@@ -67,6 +69,20 @@ fn the_operators_of_a_formula_follow_their_operands(rt: HostRuntime) -> Result<(
     let wanted: &[u8] = b"variable a\nor else 10\nnumeral 1\nnot\nand also 9\n\
         numeral 2\nnumeral 3\nadd\ntruth\ntruth\nunless 15\nnumeral 4\nnumeral 5\nmax 2\n\
         jump 16\nvariable b\n";
+    assert_eq!(&rt; shown.as_slice(), wanted);
+    Ok(())
+}
+
+#[test]
+fn a_condition_has_code_of_its_own_after_that_of_its_words(rt: HostRuntime) -> Result<(), Fail> {
+    let script = Script::read(rt.alloc(), b"if 1 f")?;
+    let code = code_of(rt.alloc(), &script)?;
+    let mut shown = Vec::new(rt.alloc());
+    for it in &code {
+        show(&mut shown, it)?;
+    }
+    let wanted: &[u8] = b"next\nunhidden 7 if\ntext if\ntext 1\ntext f\ncommand 3\njump 16\n\
+        numeral 1\nunless 15\nenter\nnext\ntext f\ncommand 1\nleave\njump 16\ntext \n";
     assert_eq!(&rt; shown.as_slice(), wanted);
     Ok(())
 }

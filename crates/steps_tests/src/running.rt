@@ -8,7 +8,7 @@ use std::process::Abort;
 use std::test::Fail;
 use steps::{Spot, Stopped, advance};
 use tclparse::Script;
-use tclstate::Scopes;
+use tclstate::{Formals, Procedure, Procs, Scopes};
 use tcltext::Value;
 
 /// Three variables: `a`, `i` and the element `x2` of `t`.
@@ -61,20 +61,30 @@ fn show<A: Allocator>(shown: &mut Vec<u8, A>, stopped: &Stopped<A>) -> Result<bo
     Ok(goes_on)
 }
 
-/// The commands of a code, each with the value `v`, and how it ends, where 3 ticks are left.
-fn commands_of(alloc: Global, code: &[Instruction<Global>]) -> Result<Vec<u8>, Fail> {
+/// The commands of a code, each with the value `v`, and how it ends, where these procedures are
+/// defined and 3 ticks are left.
+fn commands_beside(
+    alloc: Global,
+    procs: &Procs<Global>,
+    code: &[Instruction<Global>],
+) -> Result<Vec<u8>, Fail> {
     let scopes = variables(alloc)?;
     let mut spot = Spot::new(alloc, 2)?;
     let mut left = 3;
     let mut shown = Vec::new(alloc);
     for _ in 0..9 {
-        let stopped = advance(alloc, code, &mut spot, &scopes, &mut left)?;
+        let stopped = advance(alloc, code, &mut spot, &scopes, procs, &mut left)?;
         if !show(&mut shown, &stopped)? {
             return Ok(shown);
         }
         spot.put(Value::from_slice(alloc, b"v")?)?;
     }
     Ok(shown)
+}
+
+/// The same, where no procedure is defined.
+fn commands_of(alloc: Global, code: &[Instruction<Global>]) -> Result<Vec<u8>, Fail> {
+    commands_beside(alloc, &Procs::new(alloc), code)
 }
 
 /// Holds the commands of a script against those that are wanted.
@@ -156,6 +166,73 @@ fn a_formula_has_the_value_that_tclsh_gives(rt: HostRuntime) -> Result<(), Fail>
         rt.alloc(),
         b"\"b\" || 1",
         b"expected a truth value but got \"b\"\n",
+    )?;
+    Ok(())
+}
+
+#[test]
+fn a_condition_runs_the_body_that_tclsh_runs(rt: HostRuntime) -> Result<(), Fail> {
+    // tclsh 8.6.13, with these variables, where each command that it has not prints its words and
+    // has the value `v`
+    let scripts: [(&[u8], &[u8]); 7] = [
+        (b"if {$a < 2} {f $i} else {g}; h", b"<f><2>\n<h>\nv\n"),
+        (b"if {$a > 2} {f} else {g $i}", b"<g><2>\nv\n"),
+        (b"if {[x] eq \"v\"} {f}", b"<x>\n<f>\nv\n"),
+        (b"f [if 0 {g}]", b"<f><>\nv\n"),
+        (b"if 1 {if {$i == 2} {f}} else g", b"<f>\nv\n"),
+        (b"if {$a} {f \"}", b"missing \"\n"),
+        (b"if 0 {f \"}", b"\n"),
+    ];
+    for (text, wanted) in scripts {
+        compare(&rt, rt.alloc(), text, wanted)?;
+    }
+    Ok(())
+}
+
+#[test]
+fn a_condition_without_code_of_its_own_begins_by_its_words(rt: HostRuntime) -> Result<(), Fail> {
+    // its words are no literals, its test is no formula, or they have another form of if(n)
+    let scripts: [(&[u8], &[u8]); 4] = [
+        (b"if $a g", b"<if><1><g>\nv\n"),
+        (b"if {1 +} f", b"<if><1 +><f>\nv\n"),
+        (b"if 1 then f", b"<if><1><then><f>\nv\n"),
+        (b"if 1 then", b"<if><1><then>\nv\n"),
+    ];
+    for (text, wanted) in scripts {
+        compare(&rt, rt.alloc(), text, wanted)?;
+    }
+    Ok(())
+}
+
+#[test]
+fn a_procedure_hides_a_condition(rt: HostRuntime) -> Result<(), Fail> {
+    let alloc = rt.alloc();
+    let mut procs = Procs::new(alloc);
+    let formals = Formals::read(alloc, b"args").ok().ok_or("formals")?;
+    let body = Value::empty();
+    procs.define(alloc, b"if", Procedure { formals, body })?;
+    let script = Script::read(alloc, b"if {$a < 2} {f $i} else {g}; h")?;
+    let code = code_of(alloc, &script)?;
+    let shown = commands_beside(alloc, &procs, &code)?;
+    let wanted: &[u8] = b"<if><$a < 2><f $i><else><g>\n<h>\nv\n";
+    assert_eq!(&rt; shown.as_slice(), wanted);
+    Ok(())
+}
+
+#[test]
+fn a_body_takes_a_level_and_gives_it_back(rt: HostRuntime) -> Result<(), Fail> {
+    // two levels are there
+    compare(
+        &rt,
+        rt.alloc(),
+        b"if 1 {if 1 {f [g]}}",
+        b"too many nested evaluations\n",
+    )?;
+    compare(
+        &rt,
+        rt.alloc(),
+        b"if 1 {f [g]}; f [h]",
+        b"<g>\n<f><v>\nstopped\n",
     )?;
     Ok(())
 }

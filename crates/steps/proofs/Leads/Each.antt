@@ -2,8 +2,7 @@
 use Rattle.std.proofs.Common.{ℕ, ◌+◌, ◌≤◌, List, [], ◌∷◌, length, refl, sym, subst, arith}
 use Rattle.std.specs.Prelude.{slice_get}
 use Rattle.std.proofs.lemmas.Option.{slice_get_past}
-use Rattle.code.specs.Code.{ScriptAt}
-use Rattle.code.specs.Formula.{FormulaAt}
+use Rattle.code.specs.Code.{FormulaAt, ScriptAt}
 use Rattle.code.specs.declared.instruction.Instruction.{Instruction}
 use Rattle.evaluation.specs.Evaluated.{evaluated}
 use Rattle.plan.specs.Plan.{and_then, onward}
@@ -16,8 +15,10 @@ use Rattle.steps.specs.Does.{Does, same, reads, Arrives, stays, then}
 use Rattle.steps.specs.Goes.{here}
 use Rattle.steps.specs.Layout.{FramesAt, HeadAt}
 use Rattle.steps.specs.Machine.{machine}
-use Rattle.steps.specs.Places.{Head, Has, Part, Joins, Gathers, Evaluates, Values, Frame, Rest, brackets, left_of, spot_at}
+use Rattle.steps.specs.Places.{Head, Has, Part, Joins, Gathers, Evaluates, Values, Starts, Chooses, Enters, Frame, Rest, brackets, left_of, spot_at}
 use Rattle.steps.specs.Spot.{Spot, Did, beginning_at}
+use Rattle.steps.proofs.Leads.Bodies.{enters_leads}
+use Rattle.steps.proofs.Leads.Conditionals.{chooses_lead, starts_leads}
 use Rattle.steps.proofs.Leads.Opened.{joins_lead, open_leads}
 use Rattle.steps.proofs.Leads.Formulas.{formula_leads}
 use Rattle.steps.proofs.Leads.Operators.{operand_leads}
@@ -45,6 +46,12 @@ module _ {A X : Type 0} (code : List (Instruction A)) (last : Status → Outcome
       formula_leads code last levels end frames s outer place f at.0 at.1 at.2 behind fits
   head_leads place levels (Values v outer) frames end s at behind fits =
       operand_leads code last levels end frames s place v outer at behind fits
+  head_leads place levels (Starts ws) frames end s at behind fits =
+      starts_leads code last levels frames s place ws end at behind fits
+  head_leads place levels (Chooses more otherwise) frames end s at behind fits =
+      chooses_lead code last levels end frames s place more otherwise at behind fits
+  head_leads place levels (Enters tree) frames end s at behind fits =
+      enters_leads code last levels tree frames s place end at behind fits
 
   leads : (spot : Spot) (s : Status) (p : Dialogue X) → Here code last spot s p →
       Follows code last (machine (slice_get code spot.place) spot s) p

@@ -1,7 +1,7 @@
 -- A formula that is evaluated: its first instruction.
 use Rattle.std.proofs.Common.{ℕ, ◌+◌, ◌≤◌, List, [], ◌∷◌, refl, arith}
 use Rattle.std.specs.Prelude.{slice_get}
-use Rattle.code.specs.Formula.{FormulaAt, number, parts, called, prefixed, joined, chosen, no_argument, argument}
+use Rattle.code.specs.Code.{FormulaAt, number, parts, called, prefixed, in_row, chosen, no_argument, argument}
 use Rattle.code.specs.declared.instruction.Instruction.{Instruction}
 use Rattle.code.specs.declared.instruction.Instruction.TheVariants as i
 use Rattle.operators.specs.Value.{written}
@@ -49,7 +49,7 @@ module _ {A X : Type 0} (code : List (Instruction A)) (last : Status → Outcome
       operand} operand_at at) over behind fits =
       formula_leads levels end fs s (Prefixed op ∷ outer) place operand at_operator operand_at
       (at, over) behind fits
-  formula_leads levels end fs s outer place f mid (joined {mid = at_links} {f = first} {ls = links}
+  formula_leads levels end fs s outer place f mid (in_row {mid = at_links} {f = first} {ls = links}
       first_at links_at) over behind fits =
       formula_leads levels end fs s (Row links ∷ outer) place first at_links first_at
       (mid, links_at, over) behind fits

@@ -1,8 +1,8 @@
 -- Code ends at its beginning, or after it.
-use Rattle.std.proofs.Common.{ℕ, ◌≤◌, List, Bool, arith}
-use Rattle.code.specs.Code.{JoinsAt, first, joined, PartsAt, over, empty, text, value, item, bracket, WordsAt, begins, begins_counted, one, counts, spread, CommandsAt, done, next}
-use Rattle.code.specs.Formula.{FormulaAt, number, parts, called, prefixed, joined as in_row, chosen, LinksAt, no_more, both, and_also, or_else, ArgumentsAt, no_argument, argument}
+use Rattle.std.proofs.Common.{ℕ, ◌≤◌, List, Bool, Option, arith}
+use Rattle.code.specs.Code.{JoinsAt, first, joined, PartsAt, over, empty, text, value, item, bracket, WordsAt, begins, begins_counted, one, counts, spread, CommandAt, by_words, own, CommandsAt, done, next, FaultAt, none, fault, OwnAt, conditional, BranchesAt, branch, BehindAt, no_else, with_else, BodyAt, deeper, FormulaAt, number, parts, called, prefixed, in_row, chosen, LinksAt, no_more, both, and_also, or_else, ArgumentsAt, no_argument, argument}
 use Rattle.code.specs.declared.instruction.Instruction.{Instruction}
+use Rattle.tclparse.specs.Fault.{Fault}
 use Rattle.tclparse.specs.Formula.{Formula, Links, Formulas}
 use Rattle.tclparse.specs.Tree.{Parts, Words, Commands}
 
@@ -10,6 +10,10 @@ module _ {A : Type 0} (code : List (Instruction A)) where
   joins_grow : {more : Bool} {place end : ℕ} → JoinsAt code more place end → place ≤ end
   joins_grow first = omega arith
   joins_grow (joined at) = omega arith
+
+  fault_grows : {f : Option Fault} {place end : ℕ} → FaultAt code f place end → place ≤ end
+  fault_grows none = omega arith
+  fault_grows (fault at) = omega arith
 
   mutual
     parts_grow : {more : Bool} {place : ℕ} {ps : Parts} {end : ℕ} → PartsAt code more place ps end →
@@ -23,7 +27,7 @@ module _ {A : Type 0} (code : List (Instruction A)) where
     parts_grow (bracket enter commands leave joins rest) =
         omega (arith, commands_grow commands, joins_grow joins, parts_grow rest)
 
-    words_grow : {counted : Bool} {count place : ℕ} {ws : Words} {end : ℕ} →
+    pub words_grow : {counted : Bool} {count place : ℕ} {ws : Words} {end : ℕ} →
         WordsAt code counted count place ws end → place ≤ end
     words_grow (begins at) = omega arith
     words_grow (begins_counted at) = omega arith
@@ -31,12 +35,34 @@ module _ {A : Type 0} (code : List (Instruction A)) where
     words_grow (counts at rest) = omega (arith, words_grow rest)
     words_grow (spread ps at rest) = omega (arith, parts_grow ps, words_grow rest)
 
+    command_grows : {place : ℕ} {ws : Words} {end : ℕ} → CommandAt code place ws end → place ≤ end
+    command_grows (by_words ws) = words_grow ws
+    command_grows (own hides ws jump it) = omega (arith, words_grow ws, own_grows it)
+
     commands_grow : {place : ℕ} {cs : Commands} {end : ℕ} → CommandsAt code place cs end →
         place ≤ end
     commands_grow done = omega arith
-    commands_grow (next at ws rest) = omega (arith, words_grow ws, commands_grow rest)
+    commands_grow (next at ws rest) = omega (arith, command_grows ws, commands_grow rest)
 
-  mutual
+    pub own_grows : {name : List ℕ} {place : ℕ} {args : List (List ℕ)} {end : ℕ} →
+        OwnAt code name place args end → place ≤ end
+    own_grows (conditional it) = branches_grow it
+
+    branches_grow : {place : ℕ} {args : List (List ℕ)} {end : ℕ} → BranchesAt code place args end →
+        place ≤ end
+    branches_grow (branch plain is test unless body jump behind) =
+        omega (arith, formula_grows test, body_grows body, behind_grows behind)
+
+    pub behind_grows : {place : ℕ} {args : List (List ℕ)} {end : ℕ} → BehindAt code place args end →
+        place ≤ end
+    behind_grows (no_else at) = omega arith
+    behind_grows (with_else body) = body_grows body
+
+    pub body_grows : {place : ℕ} {body : List ℕ} {end : ℕ} → BodyAt code place body end →
+        place ≤ end
+    body_grows (deeper is enter commands ends leave) =
+        omega (arith, commands_grow commands, fault_grows ends)
+
     pub formula_grows : {place : ℕ} {f : Formula} {end : ℕ} → FormulaAt code place f end →
         place ≤ end
     formula_grows (number at) = omega arith

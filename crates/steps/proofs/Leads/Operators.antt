@@ -1,8 +1,8 @@
 -- The value of an operand is on top: what it was evaluated for.
 use Rattle.std.proofs.Common.{◌≡◌, ℕ, suc, ◌+◌, ◌-◌, ◌≤◌, List, [], ◌∷◌, ◌++◌, true, false, length, sym, subst, arith, if◌then◌else◌}
 use Rattle.std.specs.Prelude.{slice_get, reverse}
-use Rattle.code.specs.Code.{At}
-use Rattle.code.specs.Formula.{LinksAt, no_more, both, and_also, or_else, ArgumentsAt, no_argument, argument}
+use Rattle.code.specs.Code.{At, LinksAt, no_more, both, and_also, or_else, ArgumentsAt, no_argument, argument}
+use Rattle.conditions.specs.Conditional as definition
 use Rattle.code.specs.declared.instruction.Instruction.{Instruction}
 use Rattle.code.specs.declared.instruction.Instruction.TheVariants as i
 use Rattle.evaluation.specs.Evaluated.{arguments, evaluated, told}
@@ -17,10 +17,11 @@ use Rattle.state.specs.Prelude.{Dialogue, Outcome, Status}
 use Rattle.steps.specs.Follows.{Follows}
 use Rattle.steps.specs.Layout.{FramesAt, OperandAt}
 use Rattle.steps.specs.Machine.{machine}
-use Rattle.steps.specs.Operand.{Outer, Prefixed, Row, Right, Holds, Argument, Test, Chosen, operand_on, waiting}
-use Rattle.steps.specs.Places.{Evaluates, Values, Frame, beneath, brackets, left_of, marks_beneath, onward_of, spot_at}
+use Rattle.steps.specs.Operand.{Outer, Prefixed, Row, Right, Holds, Argument, Test, Chosen, Condition, operand_on, waiting}
+use Rattle.steps.specs.Places.{Evaluates, Values, Chooses, Frame, Skip, beneath, brackets, left_of, marks_beneath, onward_of, spot_at}
 use Rattle.steps.proofs.Leads.Formulas.{formula_leads}
-use Rattle.steps.proofs.Leads.Grows.{formula_grows}
+use Rattle.steps.proofs.Leads.Bodies.{body_begins}
+use Rattle.steps.proofs.Leads.Grows.{body_grows, formula_grows}
 use Rattle.steps.proofs.Leads.Meanings.{below_at, call_leads, gives_leads, jump_leads, truth_leads}
 use Rattle.steps.proofs.Leads.Operands.{last_first, words_left}
 use Rattle.steps.proofs.Leads.Scripts.{has_leads}
@@ -191,3 +192,17 @@ module _ {A X : Type 0} (code : List (Instruction A)) (last : Status → Outcome
         by code last (i.Jump at.0) (spot_at place levels (Values v (Chosen ∷ outer)) fs) s _ at.1
         (jump_leads code last at.0 _ s _ at.2
         (stands code last at.0 levels (Values v outer) fs end s at.3 behind fits))
+    operand_leads place v (Condition body more otherwise ∷ outer) at behind fits =
+        by code last (i.Unless (at.0 + 1)) (spot_at place levels (Values v (Condition body more
+        otherwise ∷ outer)) fs) s _ at.1
+        (truth_leads code last (truth_of v) levels fs s
+        (λ holds. if holds then Went (below_at code last (place + 1) levels [] fs) s
+        else jumping (at.0 + 1) (below_at code last (place + 1) levels [] fs) s)
+        (λ holds. definition.chosen levels body more otherwise s holds)
+        (elim [
+          | true ↦ body_begins code last (place + 1) levels body (Skip ∷ fs) at.0 s at.2
+              (end, at.3, at.4, behind) fits
+          | false ↦ jump_leads code last (at.0 + 1) _ s _ (omega (arith, body_grows code at.2))
+              (stands code last (at.0 + 1) levels (Chooses more otherwise) fs end s at.5 behind
+              fits)
+        ]))

@@ -1,5 +1,5 @@
 -- A value on top: the rest of a script follows, or a script in brackets is over.
-use Rattle.std.proofs.Common.{ℕ, suc, ◌+◌, ◌≤◌, List, [], ◌∷◌, Option, false, refl, sym, subst, arith, if◌then◌else◌}
+use Rattle.std.proofs.Common.{ℕ, suc, ◌+◌, ◌≤◌, List, [], ◌∷◌, Option, refl, sym, subst, arith, if◌then◌else◌}
 use Rattle.std.proofs.lemmas.Bool.{lt-leb}
 use Rattle.std.specs.Prelude.{slice_get}
 use Rattle.code.specs.Code.{CommandsAt, done, next, FaultAt, none, fault}
@@ -11,8 +11,9 @@ use Rattle.steps.specs.Follows.{Follows}
 use Rattle.steps.specs.Goes.{here, calls}
 use Rattle.steps.specs.Layout.{FramesAt}
 use Rattle.steps.specs.Machine.{ahead, machine}
-use Rattle.steps.specs.Places.{Has, Joins, Gathers, Frame, Rest, Bracket, brackets, onward_of, spot_at}
+use Rattle.steps.specs.Places.{Has, Joins, Starts, Frame, Rest, Bracket, Body, Skip, brackets, onward_of, spot_at}
 use Rattle.steps.specs.Spot.{Went, Stuck}
+use Rattle.steps.proofs.Leads.Meanings.{jump_leads}
 use Rattle.steps.proofs.Leads.Silent.{same_goes}
 use Rattle.steps.proofs.Leads.Standing.{by, silently, leaves_pass, stands, tick_leads}
 use Rattle.tclparse.specs.Fault.{Fault}
@@ -42,9 +43,8 @@ module _ {A X : Type 0} (code : List (Instruction A)) (last : Status → Outcome
       (silently code last _ (calls here)
       (tick_leads code last s.left levels (Rest more f ∷ fs) s _ (λ t. words levels ws [] t (command
       levels))
-      (λ t. stands code last (place + 1) levels (Gathers false [] ws) (Rest more f ∷ fs)
-      behind_words t
-      (0, refl, words_at) (end, record { mid = mid; commands = rest; ends = ends }, behind) fits)))
+      (λ t. stands code last (place + 1) levels (Starts ws) (Rest more f ∷ fs) behind_words t
+      words_at (end, record { mid = mid; commands = rest; ends = ends }, behind) fits)))
 
   -- a script in brackets is over
   bracket_leads : (place levels : ℕ) (word : Open) (fs : List Frame) (v : List ℕ) (s : Status) →
@@ -60,6 +60,29 @@ module _ {A X : Type 0} (code : List (Instruction A)) (last : Status → Outcome
       (stands code last (place + 1) (suc levels) (Joins v word) fs at.1.0 s at.1.1 at.1.2
       (omega (arith, fits))))
 
+  -- a body is over
+  body_leads : (place levels : ℕ) (fs : List Frame) (v : List ℕ) (s : Status) →
+      FramesAt code place (Body ∷ fs) → levels + suc (brackets fs) ≤ 255 →
+      ValueLeads place levels (Body ∷ fs) v s
+  body_leads place levels fs v s at fits =
+      let spot = spot_at place levels (Has v) (Body ∷ fs) in
+      let p = onward_of last levels (Body ∷ fs) s (Gives v) in
+      let went = Went (record (ahead spot) { levels = suc levels }) s in
+      by code last i.Leave spot s p at.0
+      (subst (λ b. Follows code last (if b then Stuck else went) p)
+      (sym (lt-leb 255 levels (omega (arith, fits))))
+      (stands code last (place + 1) (suc levels) (Has v) fs (place + 1) s refl at.1
+      (omega (arith, fits))))
+
+  -- the code goes on elsewhere
+  skip_leads : (place levels : ℕ) (fs : List Frame) (v : List ℕ) (s : Status) →
+      FramesAt code place (Skip ∷ fs) → levels + brackets fs ≤ 255 →
+      ValueLeads place levels (Skip ∷ fs) v s
+  skip_leads place levels fs v s at fits =
+      by code last (i.Jump at.0) (spot_at place levels (Has v) (Skip ∷ fs)) s _ at.1
+      (jump_leads code last at.0 _ s _ at.2
+      (stands code last at.0 levels (Has v) fs at.0 s refl at.3 fits))
+
   -- each frame
   pub has_leads : (place levels : ℕ) (fs : List Frame) (v : List ℕ) (s : Status) →
       FramesAt code place fs → levels + brackets fs ≤ 255 → ValueLeads place levels fs v s
@@ -71,3 +94,5 @@ module _ {A X : Type 0} (code : List (Instruction A)) (last : Status → Outcome
       (λ behind. has_leads at.0 levels fs v s behind fits) at.1.commands at.1.ends at.2 fits
   has_leads place levels (Bracket word ∷ fs) v s at fits =
       bracket_leads place levels word fs v s at fits
+  has_leads place levels (Body ∷ fs) v s at fits = body_leads place levels fs v s at fits
+  has_leads place levels (Skip ∷ fs) v s at fits = skip_leads place levels fs v s at fits

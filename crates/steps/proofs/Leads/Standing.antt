@@ -12,7 +12,7 @@ use Rattle.steps.specs.Follows.{Here, Comes, Follows}
 use Rattle.steps.specs.Goes.{Goes, here}
 use Rattle.steps.specs.Layout.{HeadAt, FramesAt}
 use Rattle.steps.specs.Machine.{machine, ticked, with_value}
-use Rattle.steps.specs.Places.{Head, Frame, Rest, Bracket, brackets, left_of, onward_of, spot_at}
+use Rattle.steps.specs.Places.{Head, Frame, Rest, Bracket, Body, Skip, brackets, left_of, onward_of, spot_at}
 use Rattle.steps.specs.Spot.{Spot, Did, Went, Reads, Begins, Over, Stuck}
 use Rattle.steps.proofs.Leads.Silent.{same_goes, then_goes}
 use Rattle.tclstate.specs.Scopes.{Trouble}
@@ -24,6 +24,8 @@ module _ {A X : Type 0} (code : List (Instruction A)) (last : Status → Outcome
   leaves_pass levels [] s c value = refl
   leaves_pass levels (Rest cs f ∷ frames) s c value = leaves_pass levels frames s c value
   leaves_pass levels (Bracket word ∷ frames) s c value = leaves_pass (suc levels) frames s c value
+  leaves_pass levels (Body ∷ frames) s c value = leaves_pass (suc levels) frames s c value
+  leaves_pass levels (Skip ∷ frames) s c value = leaves_pass levels frames s c value
 
   -- and so does a stop
   pub stops_pass : (levels : ℕ) (frames : List Frame) (s : Status) (stop : Stop) →
@@ -31,6 +33,8 @@ module _ {A X : Type 0} (code : List (Instruction A)) (last : Status → Outcome
   stops_pass levels [] s stop = refl
   stops_pass levels (Rest cs f ∷ frames) s stop = stops_pass levels frames s stop
   stops_pass levels (Bracket word ∷ frames) s stop = stops_pass (suc levels) frames s stop
+  stops_pass levels (Body ∷ frames) s stop = stops_pass (suc levels) frames s stop
+  stops_pass levels (Skip ∷ frames) s stop = stops_pass levels frames s stop
 
   -- this is left to be done there
   pub stands_here : (place levels : ℕ) (head : Head) (frames : List Frame) (end : ℕ) (s : Status) →

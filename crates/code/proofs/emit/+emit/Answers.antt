@@ -1,11 +1,10 @@
-use Rattle.std.proofs.Common.{false, true, rules, arith, ◌≡◌, ◌∙◌, ◌+◌, ◌++◌, ◌∷◌, [], drop, refl, sym, ap, subst}
+use Rattle.std.proofs.Common.{false, true, rules, arith, ◌≡◌, ◌∙◌, ◌+◌, drop, sym, ap, subst}
 use Rattle.std.proofs.Math.ListN.{drop_of_length-le}
 use Rattle.std.proofs.lemmas.List.{nil_from_length}
-use Rattle.code.proofs.Commands.{all_left, begins_by, command_block, command_left, commands_block, counting_block, no_command, plain_block, spread_block, word_left}
+use Rattle.code.proofs.Commands.{command_block, own_command_block, words_block, command_left, commands_block, counting_block, plain_block, spread_block, word_left}
 use Rattle.code.proofs.Parts.{bracket_block, element_block, empty_block, first_left, next_left, text_block, variable_block, word_block}
 use Rattle.code.proofs.Places.{command_at, part_at, word_at}
-use Rattle.code.specs.Blocks.{PartsBlock, WordBlock}
-use Rattle.code.specs.declared.instruction.Instruction.TheVariants as i
+use Rattle.code.specs.Blocks.{OwnBlock, PartsBlock, WordBlock, WordsBlock}
 use Rattle.tclparse.proofs.Trees.{view_Bracket, view_Command, view_Element, view_Literal, view_Variable, view_Word}
 use Rattle.tclparse.specs.Tree.{Words, no_commands, no_parts, no_words, command, word}
 use Rattle.tclparse.specs.declared.tree.Command.{out-Command}
@@ -75,25 +74,24 @@ emit_commands-returns g t c =
     (ap (λ cs. commands_then cs no_commands)
     (drop_of_length-le commands {i = n} (omega (arith, c.loop-command-test.false))))
 
-pub emit_command-loop-count-preserved : goal.emit_command-loop-count-preserved
-emit_command-loop-count-preserved g t c =
+pub emit_words-loop-count-preserved : goal.emit_words-loop-count-preserved
+emit_words-loop-count-preserved g t c =
     let words = c.args.words.now in
     let n = c.loop-count.count in
     let it = c.index-words-count.result in
     word_left c.loop-count.counted c.in_ok-counted.counted n
-    (c.args.code.now.items ++ i.Next ∷ []) c.loop-count.code.items c.emit_word.new.code.items
+    c.args.code.now.items c.loop-count.code.items c.emit_word.new.code.items
     (word_view it) (words_then (drop n words) no_words)
     (words_then (drop (n + 1) words) no_words) (words_then words no_words)
     c.loop-count.invariant c.in_ok-counted.ensures
     (word_at words n it c.loop-count-test.true c.index-words-count.is)
 
-pub emit_command-returns : goal.emit_command-returns
-emit_command-returns g t c =
+pub emit_words-returns : goal.emit_words-returns
+emit_words-returns g t c =
     let words = c.args.words.now in
     let n = c.loop-count.count in
-    command_block c.loop-count.counted n c.args.code.now.items
-    (c.args.code.now.items ++ i.Next ∷ []) c.loop-count.code.items c.push-2.new.self.items
-    (words_then (drop n words) no_words) (words_then words no_words) refl
+    words_block c.loop-count.counted n c.args.code.now.items c.loop-count.code.items
+    c.push.new.self.items (words_then (drop n words) no_words) (words_then words no_words)
     c.loop-count.invariant
     (ap (λ ws. words_then ws no_words)
     (drop_of_length-le words {i = n} (omega (arith, c.loop-count-test.false))))
@@ -151,3 +149,22 @@ emit_word-returns g t c =
           subst (λ b. WordBlock b true n old new (word_view w)) (search rules)
           (subst (λ code. WordBlock true true n code new (word_view w)) (search rules) block)
     ]
+
+pub emit_command-returns-in_ok-emit_words : goal.emit_command-returns-in_ok-emit_words
+emit_command-returns-in_ok-emit_words g t c =
+    let ws = words_then c.args.words.now no_words in
+    let first = c.push.new.self.items in
+    let none : c.in_ok-put.field-0 ≡ false = search rules in
+    let unchanged : c.put.new.code.items ≡ first =
+    subst (λ put. OwnBlock put first c.put.new.code.items ws) none c.in_ok-put.ensures in
+    command_block c.args.code.now.items first c.emit_words.new.code.items ws (search rules)
+    (subst (λ code. WordsBlock code c.emit_words.new.code.items ws) unchanged
+    c.in_ok-emit_words.ensures)
+
+pub emit_command-returns-else-not-branch : goal.emit_command-returns-else-not-branch
+emit_command-returns-else-not-branch g t c =
+    let ws = words_then c.args.words.now no_words in
+    let first = c.push.new.self.items in
+    let some : c.in_ok-put.field-0 ≡ true = search rules in
+    own_command_block c.args.code.now.items first c.put.new.code.items ws (search rules)
+    (subst (λ put. OwnBlock put first c.put.new.code.items ws) some c.in_ok-put.ensures)

@@ -1,14 +1,14 @@
-use Rattle.std.proofs.Common.{rules, arith, ◌≡◌, ◌∙◌, ◌+◌, drop, length, sym, ap, subst}
+use Rattle.std.proofs.Common.{rules, arith, ◌∙◌, ◌+◌, drop, length, ap, subst}
 use Rattle.std.proofs.Math.ListN.{drop_of_length-le}
 use Rattle.code.proofs.Formulas.{and_block, argument_left, arguments_block, both_block, call_block, choice_block, link_left, links_block, numeral_block, or_block, parts_block, prefix_block, right_block, row_block}
 use Rattle.code.proofs.Places.{formula_at, link_at, view_Numeral}
 use Rattle.code.specs.Blocks.{ArgumentsBlock}
-use Rattle.formulas.proofs.Trees.{choice_parts, row_parts, view_Call, view_Choice, view_Link, view_Prefix, view_Row, view_Text}
-use Rattle.formulas.specs.View.{choice_view, formula_of, formulas_then, link_view, links_then, row_view}
+use Rattle.formulas.proofs.Trees.{choice_parts, row_parts, view_Call, view_Link, view_Prefix, view_Row, view_Text}
+use Rattle.formulas.specs.View.{choice_view, formula_of, formulas_then, link_view, links_then}
 use Rattle.formulas.specs.declared.tree.Choice.{out-Choice}
 use Rattle.formulas.specs.declared.tree.Link.{out-Link}
 use Rattle.formulas.specs.declared.tree.Row.{out-Row}
-use Rattle.tclparse.specs.Formula.{Links, link, no_formulas, no_links}
+use Rattle.tclparse.specs.Formula.{link, no_formulas, no_links}
 use Rattle.tclparse.specs.View.{parts_of}
 use Rattle.code.proofs.formula.+emit_formula.Goals as goal
 

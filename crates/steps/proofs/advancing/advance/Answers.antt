@@ -10,19 +10,21 @@ steps-init g c = λ s. stays
 pub steps-preserved : goal.steps-preserved
 steps-preserved g c = λ s.
     let scopes = c.args.scopes.now in
+    let procs = c.args.procs.now in
     then (c.steps.invariant s)
     (subst (λ o. Does
     (machine (slice_get c.args.code.now c.steps.spot.place) (spot_of c.steps.spot)
-    (with_parts scopes c.steps.left s))
-    (did_of o (spot_of c.step.new.spot) (with_parts scopes c.step.new.left s)))
+    (with_parts scopes procs c.steps.left s))
+    (did_of o (spot_of c.step.new.spot) (with_parts scopes procs c.step.new.left s)))
     c.in_default.is (c.in_ok-stopped.ensures.does s))
 
 pub returns-in-Some : goal.returns-in-Some
 returns-in-Some g c = λ s.
     let scopes = c.args.scopes.now in
+    let procs = c.args.procs.now in
     then (c.steps.invariant s)
     (subst (λ o. Does
     (machine (slice_get c.args.code.now c.steps.spot.place) (spot_of c.steps.spot)
-    (with_parts scopes c.steps.left s))
-    (did_of o (spot_of c.step.new.spot) (with_parts scopes c.step.new.left s)))
+    (with_parts scopes procs c.steps.left s))
+    (did_of o (spot_of c.step.new.spot) (with_parts scopes procs c.step.new.left s)))
     c.in-Some.is (c.in_ok-stopped.ensures.does s))

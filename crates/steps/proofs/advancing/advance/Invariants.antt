@@ -8,8 +8,8 @@ use Rattle.steps.proofs.advancing.advance.Given as goal
 -- some instructions came to where the run is
 abbrev pub invariant-steps : goal.invariant-steps
 invariant-steps g l = (s : Status) →
-    Arrives l.code (spot_of l.fn.spot) (with_parts l.fn.scopes l.fn.left s)
-    (Went (spot_of l.spot) (with_parts l.fn.scopes l.left s))
+    Arrives l.code (spot_of l.fn.spot) (with_parts l.fn.scopes l.fn.procs l.fn.left s)
+    (Went (spot_of l.spot) (with_parts l.fn.scopes l.fn.procs l.left s))
 
 abbrev pub decreases-steps : goal.decreases-steps
 decreases-steps g l = length l.code - l.spot.place

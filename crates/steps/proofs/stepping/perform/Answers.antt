@@ -1,22 +1,23 @@
 use Rattle.std.proofs.Common.{◌∙◌, None, refl, ap}
-use Rattle.steps.specs.Machine.{indexing, reading}
+use Rattle.steps.specs.Machine.{indexing, reading, unhidden}
 use Rattle.steps.specs.Moves.{fails}
 use Rattle.steps.specs.Spot.{Went, with_top}
 use Rattle.steps.specs.View.{spot_of, with_parts}
+use Rattle.tclstate.specs.Pairs.{found}
 use Rattle.steps.proofs.Does.{does_so, same_does}
 use Rattle.steps.proofs.stepping.perform.Goals as goal
 
 pub returns-in-Next-clause-does : goal.returns-in-Next-clause-does
 returns-in-Next-clause-does g c = λ s.
     let spot = spot_of c.args.spot.now in
-    let t = with_parts c.args.scopes.now c.args.left.now s in
+    let t = with_parts c.args.scopes.now c.args.procs.now c.args.left.now s in
     does_so c.args.instruction.now _ spot t c.in-Next.is
     (same_does (c.tick.ensures.does t))
 
 pub returns-in_ok-put-in-Text-clause-does : goal.returns-in_ok-put-in-Text-clause-does
 returns-in_ok-put-in-Text-clause-does g c = λ s.
     let spot = spot_of c.args.spot.now in
-    let t = with_parts c.args.scopes.now c.args.left.now s in
+    let t = with_parts c.args.scopes.now c.args.procs.now c.args.left.now s in
     does_so c.args.instruction.now _ spot t c.in-Text.is
     (same_does (c.in_ok-put-in-Text.ensures.does t
     ∙ ap (λ v. Went (with_top v spot) t) c.in_ok-share-in-Text.ensures))
@@ -24,7 +25,7 @@ returns-in_ok-put-in-Text-clause-does g c = λ s.
 pub returns-in_ok-read-in-Variable-clause-does : goal.returns-in_ok-read-in-Variable-clause-does
 returns-in_ok-read-in-Variable-clause-does g c = λ s.
     let spot = spot_of c.args.spot.now in
-    let t = with_parts c.args.scopes.now c.args.left.now s in
+    let t = with_parts c.args.scopes.now c.args.procs.now c.args.left.now s in
     does_so c.args.instruction.now _ spot t c.in-Variable.is
     (same_does (c.in_ok-read-in-Variable.ensures.does t refl
     ∙ ap (λ n. reading n None spot t) c.as_slice.ensures))
@@ -33,7 +34,7 @@ pub returns-in_ok-read_element-in-Element-clause-does :
     goal.returns-in_ok-read_element-in-Element-clause-does
 returns-in_ok-read_element-in-Element-clause-does g c = λ s.
     let spot = spot_of c.args.spot.now in
-    let t = with_parts c.args.scopes.now c.args.left.now s in
+    let t = with_parts c.args.scopes.now c.args.procs.now c.args.left.now s in
     does_so c.args.instruction.now _ spot t c.in-Element.is
     (same_does (c.in_ok-read_element-in-Element.ensures.does t refl
     ∙ ap (λ n. indexing n spot t) c.as_slice-in-Element.ensures))
@@ -41,28 +42,28 @@ returns-in_ok-read_element-in-Element-clause-does g c = λ s.
 pub returns-in_ok-join-in-Join-clause-does : goal.returns-in_ok-join-in-Join-clause-does
 returns-in_ok-join-in-Join-clause-does g c = λ s.
     let spot = spot_of c.args.spot.now in
-    let t = with_parts c.args.scopes.now c.args.left.now s in
+    let t = with_parts c.args.scopes.now c.args.procs.now c.args.left.now s in
     does_so c.args.instruction.now _ spot t c.in-Join.is
     (same_does (c.in_ok-join-in-Join.ensures.does t))
 
 pub returns-in_ok-enter-in-Enter-clause-does : goal.returns-in_ok-enter-in-Enter-clause-does
 returns-in_ok-enter-in-Enter-clause-does g c = λ s.
     let spot = spot_of c.args.spot.now in
-    let t = with_parts c.args.scopes.now c.args.left.now s in
+    let t = with_parts c.args.scopes.now c.args.procs.now c.args.left.now s in
     does_so c.args.instruction.now _ spot t c.in-Enter.is
     (same_does (c.in_ok-enter-in-Enter.ensures.does t))
 
 pub returns-in-Leave-clause-does : goal.returns-in-Leave-clause-does
 returns-in-Leave-clause-does g c = λ s.
     let spot = spot_of c.args.spot.now in
-    let t = with_parts c.args.scopes.now c.args.left.now s in
+    let t = with_parts c.args.scopes.now c.args.procs.now c.args.left.now s in
     does_so c.args.instruction.now _ spot t c.in-Leave.is
     (same_does (c.leave.ensures.does t))
 
 pub returns-in_ok-count-in-Count-clause-does : goal.returns-in_ok-count-in-Count-clause-does
 returns-in_ok-count-in-Count-clause-does g c = λ s.
     let spot = spot_of c.args.spot.now in
-    let t = with_parts c.args.scopes.now c.args.left.now s in
+    let t = with_parts c.args.scopes.now c.args.procs.now c.args.left.now s in
     does_so c.args.instruction.now _ spot t c.in-Count.is
     (same_does (c.in_ok-count-in-Count.ensures.does t))
 
@@ -70,7 +71,7 @@ pub returns-in_ok-begin_last-in-Command-clause-does :
     goal.returns-in_ok-begin_last-in-Command-clause-does
 returns-in_ok-begin_last-in-Command-clause-does g c = λ s.
     let spot = spot_of c.args.spot.now in
-    let t = with_parts c.args.scopes.now c.args.left.now s in
+    let t = with_parts c.args.scopes.now c.args.procs.now c.args.left.now s in
     does_so c.args.instruction.now _ spot t c.in-Command.is
     (same_does (c.in_ok-begin_last-in-Command.ensures.does t))
 
@@ -78,14 +79,14 @@ pub returns-in_ok-begin_counted-in-Counted-clause-does :
     goal.returns-in_ok-begin_counted-in-Counted-clause-does
 returns-in_ok-begin_counted-in-Counted-clause-does g c = λ s.
     let spot = spot_of c.args.spot.now in
-    let t = with_parts c.args.scopes.now c.args.left.now s in
+    let t = with_parts c.args.scopes.now c.args.procs.now c.args.left.now s in
     does_so c.args.instruction.now _ spot t c.in-Counted.is
     (same_does (c.in_ok-begin_counted-in-Counted.ensures.does t))
 
 pub returns-in_ok-failed-in-Fault-clause-does : goal.returns-in_ok-failed-in-Fault-clause-does
 returns-in_ok-failed-in-Fault-clause-does g c = λ s.
     let spot = spot_of c.args.spot.now in
-    let t = with_parts c.args.scopes.now c.args.left.now s in
+    let t = with_parts c.args.scopes.now c.args.procs.now c.args.left.now s in
     does_so c.args.instruction.now _ spot t c.in-Fault.is
     (same_does (c.in_ok-failed-in-Fault.ensures spot t
     ∙ ap (λ f. fails f t) c.no_script.ensures))
@@ -93,69 +94,78 @@ returns-in_ok-failed-in-Fault-clause-does g c = λ s.
 pub returns-in_ok-number-in-Numeral-clause-does : goal.returns-in_ok-number-in-Numeral-clause-does
 returns-in_ok-number-in-Numeral-clause-does g c = λ s.
     let spot = spot_of c.args.spot.now in
-    let t = with_parts c.args.scopes.now c.args.left.now s in
+    let t = with_parts c.args.scopes.now c.args.procs.now c.args.left.now s in
     does_so c.args.instruction.now _ spot t c.in-Numeral.is
     (c.in_ok-number-in-Numeral.ensures.does t)
 
 pub returns-in_ok-prefix-in-Prefix-clause-does : goal.returns-in_ok-prefix-in-Prefix-clause-does
 returns-in_ok-prefix-in-Prefix-clause-does g c = λ s.
     let spot = spot_of c.args.spot.now in
-    let t = with_parts c.args.scopes.now c.args.left.now s in
+    let t = with_parts c.args.scopes.now c.args.procs.now c.args.left.now s in
     does_so c.args.instruction.now _ spot t c.in-Prefix.is
     (c.in_ok-prefix-in-Prefix.ensures.does t)
 
 pub returns-in_ok-join_both-in-Binary-clause-does : goal.returns-in_ok-join_both-in-Binary-clause-does
 returns-in_ok-join_both-in-Binary-clause-does g c = λ s.
     let spot = spot_of c.args.spot.now in
-    let t = with_parts c.args.scopes.now c.args.left.now s in
+    let t = with_parts c.args.scopes.now c.args.procs.now c.args.left.now s in
     does_so c.args.instruction.now _ spot t c.in-Binary.is
     (c.in_ok-join_both-in-Binary.ensures.does t)
 
 pub returns-in_ok-apply-in-Call-clause-does : goal.returns-in_ok-apply-in-Call-clause-does
 returns-in_ok-apply-in-Call-clause-does g c = λ s.
     let spot = spot_of c.args.spot.now in
-    let t = with_parts c.args.scopes.now c.args.left.now s in
+    let t = with_parts c.args.scopes.now c.args.procs.now c.args.left.now s in
     does_so c.args.instruction.now _ spot t c.in-Call.is
     (c.in_ok-apply-in-Call.ensures.does t)
 
 pub returns-in_ok-choose-in-AndAlso-clause-does : goal.returns-in_ok-choose-in-AndAlso-clause-does
 returns-in_ok-choose-in-AndAlso-clause-does g c = λ s.
     let spot = spot_of c.args.spot.now in
-    let t = with_parts c.args.scopes.now c.args.left.now s in
+    let t = with_parts c.args.scopes.now c.args.procs.now c.args.left.now s in
     does_so c.args.instruction.now _ spot t c.in-AndAlso.is
     (same_does (c.in_ok-choose-in-AndAlso.ensures.does t))
 
 pub returns-in_ok-choose-in-OrElse-clause-does : goal.returns-in_ok-choose-in-OrElse-clause-does
 returns-in_ok-choose-in-OrElse-clause-does g c = λ s.
     let spot = spot_of c.args.spot.now in
-    let t = with_parts c.args.scopes.now c.args.left.now s in
+    let t = with_parts c.args.scopes.now c.args.procs.now c.args.left.now s in
     does_so c.args.instruction.now _ spot t c.in-OrElse.is
     (same_does (c.in_ok-choose-in-OrElse.ensures.does t))
 
 pub returns-in_ok-tell-in-Truth-clause-does : goal.returns-in_ok-tell-in-Truth-clause-does
 returns-in_ok-tell-in-Truth-clause-does g c = λ s.
     let spot = spot_of c.args.spot.now in
-    let t = with_parts c.args.scopes.now c.args.left.now s in
+    let t = with_parts c.args.scopes.now c.args.procs.now c.args.left.now s in
     does_so c.args.instruction.now _ spot t c.in-Truth.is
     (c.in_ok-tell-in-Truth.ensures.does t)
 
 pub returns-in_ok-jump_unless-in-Unless-clause-does : goal.returns-in_ok-jump_unless-in-Unless-clause-does
 returns-in_ok-jump_unless-in-Unless-clause-does g c = λ s.
     let spot = spot_of c.args.spot.now in
-    let t = with_parts c.args.scopes.now c.args.left.now s in
+    let t = with_parts c.args.scopes.now c.args.procs.now c.args.left.now s in
     does_so c.args.instruction.now _ spot t c.in-Unless.is
     (same_does (c.in_ok-jump_unless-in-Unless.ensures.does t))
 
 pub returns-in-Jump-clause-does : goal.returns-in-Jump-clause-does
 returns-in-Jump-clause-does g c = λ s.
     let spot = spot_of c.args.spot.now in
-    let t = with_parts c.args.scopes.now c.args.left.now s in
+    let t = with_parts c.args.scopes.now c.args.procs.now c.args.left.now s in
     does_so c.args.instruction.now _ spot t c.in-Jump.is
     (same_does (c.jump.ensures.does t))
+
+pub returns-in-Unhidden-clause-does : goal.returns-in-Unhidden-clause-does
+returns-in-Unhidden-clause-does g c = λ s.
+    let spot = spot_of c.args.spot.now in
+    let t = with_parts c.args.scopes.now c.args.procs.now c.args.left.now s in
+    does_so c.args.instruction.now _ spot t c.in-Unhidden.is
+    (same_does (c.jump_unhidden.ensures.does t refl
+    ∙ ap (λ n. unhidden (found t.procedures n) c.in-Unhidden.place spot t)
+    c.as_slice-in-Unhidden.ensures))
 
 pub returns-in-Hole-clause-does : goal.returns-in-Hole-clause-does
 returns-in-Hole-clause-does g c = λ s.
     let spot = spot_of c.args.spot.now in
-    let t = with_parts c.args.scopes.now c.args.left.now s in
+    let t = with_parts c.args.scopes.now c.args.procs.now c.args.left.now s in
     does_so c.args.instruction.now _ spot t c.in-Hole.is
     (same_does refl)

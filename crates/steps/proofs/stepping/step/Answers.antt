@@ -9,7 +9,7 @@ use Rattle.steps.proofs.stepping.step.Goals as goal
 pub returns-in_default-clause-does : goal.returns-in_default-clause-does
 returns-in_default-clause-does g c = λ s.
     let spot = spot_of c.args.spot.now in
-    let t = with_parts c.args.scopes.now c.args.left.now s in
+    let t = with_parts c.args.scopes.now c.args.procs.now c.args.left.now s in
     let none : slice_get c.args.code.now c.args.spot.now.place ≡ None =
     slice_get_past c.args.code.now c.args.spot.now.place c.in_default.ensures.lookup.3 in
     subst (λ o. Does (machine o spot t) (did_of (Some c.finish.result) (spot_of c.finish.new.self)
@@ -19,12 +19,12 @@ returns-in_default-clause-does g c = λ s.
 pub returns-clause-does : goal.returns-clause-does
 returns-clause-does g c = λ s.
     let spot = spot_of c.args.spot.now in
-    let t = with_parts c.args.scopes.now c.args.left.now s in
+    let t = with_parts c.args.scopes.now c.args.procs.now c.args.left.now s in
     let it = c.in-Some.instruction.now in
     let some : slice_get c.args.code.now c.args.spot.now.place ≡ Some it =
     slice_get-get_or c.args.code.now c.args.spot.now.place it c.in-Some.ensures.lookup.3.0
     ∙ ap Some (sym c.in-Some.ensures.lookup.1) in
     subst (λ o. Does (machine o spot t)
     (did_of c.in_ok-perform.field-0 (spot_of c.perform.new.spot)
-    (with_parts c.args.scopes.now c.perform.new.left s)))
+    (with_parts c.args.scopes.now c.args.procs.now c.perform.new.left s)))
     (sym some) (c.in_ok-perform.ensures.does s)

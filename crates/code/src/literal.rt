@@ -1,0 +1,41 @@
+//! Words that are texts as they stand.
+
+ghost use Rattle.std.specs.Prelude.{◌≡◌, IfSome};
+ghost use Rattle.code.specs.Conditional.{IsLiteral};
+ghost use Rattle.tclparse.specs.Tree.{bytes_then, no_parts};
+ghost use Rattle.tclparse.specs.View.{part_view, parts_then};
+
+use std::alloc::Allocator;
+use tclparse::{Part, Word};
+
+/// The text of a word that has no substitutions; `None` where it has some, or is a list of words.
+pub(crate) fn literal_of<A: Allocator>(word: &Word<A>) -> Option<&[u8]>
+    ensures { IfSome result (λ text. IsLiteral word.now text.now) }
+{
+    if word.expands {
+        return None;
+    }
+    text_of(&word.parts)
+}
+
+/// The text of these parts, where they are one literal, or none.
+fn text_of<A: Allocator>(parts: &[Part<A>]) -> Option<&[u8]>
+    ensures { IfSome result (λ text.
+        parts_then parts.now no_parts ≡ bytes_then text.now no_parts) }
+{
+    match parts {
+        [] => Some(b""),
+        [part] => text_of_part(part),
+        _ => None,
+    }
+}
+
+/// The text of a part, where it is a literal.
+fn text_of_part<A: Allocator>(part: &Part<A>) -> Option<&[u8]>
+    ensures { IfSome result (λ text. part_view part.now no_parts ≡ bytes_then text.now no_parts) }
+{
+    let Part::Literal(text) = part else {
+        return None;
+    };
+    Some(text.as_slice())
+}

@@ -1,0 +1,59 @@
+-- A script that runs one level deeper.
+use Rattle.std.proofs.Common.{ℕ, zero, suc, ◌+◌, ◌≤◌, List, [], ◌∷◌, refl, subst, arith}
+use Rattle.std.specs.Prelude.{slice_get}
+use Rattle.code.specs.Code.{BodyAt, deeper}
+use Rattle.code.specs.declared.instruction.Instruction.{Instruction}
+use Rattle.code.specs.declared.instruction.Instruction.TheVariants as i
+use Rattle.conditions.specs.Conditional.{passes}
+use Rattle.plan.specs.Plan.{and_then, onward}
+use Rattle.state.specs.Piece.{ScriptText}
+use Rattle.state.specs.Prelude.{Dialogue, Outcome, ScriptTree, Status, within}
+use Rattle.steps.specs.Follows.{Comes, Follows}
+use Rattle.steps.specs.Goes.{here, calls, reads}
+use Rattle.steps.specs.Layout.{EntersAt, FramesAt}
+use Rattle.steps.specs.Machine.{machine}
+use Rattle.steps.specs.Places.{Has, Enters, Frame, Rest, Body, beneath, brackets, left_of, marks_beneath, onward_of, spot_at}
+use Rattle.steps.proofs.Leads.Silent.{same_goes}
+use Rattle.steps.proofs.Leads.Standing.{by, leaves_pass, sooner, stands}
+
+module _ {A X : Type 0} (code : List (Instruction A)) (last : Status → Outcome → Dialogue X) where
+  -- a body begins: its text is read
+  pub body_begins : (place levels : ℕ) (body : List ℕ) (fs : List Frame) (end : ℕ) (s : Status) →
+      BodyAt code place body end → FramesAt code end fs → levels + brackets fs ≤ 255 →
+      Comes code last (record {
+        place = place;
+        operands = beneath fs;
+        marks = marks_beneath fs;
+        levels = levels;
+      }) s (and_then (within levels body s passes) (onward (onward_of last levels fs)))
+  body_begins place levels body fs end s (deeper {mid = mid} {leave = leave} {cs = cs} {f = f} is
+      enters commands ends leaves) behind fits =
+      sooner code last _ s
+      (reads {text = ScriptText body} (record { commands = cs; fault = f }) is here)
+      (stands code last place levels (Enters (record { commands = cs; fault = f })) fs (leave + 1) s
+      (record {
+        enters = enters;
+        stop = leave;
+        script = record { mid = mid; commands = commands; ends = ends };
+        leaves = leaves;
+        ends = refl;
+      })
+      behind fits)
+
+  -- its script begins, where a level is left
+  pub enters_leads : (levels : ℕ) (tree : ScriptTree) (fs : List Frame) (s : Status)
+      (place end : ℕ) → EntersAt code place tree end → FramesAt code end fs →
+      levels + brackets fs ≤ 255 →
+      Follows code last
+      (machine (slice_get code place) (spot_at place levels (Enters tree) fs) s)
+      (left_of last levels (Enters tree) fs s)
+  enters_leads zero tree fs s place end at behind fits =
+      by code last i.Enter (spot_at place zero (Enters tree) fs) s _ at.enters
+      (same_goes (leaves_pass code last zero fs s _ _))
+  enters_leads (suc levels) tree fs s place end at behind fits =
+      by code last i.Enter (spot_at place (suc levels) (Enters tree) fs) s _ at.enters
+      (sooner code last _ s (calls here)
+      (stands code last (place + 1) levels (Has []) (Rest tree.commands tree.fault ∷ Body ∷ fs)
+      (place + 1) s refl
+      (at.stop, at.script, (at.leaves, subst (λ n. FramesAt code n fs) at.ends behind))
+      (omega (arith, fits))))

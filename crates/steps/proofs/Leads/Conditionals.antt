@@ -1,0 +1,154 @@
+-- A command that has code of its own: if.
+use Rattle.std.proofs.Common.{◌≡◌, ◌∙◌, ℕ, ◌+◌, ◌≤◌, List, [], ◌∷◌, ◌++◌, false, Option, Some, None, Ok, option_map, append_assoc, codes, refl, sym, ap, subst, arith, if◌then◌else◌}
+use Rattle.std.specs.Prelude.{slice_get}
+use Rattle.std.proofs.lemmas.List.{append-nil}
+use Rattle.code.specs.Code.{At, CommandAt, by_words, own, OwnAt, conditional, BranchesAt, branch, BehindAt, no_else, with_else, deeper, WordsAt, literals}
+use Rattle.code.specs.declared.instruction.Instruction.{Instruction}
+use Rattle.code.specs.declared.instruction.Instruction.TheVariants as i
+use Rattle.conditions.specs.Branches as definition
+use Rattle.conditions.specs.Branches.{Branch, Branches, branches, no_branch, with_body, with_branch}
+use Rattle.conditions.specs.Conditional.{on_branches}
+use Rattle.plan.specs.Plan.{and_then, onward}
+use Rattle.runs.specs.Commands.{called, command}
+use Rattle.state.specs.Piece.{FormulaText, ScriptText}
+use Rattle.state.specs.Prelude.{Course, Dialogue, Outcome, ScriptTree, Status}
+use Rattle.steps.specs.Follows.{Comes, Follows}
+use Rattle.steps.specs.Goes.{here, reads}
+use Rattle.steps.specs.Layout.{ChoosesAt, FramesAt}
+use Rattle.steps.specs.Machine.{machine, unhidden}
+use Rattle.steps.specs.Operand.{Condition}
+use Rattle.steps.specs.Places.{Has, Gathers, Starts, Chooses, Frame, Skip, brackets, left_of, onward_of, spot_at}
+use Rattle.steps.proofs.Leads.Bodies.{enters_leads}
+use Rattle.steps.proofs.Leads.Formulas.{formula_leads}
+use Rattle.steps.proofs.Leads.Grows.{behind_grows, own_grows, words_grow}
+use Rattle.steps.proofs.Leads.Meanings.{jump_leads}
+use Rattle.steps.proofs.Leads.Silent.{same_goes}
+use Rattle.steps.proofs.Leads.Standing.{by, silently, sooner, stands}
+use Rattle.steps.proofs.Leads.Words.{words_lead}
+use Rattle.tclparse.specs.Tree.{Words, no_parts}
+use Rattle.tclstate.specs.Pairs.{found}
+use Rattle.tclstate.specs.Procs.{Procedure}
+use Rattle.words.proofs.Steps.{literal}
+use Rattle.words.specs.Words.{words}
+
+-- words that are texts as they stand are these texts
+literal_words : (levels : ℕ) (texts before : List (List ℕ)) (s : Status)
+    (next : Status → List (List ℕ) → Course) →
+    words levels (literals texts) before s next ≡ next s (before ++ texts)
+literal_words levels [] before s next = ap (next s) (sym (append-nil before))
+literal_words levels (text ∷ texts) before s next =
+    literal levels text no_parts [] s
+    (λ t value. words levels (literals texts) (before ++ value ∷ []) t next)
+    ∙ literal_words levels texts (before ++ text ∷ []) s next
+    ∙ ap (next s) (append_assoc before (text ∷ []) texts)
+
+module _ {A X : Type 0} (code : List (Instruction A)) (last : Status → Outcome → Dialogue X) where
+  -- the branches that words make, and where they stand
+  record Found (place : ℕ) (args : List (List ℕ)) (end : ℕ) : Type 0 where
+    it : Branches
+    is : branches args ≡ Some it
+    at : ChoosesAt code place it.tests it.otherwise end
+
+  -- the same of the words after a body
+  record Behind (place : ℕ) (args : List (List ℕ)) (end : ℕ) : Type 0 where
+    it : Branches
+    is : definition.behind args ≡ Some it
+    at : ChoosesAt code place it.tests it.otherwise end
+
+  behind_found : (place : ℕ) (args : List (List ℕ)) (end : ℕ) → BehindAt code place args end →
+      Behind place args end
+  behind_found place args end (no_else at) =
+      record { it = no_branch None; is = refl; at = (at, refl) }
+  behind_found place args end (with_else {body = body} at) =
+      record { it = no_branch (Some body); is = refl; at = at }
+
+  branches_found : (place : ℕ) (args : List (List ℕ)) (end : ℕ) → BranchesAt code place args end →
+      Found place args end
+  branches_found place args end (branch {unless = mid} {jump = jump} {test = test} {body = body}
+      {behind = more} {f = f} plain is formula unless body_at jump_at behind_at) =
+      let rest = behind_found (jump + 1) more end behind_at in record {
+        it = with_branch test body rest.it;
+        is = ap (λ b. if b then with_body test more
+            else option_map (with_branch test body) (definition.behind more)) plain
+            ∙ ap (option_map (with_branch test body)) rest.is;
+        at = (f, mid, is, formula, (jump, unless, body_at, jump_at, behind_grows code behind_at, rest.at));
+      }
+
+  -- the branches that are left
+  pub chooses_lead : (levels end : ℕ) (fs : List Frame) (s : Status) (place : ℕ)
+      (more : List Branch) (otherwise : Option (List ℕ)) → ChoosesAt code place more otherwise end →
+      FramesAt code end fs → levels + brackets fs ≤ 255 →
+      Follows code last
+      (machine (slice_get code place) (spot_at place levels (Chooses more otherwise) fs) s)
+      (left_of last levels (Chooses more otherwise) fs s)
+  chooses_lead levels end fs s place [] None at behind fits =
+      by code last (i.Text []) (spot_at place levels (Chooses [] None) fs) s _ at.0
+      (stands code last (place + 1) levels (Has []) fs (place + 1) s refl
+      (subst (λ n. FramesAt code n fs) at.1 behind) fits)
+  chooses_lead levels end fs s place [] (Some body) (deeper {mid = mid} {leave = leave} {cs = cs}
+      {f = f} is enters commands ends leaves) behind fits =
+      let tree : ScriptTree = record { commands = cs; fault = f } in
+      silently code last _ (reads {text = ScriptText body} tree is here)
+      (enters_leads code last levels tree fs s place (leave + 1)
+      (record {
+        enters = enters;
+        stop = leave;
+        script = record { mid = mid; commands = commands; ends = ends };
+        leaves = leaves;
+        ends = refl;
+      })
+      behind fits)
+  chooses_lead levels end fs s place (first ∷ more) otherwise at behind fits =
+      silently code last _ (reads {text = FormulaText first.test} (Ok at.0) at.2 here)
+      (formula_leads code last levels end fs s (Condition first.body more otherwise ∷ []) place at.0
+      at.1 at.3 at.4 behind fits)
+
+  -- the command of this name has code of its own, and no procedure hides it
+  own_begins : (levels : ℕ) (fs : List Frame) (s : Status) (name : List ℕ) (place : ℕ)
+      (args : List (List ℕ)) (end : ℕ) → found s.procedures name ≡ None →
+      OwnAt code name place args end → FramesAt code end fs → levels + brackets fs ≤ 255 →
+      Comes code last (spot_at place levels (Starts (literals (name ∷ args))) fs) s
+      (left_of last levels (Starts (literals (name ∷ args))) fs s)
+  own_begins levels fs s name place args end none (conditional at) behind fits =
+      let branches_at = branches_found place args end at in
+      sooner code last _ s
+      (same_goes (ap (λ c. and_then c (onward (onward_of last levels fs)))
+      (literal_words levels (codes "if" ∷ args) [] s (command levels)
+      ∙ ap (λ procedure. called procedure levels (codes "if") args s) none
+      ∙ ap (λ known. on_branches levels known s) branches_at.is)))
+      (stands code last place levels (Chooses branches_at.it.tests branches_at.it.otherwise) fs end
+      s branches_at.at behind fits)
+
+  -- a procedure hides it, or none does
+  unhidden_leads : (procedure : Option Procedure) (levels : ℕ) (fs : List Frame) (s : Status)
+      (name : List ℕ) (place mid : ℕ) (args : List (List ℕ)) (end : ℕ) →
+      found s.procedures name ≡ procedure →
+      WordsAt code false 0 (place + 1) (literals (name ∷ args)) mid → At code mid (i.Jump end) →
+      OwnAt code name (mid + 1) args end → FramesAt code end fs → levels + brackets fs ≤ 255 →
+      Follows code last
+      (unhidden procedure (mid + 1)
+      (spot_at (place + 1) levels (Starts (literals (name ∷ args))) fs) s)
+      (left_of last levels (Starts (literals (name ∷ args))) fs s)
+  unhidden_leads None levels fs s name place mid args end is words_at jump own_at behind fits =
+      jump_leads code last (mid + 1) _ s _ (omega (arith, words_grow code words_at))
+      (own_begins levels fs s name (mid + 1) args end is own_at behind fits)
+  unhidden_leads (Some procedure) levels fs s name place mid args end is words_at jump own_at behind
+      fits =
+      stands code last (place + 1) levels (Gathers false [] (literals (name ∷ args))) (Skip ∷ fs)
+      mid s (0, refl, words_at) (end, jump, own_grows code own_at, behind) fits
+
+  -- a command begins with its first word, or with its own code
+  pub starts_leads : (levels : ℕ) (fs : List Frame) (s : Status) (place : ℕ) (ws : Words)
+      (end : ℕ) → CommandAt code place ws end → FramesAt code end fs →
+      levels + brackets fs ≤ 255 →
+      Follows code last
+      (machine (slice_get code place) (spot_at place levels (Starts ws) fs) s)
+      (left_of last levels (Starts ws) fs s)
+  starts_leads levels fs s place ws end (by_words words_at) behind fits =
+      words_lead code last levels [] fs s false 0 place ws end refl words_at behind fits
+  starts_leads levels fs s place ws end (own {mid = mid} {name = name} {args = args} hides words_at
+      jump own_at) behind fits =
+      by code last (i.Unhidden name (mid + 1)) (spot_at place levels (Starts (literals (name ∷
+      args))) fs) s _ hides
+      (unhidden_leads (found s.procedures name) levels fs s name place mid args end refl words_at
+      jump own_at behind fits)
