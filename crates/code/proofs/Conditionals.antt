@@ -1,17 +1,16 @@
 -- The code of if.
-use Rattle.std.proofs.Common.{◌≡◌, ℕ, ◌+◌, false, true, List, [], ◌∷◌, ◌++◌, codes, Option, Some, None, Ok, length, sym, subst}
+use Rattle.std.proofs.Common.{◌≡◌, ℕ, ◌+◌, false, true, List, [], ◌∷◌, ◌++◌, codes, Option, Some, None, length, refl, sym, subst}
 use Rattle.std.specs.Prelude.{slice_set}
-use Rattle.std.specs.Str.{bytes_eq}
 use Rattle.code.specs.Blocks.{BehindBlock, BodyBlock, BranchesBlock, FormulaBlock, OwnBlock, ScriptBlock, WordsBlock}
-use Rattle.code.specs.Code.{At, BehindAt, BodyAt, BranchesAt, CommandAt, CommandsAt, WordsAt, branch, conditional, deeper, literals, no_else, own, with_else}
-use Rattle.code.specs.Conditional.{behind_words, IsBody, IsOtherwise}
+use Rattle.code.specs.Code.{At, BehindAt, BodyAt, BranchesAt, CommandAt, CommandsAt, IsLast, WordsAt, branch, conditional, deeper, else_if, at_last, literals, no_else, own}
+use Rattle.code.specs.Conditional.{AreBehind, AreBranches, IsBody, ends, first, goes_on, nothing}
+use Rattle.code.specs.declared.conditional.Branch.{Branch}
 use Rattle.code.specs.declared.instruction.Instruction.{Instruction}
 use Rattle.code.specs.declared.instruction.Instruction.TheVariants as i
 use Rattle.code.proofs.Built.{extended, kept_on, longer, onward, stands}
 use Rattle.code.proofs.Forks.{filled_length, forked, second_begins}
+use Rattle.formulas.specs.View.{formula_of}
 use Rattle.tclparse.specs.Fault.{Fault}
-use Rattle.tclparse.specs.Formula.{Formula}
-use Rattle.tclparse.specs.FormulaGrammar.{IsFormula}
 use Rattle.tclparse.specs.Grammar.{IsScript}
 use Rattle.tclparse.specs.Tree.{Commands, Words}
 use Rattle.tclparse.specs.declared.script.Script.{Script}
@@ -36,9 +35,9 @@ module _ {A : Type 0} where
       }
 
   -- no body is left: the value is empty
-  pub nothing_block : (old new : List (Instruction A)) → new ≡ old ++ i.Text [] ∷ [] →
+  no_else_block : (old new : List (Instruction A)) → new ≡ old ++ i.Text [] ∷ [] →
       BehindBlock old new []
-  nothing_block old new put = record {
+  no_else_block old new put = record {
     extends = extended old new (i.Text []) put;
     lies = λ later kept. subst (λ n. BehindAt later (length old) [] n)
         (sym (longer old new (i.Text []) put))
@@ -46,47 +45,69 @@ module _ {A : Type 0} where
   }
 
   -- the last body
-  pub otherwise_block : (old new : List (Instruction A)) (text : List ℕ) → BodyBlock old new text →
-      BehindBlock old new (codes "else" ∷ text ∷ [])
-  otherwise_block old new text block = record {
+  last_block : (old new : List (Instruction A)) (body : List ℕ) (args : List (List ℕ)) →
+      IsLast body args → BodyBlock old new body → BehindBlock old new args
+  last_block old new body args is block = record {
     extends = block.extends;
-    lies = λ later kept. with_else (block.lies later kept);
+    lies = λ later kept. at_last is (block.lies later kept);
   }
 
-  -- what is done where the test does not hold: there is a body, or none
-  pub some_block : (old new : List (Instruction A)) (body : Script A) (text : Option (List ℕ)) →
-      IsOtherwise (Some body) text → ((t : List ℕ) → IsBody body t → BodyBlock old new t) →
-      BehindBlock old new (behind_words text)
-  some_block old new body None is block = absurd is
-  some_block old new body (Some t) is block = otherwise_block old new t (block t is)
+  -- no branch is left
+  pub no_branch : (otherwise : Option (Script A)) (args : List (List ℕ)) (bs : List (Branch A)) →
+      bs ≡ [] → AreBranches bs otherwise args → ⊥
+  no_branch otherwise args bs none (first is read more) = cc
 
-  pub none_block : (old new : List (Instruction A)) (text : Option (List ℕ)) →
-      (let none : Option (Script A) = None in IsOtherwise none text) →
-      new ≡ old ++ i.Text [] ∷ [] → BehindBlock old new (behind_words text)
-  none_block old new None is put = nothing_block old new put
-  none_block old new (Some t) is put = absurd is
+  -- what is done where no test holds: there is a body, or none
+  pub some_block : (old new : List (Instruction A)) (script : Script A) (args : List (List ℕ)) →
+      AreBehind [] (Some script) args →
+      ((body : List ℕ) → IsBody script body → BodyBlock old new body) → BehindBlock old new args
+  some_block old new script args (ends {body = body} is read) block =
+      last_block old new body args is (block body read)
+  some_block old new script args (goes_on {args = more} are) block =
+      absurd (no_branch (Some script) more [] refl are)
 
-  -- a test and its bodies
-  pub branches_block : (old tested hole one two filled_one all new : List (Instruction A))
-      (test body : List ℕ) (behind args : List (List ℕ)) (f : Formula) →
-      bytes_eq body (codes "then") ≡ false → IsFormula (Ok f) test → FormulaBlock old tested f →
-      hole ≡ tested ++ i.Hole ∷ [] → BodyBlock hole one body → two ≡ one ++ i.Hole ∷ [] →
+  pub none_block : (old new : List (Instruction A)) (args : List (List ℕ)) →
+      (let none : Option (Script A) = None in AreBehind [] none args) →
+      new ≡ old ++ i.Text [] ∷ [] → BehindBlock old new args
+  none_block old new args nothing put = no_else_block old new put
+  none_block old new args (goes_on {args = more} are) put = absurd (no_branch None more [] refl are)
+
+  -- one more branch
+  pub else_if_block : (old new : List (Instruction A)) (it : Branch A) (more : List (Branch A))
+      (otherwise : Option (Script A)) (args : List (List ℕ)) →
+      AreBehind (it ∷ more) otherwise args →
+      ((rest : List (List ℕ)) → AreBranches (it ∷ more) otherwise rest →
+      BranchesBlock old new rest) →
+      BehindBlock old new args
+  else_if_block old new it more otherwise args (goes_on {args = rest} are) block =
+      let put = block rest are in record {
+        extends = put.extends;
+        lies = λ later kept. else_if (put.lies later kept);
+      }
+
+  -- a test and its body, and what is done where the test does not hold
+  pub branch_block : (old tested hole one two filled_one all new : List (Instruction A))
+      (it : Branch A) (more : List (Branch A)) (otherwise : Option (Script A))
+      (args : List (List ℕ)) → AreBranches (it ∷ more) otherwise args →
+      FormulaBlock old tested (formula_of it.test) → hole ≡ tested ++ i.Hole ∷ [] →
+      ((body : List ℕ) → IsBody it.body body → BodyBlock hole one body) →
+      two ≡ one ++ i.Hole ∷ [] →
       filled_one ≡ slice_set two (length tested) (i.Unless (length two)) →
-      BehindBlock filled_one all behind →
-      new ≡ slice_set all (length one) (i.Jump (length all)) → args ≡ test ∷ body ∷ behind →
-      BranchesBlock old new args
-  branches_block old tested hole one two filled_one all new test body behind args f plain is tests
-      put_one first put_two fill_one second fill_two are =
+      ((behind : List (List ℕ)) → AreBehind more otherwise behind →
+      BehindBlock filled_one all behind) →
+      new ≡ slice_set all (length one) (i.Jump (length all)) → BranchesBlock old new args
+  branch_block old tested hole one two filled_one all new it more otherwise args
+      (first {test = test} {body = body} {behind = behind} is read rest) tests put_one bodies
+      put_two fill_one lasts fill_two =
       let fork = forked tested hole one two filled_one all new (λ n. i.Unless n) (λ n. tt)
       (λ later. BodyAt later (length hole) body (length one))
       (λ later. BehindAt later (length filled_one) behind (length all))
-      put_one first put_two fill_one second fill_two in
+      put_one (bodies body read.body_is) put_two fill_one (lasts behind rest) fill_two in
       record {
         extends = onward tests.extends fork.extends;
         lies = λ later kept.
             let lies = fork.lies later kept in
-            subst (λ a. BranchesAt later (length old) a (length new)) (sym are)
-            (branch plain is (tests.lies later (kept_on fork.extends kept)) lies.0
+            branch is read.test_is (tests.lies later (kept_on fork.extends kept)) lies.0
             (subst (λ k. BodyAt later k body (length one)) (longer tested hole i.Hole put_one)
             lies.1)
             lies.2
@@ -95,7 +116,7 @@ module _ {A : Type 0} where
             (subst (λ k. BehindAt later k behind (length all))
             (second_begins one two filled_one (length tested) (i.Unless (length two)) put_two
             fill_one)
-            lies.3)));
+            lies.3));
       }
 
   -- the words of if, for where a procedure hides it, and then its own code
@@ -106,12 +127,12 @@ module _ {A : Type 0} where
       filled_one ≡ slice_set two (length old) (i.Unhidden name (length two)) →
       BranchesBlock filled_one all args →
       new ≡ slice_set all (length one) (i.Jump (length all)) → OwnBlock true old new ws
-  conditional_block old hole one two filled_one all new name args ws named are put_one first put_two
-      fill_one second fill_two =
+  conditional_block old hole one two filled_one all new name args ws named are put_one
+      worded put_two fill_one second fill_two =
       let fork = forked old hole one two filled_one all new (λ n. i.Unhidden name n) (λ n. tt)
       (λ later. WordsAt later false 0 (length hole) ws (length one))
       (λ later. BranchesAt later (length filled_one) args (length all))
-      put_one first put_two fill_one second fill_two in
+      put_one worded put_two fill_one second fill_two in
       record {
         extends = fork.extends;
         lies = λ later kept.

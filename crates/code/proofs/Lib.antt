@@ -6,4 +6,5 @@ pub mod Commands
 pub mod Scripts
 pub mod Formulas
 pub mod Literals
+pub mod Fronts
 pub mod Conditionals

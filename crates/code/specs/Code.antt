@@ -37,6 +37,19 @@ abbrev pub literals : List (List ℕ) → Words
 literals [] = no_words
 literals (text ∷ texts) = word false (bytes_then text no_parts) (literals texts)
 
+-- a test and a body, with the word then between them or without, and the words after the body
+-- (if(n))
+pub data IsBranch (test body : List ℕ) (behind : List (List ℕ)) : List (List ℕ) → Type 0 where
+  without_then : bytes_eq body (codes "then") ≡ false →
+      IsBranch test body behind (test ∷ body ∷ behind)
+  with_then : IsBranch test body behind (test ∷ codes "then" ∷ body ∷ behind)
+
+-- the last body, with the word else before it or without (if(n))
+pub data IsLast (body : List ℕ) : List (List ℕ) → Type 0 where
+  with_else : IsLast body (codes "else" ∷ body ∷ [])
+  without_else : bytes_eq body (codes "elseif") ≡ false → bytes_eq body (codes "else") ≡ false →
+      IsLast body (body ∷ [])
+
 -- The code of the tree stands from the first place up to the second.
 mutual
   -- parts of a word, before which there is something of the word or nothing: their values are put
@@ -106,18 +119,21 @@ mutual
   -- body are what their words are read as (if(n))
   pub data BranchesAt {A : Type 0} (code : List (Instruction A)) :
       ℕ → List (List ℕ) → ℕ → Type 0 where
-    branch : {place unless jump end : ℕ} {test body : List ℕ} {behind : List (List ℕ)}
-        {f : Formula} → bytes_eq body (codes "then") ≡ false → IsFormula (Ok f) test →
+    branch : {place unless jump end : ℕ} {test body : List ℕ} {behind args : List (List ℕ)}
+        {f : Formula} → IsBranch test body behind args → IsFormula (Ok f) test →
         FormulaAt code place f unless → At code unless (i.Unless (jump + 1)) →
         BodyAt code (unless + 1) body jump → At code jump (i.Jump end) →
-        BehindAt code (jump + 1) behind end → BranchesAt code place (test ∷ body ∷ behind) end
+        BehindAt code (jump + 1) behind end → BranchesAt code place args end
 
-  -- the words after a body: none, where the value is empty, or else and the last body (if(n))
+  -- the words after a body: none, where the value is empty, or those of the last body, or elseif
+  -- and a further branch (if(n))
   pub data BehindAt {A : Type 0} (code : List (Instruction A)) :
       ℕ → List (List ℕ) → ℕ → Type 0 where
     no_else : {place : ℕ} → At code place (i.Text []) → BehindAt code place [] (place + 1)
-    with_else : {place end : ℕ} {body : List ℕ} → BodyAt code place body end →
-        BehindAt code place (codes "else" ∷ body ∷ []) end
+    at_last : {place end : ℕ} {body : List ℕ} {args : List (List ℕ)} → IsLast body args →
+        BodyAt code place body end → BehindAt code place args end
+    else_if : {place end : ℕ} {args : List (List ℕ)} → BranchesAt code place args end →
+        BehindAt code place (codes "elseif" ∷ args) end
 
   -- what a text is read as, as a script that runs one level deeper
   pub data BodyAt {A : Type 0} (code : List (Instruction A)) : ℕ → List ℕ → ℕ → Type 0 where

@@ -1,9 +1,11 @@
 -- What the words of if are read as.
-use Rattle.std.specs.Prelude.{◌≡◌, ℕ, false, List, [], ◌∷◌, codes, Option, Some, None, option_copied, option_map, Ok}
-use Rattle.std.specs.Str.{bytes_eq}
-use Rattle.code.specs.Code.{literals}
+use Rattle.std.specs.Prelude.{◌≡◌, ℕ, false, List, [], ◌∷◌, codes, Option, Some, None, option_map, Ok, reverse}
+use Rattle.code.specs.Code.{IsBranch, IsLast, literals}
+use Rattle.code.specs.declared.branches.Behind.{Behind}
+use Rattle.code.specs.declared.branches.Behind.TheVariants as after
+use Rattle.code.specs.declared.branches.Front.{Front}
+use Rattle.code.specs.declared.conditional.Branch.{Branch}
 use Rattle.code.specs.declared.conditional.Conditional.{Conditional}
-use Rattle.code.specs.declared.conditional.Texts.{Texts}
 use Rattle.formulas.specs.View.{formula_of}
 use Rattle.tclparse.specs.FormulaGrammar.{IsFormula}
 use Rattle.tclparse.specs.Grammar.{IsScript}
@@ -19,39 +21,56 @@ abbrev pub IsLiteral : {A : Type 0} → Word A → List ℕ → Type 0
 IsLiteral word text =
     (t : Words) → word_view word t ≡ tree.word false (bytes_then text no_parts) t
 
--- the words after a body: none, or else and the last body (if(n))
-abbrev pub behind_words : Option (List ℕ) → List (List ℕ)
-behind_words None = []
-behind_words (Some body) = codes "else" ∷ body ∷ []
+-- the words are these texts as they stand
+abbrev pub Are : {A : Type 0} → List (Word A) → List (List ℕ) → Type 0
+Are words texts = words_then words no_words ≡ literals texts
 
--- the words are those after a body
-abbrev pub IsRest : {A : Type 0} → List (Word A) → Option (List ℕ) → Type 0
-IsRest words rest = words_then words no_words ≡ literals (behind_words rest)
+-- the words are a test, a body and further words, as far as these are texts
+abbrev pub IsFront : {A : Type 0} → List (Word A) → Front A → Type 0
+IsFront words front = (behind : List (List ℕ)) → Are front.behind.now behind →
+    (args : List (List ℕ)) × Are words args × IsBranch front.test.now front.body.now behind args
 
--- the words are if, a test, a body, and the last body, if there is one
-pub record AreTexts {A : Type 0} (words : List (Word A)) (texts : Texts) : Type 0 where
-  pub are : words_then words no_words ≡ literals (codes "if" ∷ texts.test.now ∷ texts.body.now
-      ∷ behind_words (option_copied texts.otherwise))
-  pub plain : bytes_eq texts.body.now (codes "then") ≡ false
+-- the words after a body are none, or those of the last body, or elseif and further words
+abbrev pub IsBehind : {A : Type 0} → List (Word A) → Behind A → Type 0
+IsBehind words (after.Branches more) =
+    (args : List (List ℕ)) → Are more.now args → Are words (codes "elseif" ∷ args)
+IsBehind words after.Nothing = Are words []
+IsBehind words (after.Last body) =
+    (args : List (List ℕ)) × Are words args × IsLast body.now args
+IsBehind words after.Wrong = Unit {0}
 
 -- the script is what the text is read as (Tcl(n))
 abbrev pub IsBody : {A : Type 0} → Script A → List ℕ → Type 0
 IsBody script text =
     IsScript (commands_of script.commands) (option_map fault_of script.fault) text
 
--- the same, where there is one
-abbrev pub IsOtherwise : {A : Type 0} → Option (Script A) → Option (List ℕ) → Type 0
-IsOtherwise None None = Unit {0}
-IsOtherwise (Some script) (Some text) = IsBody script text
-IsOtherwise _ _ = ⊥
-
--- a test and its bodies are what these words after if are read as
-pub record IsConditional {A : Type 0} (own : Conditional A) (args : List (List ℕ)) : Type 0 where
-  pub test : List ℕ
-  pub body : List ℕ
-  pub last : Option (List ℕ)
-  pub are : args ≡ test ∷ body ∷ behind_words last
-  pub plain : bytes_eq body (codes "then") ≡ false
+-- a test and its body are what these texts are read as
+pub record IsRead {A : Type 0} (own : Branch A) (test body : List ℕ) : Type 0 where
   pub test_is : IsFormula (Ok (formula_of own.test)) test
   pub body_is : IsBody own.body body
-  pub last_is : IsOtherwise own.otherwise last
+
+-- the branches, the first one first, and the last body, where there is one, are what words are read
+-- as: those after if, and those after a body
+mutual
+  pub data AreBranches {A : Type 0} :
+      List (Branch A) → Option (Script A) → List (List ℕ) → Type 0 where
+    first : {own : Branch A} {more : List (Branch A)} {otherwise : Option (Script A)}
+        {test body : List ℕ} {behind args : List (List ℕ)} → IsBranch test body behind args →
+        IsRead own test body → AreBehind more otherwise behind →
+        AreBranches (own ∷ more) otherwise args
+
+  pub data AreBehind {A : Type 0} :
+      List (Branch A) → Option (Script A) → List (List ℕ) → Type 0 where
+    nothing : AreBehind [] None []
+    ends : {script : Script A} {body : List ℕ} {args : List (List ℕ)} → IsLast body args →
+        IsBody script body → AreBehind [] (Some script) args
+    goes_on : {more : List (Branch A)} {otherwise : Option (Script A)} {args : List (List ℕ)} →
+        AreBranches more otherwise args → AreBehind more otherwise (codes "elseif" ∷ args)
+
+-- what is kept of these words, whose last branch stands first
+abbrev pub IsConditional : {A : Type 0} → Conditional A → List (List ℕ) → Type 0
+IsConditional own args = AreBranches (reverse own.branches.items) own.otherwise args
+
+-- the same of the words after a body
+abbrev pub IsAfter : {A : Type 0} → Conditional A → List (List ℕ) → Type 0
+IsAfter own args = AreBehind (reverse own.branches.items) own.otherwise args

@@ -1,14 +1,13 @@
-//! `if` whose words are literals (if(n)).
+//! The code of `if` whose words are literals (if(n)).
 
-ghost use Rattle.std.specs.Prelude.{◌≡◌, ◌∷◌, ℕ, List, true, codes, Option, option_copied, IfOk, IfSome, Ok, OnOk};
+ghost use Rattle.std.specs.Prelude.{◌≡◌, [], ◌∷◌, ℕ, List, true, codes, reverse, IfOk, IfSome, OnOk};
 ghost use Rattle.code.specs.Blocks.{BehindBlock, BodyBlock, BranchesBlock, OwnBlock};
 ghost use Rattle.code.specs.Code.{literals};
-ghost use Rattle.code.specs.Conditional.{AreTexts, behind_words, IsBody, IsConditional, IsOtherwise, IsRest};
-ghost use Rattle.formulas.specs.View.{formula_of};
-ghost use Rattle.tclparse.specs.FormulaGrammar.{IsFormula};
+ghost use Rattle.code.specs.Conditional.{Are, AreBehind, AreBranches, IsAfter, IsBody, IsConditional, IsRead};
 ghost use Rattle.tclparse.specs.Tree.{no_words};
 ghost use Rattle.tclparse.specs.View.{words_then};
 
+use crate::branches::{Behind, behind_of, front_of};
 use crate::emit::{emit_script, emit_words};
 use crate::formula::{emit_formula, fill};
 use crate::instruction::Instruction;
@@ -20,110 +19,112 @@ use std::alloc::Allocator;
 use tclparse::{Script, Word};
 use tcltext::Value;
 
-/// The texts of the words after `if`: a test, a body, and the one after `else`, if there is one.
-#[derive(Clone, Copy)]
-struct Texts<'a> {
-    test: &'a [u8],
-    body: &'a [u8],
-    otherwise: Option<&'a [u8]>,
-}
+/// How many branches an `if` with code of its own has at most.
+const MOST_BRANCHES: u32 = 100;
 
-/// What these texts are read as.
+/// A test and its body.
 #[derive(Drop)]
-pub(crate) struct Conditional<A: Allocator> {
+pub(crate) struct Branch<A: Allocator> {
     test: Formula<A>,
     body: Script<A>,
+}
+
+/// The branches, the last one first, and the last body, if there is one.
+#[derive(Drop)]
+pub(crate) struct Conditional<A: Allocator> {
+    branches: Vec<Branch<A>, A>,
     otherwise: Option<Script<A>>,
 }
 
-/// The text of the last body, where these words after a body are none or `else` and a literal.
-fn rest_of<A: Allocator>(words: &[Word<A>]) -> Option<Option<&[u8]>>
-    ensures { IfSome result (λ rest. IsRest words.now (option_copied rest)) }
+/// Reads a test and its body; `None` where the test is no formula.
+fn read_branch<A: Allocator + Copy>(
+    alloc: A,
+    test: &[u8],
+    body: &[u8],
+) -> Result<Option<Branch<A>>, NoMemory>
+    ensures { IfOk result (λ read. IfSome read (λ own. IsRead own test.now body.now)) }
 {
-    match words {
-        [] => Some(None),
-        [word, body] => {
-            let word = literal_of(word)?;
-            let body = literal_of(body)?;
-            if word == b"else".as_slice() {
-                Some(Some(body))
-            } else {
-                None
-            }
+    match Formula::read(alloc, test) {
+        Ok(test) => {
+            let body = Script::read(alloc, body)?;
+            Ok(Some(Branch { test, body }))
         }
-        _ => None,
-    }
-}
-
-/// The texts of these words, where they are `if` and literals of one of the two forms.
-fn texts_of<A: Allocator>(words: &[Word<A>]) -> Option<Texts<'_>>
-    ensures { IfSome result (λ texts. AreTexts words.now texts) }
-{
-    let [name, test, body, rest @ ..] = words else {
-        return None;
-    };
-    let name = literal_of(name)?;
-    let test = literal_of(test)?;
-    let body = literal_of(body)?;
-    let otherwise = rest_of(rest)?;
-    if name == b"if".as_slice() && body != b"then".as_slice() {
-        Some(Texts {
-            test,
-            body,
-            otherwise,
-        })
-    } else {
-        None
-    }
-}
-
-/// Reads a text as a formula; `None` where it is none.
-fn read_test<A: Allocator + Copy>(alloc: A, text: &[u8]) -> Result<Option<Formula<A>>, NoMemory>
-    ensures { IfOk result (λ read. IfSome read (λ test.
-        IsFormula (Ok (formula_of test)) text.now)) }
-{
-    match Formula::read(alloc, text) {
-        Ok(test) => Ok(Some(test)),
         Err(ReadError::Fault(_)) => Ok(None),
         Err(ReadError::Memory(refusal)) => Err(refusal),
     }
 }
 
-/// Reads the text of the last body, if there is one.
-fn read_otherwise<A: Allocator + Copy>(
+/// Reads words as branches, at most this many.
+#[cycle(read)]
+fn read_branches<A: Allocator + Copy>(
     alloc: A,
-    text: Option<&[u8]>,
-) -> Result<Option<Script<A>>, NoMemory>
-    ensures { IfOk result (λ otherwise.
-        IsOtherwise otherwise (option_copied text.entry)) }
+    most: u32,
+    words: &[Word<A>],
+) -> Result<Option<Conditional<A>>, NoMemory>
+    ensures { IfOk result (λ read. IfSome read (λ own.
+        (args : List (List ℕ)) × Are words.now args × IsConditional own args)) }
 {
-    match text {
-        Some(text) => Ok(Some(Script::read(alloc, text)?)),
-        None => Ok(None),
+    if most == 0 {
+        return Ok(None);
+    }
+    let Some(front) = front_of(words) else {
+        return Ok(None);
+    };
+    let Some(branch) = read_branch(alloc, front.test, front.body)? else {
+        return Ok(None);
+    };
+    let Some(mut own) = read_behind(alloc, most - 1, front.behind)? else {
+        return Ok(None);
+    };
+    own.branches.push(branch)?;
+    Ok(Some(own))
+}
+
+/// Reads the words after a body, with at most this many branches.
+#[cycle(read)]
+fn read_behind<A: Allocator + Copy>(
+    alloc: A,
+    most: u32,
+    words: &[Word<A>],
+) -> Result<Option<Conditional<A>>, NoMemory>
+    ensures { IfOk result (λ read. IfSome read (λ own.
+        (args : List (List ℕ)) × Are words.now args × IsAfter own args)) }
+{
+    match behind_of(words) {
+        Behind::Branches(more) => Ok(read_branches(alloc, most, more)?),
+        Behind::Nothing => Ok(Some(Conditional {
+            branches: Vec::new(alloc),
+            otherwise: None,
+        })),
+        Behind::Last(text) => {
+            let body = Script::read(alloc, text)?;
+            Ok(Some(Conditional {
+                branches: Vec::new(alloc),
+                otherwise: Some(body),
+            }))
+        }
+        Behind::Wrong => Ok(None),
     }
 }
 
 impl<A: Allocator + Copy> Conditional<A> {
-    /// Reads the words of a command as `if test body ?else body?`. `None` where they are not that,
-    /// where one of them is no literal, or where the test is no formula.
+    /// Reads the words of a command as those of `if`. `None` where they are not that, where one of
+    /// them is no literal, where a test is no formula, or where there are very many branches.
     pub(crate) fn read(alloc: A, words: &[Word<A>]) -> Result<Option<Conditional<A>>, NoMemory>
         ensures { IfOk result (λ read. IfSome read (λ own. (args : List (List ℕ)) ×
-            (words_then words.now no_words ≡ literals (codes "if" ∷ args)) ×
-            IsConditional own args)) }
+            Are words.now (codes "if" ∷ args) × IsConditional own args)) }
     {
-        let Some(texts) = texts_of(words) else {
+        let [name, rest @ ..] = words else {
             return Ok(None);
         };
-        let Some(test) = read_test(alloc, texts.test)? else {
-            return Ok(None);
-        };
-        let body = Script::read(alloc, texts.body)?;
-        let otherwise = read_otherwise(alloc, texts.otherwise)?;
-        Ok(Some(Conditional {
-            test,
-            body,
-            otherwise,
-        }))
+        match literal_of(name) {
+            Some(name) if name == b"if".as_slice() => Ok(read_branches(
+                alloc,
+                MOST_BRANCHES,
+                rest,
+            )?),
+            _ => Ok(None),
+        }
     }
 }
 
@@ -142,14 +143,14 @@ fn emit_body<A: Allocator + Copy, N: Nest<A>>(
     Ok(())
 }
 
-/// Puts the code of what is done where the test does not hold: the last body, or the empty text.
+/// Puts the code of what is done where no test holds: the last body, or the empty text.
 fn emit_otherwise<A: Allocator + Copy, N: Nest<A>>(
     code: &mut Vec<Instruction<A>, A>,
     otherwise: &Option<Script<A>>,
     nest: &N,
 ) -> Result<(), NoMemory>
-    ensures { (text : Option (List ℕ)) → IsOtherwise otherwise.now text →
-        OnOk result (BehindBlock code.old.items code.new.items (behind_words text)) }
+    ensures { (args : List (List ℕ)) → AreBehind [] otherwise.now args →
+        OnOk result (BehindBlock code.old.items code.new.items args) }
 {
     match otherwise {
         Some(body) => emit_body(code, body, nest)?,
@@ -158,13 +159,17 @@ fn emit_otherwise<A: Allocator + Copy, N: Nest<A>>(
     Ok(())
 }
 
-/// Puts the code of a test and its bodies.
-fn emit_branches<A: Allocator + Copy, N: Nest<A>>(
+/// Puts the code of a test and its body, and of what is done where the test does not hold.
+#[cycle(emit_branches)]
+fn emit_branch<A: Allocator + Copy, N: Nest<A>>(
     code: &mut Vec<Instruction<A>, A>,
-    own: &Conditional<A>,
+    own: &Branch<A>,
+    more: &[Branch<A>],
+    otherwise: &Option<Script<A>>,
     nest: &N,
 ) -> Result<(), NoMemory>
-    ensures { (args : List (List ℕ)) → IsConditional own.now args →
+    ensures { (args : List (List ℕ)) →
+        AreBranches (own.now ∷ reverse more.now) otherwise.now args →
         OnOk result (BranchesBlock code.old.items code.new.items args) }
 {
     emit_formula(code, &own.test, nest)?;
@@ -174,9 +179,41 @@ fn emit_branches<A: Allocator + Copy, N: Nest<A>>(
     let jump = code.len();
     code.push(Instruction::Hole)?;
     fill(code, unless, Instruction::Unless(code.len()));
-    emit_otherwise(code, &own.otherwise, nest)?;
+    emit_behind(code, more, otherwise, nest)?;
     fill(code, jump, Instruction::Jump(code.len()));
     Ok(())
+}
+
+/// Puts the code of the branches that are left, the last one first, and of the last body.
+#[cycle(emit_branches)]
+fn emit_behind<A: Allocator + Copy, N: Nest<A>>(
+    code: &mut Vec<Instruction<A>, A>,
+    branches: &[Branch<A>],
+    otherwise: &Option<Script<A>>,
+    nest: &N,
+) -> Result<(), NoMemory>
+    ensures { (args : List (List ℕ)) → AreBehind (reverse branches.now) otherwise.now args →
+        OnOk result (BehindBlock code.old.items code.new.items args) }
+{
+    match branches.split_last() {
+        Some((first, more)) => Ok(emit_branch(code, first, more, otherwise, nest)?),
+        None => Ok(emit_otherwise(code, otherwise, nest)?),
+    }
+}
+
+/// Puts the code of all branches.
+fn emit_branches<A: Allocator + Copy, N: Nest<A>>(
+    code: &mut Vec<Instruction<A>, A>,
+    own: &Conditional<A>,
+    nest: &N,
+) -> Result<(), NoMemory>
+    ensures { (args : List (List ℕ)) → IsConditional own.now args →
+        OnOk result (BranchesBlock code.old.items code.new.items args) }
+{
+    match own.branches.split_last() {
+        Some((first, more)) => Ok(emit_branch(code, first, more, &own.otherwise, nest)?),
+        None => Ok(()),
+    }
 }
 
 /// Puts the code of `if`: its words, for where a procedure hides it, and then its own.

@@ -2,6 +2,7 @@
 //! tree.
 #![tactic(auto)]
 
+mod branches;
 mod conditional;
 mod emit;
 mod formula;

@@ -174,7 +174,10 @@ fn a_formula_has_the_value_that_tclsh_gives(rt: HostRuntime) -> Result<(), Fail>
 fn a_condition_runs_the_body_that_tclsh_runs(rt: HostRuntime) -> Result<(), Fail> {
     // tclsh 8.6.13, with these variables, where each command that it has not prints its words and
     // has the value `v`
-    let scripts: [(&[u8], &[u8]); 7] = [
+    let scripts: [(&[u8], &[u8]); 10] = [
+        (b"if 1 then f", b"<f>\nv\n"),
+        (b"if 0 {f} elseif 1 {g}", b"<g>\nv\n"),
+        (b"if 0 f elseif 0 then g h", b"<h>\nv\n"),
         (b"if {$a < 2} {f $i} else {g}; h", b"<f><2>\n<h>\nv\n"),
         (b"if {$a > 2} {f} else {g $i}", b"<g><2>\nv\n"),
         (b"if {[x] eq \"v\"} {f}", b"<x>\n<f>\nv\n"),
@@ -191,12 +194,12 @@ fn a_condition_runs_the_body_that_tclsh_runs(rt: HostRuntime) -> Result<(), Fail
 
 #[test]
 fn a_condition_without_code_of_its_own_begins_by_its_words(rt: HostRuntime) -> Result<(), Fail> {
-    // its words are no literals, its test is no formula, or they have another form of if(n)
+    // its words are no literals, its test is no formula, or they make no branches
     let scripts: [(&[u8], &[u8]); 4] = [
         (b"if $a g", b"<if><1><g>\nv\n"),
         (b"if {1 +} f", b"<if><1 +><f>\nv\n"),
-        (b"if 1 then f", b"<if><1><then><f>\nv\n"),
         (b"if 1 then", b"<if><1><then>\nv\n"),
+        (b"if 1 f elseif {} g", b"<if><1><f><elseif><><g>\nv\n"),
     ];
     for (text, wanted) in scripts {
         compare(&rt, rt.alloc(), text, wanted)?;

@@ -2,11 +2,11 @@
 use Rattle.std.proofs.Common.{◌≡◌, ◌∙◌, ℕ, ◌+◌, ◌≤◌, List, [], ◌∷◌, ◌++◌, false, Option, Some, None, Ok, option_map, append_assoc, codes, refl, sym, ap, subst, arith, if◌then◌else◌}
 use Rattle.std.specs.Prelude.{slice_get}
 use Rattle.std.proofs.lemmas.List.{append-nil}
-use Rattle.code.specs.Code.{At, CommandAt, by_words, own, OwnAt, conditional, BranchesAt, branch, BehindAt, no_else, with_else, deeper, WordsAt, literals}
+use Rattle.code.specs.Code.{At, CommandAt, by_words, own, OwnAt, conditional, BranchesAt, branch, BehindAt, no_else, at_last, else_if, IsBranch, without_then, with_then, IsLast, with_else, without_else, deeper, WordsAt, literals}
 use Rattle.code.specs.declared.instruction.Instruction.{Instruction}
 use Rattle.code.specs.declared.instruction.Instruction.TheVariants as i
 use Rattle.conditions.specs.Branches as definition
-use Rattle.conditions.specs.Branches.{Branch, Branches, branches, no_branch, with_body, with_branch}
+use Rattle.conditions.specs.Branches.{Branch, Branches, alone, branches, last_body, no_branch, with_body, with_branch}
 use Rattle.conditions.specs.Conditional.{on_branches}
 use Rattle.plan.specs.Plan.{and_then, onward}
 use Rattle.runs.specs.Commands.{called, command}
@@ -55,24 +55,51 @@ module _ {A X : Type 0} (code : List (Instruction A)) (last : Status → Outcome
     is : definition.behind args ≡ Some it
     at : ChoosesAt code place it.tests it.otherwise end
 
-  behind_found : (place : ℕ) (args : List (List ℕ)) (end : ℕ) → BehindAt code place args end →
-      Behind place args end
-  behind_found place args end (no_else at) =
-      record { it = no_branch None; is = refl; at = (at, refl) }
-  behind_found place args end (with_else {body = body} at) =
-      record { it = no_branch (Some body); is = refl; at = at }
+  -- a branch before others, as the definition reads it
+  branch_is : (test body : List ℕ) (more args : List (List ℕ)) → IsBranch test body more args →
+      branches args ≡ option_map (with_branch test body) (definition.behind more)
+  branch_is test body more args (without_then other) =
+      ap (λ b. if b then with_body test more
+      else option_map (with_branch test body) (definition.behind more)) other
+  branch_is test body more args with_then = refl
 
-  branches_found : (place : ℕ) (args : List (List ℕ)) (end : ℕ) → BranchesAt code place args end →
-      Found place args end
-  branches_found place args end (branch {unless = mid} {jump = jump} {test = test} {body = body}
-      {behind = more} {f = f} plain is formula unless body_at jump_at behind_at) =
-      let rest = behind_found (jump + 1) more end behind_at in record {
-        it = with_branch test body rest.it;
-        is = ap (λ b. if b then with_body test more
-            else option_map (with_branch test body) (definition.behind more)) plain
-            ∙ ap (option_map (with_branch test body)) rest.is;
-        at = (f, mid, is, formula, (jump, unless, body_at, jump_at, behind_grows code behind_at, rest.at));
-      }
+  -- the last body, as the definition reads it
+  last_is : (body : List ℕ) (args : List (List ℕ)) → IsLast body args →
+      definition.behind args ≡ Some (no_branch (Some body))
+  last_is body args with_else = refl
+  last_is body args (without_else other another) =
+      ap (λ b. if b then branches []
+      else option_map (λ t. no_branch (Some t)) (last_body (body ∷ []))) other
+      ∙ ap (λ b. option_map (λ t. no_branch (Some t))
+      (if b then alone [] else alone (body ∷ []))) another
+
+  mutual
+    behind_found : (place : ℕ) (args : List (List ℕ)) (end : ℕ) → BehindAt code place args end →
+        Behind place args end
+    behind_found place args end (no_else at) =
+        record { it = no_branch None; is = refl; at = (at, refl) }
+    behind_found place args end (at_last {body = body} words at) =
+        record { it = no_branch (Some body); is = last_is body args words; at = at }
+    behind_found place args end (else_if {args = rest} branches_at) =
+        let found_at = branches_found place rest end branches_at in
+        record { it = found_at.it; is = found_at.is; at = found_at.at }
+
+    branches_found : (place : ℕ) (args : List (List ℕ)) (end : ℕ) →
+        BranchesAt code place args end → Found place args end
+    branches_found place args end (branch {unless = mid} {jump = jump} {test = test} {body = body}
+        {behind = more} {f = f} words is formula unless body_at jump_at behind_at) =
+        let rest = behind_found (jump + 1) more end behind_at in record {
+          it = with_branch test body rest.it;
+          is = branch_is test body more args words
+              ∙ ap (option_map (with_branch test body)) rest.is;
+          at = (
+            f,
+            mid,
+            is,
+            formula,
+            (jump, unless, body_at, jump_at, behind_grows code behind_at, rest.at),
+          );
+        }
 
   -- the branches that are left
   pub chooses_lead : (levels end : ℕ) (fs : List Frame) (s : Status) (place : ℕ)

@@ -1,6 +1,6 @@
 -- Code ends at its beginning, or after it.
 use Rattle.std.proofs.Common.{ℕ, ◌≤◌, List, Bool, Option, arith}
-use Rattle.code.specs.Code.{JoinsAt, first, joined, PartsAt, over, empty, text, value, item, bracket, WordsAt, begins, begins_counted, one, counts, spread, CommandAt, by_words, own, CommandsAt, done, next, FaultAt, none, fault, OwnAt, conditional, BranchesAt, branch, BehindAt, no_else, with_else, BodyAt, deeper, FormulaAt, number, parts, called, prefixed, in_row, chosen, LinksAt, no_more, both, and_also, or_else, ArgumentsAt, no_argument, argument}
+use Rattle.code.specs.Code.{JoinsAt, first, joined, PartsAt, over, empty, text, value, item, bracket, WordsAt, begins, begins_counted, one, counts, spread, CommandAt, by_words, own, CommandsAt, done, next, FaultAt, none, fault, OwnAt, conditional, BranchesAt, branch, BehindAt, no_else, at_last, else_if, BodyAt, deeper, FormulaAt, number, parts, called, prefixed, in_row, chosen, LinksAt, no_more, both, and_also, or_else, ArgumentsAt, no_argument, argument}
 use Rattle.code.specs.declared.instruction.Instruction.{Instruction}
 use Rattle.tclparse.specs.Fault.{Fault}
 use Rattle.tclparse.specs.Formula.{Formula, Links, Formulas}
@@ -50,13 +50,14 @@ module _ {A : Type 0} (code : List (Instruction A)) where
 
     branches_grow : {place : ℕ} {args : List (List ℕ)} {end : ℕ} → BranchesAt code place args end →
         place ≤ end
-    branches_grow (branch plain is test unless body jump behind) =
+    branches_grow (branch words is test unless body jump behind) =
         omega (arith, formula_grows test, body_grows body, behind_grows behind)
 
     pub behind_grows : {place : ℕ} {args : List (List ℕ)} {end : ℕ} → BehindAt code place args end →
         place ≤ end
     behind_grows (no_else at) = omega arith
-    behind_grows (with_else body) = body_grows body
+    behind_grows (at_last words body) = body_grows body
+    behind_grows (else_if it) = branches_grow it
 
     pub body_grows : {place : ℕ} {body : List ℕ} {end : ℕ} → BodyAt code place body end →
         place ≤ end

@@ -1,25 +1,17 @@
-use Rattle.std.proofs.Common.{◌∷◌, IfSome, Ok, option_copied, refl, subst}
-use Rattle.code.specs.Conditional.{behind_words}
-use Rattle.formulas.specs.View.{formula_of}
-use Rattle.tclparse.specs.FormulaGrammar.{IsFormula}
+use Rattle.std.proofs.Common.{◌≡◌, true, codes, rules, subst}
+use Rattle.std.proofs.lemmas.Slice.Eq.{bytes_eq-Decides}
+use Rattle.std.specs.Str.{bytes_eq}
+use Rattle.code.proofs.Fronts.{if_read}
+use Rattle.code.specs.Conditional.{IsLiteral}
 use Rattle.code.proofs.conditional.Conditional.read.Goals as goal
 
-pub returns : goal.returns
-returns g c =
-    let texts = c.in-Some.texts in
-    let last = option_copied texts.otherwise in (
-      texts.test.now ∷ texts.body.now ∷ behind_words last,
-      c.in-Some.ensures.are,
-      record {
-        test = texts.test.now;
-        body = texts.body.now;
-        last = last;
-        are = refl;
-        plain = c.in-Some.ensures.plain;
-        test_is = subst (λ read. IfSome read (λ test.
-            IsFormula (Ok (formula_of test)) texts.test.now))
-            c.in-Some-2.is c.in_ok-test.ensures;
-        body_is = c.in_ok-body.ensures.tree;
-        last_is = c.in_ok-otherwise.ensures;
-      },
-    )
+pub returns-in_ok-read_branches-in-Some : goal.returns-in_ok-read_branches-in-Some
+returns-in_ok-read_branches-in-Some g c =
+    let word = c.name-item.result in
+    let name = c.in-Some.name.now in
+    let same : bytes_eq name (codes "if") ≡ true = search rules in
+    if_read c.args.words.now word c.in_ok-read_branches-in-Some.field-0 c.in-len1-up.len_at_least
+    c.name-item.is
+    (subst (λ t. IsLiteral word t) ((bytes_eq-Decides name (codes "if")).0 same)
+    c.in-Some.ensures)
+    c.in_ok-read_branches-in-Some.ensures
