@@ -26,7 +26,7 @@ pub(crate) struct Flat;
 /// Commands have code of their own, and the scripts in their words have it as deep as this says.
 pub(crate) struct Deeper<N>(N);
 
-/// As deep as the code of a whole script goes.
+/// As deep as the code of a whole script goes: an `if` within four bodies begins by its words.
 pub(crate) const NESTED: Deeper<Deeper<Deeper<Deeper<Flat>>>> = Deeper(Deeper(Deeper(Deeper(
     Flat,
 ))));
