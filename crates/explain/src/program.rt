@@ -2,7 +2,6 @@
 
 ghost use Rattle.std.specs.Prelude.{◌≡◌, false};
 
-use crate::telling::Detail;
 use crate::watched::Story;
 use arguments::Arguments;
 use records::{Counted, Sink, put_all};
@@ -12,6 +11,7 @@ use std::io::{Input, Write};
 use std::net::{Net, TcpStream};
 use std::process::{Processes, SystemProcess};
 use std::rt::{Clock, Env, Files};
+use teller::Detail;
 use worlds::folder::{Disk, Folder};
 use worlds::input::read_words;
 use worlds::play::finish;

@@ -3,21 +3,12 @@
 ghost use Rattle.std.specs.Prelude.{◌≡◌};
 ghost use Rattle.worlds.specs.Runs.{RecordedTold};
 
-use crate::telling::Teller;
 use acts::{Act, Answer, Limits, NoMemory, World};
 use engine::{End, Frame, Lead, State, Watch};
 use records::Sink;
 use std::alloc::Allocator;
-use std::io;
+use teller::Refusal;
 use worlds::recorded::{Refuses, run_seen};
-
-/// An act that was refused, or a write that failed.
-#[derive(Clone, Copy, Debug)]
-pub(crate) struct Refusal {
-    /// The number of the act, counted from 1.
-    act: u64,
-    why: io::Error,
-}
 
 /// A world that is lent, and what it refused last.
 #[derive(Drop)]
@@ -77,42 +68,4 @@ pub(crate) fn run_heeded<
         result }
 {
     run_seen(alloc, script, args, limits, world, made, watch)
-}
-
-impl<A: Allocator + Copy, S: Sink> Teller<A, S> {
-    /// Takes note that the act of this number was answered.
-    pub(crate) fn note_answer(&mut self, answer: &Answer<A>, number: u64) {
-        self.answered = Some(number);
-        if matches!(answer, Answer::Failed(_)) {
-            self.failed_at = Some(number);
-        }
-    }
-
-    /// Takes note of what a command has come to. An error that comes right after an answer was led
-    /// to by that act.
-    pub(crate) fn note_lead(&mut self, is_error: bool) {
-        let answered = self.answered.take();
-        self.failed_at = if is_error { answered } else { None };
-    }
-
-    /// Takes note of how the run ended, and of what the world refused last.
-    pub(crate) fn note_end(&mut self, ended: &Result<End<A>, NoMemory>, refusal: Option<Refusal>) {
-        self.refusal = refusal;
-        self.is_cut = matches!(ended, Ok(End::WriterFailed));
-    }
-
-    /// Tells in the words of the system why the act was refused that ended the run, where that is
-    /// known: the last one before the error, or the write that failed.
-    ///
-    /// # Errors
-    /// `NoMemory`.
-    pub(crate) fn tell_refusal(&mut self) -> Result<(), NoMemory> {
-        match self.refusal {
-            Some(refusal) if Some(refusal.act) == self.failed_at => {
-                let words = format!(in self.alloc; "{}", refusal.why)?;
-                self.tell(None, b"the system says", words.as_bytes())
-            }
-            Some(_) | None => Ok(()),
-        }
-    }
 }

@@ -3,7 +3,6 @@
 ghost use Rattle.std.specs.Prelude.{◌≡◌};
 
 use crate::refusals::{Heeded, run_heeded};
-use crate::telling::{Detail, Teller};
 use acts::{Act, Answer, Limits, NoMemory, World};
 use engine::End;
 use machine::frame::Frame;
@@ -12,6 +11,7 @@ use records::Sink;
 use state::{Leaf, State};
 use std::alloc::Allocator;
 use tcltext::Value;
+use teller::{Detail, Teller};
 use worlds::recorded::{Refuses, Runner};
 
 /// The story of a run, which is told to a sink line by line as the run goes.

@@ -18,13 +18,13 @@ use words::{Gathered, begin};
 
 impl<A: Allocator + Copy, S: Sink> Teller<A, S> {
     /// Takes note of the script of a run that begins.
-    pub(crate) fn starts(&mut self, script: &[u8], args: &[Vec<u8, A>]) {
+    pub fn starts(&mut self, script: &[u8], args: &[Vec<u8, A>]) {
         let told = self.start(script, args);
         self.note(told);
     }
 
     /// Takes note of the branches that a command says which begins with these words.
-    pub(crate) fn begins(&mut self, frames: &[Frame<A>], state: &State<A>, words: &[Value<A>]) {
+    pub fn begins(&mut self, frames: &[Frame<A>], state: &State<A>, words: &[Value<A>]) {
         let [name, args @ ..] = words else {
             return;
         };
@@ -45,18 +45,13 @@ impl<A: Allocator + Copy, S: Sink> Teller<A, S> {
     }
 
     /// Takes note of words that say branches.
-    pub(crate) fn says(&mut self, words: &[Value<A>]) {
+    pub fn says(&mut self, words: &[Value<A>]) {
         let told = self.branches.read(self.alloc, words, self.stands);
         self.note(told);
     }
 
     /// Takes note of what has come of what began or was answered: an outcome, or an act.
-    pub(crate) fn leads(
-        &mut self,
-        frames: &[Frame<A>],
-        state: &State<A>,
-        leaf: &Leaf<A, Waits<A>>,
-    ) {
+    pub fn leads(&mut self, frames: &[Frame<A>], state: &State<A>, leaf: &Leaf<A, Waits<A>>) {
         self.note_lead(matches!(leaf, Leaf::Has(Err(_))));
         let told = match leaf {
             Leaf::Has(outcome) => self.has(frames, state, outcome),
@@ -67,7 +62,7 @@ impl<A: Allocator + Copy, S: Sink> Teller<A, S> {
     }
 
     /// Takes note of an act, the one of this number, and of its answer.
-    pub(crate) fn answers(&mut self, act: &Act<A>, answer: &Answer<A>, number: u64) {
+    pub fn answers(&mut self, act: &Act<A>, answer: &Answer<A>, number: u64) {
         if let Act::Err(text) = act {
             let told = self.see_report(text);
             self.note(told);

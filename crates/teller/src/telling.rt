@@ -4,7 +4,7 @@ use crate::blame::Raised;
 use crate::branches::Branches;
 use crate::grounds::Grounds;
 use crate::lines::{Lines, push_count};
-use crate::refusals::Refusal;
+use crate::refusal::Refusal;
 use crate::shown::push_command;
 use crate::spots::Spot;
 use crate::told::{push_answer, push_bytes, push_id};
@@ -30,7 +30,7 @@ pub enum Detail {
 
 /// One who tells the story of a run to a sink, line by line as the run goes.
 #[derive(Drop)]
-pub(crate) struct Teller<A: Allocator, S: Sink> {
+pub struct Teller<A: Allocator, S: Sink> {
     pub(crate) alloc: A,
     pub(crate) sink: S,
     pub(crate) detail: Detail,
@@ -65,7 +65,7 @@ pub(crate) struct Teller<A: Allocator, S: Sink> {
 impl<A: Allocator + Copy, S: Sink> Teller<A, S> {
     /// One who has told nothing yet. The first `commands` bytes of the script are the texts
     /// of `-c`. Takes no memory.
-    pub(crate) fn new(alloc: A, sink: S, detail: Detail, commands: usize) -> Teller<A, S> {
+    pub fn new(alloc: A, sink: S, detail: Detail, commands: usize) -> Teller<A, S> {
         Teller {
             alloc,
             sink,
@@ -91,13 +91,13 @@ impl<A: Allocator + Copy, S: Sink> Teller<A, S> {
     }
 
     /// Whether the story could not be told to its end: its sink failed, or memory was refused.
-    pub(crate) fn failed(&self) -> bool {
+    pub fn failed(&self) -> bool {
         self.is_lost || self.sink.failed()
     }
 
     /// Tells the end of the story: what came after a wait was over, the error that ended the run,
     /// the wait that was open, and the status. Where no run began, there is nothing to tell.
-    pub(crate) fn end(&mut self, status: u8) {
+    pub fn end(&mut self, status: u8) {
         if self.lines.is_none() {
             return;
         }
