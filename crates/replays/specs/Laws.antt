@@ -26,7 +26,8 @@ recorded reeled entries = record {
 -- `gives` says whether a read may give some bytes and lead from one state of a source to another,
 -- `up` whether reading may be given up by a read that leads from one state to another, `most` how
 -- many bytes the source gives at most; `out` and `err` say whether a put may lead from one state of
--- a writer to another and add these bytes, `out_failed` and `err_failed` whether a writer has failed.
+-- a writer to another and add these bytes, `out_failed` and `err_failed` whether a writer has
+-- failed.
 module _ {S O E : Type 0} (gives : S → List ℕ → S → Type 0) (up : S → S → Type 0) (most : S → ℕ)
     (out : O → List ℕ → O → Type 0) (out_failed : O → Bool)
     (err : E → List ℕ → E → Type 0) (err_failed : E → Bool) where

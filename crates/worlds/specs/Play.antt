@@ -44,9 +44,9 @@ module _ {O E : Type 0} (out : O → List ℕ → O → Type 0) (out_failed : O 
       × Declines (fault_outcome name fault) before after status
 
   module _ {A : Type 0} (script : List ℕ) (args : List (Vec ℕ A)) (ticks : ℕ) where
-    -- the script runs in a world with these steps, whose state is `begun` at first, and then the line
-    -- of its end goes to standard error; losing the record of the run, where one was made, counts as
-    -- a writer that failed
+    -- the script runs in a world with these steps, whose state is `begun` at first, and then the
+    -- line of its end goes to standard error; losing the record of the run, where one was made,
+    -- counts as a writer that failed
     abbrev pub PlaysBy : {R : Type 0} → (R × (O × E) → Deed → Reply → R × (O × E) → Type 0) →
         (Bool → R → Result (End A) Refusal → Outcome) → Bool → R → O × E → O × E → ℕ → Type 0
     PlaysBy {R} Step outcome lost begun before after status =
@@ -58,8 +58,8 @@ module _ {O E : Type 0} (out : O → List ℕ → O → Type 0) (out_failed : O 
     -- the script runs under these entries
     abbrev pub Plays : Bool → List Note → O × E → O × E → ℕ → Type 0
     Plays lost entries =
-        PlaysBy (Replays out out_failed err err_failed) (λ failed left. end_outcome failed left.differs)
-        lost (whole entries)
+        PlaysBy (Replays out out_failed err err_failed)
+        (λ failed left. end_outcome failed left.differs) lost (whole entries)
 
     -- the text of a record is refused, or the script runs under its entries
     abbrev pub Replayed : Bor (List ℕ) → List ℕ → O × E → O × E → ℕ → Type 0
@@ -68,9 +68,9 @@ module _ {O E : Type 0} (out : O → List ℕ → O → Type 0) (out_failed : O 
         ⊎ ((entries : List Note) × AreEntries entries text
         × Plays false entries before after status)
 
-    -- `gives` says whether a read may give some bytes and lead from one state of a source to another,
-    -- `up` whether reading may be given up by a read that leads from one state to another, `most` how
-    -- many bytes the source gives at most.
+    -- `gives` says whether a read may give some bytes and lead from one state of a source to
+    -- another, `up` whether reading may be given up by a read that leads from one state to another,
+    -- `most` how many bytes the source gives at most.
     module _ {F : Type 0} (gives : F → List ℕ → F → Type 0) (up : F → F → Type 0)
         (most : F → ℕ) where
       -- the script runs under what is read of the record of this name as the run goes on

@@ -28,7 +28,8 @@ module _ {F : Type 0} (left : F → Option (List ℕ))
   -- the file of this name was opened and read to its end, and is a record of so many entries
   abbrev pub IsRecordFile : (name : List ℕ) → (count : ℕ) → Type 0
   IsRecordFile name count =
-      (first last : FileSource F) × opens name (Ok first.file) × GivesRecord (Gives left) count first last
+      (first last : FileSource F) × opens name (Ok first.file)
+      × GivesRecord (Gives left) count first last
 
   -- the recorded run of the file of this name, which is a record: it was opened once more, and
   -- its header was read

@@ -96,8 +96,9 @@ impl<'a> Outcome<'a> {
         }
     }
 
-    /// How a run ended whose record, of this name, was read as it went on: by the fault of a writer,
-    /// whatever else ended it, and else by why there were no more answers though entries were left.
+    /// How a run ended whose record, of this name, was read as it went on: by the fault of a
+    /// writer, whatever else ended it, and else by why there were no more answers though entries
+    /// were left.
     pub fn of_reel<A: Allocator>(
         writer_failed: bool,
         name: &'a [u8],
