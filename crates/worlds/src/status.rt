@@ -107,14 +107,11 @@ impl<'a> Outcome<'a> {
     ) -> Outcome<'a>
         ensures { result ≡ reel_outcome writer_failed name.entry halt ended.now }
     {
-        if writer_failed {
-            return Outcome::OutputFailed;
-        }
         match halt {
-            Some(Halt::Differs(number)) => Outcome::WaitDiffers(number),
-            Some(Halt::Unread) => Outcome::CannotOpen(name),
-            Some(Halt::NoMemory(refusal)) => Outcome::NoMemory(refusal),
-            None => Outcome::of_run(ended),
+            Some(Halt::Differs(number)) => Outcome::of_end(writer_failed, Some(number), ended),
+            Some(Halt::Unread) if !writer_failed => Outcome::CannotOpen(name),
+            Some(Halt::NoMemory(refusal)) if !writer_failed => Outcome::NoMemory(refusal),
+            _ => Outcome::of_end(writer_failed, None, ended),
         }
     }
 
