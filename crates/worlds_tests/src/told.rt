@@ -1,12 +1,12 @@
 //! Why the last act of a live run was refused or failed.
 
 use acts::{Limits, NoMemory, World};
-use engine::End;
+use engine::{End, Unwatched};
 use std::alloc::Global;
 use std::io::{self, ErrorKind, Write};
 use std::test::Fail;
 use worlds::lived::lived_by;
-use worlds::recorded::{Refuses, Runner, run_recorded};
+use worlds::recorded::{Refuses, Runner};
 use worlds::{Counted, Sink};
 
 /// One who runs scripts, and asks the world of a run why its last act was refused or failed.
@@ -16,6 +16,11 @@ struct Asking {
 }
 
 impl Runner<Global> for Asking {
+    ghost use Rattle.std.specs.Prelude.{⊤};
+
+    // Nothing is kept.
+    ghost told = { λ _ _ _. ⊤ };
+
     fn run<W: World<Global> + Refuses<Global>, S: Sink>(
         &mut self,
         alloc: Global,
@@ -25,7 +30,7 @@ impl Runner<Global> for Asking {
         world: &mut W,
         made: &mut Option<S>,
     ) -> Result<End<Global>, NoMemory> {
-        let ended = run_recorded(alloc, script, args, limits, world, made);
+        let ended = Unwatched.run(alloc, script, args, limits, world, made);
         self.told = world.refusal();
         ended
     }
