@@ -1,7 +1,16 @@
 //! The program `rx-explain`.
 
-ghost use Rattle.std.specs.Prelude.{◌≡◌, false};
+ghost use Rattle.std.specs.Prelude.{◌≡◌, ◌⊎◌, false, if◌then◌else◌, List, ℕ, Option, Ok, IfNone, IfSome};
+ghost use Rattle.std.specs.Option.{option_copied};
+ghost use Rattle.arguments.specs.Arguments.{Call, Holds, texts};
+ghost use Rattle.explain.specs.Asked.{Asks};
+ghost use Rattle.explain.specs.Explained.{Explains, Rejects, Tells, usage};
+ghost use Rattle.records.specs.Sink.{Takes};
+ghost use Rattle.teller.specs.declared.telling.Detail.{Detail as Much};
+ghost use Rattle.worlds.specs.Lacking.{IsOther, IsOtherRecord, IsUnmade};
+ghost use Rattle.worlds.specs.Play.{Starves};
 
+use crate::asked::{Asked, asked_by};
 use crate::watched::Story;
 use arguments::Arguments;
 use records::{Counted, Sink, put_all};
@@ -26,15 +35,6 @@ const USAGE: &[u8] = b"usage: rx-explain [--story F] [--brief] [-c cmds]... [--r
 /// The status of a call whose words are not those of one.
 const USAGE_STATUS: u8 = 2;
 
-/// What a call asks for: how much is told, and to which file, if it is not standard error; and the
-/// call of `rx` whose run is told.
-#[derive(Drop)]
-struct Asked<'a> {
-    detail: Detail,
-    file: Option<&'a [u8]>,
-    call: Arguments<'a, Global>,
-}
-
 /// Runs a call of the program, and gives its status: what `rx` does with the words after `--story`
 /// and `--brief`, with the story of the run on `told` or in the file that is named.
 pub fn program<R, O, E, T>(rt: &R, out: O, err: E, told: T) -> u8
@@ -54,71 +54,108 @@ where
     let mut out = Counted::new(out);
     let mut err = Counted::new(err);
     match read_words(rt, rt.alloc()) {
-        Ok(words) => explain(rt, &words, &mut out, &mut err, Counted::new(told)),
+        Ok(words) => explain(
+            rt,
+            &Disk { rt },
+            &words,
+            &mut out,
+            &mut err,
+            Counted::new(told),
+        ),
         Err(fault) => finish(Outcome::of_words(fault), &mut err),
     }
 }
 
 /// Performs a call of these words, and gives its status. Its output goes to two sinks that have not
 /// failed, and its story to a third one or to the file that is named.
-pub fn explain<R, O, E, T>(
+pub fn explain<R, F, O, E, T>(
     rt: &R,
+    files: &F,
     words: &[Vec<u8, Global>],
     out: &mut O,
     err: &mut E,
     told: T,
 ) -> u8
 where
-    R: Input
-        + Net<Stream = TcpStream>
+    R: Net<Stream = TcpStream>
         + Processes<Started = SystemProcess>
         + Files<File = File>
         + Clock
         + AllocGlobal,
+    F: Folder,
     O: Sink,
     E: Sink,
     T: Sink + Drop,
     requires out { O.has_failed out.old ≡ false }
     requires err { E.has_failed err.old ≡ false }
+    // Words that ask for no story are told as such, and nothing else is done.
+    ensures usage { ((file : Option (List ℕ)) (detail : Much) (call : Call)
+        → ¬ Asks (texts words.now) file detail call)
+        → Rejects O.adds O.has_failed E.adds E.has_failed (out.old, err.old) (out.new, err.new)
+        result }
+
+    // A call whose story is asked for does what it does as a call of `rx`, and its acts are told.
+    ensures story { (file : Option (List ℕ)) (detail : Much) (call : Call)
+        → Asks (texts words.now) file detail call
+        → Explains (F.opens files.now) F.File.left F.File.reads F.Standard.left F.Standard.reads
+        (F.makes files.now) (F.same files.now) O.adds O.has_failed E.adds E.has_failed Global file
+        call (out.old, err.old) (out.new, err.new) result }
 {
     let Some(asked) = asked_by(words) else {
-        return refuse(err);
+        return reject(err);
     };
     let Some(name) = asked.file else {
-        return tell(rt, &asked, out, err, told);
+        return tell(rt, files, asked.detail, &asked.call, out, err, told);
     };
-    match story_file(&Disk { rt }, &asked.call, name) {
-        Some(file) => tell(rt, &asked, out, err, Counted::new(file)),
+    match story_file(files, &asked.call, name) {
+        Some(file) => tell(
+            rt,
+            files,
+            asked.detail,
+            &asked.call,
+            out,
+            err,
+            Counted::new(file),
+        ),
         None => finish(Outcome::CannotOpen(name), err),
     }
 }
 
 /// Performs a call, and tells the story of its run to a sink.
-fn tell<R, O, E, S>(rt: &R, asked: &Asked<'_>, out: &mut O, err: &mut E, sink: S) -> u8
+fn tell<R, F, O, E, S>(
+    rt: &R,
+    files: &F,
+    detail: Detail,
+    call: &Arguments<'_, Global>,
+    out: &mut O,
+    err: &mut E,
+    sink: S,
+) -> u8
 where
-    R: Input
-        + Net<Stream = TcpStream>
+    R: Net<Stream = TcpStream>
         + Processes<Started = SystemProcess>
         + Files<File = File>
         + Clock
         + AllocGlobal,
+    F: Folder,
     O: Sink,
     E: Sink,
     S: Sink + Drop,
     requires out { O.has_failed out.old ≡ false }
     requires err { E.has_failed err.old ≡ false }
+    ensures { (asked : Call) → Holds call.now asked
+        → Starves O.adds O.has_failed E.adds E.has_failed (out.old, err.old) (out.new, err.new)
+        result
+        ⊎ Tells (F.opens files.now) F.File.left F.File.reads F.Standard.left F.Standard.reads
+        (F.makes files.now) (F.same files.now) O.adds O.has_failed E.adds E.has_failed Global asked
+        (out.old, err.old) (out.new, err.new) result }
 {
-    let Asked {
-        detail,
-        file: _,
-        call,
-    } = asked;
     let commands = match call.commands(rt.alloc()) {
         Ok(text) => text.len(),
         Err(refusal) => return finish(Outcome::NoMemory(refusal), err),
     };
-    let mut story = Story::new(rt.alloc(), sink, *detail, commands);
-    let status = perform_call(rt, &Disk { rt }, call, out, err, &mut story);
+    let mut story = Story::new(rt.alloc(), sink, detail, commands);
+    let status = perform_call(rt, files, call, out, err, &mut story);
     story.end(status);
     if story.failed() {
         finish(Outcome::OutputFailed, err)
@@ -128,7 +165,10 @@ where
 }
 
 /// Writes what the words of a call are, and gives the status of a call that has others.
-fn refuse<E: Sink>(err: &mut E) -> u8 {
+fn reject<E: Sink>(err: &mut E) -> u8
+    ensures line { Takes E.adds E.has_failed err.old usage err.new }
+    ensures status { result ≡ (if E.has_failed err.new then 4 else 2) }
+{
     put_all(err, USAGE);
     if err.failed() {
         Outcome::OutputFailed.status()
@@ -139,7 +179,14 @@ fn refuse<E: Sink>(err: &mut E) -> u8 {
 
 /// The file of a story of this name, made anew; `None` where that is refused, or where the call
 /// reads that file or makes it as its record.
-fn story_file<F: Folder>(files: &F, call: &Arguments<'_, Global>, name: &[u8]) -> Option<F::Made> {
+fn story_file<F: Folder>(files: &F, call: &Arguments<'_, Global>, name: &[u8]) -> Option<F::Made>
+    ensures made { IfSome result (λ file. F.makes files.now name.now (Ok file)) }
+    ensures other { IfSome result (λ _. IsOther (F.same files.now) (texts call.now.script.now)
+        (option_copied call.now.replay) name.now) }
+    ensures apart { IfSome result (λ _. IsOtherRecord (F.same files.now)
+        (option_copied call.now.made) name.now) }
+    ensures none { IfNone result (IsUnmade (F.makes files.now) (F.same files.now) name.now) }
+{
     if is_read(files, call, name) {
         return None;
     }
@@ -148,42 +195,5 @@ fn story_file<F: Folder>(files: &F, call: &Arguments<'_, Global>, name: &[u8]) -
     match call.made {
         Some(made) if files.is_same(made, name) => None,
         _ => Some(file),
-    }
-}
-
-/// What a call asks for: `--story F` and `--brief`, each at most once, and then the words of a call
-/// of `rx`; `None` where the words are others.
-fn asked_by(words: &[Vec<u8, Global>]) -> Option<Asked<'_>> {
-    let (file, words) = story_in(words);
-    let (is_brief, words) = brief_in(words);
-    let (file, words) = match file {
-        Some(file) => (Some(file), words),
-        None => story_in(words),
-    };
-    Some(Asked {
-        detail: if is_brief {
-            Detail::Brief
-        } else {
-            Detail::Whole
-        },
-        file,
-        call: Arguments::read(words)?,
-    })
-}
-
-/// The file that is named by `--story` at the beginning of the words, if one is, and the words
-/// after it.
-fn story_in(words: &[Vec<u8, Global>]) -> (Option<&[u8]>, &[Vec<u8, Global>]) {
-    match words {
-        [word, name, rest @ ..] if word.as_slice() == b"--story".as_slice() => (Some(name), rest),
-        _ => (None, words),
-    }
-}
-
-/// Whether `--brief` stands at the beginning of the words, and the words after it.
-fn brief_in(words: &[Vec<u8, Global>]) -> (bool, &[Vec<u8, Global>]) {
-    match words {
-        [word, rest @ ..] if word.as_slice() == b"--brief".as_slice() => (true, rest),
-        _ => (false, words),
     }
 }

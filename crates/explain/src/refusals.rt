@@ -1,7 +1,7 @@
 //! Why the world refused an act, in the words of the system.
 
 ghost use Rattle.std.specs.Prelude.{◌≡◌};
-ghost use Rattle.worlds.specs.Runs.{RecordedTold};
+ghost use Rattle.worlds.specs.Runs.{Heard, RunsRecorded};
 
 use acts::{Act, Answer, Limits, NoMemory, World};
 use engine::{End, Frame, Lead, State, Watch};
@@ -63,8 +63,8 @@ pub(crate) fn run_heeded<
     watch: &mut T,
 ) -> Result<End<A>, NoMemory>
     ensures same_world { world.new.world.ghost_name ≡ world.old.world.ghost_name }
-    ensures runs { RecordedTold W.step S.adds S.has_failed T.told script.now args.now limits.ticks
-        (world.old.world.now, watch.old) made.old (world.new.world.now, watch.new) made.new
+    ensures runs { RunsRecorded W.step S.adds S.has_failed (Heard T.told watch.old watch.new)
+        script.now args.now limits.ticks world.old.world.now made.old world.new.world.now made.new
         result }
 {
     run_seen(alloc, script, args, limits, world, made, watch)

@@ -50,7 +50,8 @@ impl<A: Allocator + Copy, S: Sink> Story<A, S> {
 
 impl<A: Allocator + Copy, S: Sink> Watch<A, Frame<A>, State<A>, Leaf<A, Waits<A>>> for Story<A, S> {
     ghost use Rattle.std.specs.Prelude.{length};
-    ghost use Rattle.explain.specs.Counts.{CountsOn, goes_on, stands_still};
+    ghost use Rattle.explain.specs.Counts.{CountsOn};
+    ghost use Rattle.explain.proofs.Counts.{goes_on, stands_still};
 
     // It counts each act.
     ghost told = { λ before acts after. CountsOn before.acts (length acts) after.acts };
@@ -84,9 +85,12 @@ impl<A: Allocator + Copy, S: Sink> Watch<A, Frame<A>, State<A>, Leaf<A, Waits<A>
 impl<A: Allocator + Copy, S: Sink> Runner<A> for Story<A, S> {
     ghost use Rattle.std.specs.Prelude.{length};
     ghost use Rattle.explain.specs.Counts.{CountsOn};
+    ghost use Rattle.explain.proofs.Counts.{stands_still};
 
     // It counts each act.
     ghost told = { λ before acts after. CountsOn before.acts (length acts) after.acts };
+
+    ghost stays = { λ x. stands_still x.acts };
 
     fn run<W: World<A> + Refuses<A>, M: Sink>(
         &mut self,

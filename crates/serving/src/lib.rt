@@ -9,7 +9,8 @@ pub use part::Part;
 use std::io;
 use std::net::{Net, TcpListener, TcpStream};
 
-/// Prints the port that the system picks, and plays the part with the first client that connects.
+/// Prints the port that the system picks, plays the part with the first client that connects, and
+/// prints how many bytes came, where the part counts them.
 pub fn serve<R>(rt: &R, part: Part<'_>) -> io::Result<()>
 where
     R: Net<Listener = TcpListener, Stream = TcpStream> + Print + AllocGlobal,
@@ -18,5 +19,8 @@ where
     let port = listener.local_addr()?.port();
     println!(rt; "{port}")?;
     let (stream, _) = listener.accept()?;
-    part.play(stream)
+    if let Some(heard) = part.play(stream)? {
+        println!(rt; "{heard}")?;
+    }
+    Ok(())
 }

@@ -59,6 +59,18 @@ fn hands_back_what_it_hears(rt: HostRuntime) -> Result<(), Fail> {
 }
 
 #[test]
+fn counts_what_it_hears(rt: HostRuntime) -> Result<(), Fail> {
+    let words = words_of(&rt, &["count"])?;
+    let listener = TcpListener::bind(&rt, "127.0.0.1:0")?;
+    let mut client = TcpStream::connect(&rt, listener.local_addr()?)?;
+    let (server, _) = listener.accept()?;
+    client.write_all(&[b'x'; 2000])?;
+    client.shutdown(Shutdown::Write)?;
+    assert_eq!(rt; named(&words)?.play(server)?, Some(2000));
+    Ok(())
+}
+
+#[test]
 fn shuts_at_once(rt: HostRuntime) -> Result<(), Fail> {
     let words = words_of(&rt, &["shut"])?;
     let heard = heard(&rt, named(&words)?, b"")?;
@@ -67,12 +79,13 @@ fn shuts_at_once(rt: HostRuntime) -> Result<(), Fail> {
 }
 
 /// Words that are no part.
-const OTHERS: [&[&str]; 7] = [
+const OTHERS: [&[&str]; 8] = [
     &[],
     &["say"],
     &["say", "a", "b"],
     &["hush", "a"],
     &["echo", "a"],
+    &["count", "a"],
     &["shut", "a"],
     &["Hush"],
 ];

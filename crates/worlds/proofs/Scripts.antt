@@ -5,6 +5,7 @@ use Rattle.std.specs.declared.io.Error.{Error}
 use Rattle.std.specs.Borrow.{Bor}
 use Rattle.std.specs.List.{slice_get}
 use Rattle.std.specs.Option.{option_copied}
+use Rattle.acts.specs.History.{History}
 use Rattle.arguments.specs.declared.arguments.Arguments.{Arguments}
 use Rattle.arguments.specs.Arguments.{Call, Holds, texts}
 use Rattle.worlds.specs.Lacking.{IsOtherScript}
@@ -76,13 +77,13 @@ module _ {F I M O E A : Type 0} (opens : List ℕ → Result F Error → Type 0)
     (rest : I → Option (List ℕ)) (takes : I → Result ℕ Error → I → Type 0)
     (makes : List ℕ → Result M Error → Type 0) (same : List ℕ → List ℕ → Bool → Type 0)
     (out : O → List ℕ → O → Type 0) (out_failed : O → Bool)
-    (err : E → List ℕ → E → Type 0) (err_failed : E → Bool)
+    (err : E → List ℕ → E → Type 0) (err_failed : E → Bool) (heard : History → Type 0)
     (text : List ℕ) (args : List (Vec ℕ A)) (before after : O × E) (status : ℕ) where
   -- it runs with so many ticks, under this record, and makes that one
   abbrev pub RunsBy : ℕ → (replay made : Option (List ℕ)) → Type 0
   RunsBy ticks replay made =
-      Runs opens left reads rest takes makes same out out_failed err err_failed text args ticks
-      replay made before after status
+      Runs opens left reads rest takes makes same out out_failed err err_failed heard text args
+      ticks replay made before after status
 
   pub runs_asked : {B : Type 0} (call : Arguments B) (asked : Call) → Holds call asked →
       RunsBy call.limits.ticks (option_copied call.replay) (option_copied call.made) →

@@ -9,7 +9,7 @@ use Rattle.recorders.specs.Recorder.{MayRecord, Notes}
 use Rattle.runs.specs.Ending.{Ending}
 use Rattle.runs.specs.Run.{Began, Ran}
 use Rattle.engine.specs.Watching.{BeganTold, RanTold}
-use Rattle.worlds.specs.Runs.{Runs, RunsRecorded, RunsTold}
+use Rattle.worlds.specs.Runs.{Heard, Runs, RunsRecorded}
 
 -- `see` takes each step of a world to a step of the part of it that is seen
 module _ {W V : Type 0} (S : W → Deed → Reply → W → Type 0) (T : V → Deed → Reply → V → Type 0)
@@ -21,51 +21,50 @@ module _ {W V : Type 0} (S : W → Deed → Reply → W → Type 0) (T : V → D
   past_seen first now (pair ∷ h) (mid, step, past) =
       (see mid, steps first pair.0 pair.1 mid step, past_seen mid now h past)
 
-  module _ {A : Type 0} (script : List ℕ) (args : List (Vec ℕ A)) (ticks : ℕ) (first now : W) where
-    pub runs_seen : (ended : Result (End A) Refusal) → Runs S script args ticks first now ended →
-        Runs T script args ticks (see first) (see now) ended
-    runs_seen (Ok end) ran = record {
-      history = ran.history;
-      past = past_seen first now ran.history ran.past;
-      run = ran.run;
-      holds = ran.holds;
-    }
-    runs_seen (Err refusal) began = record {
-      history = began.history;
-      past = past_seen first now began.history began.past;
-      rest = began.rest;
-      ending = began.ending;
-      run = began.run;
-      holds = began.holds;
-    }
-
-    -- who was told of the run of a world was told of that of its part
-    pub told_seen : {X : Type 0} (told : X → History → X → Type 0) (x y : X)
-        (ended : Result (End A) Refusal) →
-        RunsTold S told script args ticks (first, x) (now, y) ended →
-        RunsTold T told script args ticks (see first, x) (see now, y) ended
-    unfolding runs_seen
-    told_seen told x y (Ok end) runs = (runs_seen (Ok end) runs.0, runs.1)
-    told_seen told x y (Err refusal) runs = (runs_seen (Err refusal) runs.0, runs.1)
+  module _ (heard : History → Type 0) {A : Type 0} (script : List ℕ) (args : List (Vec ℕ A))
+      (ticks : ℕ) (first now : W) where
+    pub runs_seen : (ended : Result (End A) Refusal) →
+        Runs S heard script args ticks first now ended →
+        Runs T heard script args ticks (see first) (see now) ended
+    runs_seen (Ok end) (ran, hears) = (
+      record {
+        history = ran.history;
+        past = past_seen first now ran.history ran.past;
+        run = ran.run;
+        holds = ran.holds;
+      },
+      hears,
+    )
+    runs_seen (Err refusal) (began, hears) = (
+      record {
+        history = began.history;
+        past = past_seen first now began.history began.past;
+        rest = began.rest;
+        ending = began.ending;
+        run = began.run;
+        holds = began.holds;
+      },
+      hears,
+    )
 
 -- the same of a run of which a record may be made
 pub recorded_seen : {W V S A : Type 0} (Step : W → Deed → Reply → W → Type 0)
     (Part : V → Deed → Reply → V → Type 0) (see : W → V)
     (steps : (before : W) (act : Deed) (reply : Reply) (after : W) → Step before act reply after →
     Part (see before) act reply (see after))
-    (adds : S → List ℕ → S → Type 0) (failed : S → Bool)
+    (adds : S → List ℕ → S → Type 0) (failed : S → Bool) (heard : History → Type 0)
     (script : List ℕ) (args : List (Vec ℕ A)) (ticks : ℕ) (first now : W) (empty kept : Option S)
     (ended : Result (End A) Refusal) →
-    RunsRecorded Step adds failed script args ticks first empty now kept ended →
-    RunsRecorded Part adds failed script args ticks (see first) empty (see now) kept ended
-recorded_seen Step Part see steps adds failed script args ticks first now empty kept ended
+    RunsRecorded Step adds failed heard script args ticks first empty now kept ended →
+    RunsRecorded Part adds failed heard script args ticks (see first) empty (see now) kept ended
+recorded_seen Step Part see steps adds failed heard script args ticks first now empty kept ended
     (begun, begins, runs) = (
       begun,
       begins,
       runs_seen (MayRecord Step adds failed) (MayRecord Part adds failed)
           (λ pair. (see pair.0, pair.1))
           (λ before act reply after step. (steps before.0 act reply after.0 step.0, step.1))
-          script args ticks (first, begun) (now, kept) ended runs,
+          heard script args ticks (first, begun) (now, kept) ended runs,
     )
 
 -- each step of a world keeps what `name` reads from it
@@ -77,42 +76,34 @@ module _ {W N : Type 0} (S : W → Deed → Reply → W → Type 0) (name : W �
   past_kept first now (pair ∷ h) (mid, step, past) =
       past_kept mid now h past ∙ kept first pair.0 pair.1 mid step
 
-  pub runs_kept : {A : Type 0} (script : List ℕ) (args : List (Vec ℕ A)) (ticks : ℕ)
-      (first now : W) (ended : Result (End A) Refusal) →
-      Runs S script args ticks first now ended → name now ≡ name first
-  runs_kept script args ticks first now (Ok end) ran = past_kept first now ran.history ran.past
-  runs_kept script args ticks first now (Err refusal) began =
+  pub runs_kept : (heard : History → Type 0) {A : Type 0} (script : List ℕ)
+      (args : List (Vec ℕ A)) (ticks : ℕ) (first now : W) (ended : Result (End A) Refusal) →
+      Runs S heard script args ticks first now ended → name now ≡ name first
+  runs_kept heard script args ticks first now (Ok end) (ran, hears) =
+      past_kept first now ran.history ran.past
+  runs_kept heard script args ticks first now (Err refusal) (began, hears) =
       past_kept first now began.history began.past
 
 -- what is known of the result of a run that someone watches, as one fact
-pub told_of : {W T A : Type 0} (S : W → Deed → Reply → W → Type 0)
+pub heard_of : {W T A : Type 0} (S : W → Deed → Reply → W → Type 0)
     (told : T → History → T → Type 0) (script : List ℕ) (args : List (Vec ℕ A)) (ticks : ℕ)
     (first now : W × T) (ended : Result (End A) Refusal) →
     IfOk ended (λ end. RanTold S told first now script (words_of args) ticks (ending_of end)) →
     IfErr ended (λ _. BeganTold S told first now script (words_of args) ticks) →
-    RunsTold S told script args ticks first now ended
-told_of S told script args ticks first now (Ok end) ran began = ran
-told_of S told script args ticks first now (Err refusal) ran began = began
-
--- a run that someone watches is a run
-pub untold : {W T A : Type 0} (S : W → Deed → Reply → W → Type 0)
-    (told : T → History → T → Type 0) (script : List ℕ) (args : List (Vec ℕ A)) (ticks : ℕ)
-    (first now : W × T) (ended : Result (End A) Refusal) →
-    RunsTold S told script args ticks first now ended →
-    Runs S script args ticks first.0 now.0 ended
-untold S told script args ticks first now (Ok end) runs = runs.0
-untold S told script args ticks first now (Err refusal) runs = runs.0
+    Runs S (Heard told first.1 now.1) script args ticks first.0 now.0 ended
+heard_of S told script args ticks first now (Ok end) ran began = ran
+heard_of S told script args ticks first now (Err refusal) ran began = began
 
 -- a run of which a record may be made is a run of the world
 module _ {V S : Type 0} (Step : V → Deed → Reply → V → Type 0) (adds : S → List ℕ → S → Type 0)
-    (failed : S → Bool) where
+    (failed : S → Bool) (heard : History → Type 0) where
   pub runs_alone : {A : Type 0} (script : List ℕ) (args : List (Vec ℕ A)) (ticks : ℕ)
       (first now : V × Option S) (ended : Result (End A) Refusal) →
-      Runs (MayRecord Step adds failed) script args ticks first now ended →
-      Runs Step script args ticks first.0 now.0 ended
+      Runs (MayRecord Step adds failed) heard script args ticks first now ended →
+      Runs Step heard script args ticks first.0 now.0 ended
   runs_alone script args ticks first now ended runs =
       runs_seen (MayRecord Step adds failed) Step (λ pair. pair.0)
-      (λ before act reply after step. step.0) script args ticks first now ended runs
+      (λ before act reply after step. step.0) heard script args ticks first now ended runs
 
   -- where no record was begun, none was made
   still_none : (before after : Option S) (act : Deed) (reply : Reply) → before ≡ None →
@@ -127,8 +118,8 @@ module _ {V S : Type 0} (Step : V → Deed → Reply → V → Type 0) (adds : S
 
   pub none_kept : {A : Type 0} (script : List ℕ) (args : List (Vec ℕ A)) (ticks : ℕ)
       (first now : V × Option S) (ended : Result (End A) Refusal) → first.1 ≡ None →
-      Runs (MayRecord Step adds failed) script args ticks first now ended → now.1 ≡ None
-  none_kept script args ticks first now (Ok end) none ran =
+      Runs (MayRecord Step adds failed) heard script args ticks first now ended → now.1 ≡ None
+  none_kept script args ticks first now (Ok end) none (ran, hears) =
       none_made ran.history first now none ran.past
-  none_kept script args ticks first now (Err refusal) none began =
+  none_kept script args ticks first now (Err refusal) none (began, hears) =
       none_made began.history first now none began.past

@@ -2,6 +2,7 @@
 use Rattle.std.specs.Prelude.{ℕ, Bool, List, Option, None, Result, Vec}
 use Rattle.memory.specs.declared.NoMemory.{NoMemory as Refusal}
 use Rattle.acts.specs.Deed.{Deed, Reply}
+use Rattle.acts.specs.History.{History}
 use Rattle.machine.specs.declared.end.End.{End}
 use Rattle.acts.specs.declared.id.Id.{Id}
 use Rattle.live.specs.Calls.{Call}
@@ -53,16 +54,17 @@ module _ {O E : Type 0} (out : O → List ℕ → O → Type 0) (err : E → Lis
         × Programs whose act reply before.0.programs after.0.programs
         × Works step owner act reply before.0.system after.0.system before.0.peers after.0.peers
 
--- `out` and `err` as above; `out_failed` and `err_failed` say whether the writer has failed.
+-- `out` and `err` as above; `out_failed` and `err_failed` say whether the writer has failed, and
+-- `heard` whether acts and answers may be what who watches was told.
 module _ {O E : Type 0} (out : O → List ℕ → O → Type 0) (out_failed : O → Bool)
-    (err : E → List ℕ → E → Type 0) (err_failed : E → Bool)
+    (err : E → List ℕ → E → Type 0) (err_failed : E → Bool) (heard : History → Type 0)
     {A : Type 0} (script : List ℕ) (args : List (Vec ℕ A)) (ticks : ℕ) where
   -- the script runs in the live world, and then the line of its end goes to standard error; losing
   -- the record of the run, where one was made, counts as a writer that failed
   abbrev pub Lived : Bool → O × E → O × E → ℕ → Type 0
   Lived lost before after status =
       (told : E) × (ended : Result (End A) Refusal)
-      × Runs (Steps out err) script args ticks before (after.0, told) ended
+      × Runs (Steps out err) heard script args ticks before (after.0, told) ended
       × Finishes out out_failed err err_failed (end_outcome lost None ended) told after.1 status
 
   module _ {S : Type 0} (adds : S → List ℕ → S → Type 0) (failed : S → Bool) where
@@ -70,7 +72,7 @@ module _ {O E : Type 0} (out : O → List ℕ → O → Type 0) (out_failed : O 
     abbrev pub LivedRecorded : O × E → Option S → O × E → Option S → ℕ → Type 0
     LivedRecorded before empty after kept status =
         (told : E) × (ended : Result (End A) Refusal)
-        × RunsRecorded (Steps out err) adds failed script args ticks before empty (after.0, told)
-        kept ended
+        × RunsRecorded (Steps out err) adds failed heard script args ticks before empty
+        (after.0, told) kept ended
         × Finishes out out_failed err err_failed (end_outcome (is_lost failed kept) None ended)
         told after.1 status

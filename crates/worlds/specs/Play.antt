@@ -3,6 +3,7 @@ use Rattle.std.specs.Prelude.{◌≡◌, ◌||◌, ◌⊎◌, if◌then◌else�
 use Rattle.std.specs.Borrow.{Bor}
 use Rattle.memory.specs.declared.NoMemory.{NoMemory as Refusal}
 use Rattle.acts.specs.Deed.{Deed, Reply}
+use Rattle.acts.specs.History.{History}
 use Rattle.machine.specs.declared.end.End.{End}
 use Rattle.records.specs.Entry.{AreEntries, Note}
 use Rattle.records.specs.Fault.{IsEntriesFault}
@@ -43,7 +44,9 @@ module _ {O E : Type 0} (out : O → List ℕ → O → Type 0) (out_failed : O 
       (fault : RecordFault) × IsEntriesFault text fault
       × Declines (fault_outcome name fault) before after status
 
-  module _ {A : Type 0} (script : List ℕ) (args : List (Vec ℕ A)) (ticks : ℕ) where
+  -- `heard` says whether acts and answers may be what who watches was told
+  module _ (heard : History → Type 0) {A : Type 0} (script : List ℕ) (args : List (Vec ℕ A))
+      (ticks : ℕ) where
     -- the script runs in a world with these steps, whose state is `begun` at first, and then the
     -- line of its end goes to standard error; losing the record of the run, where one was made,
     -- counts as a writer that failed
@@ -51,7 +54,7 @@ module _ {O E : Type 0} (out : O → List ℕ → O → Type 0) (out_failed : O 
         (Bool → R → Result (End A) Refusal → Outcome) → Bool → R → O × E → O × E → ℕ → Type 0
     PlaysBy {R} Step outcome lost begun before after status =
         (left : R) × (told : E) × (ended : Result (End A) Refusal)
-        × Runs Step script args ticks (begun, before) (left, (after.0, told)) ended
+        × Runs Step heard script args ticks (begun, before) (left, (after.0, told)) ended
         × Finishes (outcome (lost || (out_failed after.0 || err_failed told)) left ended)
         told after.1 status
 
@@ -87,7 +90,7 @@ module _ {O E : Type 0} (out : O → List ℕ → O → Type 0) (out_failed : O 
           R → O × E → Option S → O × E → Option S → ℕ → Type 0
       PlaysRecordedBy {R} Step outcome begun before empty after kept status =
           (left : R) × (told : E) × (ended : Result (End A) Refusal)
-          × RunsRecorded Step adds failed script args ticks (begun, before) empty
+          × RunsRecorded Step adds failed heard script args ticks (begun, before) empty
           (left, (after.0, told)) kept ended
           × Finishes (outcome (is_lost failed kept || (out_failed after.0 || err_failed told))
           left ended) told after.1 status

@@ -3,6 +3,7 @@ use Rattle.std.specs.Prelude.{◌≡◌, ◌⊎◌, ◌++◌, ℕ, Bool, false, 
 use Rattle.std.specs.declared.io.Error.{Error}
 use Rattle.std.specs.Borrow.{Bor}
 use Rattle.memory.specs.declared.NoMemory.{NoMemory as Refusal}
+use Rattle.acts.specs.History.{History}
 use Rattle.worlds.specs.declared.input.Unread.{Unread}
 use Rattle.worlds.specs.declared.input.Unread.TheVariants as unread
 use Rattle.worlds.specs.declared.status.Outcome.{Outcome}
@@ -59,24 +60,29 @@ MayBeLost (Some name) lost = Unit {0}
 -- `takes` whether a read from it may give an answer and lead from one state to another, and `same`
 -- what it may answer where it is asked whether two names are those of one file; `out` and `err` say
 -- whether a write may lead from one state of a writer to another and add these bytes, `out_failed`
--- and `err_failed` whether the writer has failed.
+-- and `err_failed` whether the writer has failed; `heard` says whether acts and answers may be what
+-- who watches was told.
 module _ {F I M : Type 0} (opens : List ℕ → Result F Error → Type 0)
     (left : F → Option (List ℕ)) (reads : F → Result ℕ Error → F → Type 0)
     (rest : I → Option (List ℕ)) (takes : I → Result ℕ Error → I → Type 0)
     (makes : List ℕ → Result M Error → Type 0) (same : List ℕ → List ℕ → Bool → Type 0)
     {O E : Type 0} (out : O → List ℕ → O → Type 0) (out_failed : O → Bool)
-    (err : E → List ℕ → E → Type 0) (err_failed : E → Bool) where
+    (err : E → List ℕ → E → Type 0) (err_failed : E → Bool) (heard : History → Type 0) where
+  -- nothing runs, and who watches was told nothing: the call ends so
+  abbrev pub EndsUnrun : Outcome → O × E → O × E → ℕ → Type 0
+  EndsUnrun outcome before after status =
+      heard [] × Declines out out_failed err err_failed outcome before after status
+
   -- nothing runs, since memory or the file whose name comes first is lacking
   abbrev pub Lacks : (missing : List ℕ → Type 0) → List (List ℕ) → O × E → O × E → ℕ → Type 0
   Lacks missing names before after status =
-      (outcome : Outcome) × IsLack missing names outcome
-      × Declines out out_failed err err_failed outcome before after status
+      (outcome : Outcome) × IsLack missing names outcome × EndsUnrun outcome before after status
 
   -- nothing runs, since the file of the record that is to be made can't be had
   abbrev pub LacksRecord : Option (List ℕ) → O × E → O × E → ℕ → Type 0
   LacksRecord made before after status =
       (outcome : Outcome) × LacksFile (IsUnmade makes same) made outcome
-      × Declines out out_failed err err_failed outcome before after status
+      × EndsUnrun outcome before after status
 
   module _ {A : Type 0} (script : List ℕ) (args : List (Vec ℕ A)) (ticks : ℕ) where
     -- the file of the record that is to be made can't be had, or the script runs so, where that
@@ -89,24 +95,25 @@ module _ {F I M : Type 0} (opens : List ℕ → Result F Error → Type 0)
 
     -- the script runs in the live world
     abbrev pub RunsLive : Option (List ℕ) → O × E → O × E → ℕ → Type 0
-    RunsLive = RunsSo (Lived out out_failed err err_failed script args ticks)
+    RunsLive = RunsSo (Lived out out_failed err err_failed heard script args ticks)
 
     -- the script runs under these entries
     abbrev pub RunsUnder : Option (List ℕ) → List Note → O × E → O × E → ℕ → Type 0
     RunsUnder made entries =
-        RunsSo (λ lost. Plays out out_failed err err_failed script args ticks lost entries) made
+        RunsSo (λ lost. Plays out out_failed err err_failed heard script args ticks lost entries)
+        made
 
     -- the script runs under what is read of the record of this name as the run goes on
     abbrev pub RunsOn : Bor (List ℕ) → Option (List ℕ) → Reeled (FileSource F) → O × E → O × E →
         ℕ → Type 0
     RunsOn name made reeled =
-        RunsSo (λ lost. PlaysOn out out_failed err err_failed script args ticks (Gives left)
-        (GivesUpIn reads) (λ source. source.left) name lost reeled) made
+        RunsSo (λ lost. PlaysOn out out_failed err err_failed heard script args ticks
+        (Gives left) (GivesUpIn reads) (λ source. source.left) name lost reeled) made
 
     -- the text of the record of this name is refused, or the script runs under its entries
     abbrev pub RunsRecord : Bor (List ℕ) → Option (List ℕ) → List ℕ → O × E → O × E → ℕ → Type 0
     RunsRecord name made text before after status =
-        Refuses out out_failed err err_failed name text before after status
+        (heard [] × Refuses out out_failed err err_failed name text before after status)
         ⊎ ((entries : List Note) × AreEntries entries text
         × RunsUnder made entries before after status)
 

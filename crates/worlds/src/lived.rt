@@ -8,7 +8,7 @@ ghost use Rattle.live.specs.Live.{IsWhy, Lives};
 ghost use Rattle.live.specs.Outputs.{went_out};
 ghost use Rattle.records.specs.Sink.{Gets};
 ghost use Rattle.worlds.specs.Lived.{Acts, LivedRecorded, Steps, open_in};
-ghost use Rattle.worlds.specs.Runs.{RunsRecorded};
+ghost use Rattle.worlds.specs.Runs.{Heard, RunsRecorded, unheard};
 
 use crate::play::finish;
 use crate::recorded::{Refuses, Runner};
@@ -43,7 +43,7 @@ where
         + Files<File = File>
         + Clock
         + AllocGlobal,
-    ensures { LivedRecorded O.adds O.has_failed E.adds E.has_failed
+    ensures { LivedRecorded O.adds O.has_failed E.adds E.has_failed unheard
         script.now args.now limits.ticks S.adds S.has_failed (out.old, err.old) made.old
         (out.new, err.new) made.new result }
 {
@@ -68,8 +68,8 @@ where
         + Clock
         + AllocGlobal,
     ensures { LivedRecorded O.adds O.has_failed E.adds E.has_failed
-        script.now args.now limits.ticks S.adds S.has_failed (out.old, err.old) made.old
-        (out.new, err.new) made.new result }
+        (Heard X.told runner.old runner.new) script.now args.now limits.ticks S.adds S.has_failed
+        (out.old, err.old) made.old (out.new, err.new) made.new result }
 {
     let ended = run_live(rt, script, args, limits, out, err, made, runner);
     finish(Outcome::of_end(is_lost(made), None, &ended), err)
@@ -92,8 +92,9 @@ where
         + Files<File = File>
         + Clock
         + AllocGlobal,
-    ensures { RunsRecorded (Steps O.adds E.adds) S.adds S.has_failed script.now args.now
-        limits.ticks (out.old, err.old) made.old (out.new, err.new) made.new result }
+    ensures { RunsRecorded (Steps O.adds E.adds) S.adds S.has_failed
+        (Heard X.told runner.old runner.new) script.now args.now limits.ticks (out.old, err.old)
+        made.old (out.new, err.new) made.new result }
 {
     match Live::new(rt, Unwritten, Unwritten) {
         Ok(mut live) => run_over_by(
@@ -125,7 +126,8 @@ pub fn run_over<Y: System + Drop, O: Sink, E: Sink, S: Sink>(
     made: &mut Option<S>,
 ) -> Result<End<Global>, NoMemory>
     ensures { RunsRecorded (Acts O.adds E.adds Y.Log.contents Y.holds
-        Y.Program.owner Y.step Y.Link.owner) S.adds S.has_failed script.now args.now limits.ticks (
+        Y.Program.owner Y.step Y.Link.owner) S.adds S.has_failed unheard script.now args.now
+        limits.ticks (
           open_in live.old.system live.old.log live.old.peers live.old.programs.items,
           (out.old, err.old),
         ) made.old (
@@ -159,7 +161,8 @@ pub fn run_over_by<Y: System + Drop, O: Sink, E: Sink, S: Sink, X: Runner<Global
     runner: &mut X,
 ) -> Result<End<Global>, NoMemory>
     ensures { RunsRecorded (Acts O.adds E.adds Y.Log.contents Y.holds
-        Y.Program.owner Y.step Y.Link.owner) S.adds S.has_failed script.now args.now limits.ticks (
+        Y.Program.owner Y.step Y.Link.owner) S.adds S.has_failed
+        (Heard X.told runner.old runner.new) script.now args.now limits.ticks (
           open_in live.old.system live.old.log live.old.peers live.old.programs.items,
           (out.old, err.old),
         ) made.old (
@@ -185,7 +188,8 @@ fn run_lent<Y: System + Drop, O: Sink, E: Sink, S: Sink, X: Runner<Global>>(
     ensures same_out { world.new.out.ghost_name ≡ world.old.out.ghost_name }
     ensures same_err { world.new.err.ghost_name ≡ world.old.err.ghost_name }
     ensures runs { RunsRecorded (Acts O.adds E.adds Y.Log.contents Y.holds
-        Y.Program.owner Y.step Y.Link.owner) S.adds S.has_failed script.now args.now limits.ticks (
+        Y.Program.owner Y.step Y.Link.owner) S.adds S.has_failed
+        (Heard X.told runner.old runner.new) script.now args.now limits.ticks (
           open_in world.old.live.now.system world.old.live.now.log
               world.old.live.now.peers world.old.live.now.programs.items,
           (world.old.out.now, world.old.err.now),
@@ -209,8 +213,9 @@ fn run_silent<O: Sink, E: Sink, S: Sink, X: Runner<Global>>(
     made: &mut Option<S>,
     runner: &mut X,
 ) -> Result<End<Global>, NoMemory>
-    ensures { RunsRecorded (Steps O.adds E.adds) S.adds S.has_failed script.now args.now
-        limits.ticks (_out.now, _err.now) made.old (_out.now, _err.now) made.new result }
+    ensures { RunsRecorded (Steps O.adds E.adds) S.adds S.has_failed
+        (Heard X.told runner.old runner.new) script.now args.now limits.ticks
+        (_out.now, _err.now) made.old (_out.now, _err.now) made.new result }
 {
     runner.run(alloc, script, args, limits, &mut Silent, made)
 }

@@ -8,7 +8,7 @@ ghost use Rattle.recorders.specs.Recorder as spec;
 ghost use Rattle.replays.specs.Reel.{reeled_in};
 ghost use Rattle.replays.specs.Replay.{ReplaysBy};
 ghost use Rattle.worlds.specs.Play.{Declines, Plays, PlaysRecorded, PlaysRecordedOn, Replayed, Starves};
-ghost use Rattle.worlds.specs.Runs.{RunsRecorded};
+ghost use Rattle.worlds.specs.Runs.{Heard, RunsRecorded, unheard};
 ghost use Rattle.worlds.specs.Status.{line_of, status_of};
 ghost use Rattle.worlds.specs.declared.status.Outcome.TheVariants.{BadRecord};
 
@@ -65,7 +65,7 @@ pub fn play<A: Allocator + Copy, O: Sink + Drop, E: Sink + Drop>(
 ) -> u8
     requires out { O.has_failed out ≡ false }
     requires err { E.has_failed err ≡ false }
-    ensures { (last : O × E) × Replayed O.adds O.has_failed E.adds E.has_failed
+    ensures { (last : O × E) × Replayed O.adds O.has_failed E.adds E.has_failed unheard
         script.now args.now limits.ticks name.entry «record».now (out, err) last result }
 {
     replayed(
@@ -88,7 +88,7 @@ pub fn replayed<A: Allocator + Copy, O: Sink, E: Sink>(
     requires out { O.has_failed out.old ≡ false }
     requires err { E.has_failed err.old ≡ false }
     // The record is refused, or the script runs under its entries.
-    ensures ends { Replayed O.adds O.has_failed E.adds E.has_failed
+    ensures ends { Replayed O.adds O.has_failed E.adds E.has_failed unheard
         script.now args.now limits.ticks name.entry «record».now
         (out.old, err.old) (out.new, err.new) result }
 
@@ -102,7 +102,7 @@ pub fn replayed<A: Allocator + Copy, O: Sink, E: Sink>(
         ⊎ Starves O.adds O.has_failed E.adds E.has_failed
         (out.old, err.old) (out.new, err.new) result }
     ensures answers { (entries : List Note) → AreEntries entries «record».now
-        → Plays O.adds O.has_failed E.adds E.has_failed script.now args.now limits.ticks
+        → Plays O.adds O.has_failed E.adds E.has_failed unheard script.now args.now limits.ticks
         false entries (out.old, err.old) (out.new, err.new) result
         ⊎ Starves O.adds O.has_failed E.adds E.has_failed
         (out.old, err.old) (out.new, err.new) result }
@@ -135,7 +135,7 @@ pub fn rerun<A: Allocator + Copy, O: Sink, E: Sink, S: Sink>(
     err: &mut E,
     made: &mut Option<S>,
 ) -> u8
-    ensures { PlaysRecorded O.adds O.has_failed E.adds E.has_failed
+    ensures { PlaysRecorded O.adds O.has_failed E.adds E.has_failed unheard
         script.now args.now limits.ticks S.adds S.has_failed
         (map note_of entries.items) (out.old, err.old) made.old (out.new, err.new) made.new
         result }
@@ -166,7 +166,7 @@ pub fn rerun_by<A: Allocator + Copy, O: Sink, E: Sink, S: Sink, X: Runner<A>>(
     runner: &mut X,
 ) -> u8
     ensures { PlaysRecorded O.adds O.has_failed E.adds E.has_failed
-        script.now args.now limits.ticks S.adds S.has_failed
+        (Heard X.told runner.old runner.new) script.now args.now limits.ticks S.adds S.has_failed
         (map note_of entries.items) (out.old, err.old) made.old (out.new, err.new) made.new
         result }
 {
@@ -207,8 +207,9 @@ where
     S: Sink,
     X: Runner<A>,
     ensures { PlaysRecordedOn O.adds O.has_failed E.adds E.has_failed
-        script.now args.now limits.ticks S.adds S.has_failed F.gives F.gives_up F.most name.entry
-        (reeled_in reel) (out.old, err.old) made.old (out.new, err.new) made.new result }
+        (Heard X.told runner.old runner.new) script.now args.now limits.ticks S.adds S.has_failed
+        F.gives F.gives_up F.most name.entry (reeled_in reel) (out.old, err.old) made.old
+        (out.new, err.new) made.new result }
 {
     let ended = run_recording(
         alloc, script, args, limits, &mut reel, out, err, made, runner,
@@ -252,7 +253,7 @@ where
     S: Sink,
     X: Runner<A>,
     ensures { RunsRecorded (ReplaysBy O.adds O.has_failed E.adds E.has_failed R.answers)
-        S.adds S.has_failed script.now args.now limits.ticks
+        S.adds S.has_failed (Heard X.told runner.old runner.new) script.now args.now limits.ticks
         (recorded.old, (out.old, err.old)) made.old (recorded.new, (out.new, err.new)) made.new
         result }
 {
@@ -281,7 +282,7 @@ where
     ensures same_out { world.new.out.ghost_name ≡ world.old.out.ghost_name }
     ensures same_err { world.new.err.ghost_name ≡ world.old.err.ghost_name }
     ensures runs { RunsRecorded (ReplaysBy O.adds O.has_failed E.adds E.has_failed R.answers)
-        S.adds S.has_failed script.now args.now limits.ticks
+        S.adds S.has_failed (Heard X.told runner.old runner.new) script.now args.now limits.ticks
         (world.old.recorded.now, (world.old.out.now, world.old.err.now)) made.old
         (world.new.recorded.now, (world.new.out.now, world.new.err.now)) made.new
         result }

@@ -7,6 +7,7 @@ ghost use Rattle.records.specs.Entry.{note_of};
 ghost use Rattle.replays.specs.Reel.{reeled_in};
 ghost use Rattle.worlds.specs.Lacking.{IsOther, IsOtherRecord, IsOtherScript, IsUnmade, IsUnreadScript};
 ghost use Rattle.worlds.specs.Play.{Declines};
+ghost use Rattle.worlds.specs.Runs.{Heard, unheard};
 ghost use Rattle.worlds.specs.Program.{IsLack, IsMade, IsText, LacksFile, Performs, Runs, RunsOn, RunsText, RunsUnder};
 ghost use Rattle.worlds.specs.Texts.{IsScriptOf};
 ghost use Rattle.worlds.specs.declared.input.Unread.TheVariants as unread;
@@ -86,8 +87,8 @@ where
     // record of that where it names one.
     ensures call { (call : Call) → IsCall (texts words.now) call
         → Performs (F.opens files.now) F.File.left F.File.reads F.Standard.left F.Standard.reads
-        (F.makes files.now) (F.same files.now) O.adds O.has_failed E.adds E.has_failed Global call
-        (out.old, err.old) (out.new, err.new) result }
+        (F.makes files.now) (F.same files.now) O.adds O.has_failed E.adds E.has_failed unheard
+        Global call (out.old, err.old) (out.new, err.new) result }
 {
     match Arguments::read(words) {
         Some(call) => perform_call(rt, files, &call, out, err, &mut Unwatched),
@@ -118,8 +119,9 @@ where
     requires err { E.has_failed err.old ≡ false }
     ensures { (asked : Call) → Holds call.now asked
         → Performs (F.opens files.now) F.File.left F.File.reads F.Standard.left F.Standard.reads
-        (F.makes files.now) (F.same files.now) O.adds O.has_failed E.adds E.has_failed Global asked
-        (out.old, err.old) (out.new, err.new) result }
+        (F.makes files.now) (F.same files.now) O.adds O.has_failed E.adds E.has_failed
+        (Heard X.told runner.old runner.new) Global asked (out.old, err.old) (out.new, err.new)
+        result }
 {
     let text = match text_of(files, rt.alloc(), call) {
         Ok(text) => text,
@@ -208,8 +210,9 @@ where
     requires out { O.has_failed out.old ≡ false }
     requires err { E.has_failed err.old ≡ false }
     ensures { Runs (F.opens files.now) F.File.left F.File.reads F.Standard.left F.Standard.reads
-        (F.makes files.now) (F.same files.now) O.adds O.has_failed E.adds E.has_failed script.now
-        args.now call.now.limits.ticks (option_copied call.now.replay) (option_copied call.now.made)
+        (F.makes files.now) (F.same files.now) O.adds O.has_failed E.adds E.has_failed
+        (Heard X.told runner.old runner.new) script.now args.now call.now.limits.ticks
+        (option_copied call.now.replay) (option_copied call.now.made)
         (out.old, err.old) (out.new, err.new) result }
 {
     let Some(name) = call.replay else {
@@ -262,9 +265,9 @@ fn run_reel<F: Folder, O: Sink, E: Sink, X: Runner<Global>>(
     requires err { E.has_failed err.old ≡ false }
     ensures { RunsOn (F.opens files.now) F.File.left F.File.reads F.Standard.left
         F.Standard.reads (F.makes files.now) (F.same files.now) O.adds O.has_failed E.adds
-        E.has_failed script.now args.now call.now.limits.ticks name.entry
-        (option_copied call.now.made) (reeled_in reel) (out.old, err.old) (out.new, err.new)
-        result }
+        E.has_failed (Heard X.told runner.old runner.new) script.now args.now
+        call.now.limits.ticks name.entry (option_copied call.now.made) (reeled_in reel)
+        (out.old, err.old) (out.new, err.new) result }
 {
     match made_of(files, alloc, call) {
         Ok(mut made) => rerun_reel(
@@ -299,8 +302,9 @@ fn run_record<F: Folder, O: Sink, E: Sink, X: Runner<Global>>(
     requires err { E.has_failed err.old ≡ false }
     ensures { RunsText (F.opens files.now) F.File.left F.File.reads F.Standard.left
         F.Standard.reads (F.makes files.now) (F.same files.now) O.adds O.has_failed E.adds
-        E.has_failed script.now args.now call.now.limits.ticks name.entry
-        (option_copied call.now.made) (out.old, err.old) (out.new, err.new) result }
+        E.has_failed (Heard X.told runner.old runner.new) script.now args.now
+        call.now.limits.ticks name.entry (option_copied call.now.made) (out.old, err.old)
+        (out.new, err.new) result }
 {
     let record = match file_in(files, alloc, name) {
         Ok(record) => record,
@@ -328,8 +332,9 @@ fn run_entries<F: Folder, O: Sink, E: Sink, X: Runner<Global>>(
     requires err { E.has_failed err.old ≡ false }
     ensures { RunsUnder (F.opens files.now) F.File.left F.File.reads F.Standard.left
         F.Standard.reads (F.makes files.now) (F.same files.now) O.adds O.has_failed E.adds
-        E.has_failed script.now args.now call.now.limits.ticks (option_copied call.now.made)
-        (map note_of entries.items) (out.old, err.old) (out.new, err.new) result }
+        E.has_failed (Heard X.told runner.old runner.new) script.now args.now
+        call.now.limits.ticks (option_copied call.now.made) (map note_of entries.items)
+        (out.old, err.old) (out.new, err.new) result }
 {
     match made_of(files, alloc, call) {
         Ok(mut made) => rerun_by(

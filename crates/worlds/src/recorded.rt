@@ -2,7 +2,7 @@
 
 ghost use Rattle.std.specs.Prelude.{◌≡◌};
 ghost use Rattle.recorders.specs.Recorder.{MayRecord};
-ghost use Rattle.worlds.specs.Runs.{RecordedTold, RunsRecorded, RunsTold};
+ghost use Rattle.worlds.specs.Runs.{Heard, Runs, RunsRecorded, unheard};
 
 use acts::{Limits, NoMemory, World};
 use engine::{End, Frame, Lead, State, Unwatched, Watch, run_watched};
@@ -19,6 +19,7 @@ pub trait Refuses<A: Allocator> {
 
 /// One who runs scripts in worlds that are lent, as `run_recorded` does, and may watch the runs.
 pub trait Runner<A: Allocator + Copy> {
+    ghost use Rattle.std.specs.Prelude.{[]};
     ghost use Rattle.acts.specs.History.{History};
 
     /// Whether who runs a script may come from one state to another by being told these acts with
@@ -36,8 +37,11 @@ pub trait Runner<A: Allocator + Copy> {
         world: &mut W,
         made: &mut Option<S>,
     ) -> Result<End<A>, NoMemory>
-        ensures { RecordedTold W.step S.adds S.has_failed told script.now args.now limits.ticks
-            (world.old, self.old) made.old (world.new, self.new) made.new result };
+        ensures { RunsRecorded W.step S.adds S.has_failed (Heard told self.old self.new) script.now
+            args.now limits.ticks world.old made.old world.new made.new result };
+
+    /// Who is told of no act may stay as it is.
+    ghost stays: { (x : Self) → told x [] x };
 }
 
 impl<A: Allocator + Copy> Runner<A> for Unwatched {
@@ -45,6 +49,8 @@ impl<A: Allocator + Copy> Runner<A> for Unwatched {
 
     // Nothing is kept.
     ghost told = { λ _ _ _. ⊤ };
+
+    ghost stays = { λ _. tt };
 
     fn run<W: World<A> + Refuses<A>, S: Sink>(
         &mut self,
@@ -69,7 +75,7 @@ pub fn run_recorded<A: Allocator + Copy, W: World<A>, S: Sink>(
     world: &mut W,
     made: &mut Option<S>,
 ) -> Result<End<A>, NoMemory>
-    ensures { RunsRecorded W.step S.adds S.has_failed script.now args.now limits.ticks
+    ensures { RunsRecorded W.step S.adds S.has_failed unheard script.now args.now limits.ticks
         world.old made.old world.new made.new result }
 {
     run_seen(alloc, script, args, limits, world, made, &mut Unwatched)
@@ -91,8 +97,8 @@ pub fn run_seen<
     watch: &mut T,
 ) -> Result<End<A>, NoMemory>
     // Who watches was told each act with its answer, once and in order.
-    ensures { RecordedTold W.step S.adds S.has_failed T.told script.now args.now limits.ticks
-        (world.old, watch.old) made.old (world.new, watch.new) made.new result }
+    ensures { RunsRecorded W.step S.adds S.has_failed (Heard T.told watch.old watch.new)
+        script.now args.now limits.ticks world.old made.old world.new made.new result }
 {
     begin(made);
     let mut recorder = LentRecorder { world, made };
@@ -110,9 +116,10 @@ fn run_lent<A: Allocator + Copy, W: World<A>, S: Sink, T: Watch<A, Frame<A>, Sta
 ) -> Result<End<A>, NoMemory>
     ensures same_world { recorder.new.world.ghost_name ≡ recorder.old.world.ghost_name }
     ensures same_made { recorder.new.made.ghost_name ≡ recorder.old.made.ghost_name }
-    ensures runs { RunsTold (MayRecord W.step S.adds S.has_failed) T.told script.now args.now
-        limits.ticks ((recorder.old.world.now, recorder.old.made.now), watch.old)
-        ((recorder.new.world.now, recorder.new.made.now), watch.new) result }
+    ensures runs { Runs (MayRecord W.step S.adds S.has_failed)
+        (Heard T.told watch.old watch.new) script.now args.now limits.ticks
+        (recorder.old.world.now, recorder.old.made.now)
+        (recorder.new.world.now, recorder.new.made.now) result }
 {
     run_watched(alloc, script, args, limits, recorder, watch)
 }

@@ -1,48 +1,36 @@
 use Rattle.recorders.specs.Recorder.{MayRecord}
 use Rattle.worlds.specs.Lived.{Acts, open_in}
-use Rattle.worlds.proofs.Seen.{runs_kept, runs_seen, untold}
+use Rattle.worlds.specs.Runs.{Heard}
+use Rattle.worlds.proofs.Seen.{runs_kept, runs_seen}
 use Rattle.worlds.proofs.lived.run_lent.Goals as goal
 
 pub returns-clause-same_live : goal.returns-clause-same_live
 returns-clause-same_live g c =
-    let (begun, begins, told) = c.run.ensures in
-    let runs =
-    untold _ g.X.Runner.told c.args.script.now c.args.args.now c.args.limits.ticks
-    ((c.args.world.now, begun), c.args.runner.now) ((c.run.new.world, c.run.new.made), c.run.new.self)
-    c.run.result told in
+    let (begun, begins, runs) = c.run.ensures in
     runs_kept _ (λ pair. pair.0.live.ghost_name) (λ before act reply after step. step.0.1)
+    (Heard g.X.Runner.told c.args.runner.now c.run.new.self)
     c.args.script.now c.args.args.now c.args.limits.ticks (c.args.world.now, begun)
     (c.run.new.world, c.run.new.made) c.run.result runs
 
 pub returns-clause-same_out : goal.returns-clause-same_out
 returns-clause-same_out g c =
-    let (begun, begins, told) = c.run.ensures in
-    let runs =
-    untold _ g.X.Runner.told c.args.script.now c.args.args.now c.args.limits.ticks
-    ((c.args.world.now, begun), c.args.runner.now) ((c.run.new.world, c.run.new.made), c.run.new.self)
-    c.run.result told in
+    let (begun, begins, runs) = c.run.ensures in
     runs_kept _ (λ pair. pair.0.out.ghost_name) (λ before act reply after step. step.0.2)
+    (Heard g.X.Runner.told c.args.runner.now c.run.new.self)
     c.args.script.now c.args.args.now c.args.limits.ticks (c.args.world.now, begun)
     (c.run.new.world, c.run.new.made) c.run.result runs
 
 pub returns-clause-same_err : goal.returns-clause-same_err
 returns-clause-same_err g c =
-    let (begun, begins, told) = c.run.ensures in
-    let runs =
-    untold _ g.X.Runner.told c.args.script.now c.args.args.now c.args.limits.ticks
-    ((c.args.world.now, begun), c.args.runner.now) ((c.run.new.world, c.run.new.made), c.run.new.self)
-    c.run.result told in
+    let (begun, begins, runs) = c.run.ensures in
     runs_kept _ (λ pair. pair.0.err.ghost_name) (λ before act reply after step. step.0.3)
+    (Heard g.X.Runner.told c.args.runner.now c.run.new.self)
     c.args.script.now c.args.args.now c.args.limits.ticks (c.args.world.now, begun)
     (c.run.new.world, c.run.new.made) c.run.result runs
 
 pub returns-clause-runs : goal.returns-clause-runs
 returns-clause-runs g c =
-    let (begun, begins, told) = c.run.ensures in
-    let runs =
-    untold _ g.X.Runner.told c.args.script.now c.args.args.now c.args.limits.ticks
-    ((c.args.world.now, begun), c.args.runner.now) ((c.run.new.world, c.run.new.made), c.run.new.self)
-    c.run.result told in (
+    let (begun, begins, runs) = c.run.ensures in (
       begun,
       begins,
       runs_seen _ (MayRecord (Acts g.O.Sink.adds g.E.Sink.adds g.Y.Log.Write.contents
@@ -57,6 +45,7 @@ returns-clause-runs g c =
             pair.1,
           ))
           (λ before act reply after step. (step.0.0, step.1))
+          (Heard g.X.Runner.told c.args.runner.now c.run.new.self)
           c.args.script.now c.args.args.now c.args.limits.ticks (c.args.world.now, begun)
           (c.run.new.world, c.run.new.made) c.run.result runs,
     )

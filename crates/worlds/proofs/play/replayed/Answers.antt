@@ -3,6 +3,7 @@ use Rattle.records.specs.Entry.{note_of}
 use Rattle.records.specs.declared.record.RecordFault.TheVariants as fault
 use Rattle.worlds.specs.Play.{Declines}
 use Rattle.replays.specs.Recording.{whole}
+use Rattle.worlds.specs.Runs.{unheard}
 use Rattle.worlds.specs.Status.{end_outcome, fault_outcome}
 use Rattle.worlds.proofs.Plays.{bad_line_told, entries_played, header_read, plays_alone}
 use Rattle.worlds.proofs.play.replayed.Goals as goal
@@ -31,14 +32,14 @@ returns-in-Err-clause-no_header g c = λ first second.
 
 pub returns-in-Err-clause-bad_line : goal.returns-in-Err-clause-bad_line
 returns-in-Err-clause-bad_line g c =
-    bad_line_told g.O.Sink.adds g.O.Sink.has_failed g.E.Sink.adds g.E.Sink.has_failed
+    bad_line_told g.O.Sink.adds g.O.Sink.has_failed g.E.Sink.adds g.E.Sink.has_failed unheard
     c.args.script.now c.args.args.now c.args.limits.ticks c.args.name c.args.«record».now
     (c.args.out.now, c.args.err.now) (c.args.out.now, c.finish.new.err) c.finish.result
     (returns-in-Err-clause-ends g c)
 
 pub returns-in-Err-clause-answers : goal.returns-in-Err-clause-answers
 returns-in-Err-clause-answers g c =
-    entries_played g.O.Sink.adds g.O.Sink.has_failed g.E.Sink.adds g.E.Sink.has_failed
+    entries_played g.O.Sink.adds g.O.Sink.has_failed g.E.Sink.adds g.E.Sink.has_failed unheard
     c.args.script.now c.args.args.now c.args.limits.ticks c.args.name c.args.«record».now
     (c.args.out.now, c.args.err.now) (c.args.out.now, c.finish.new.err) c.finish.result
     (returns-in-Err-clause-ends g c)
@@ -49,7 +50,7 @@ returns-in-Ok-clause-ends g c =
       map note_of c.in-Ok.entries.items,
       c.in-Ok.ensures.read,
       plays_alone _ (λ failed left. end_outcome failed left.differs) g.O.Sink.adds
-          g.O.Sink.has_failed g.E.Sink.adds g.E.Sink.has_failed _ _ c.args.script.now
+          g.O.Sink.has_failed g.E.Sink.adds g.E.Sink.has_failed _ _ unheard c.args.script.now
           c.args.args.now c.args.limits.ticks (whole (map note_of c.in-Ok.entries.items))
           (c.args.out.now, c.args.err.now) (c.rerun.new.out, c.rerun.new.err) c.rerun.result
           c.rerun.new.made c.rerun.ensures,
@@ -57,14 +58,14 @@ returns-in-Ok-clause-ends g c =
 
 pub returns-in-Ok-clause-bad_line : goal.returns-in-Ok-clause-bad_line
 returns-in-Ok-clause-bad_line g c =
-    bad_line_told g.O.Sink.adds g.O.Sink.has_failed g.E.Sink.adds g.E.Sink.has_failed
+    bad_line_told g.O.Sink.adds g.O.Sink.has_failed g.E.Sink.adds g.E.Sink.has_failed unheard
     c.args.script.now c.args.args.now c.args.limits.ticks c.args.name c.args.«record».now
     (c.args.out.now, c.args.err.now) (c.rerun.new.out, c.rerun.new.err) c.rerun.result
     (returns-in-Ok-clause-ends g c)
 
 pub returns-in-Ok-clause-answers : goal.returns-in-Ok-clause-answers
 returns-in-Ok-clause-answers g c =
-    entries_played g.O.Sink.adds g.O.Sink.has_failed g.E.Sink.adds g.E.Sink.has_failed
+    entries_played g.O.Sink.adds g.O.Sink.has_failed g.E.Sink.adds g.E.Sink.has_failed unheard
     c.args.script.now c.args.args.now c.args.limits.ticks c.args.name c.args.«record».now
     (c.args.out.now, c.args.err.now) (c.rerun.new.out, c.rerun.new.err) c.rerun.result
     (returns-in-Ok-clause-ends g c)

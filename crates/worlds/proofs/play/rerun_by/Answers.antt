@@ -4,7 +4,7 @@ use Rattle.recorders.specs.Recorder.{MayRecord, is_lost}
 use Rattle.replays.specs.Recording.{Recorded, recorded_in}
 use Rattle.replays.specs.Replay.{Replays}
 use Rattle.worlds.specs.Play.{Finishes}
-use Rattle.worlds.specs.Runs.{RunsRecorded}
+use Rattle.worlds.specs.Runs.{Heard, RunsRecorded}
 use Rattle.worlds.specs.Status.{end_outcome}
 use Rattle.worlds.proofs.Seen.{recorded_seen}
 use Rattle.worlds.proofs.play.rerun_by.Goals as goal
@@ -18,14 +18,16 @@ returns g c =
       ran.result,
       subst (λ (begun : Recorded). RunsRecorded (Replays g.O.Sink.adds g.O.Sink.has_failed
           g.E.Sink.adds g.E.Sink.has_failed) g.S.Sink.adds g.S.Sink.has_failed
-          c.args.script.now c.args.args.now c.args.limits.ticks
+          (Heard g.X.Runner.told c.args.runner.now ran.new.runner) c.args.script.now
+          c.args.args.now c.args.limits.ticks
           (begun, (c.args.out.now, c.args.err.now)) c.args.made.now
           (left, (ran.new.out, ran.new.err)) ran.new.made ran.result)
           c.of_entries-recording.ensures
           (recorded_seen _ (Replays g.O.Sink.adds g.O.Sink.has_failed g.E.Sink.adds
           g.E.Sink.has_failed) (λ state. (recorded_in state.0, state.1))
           (λ before act reply after step. step) g.S.Sink.adds g.S.Sink.has_failed
-          c.args.script.now c.args.args.now c.args.limits.ticks
+          (Heard g.X.Runner.told c.args.runner.now ran.new.runner) c.args.script.now
+          c.args.args.now c.args.limits.ticks
           (c.of_entries-recording.result, (c.args.out.now, c.args.err.now))
           (ran.new.recorded, (ran.new.out, ran.new.err)) c.args.made.now ran.new.made
           ran.result ran.ensures),

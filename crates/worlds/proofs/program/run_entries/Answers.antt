@@ -1,7 +1,8 @@
-use Rattle.std.proofs.Common.{map, inr}
+use Rattle.std.proofs.Common.{map, inl, inr, refl}
 use Rattle.std.specs.Option.{option_copied}
 use Rattle.records.specs.Entry.{note_of}
 use Rattle.replays.specs.Recording.{whole}
+use Rattle.worlds.specs.Runs.{Heard}
 use Rattle.worlds.specs.Status.{end_outcome}
 use Rattle.worlds.proofs.Plays.{plays_so}
 use Rattle.worlds.proofs.program.run_entries.Goals as goal
@@ -10,9 +11,18 @@ pub returns-in-Ok : goal.returns-in-Ok
 returns-in-Ok g c =
     let (lost, may_be, plays) =
     plays_so _ (λ failed left. end_outcome failed left.differs) g.O.Sink.adds g.O.Sink.has_failed
-    g.E.Sink.adds g.E.Sink.has_failed _ _ c.args.script.now c.args.args.now
+    g.E.Sink.adds g.E.Sink.has_failed _ _
+    (Heard g.X.Runner.told c.args.runner.now c.rerun_by.new.runner) c.args.script.now c.args.args.now
     c.args.call.now.limits.ticks (whole (map note_of c.args.entries.items))
     (c.args.out.now, c.args.err.now) (c.rerun_by.new.out, c.rerun_by.new.err) c.rerun_by.result
     (option_copied c.args.call.now.made) c.in-Ok.made c.rerun_by.new.made c.in-Ok.ensures.none
     c.rerun_by.ensures in
     inr (c.in-Ok.ensures.made, lost, may_be, plays)
+
+pub returns-in-Err : goal.returns-in-Err
+returns-in-Err g c =
+    inl (
+      c.in-Err.outcome,
+      c.in-Err.ensures.lack,
+      (g.met.X.Runner.stays c.args.runner.now, (refl, (c.finish.ensures.line, c.finish.ensures.status))),
+    )

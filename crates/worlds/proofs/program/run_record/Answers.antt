@@ -24,19 +24,22 @@ returns g c =
       subst (IsTextOf (g.F.Folder.opens c.args.files.now) g.F.File.Reader.left c.args.name.now)
           (sym c.deref.ensures.value) c.in-Ok.ensures.text,
       inl (
-        c.in-Err-read_entries.fault,
-        c.in-Err-read_entries.ensures.fault,
-        subst (λ outcome. Declines g.O.Sink.adds g.O.Sink.has_failed g.E.Sink.adds
-            g.E.Sink.has_failed outcome (c.args.out.now, c.args.err.now)
-            (c.args.out.now, c.finish-in-Err-read_entries.new.err)
-            c.finish-in-Err-read_entries.result)
-            c.of_fault.ensures (
-              refl,
-              (
-                c.finish-in-Err-read_entries.ensures.line,
-                c.finish-in-Err-read_entries.ensures.status,
+        g.met.X.Runner.stays c.args.runner.now,
+        (
+          c.in-Err-read_entries.fault,
+          c.in-Err-read_entries.ensures.fault,
+          subst (λ outcome. Declines g.O.Sink.adds g.O.Sink.has_failed g.E.Sink.adds
+              g.E.Sink.has_failed outcome (c.args.out.now, c.args.err.now)
+              (c.args.out.now, c.finish-in-Err-read_entries.new.err)
+              c.finish-in-Err-read_entries.result)
+              c.of_fault.ensures (
+                refl,
+                (
+                  c.finish-in-Err-read_entries.ensures.line,
+                  c.finish-in-Err-read_entries.ensures.status,
+                ),
               ),
-            ),
+        ),
       ),
     )
 
@@ -51,8 +54,5 @@ returns-in-Err g c =
         c.of_file.ensures,
         λ is. c.in-Err.ensures.refused (ap Err is),
       ),
-      (
-        refl,
-        (c.finish.ensures.line, c.finish.ensures.status),
-      ),
+      (g.met.X.Runner.stays c.args.runner.now, (refl, (c.finish.ensures.line, c.finish.ensures.status))),
     )

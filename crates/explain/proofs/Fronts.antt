@@ -1,0 +1,208 @@
+-- The words of a call of rx-explain: what is said of the story, and what is left for rx.
+use Rattle.std.proofs.Common.{◌≡◌, ◌≢◌, ◌⊎◌, ℕ, List, [], ◌∷◌, ◌++◌, Option, Some, None, refl, ap, sym, subst, ◌∙◌, inl, inr, flat_map, get_or, length, arith}
+use Rattle.std.specs.Prelude.{IfNone, IfSome, codes}
+use Rattle.arguments.specs.Arguments.{AreScript, Call, Command, IsCall, IsFile, IsOneCall, Limit, Name, Record, Replay, Setting, spelled, word_of}
+use Rattle.teller.specs.declared.telling.Detail.{Detail}
+use Rattle.teller.specs.declared.telling.Detail.TheVariants.{Brief, Whole}
+use Rattle.explain.specs.Asked.{Asks, AsksOnly, detail_words, story_words}
+
+-- no option of rx is spelled as one of the story
+no_story_name : (name : Name) → word_of name ≢ codes "--story"
+no_story_name Command = λ e. cc e
+no_story_name Replay = λ e. omega (arith, ap (λ word. get_or word 2 0) e)
+no_story_name Record = λ e. omega (arith, ap (λ word. get_or word 2 0) e)
+no_story_name Limit = λ e. omega (arith, ap (λ word. get_or word 2 0) e)
+
+no_brief_name : (name : Name) → word_of name ≢ codes "--brief"
+no_brief_name Command = λ e. cc e
+no_brief_name Replay = λ e. omega (arith, ap (λ word. get_or word 2 0) e)
+no_brief_name Record = λ e. omega (arith, ap (λ word. get_or word 2 0) e)
+no_brief_name Limit = λ e. omega (arith, ap (λ word. get_or word 2 0) e)
+
+other_option : codes "--story" ≢ codes "--brief"
+other_option = λ e. omega (arith, ap (λ word. get_or word 2 0) e)
+
+-- a word that begins with a dash, and is neither `-` nor `-f`, begins no script
+no_script : (word tail : List ℕ) (rest script : List (List ℕ)) → word ≡ codes "-" ++ tail →
+    tail ≢ [] → word ≢ codes "-f" → AreScript (word ∷ rest) script → ⊥
+no_script word tail rest script is some other (inl (flag, left, same)) = other flag
+no_script word tail rest script is some other (inr (file, same)) = some (file tail is)
+
+-- no words of rx begin with it, where it is no option
+begins_no_call : (word tail : List ℕ) (words : List (List ℕ)) (settings : List Setting)
+    (rest script : List (List ℕ)) → word ≡ codes "-" ++ tail → tail ≢ [] → word ≢ codes "-f" →
+    ((name : Name) → word_of name ≢ word) → word ∷ words ≡ flat_map spelled settings ++ rest →
+    AreScript rest script → ⊥
+begins_no_call word tail words [] rest script is some other none spells are =
+    no_script word tail words script is some other
+    (subst (λ list. AreScript list script) (sym spells) are)
+begins_no_call word tail words (setting ∷ settings) rest script is some other none spells are =
+    let first : word ≡ word_of setting.name = cc spells in none setting.name (sym first)
+
+no_story : (rest : List (List ℕ)) (call : Call) → IsCall (codes "--story" ∷ rest) call → ⊥
+no_story rest call is =
+    begins_no_call (codes "--story") (codes "-story") rest is.settings is.rest call.script refl
+    (λ e. omega (arith, ap length e)) (λ e. omega (arith, ap length e)) no_story_name is.spells
+    is.script
+
+no_brief : (rest : List (List ℕ)) (call : Call) → IsCall (codes "--brief" ∷ rest) call → ⊥
+no_brief rest call is =
+    begins_no_call (codes "--brief") (codes "-brief") rest is.settings is.rest call.script refl
+    (λ e. omega (arith, ap length e)) (λ e. omega (arith, ap length e)) no_brief_name is.spells
+    is.script
+
+-- what words begin with that ask for a story in this file, where these are left for rx
+pub data Front (words left : List (List ℕ)) (file : Option (List ℕ)) : Type 0 where
+  Bare : file ≡ None → words ≡ left → Front words left file
+  Briefly : file ≡ None → words ≡ codes "--brief" ∷ left → Front words left file
+  Named : (name : List ℕ) → file ≡ Some name → words ≡ codes "--story" ∷ name ∷ left →
+      Front words left file
+  Both : (name : List ℕ) → file ≡ Some name →
+      words ≡ codes "--story" ∷ name ∷ codes "--brief" ∷ left → Front words left file
+  Turned : (name : List ℕ) → file ≡ Some name →
+      words ≡ codes "--brief" ∷ codes "--story" ∷ name ∷ left → Front words left file
+
+front_of : (words left : List (List ℕ)) (file : Option (List ℕ)) (detail : Detail) →
+    (words ≡ (story_words file ++ detail_words detail) ++ left)
+    ⊎ (words ≡ (detail_words detail ++ story_words file) ++ left) → Front words left file
+front_of words left None Whole (inl is) = Bare refl is
+front_of words left None Whole (inr is) = Bare refl is
+front_of words left None Brief (inl is) = Briefly refl is
+front_of words left None Brief (inr is) = Briefly refl is
+front_of words left (Some name) Whole (inl is) = Named name refl is
+front_of words left (Some name) Whole (inr is) = Named name refl is
+front_of words left (Some name) Brief (inl is) = Both name refl is
+front_of words left (Some name) Brief (inr is) = Turned name refl is
+
+-- where words begin so, each way to read them has this file, and leaves these words to rx
+module _ (words rest : List (List ℕ)) where
+  abbrev Leaves : Option (List ℕ) → Option (List ℕ) → Call → Type 0
+  Leaves file other call = (other ≡ file) × IsCall rest call
+
+  pub both_left : (name : List ℕ) → words ≡ codes "--story" ∷ name ∷ codes "--brief" ∷ rest →
+      (other : Option (List ℕ)) (left : List (List ℕ)) (call : Call) → Front words left other →
+      IsCall left call → Leaves (Some name) other call
+  both_left name is other left call (Bare file e) calls =
+      absurd (no_story (name ∷ codes "--brief" ∷ rest) call
+      (subst (λ list. IsCall list call) (sym e ∙ is) calls))
+  both_left name is other left call (Briefly file e) calls =
+      let same : codes "--story" ≡ codes "--brief" = cc (sym is ∙ e) in absurd (other_option same)
+  both_left name is other left call (Named found file e) calls =
+      let same : left ≡ codes "--brief" ∷ rest = cc (sym is ∙ e) in
+      absurd (no_brief rest call (subst (λ list. IsCall list call) same calls))
+  both_left name is other left call (Both found file e) calls =
+      let named : found ≡ name = cc (sym is ∙ e) in
+      let same : left ≡ rest = cc (sym is ∙ e) in
+      (file ∙ ap Some named, subst (λ list. IsCall list call) same calls)
+  both_left name is other left call (Turned found file e) calls =
+      let same : codes "--story" ≡ codes "--brief" = cc (sym is ∙ e) in absurd (other_option same)
+
+  pub named_left : (name : List ℕ) → words ≡ codes "--story" ∷ name ∷ rest →
+      ((after : List (List ℕ)) → rest ≢ codes "--brief" ∷ after) →
+      (other : Option (List ℕ)) (left : List (List ℕ)) (call : Call) → Front words left other →
+      IsCall left call → Leaves (Some name) other call
+  named_left name is none other left call (Bare file e) calls =
+      absurd (no_story (name ∷ rest) call (subst (λ list. IsCall list call) (sym e ∙ is) calls))
+  named_left name is none other left call (Briefly file e) calls =
+      let same : codes "--story" ≡ codes "--brief" = cc (sym is ∙ e) in absurd (other_option same)
+  named_left name is none other left call (Named found file e) calls =
+      let named : found ≡ name = cc (sym is ∙ e) in
+      let same : left ≡ rest = cc (sym is ∙ e) in
+      (file ∙ ap Some named, subst (λ list. IsCall list call) same calls)
+  named_left name is none other left call (Both found file e) calls =
+      let same : rest ≡ codes "--brief" ∷ left = cc (sym is ∙ e) in absurd (none left same)
+  named_left name is none other left call (Turned found file e) calls =
+      let same : codes "--story" ≡ codes "--brief" = cc (sym is ∙ e) in absurd (other_option same)
+
+  pub turned_left : (name : List ℕ) → words ≡ codes "--brief" ∷ codes "--story" ∷ name ∷ rest →
+      (other : Option (List ℕ)) (left : List (List ℕ)) (call : Call) → Front words left other →
+      IsCall left call → Leaves (Some name) other call
+  turned_left name is other left call (Bare file e) calls =
+      absurd (no_brief (codes "--story" ∷ name ∷ rest) call
+      (subst (λ list. IsCall list call) (sym e ∙ is) calls))
+  turned_left name is other left call (Briefly file e) calls =
+      let same : left ≡ codes "--story" ∷ name ∷ rest = cc (sym is ∙ e) in
+      absurd (no_story (name ∷ rest) call (subst (λ list. IsCall list call) same calls))
+  turned_left name is other left call (Named found file e) calls =
+      let same : codes "--story" ≡ codes "--brief" = cc (sym e ∙ is) in absurd (other_option same)
+  turned_left name is other left call (Both found file e) calls =
+      let same : codes "--story" ≡ codes "--brief" = cc (sym e ∙ is) in absurd (other_option same)
+  turned_left name is other left call (Turned found file e) calls =
+      let named : found ≡ name = cc (sym is ∙ e) in
+      let same : left ≡ rest = cc (sym is ∙ e) in
+      (file ∙ ap Some named, subst (λ list. IsCall list call) same calls)
+
+  pub brief_left : words ≡ codes "--brief" ∷ rest →
+      ((name : List ℕ) (after : List (List ℕ)) → rest ≢ codes "--story" ∷ name ∷ after) →
+      (other : Option (List ℕ)) (left : List (List ℕ)) (call : Call) → Front words left other →
+      IsCall left call → Leaves None other call
+  brief_left is none other left call (Bare file e) calls =
+      absurd (no_brief rest call (subst (λ list. IsCall list call) (sym e ∙ is) calls))
+  brief_left is none other left call (Briefly file e) calls =
+      let same : left ≡ rest = cc (sym is ∙ e) in
+      (file, subst (λ list. IsCall list call) same calls)
+  brief_left is none other left call (Named found file e) calls =
+      let same : codes "--story" ≡ codes "--brief" = cc (sym e ∙ is) in absurd (other_option same)
+  brief_left is none other left call (Both found file e) calls =
+      let same : codes "--story" ≡ codes "--brief" = cc (sym e ∙ is) in absurd (other_option same)
+  brief_left is none other left call (Turned found file e) calls =
+      let same : rest ≡ codes "--story" ∷ found ∷ left = cc (sym is ∙ e) in
+      absurd (none found left same)
+
+  pub bare_left : words ≡ rest →
+      ((name : List ℕ) (after : List (List ℕ)) → words ≢ codes "--story" ∷ name ∷ after) →
+      ((after : List (List ℕ)) → words ≢ codes "--brief" ∷ after) →
+      (other : Option (List ℕ)) (left : List (List ℕ)) (call : Call) → Front words left other →
+      IsCall left call → Leaves None other call
+  bare_left is no_name no_word other left call (Bare file e) calls =
+      (file, subst (λ list. IsCall list call) (sym e ∙ is) calls)
+  bare_left is no_name no_word other left call (Briefly file e) calls = absurd (no_word left e)
+  bare_left is no_name no_word other left call (Named found file e) calls =
+      absurd (no_name found left e)
+  bare_left is no_name no_word other left call (Both found file e) calls =
+      absurd (no_name found (codes "--brief" ∷ left) e)
+  bare_left is no_name no_word other left call (Turned found file e) calls =
+      absurd (no_word (codes "--story" ∷ found ∷ left) e)
+
+  -- so they ask for the call of rx that these words are, and for no other story, or for none
+  module _ (file : Option (List ℕ)) (leaves : (other : Option (List ℕ)) (left : List (List ℕ))
+      (call : Call) → Front words left other → IsCall left call → Leaves file other call) where
+    asks_only : (detail : Detail) (call : Call) →
+        (words ≡ (story_words file ++ detail_words detail) ++ rest)
+        ⊎ (words ≡ (detail_words detail ++ story_words file) ++ rest) → IsOneCall rest call →
+        AsksOnly words file detail call
+    asks_only detail call spells (calls, only) = (
+      record { rest = rest; spells = spells; calls = calls; },
+      λ other_file other_detail other asks.
+          let (same, is) = leaves other_file asks.rest other
+          (front_of words asks.rest other_file other_detail asks.spells) asks.calls in
+          (same, only other is),
+    )
+
+    -- the same of what is read of them, where something is
+    pub some_asks : {X : Type 0} (file_of : X → Option (List ℕ)) (detail_of : X → Detail)
+        (holds : X → Call → Type 0) (detail : Detail) (result : Option X) →
+        IfSome result (λ asked. file_of asked ≡ file) →
+        IfSome result (λ asked. detail_of asked ≡ detail) →
+        IfSome result (λ asked. (call : Call) × IsOneCall rest call × holds asked call) →
+        (words ≡ (story_words file ++ detail_words detail) ++ rest)
+        ⊎ (words ≡ (detail_words detail ++ story_words file) ++ rest) →
+        IfSome result (λ asked. (call : Call)
+        × AsksOnly words (file_of asked) (detail_of asked) call × holds asked call)
+    some_asks file_of detail_of holds detail None files details calls spells = tt
+    some_asks file_of detail_of holds detail (Some asked) files details (call, one, is) spells = (
+      call,
+      subst (λ named. AsksOnly words named (detail_of asked) call) (sym files)
+          (subst (λ much. AsksOnly words file much call) (sym details)
+          (asks_only detail call spells one)),
+      is,
+    )
+
+    pub none_asks : {X : Type 0} (result : Option X) →
+        IfNone result ((call : Call) → ¬ IsCall rest call) →
+        IfNone result ((other : Option (List ℕ)) (detail : Detail) (call : Call) →
+        ¬ Asks words other detail call)
+    none_asks None none = λ other detail call asks.
+        let (same, is) = leaves other asks.rest call
+        (front_of words asks.rest other detail asks.spells) asks.calls in none call is
+    none_asks (Some asked) none = tt
