@@ -172,7 +172,7 @@ module _ (words rest : List (List ℕ)) where
         ⊎ (words ≡ (detail_words detail ++ story_words file) ++ rest) → IsOneCall rest call →
         AsksOnly words file detail call
     asks_only detail call spells (calls, only) = (
-      record { rest = rest; spells = spells; calls = calls; },
+      record { rest = rest; spells = spells; calls = calls },
       λ other_file other_detail other asks.
           let (same, is) = leaves other_file asks.rest other
           (front_of words asks.rest other_file other_detail asks.spells) asks.calls in

@@ -1,5 +1,5 @@
 -- What a call of rx-explain does (this project's own).
-use Rattle.std.specs.Prelude.{◌≡◌, ◌⊎◌, ◌++◌, ⊥, if◌then◌else◌, ℕ, Bool, List, length, Option, Some, None, Result, Ok, codes}
+use Rattle.std.specs.Prelude.{◌≡◌, ◌⊎◌, ◌++◌, if◌then◌else◌, ℕ, Bool, List, length, Option, Some, None, Result, Ok, codes}
 use Rattle.std.specs.Borrow.{Bor}
 use Rattle.std.specs.declared.io.Error.{Error}
 use Rattle.arguments.specs.Arguments.{Call}
@@ -16,6 +16,15 @@ usage =
     codes "usage: rx-explain [--story F] [--brief] [-c cmds]... [--replay F] "
     ++ codes "[--record G] [--limit N] [[-f] file [args]]\n"
 
+-- `err` says whether a write may lead from one state of a writer to another and add these bytes,
+-- `err_failed` whether the writer has failed.
+module _ {O E : Type 0} (err : E → List ℕ → E → Type 0) (err_failed : E → Bool) where
+  -- words that ask for no story are told as such, and nothing else is done
+  abbrev pub Rejects : O × E → O × E → ℕ → Type 0
+  Rejects before after status =
+      (after.0 ≡ before.0) × Takes err err_failed before.1 usage after.1
+      × (status ≡ (if err_failed after.1 then 4 else 2))
+
 -- what the system may answer and what each write may do, as in `Performs`
 module _ {F I M : Type 0} (opens : List ℕ → Result F Error → Type 0)
     (left : F → Option (List ℕ)) (reads : F → Result ℕ Error → F → Type 0)
@@ -23,12 +32,6 @@ module _ {F I M : Type 0} (opens : List ℕ → Result F Error → Type 0)
     (makes : List ℕ → Result M Error → Type 0) (same : List ℕ → List ℕ → Bool → Type 0)
     {O E : Type 0} (out : O → List ℕ → O → Type 0) (out_failed : O → Bool)
     (err : E → List ℕ → E → Type 0) (err_failed : E → Bool) where
-  -- the words are told as such, and nothing else is done
-  abbrev pub Rejects : O × E → O × E → ℕ → Type 0
-  Rejects before after status =
-      (after.0 ≡ before.0) × Takes err err_failed before.1 usage after.1
-      × (status ≡ (if err_failed after.1 then 4 else 2))
-
   -- the call does what it does as a call of rx, and a story that had been told nothing is told its
   -- acts; then it is over, or, as where that story is lost, it ends as where a writer failed
   abbrev pub Tells : Type 0 → Call → O × E → O × E → ℕ → Type 0

@@ -91,8 +91,7 @@ where
     // Words that ask for no story are told as such, and nothing else is done.
     ensures usage { ((file : Option (List ℕ)) (detail : Much) (call : Call)
         → ¬ Asks (texts words.now) file detail call)
-        → Rejects O.adds O.has_failed E.adds E.has_failed (out.old, err.old) (out.new, err.new)
-        result }
+        → Rejects E.adds E.has_failed (out.old, err.old) (out.new, err.new) result }
 
     // A call whose story is asked for does what it does as a call of `rx`, and its acts are told.
     ensures story { (file : Option (List ℕ)) (detail : Much) (call : Call)

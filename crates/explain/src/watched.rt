@@ -50,8 +50,7 @@ impl<A: Allocator + Copy, S: Sink> Story<A, S> {
 
 impl<A: Allocator + Copy, S: Sink> Watch<A, Frame<A>, State<A>, Leaf<A, Waits<A>>> for Story<A, S> {
     ghost use Rattle.std.specs.Prelude.{length};
-    ghost use Rattle.explain.specs.Counts.{CountsOn};
-    ghost use Rattle.explain.proofs.Counts.{goes_on, stands_still};
+    ghost use Rattle.explain.specs.Counts.{CountsOn, goes_on, stands_still};
 
     // It counts each act.
     ghost told = { λ before acts after. CountsOn before.acts (length acts) after.acts };
@@ -84,8 +83,7 @@ impl<A: Allocator + Copy, S: Sink> Watch<A, Frame<A>, State<A>, Leaf<A, Waits<A>
 
 impl<A: Allocator + Copy, S: Sink> Runner<A> for Story<A, S> {
     ghost use Rattle.std.specs.Prelude.{length};
-    ghost use Rattle.explain.specs.Counts.{CountsOn};
-    ghost use Rattle.explain.proofs.Counts.{stands_still};
+    ghost use Rattle.explain.specs.Counts.{CountsOn, stands_still};
 
     // It counts each act.
     ghost told = { λ before acts after. CountsOn before.acts (length acts) after.acts };

@@ -68,9 +68,9 @@ returns-in-Err g c =
     (option_copied c.args.call.now.made) (c.args.out.now, c.args.err.now)
     (c.args.out.now, c.finish.new.err) c.finish.result)
     (sym (ap option_copied c.in_default.is)) (
-      inl (
-        c.in-Err.outcome,
-        c.in-Err.ensures.lack,
-        (g.met.X.Runner.stays c.args.runner.now, (refl, (c.finish.ensures.line, c.finish.ensures.status))),
-      )
+    inl (
+      c.in-Err.outcome,
+      c.in-Err.ensures.lack,
+      (g.met.X.Runner.stays c.args.runner.now, (refl, (c.finish.ensures.line, c.finish.ensures.status))),
+    )
     )
