@@ -1,65 +1,119 @@
-//! The texts of errors, with memory and without.
+//! The texts of errors.
 
 use acts::{Fault, Id};
-use refusal::Refusing;
+use memory::NoMemory;
 use std::alloc::Allocator;
-use std::process::Abort;
-use std::test::Fail;
+use tables::{Answers, number};
 
-/// How many errors there are. A new one has to be added to [`wanted`], and gets a place below this.
-const FAULTS: u8 = 43;
+/// The table of errors, each by its place.
+pub struct Faults;
 
-/// The text of each error, where the names in it are `a(i)` and `cmd` (this project's table).
-fn wanted<A: Allocator>(fault: &Fault<A>) -> &'static [u8] {
-    match fault {
-        Fault::ListOpenBrace => b"unmatched open brace in list",
-        Fault::ListOpenQuote => b"unmatched open quote in list",
-        Fault::ListAfterBrace => b"list element in braces followed by other characters",
-        Fault::ListAfterQuote => b"list element in quotes followed by other characters",
-        Fault::EscapeNotHere => b"\\u and \\U are not in this profile",
-        Fault::PatternTooLong => b"pattern too long",
-        Fault::OpenBrace => b"missing close-brace",
-        Fault::OpenBracket => b"missing close-bracket",
-        Fault::OpenQuote => b"missing \"",
-        Fault::AfterBrace => b"extra characters after close-brace",
-        Fault::AfterQuote => b"extra characters after close-quote",
-        Fault::TooDeep => b"nested too deeply",
-        Fault::BadVariable => b"bad variable name",
-        Fault::BadExpression => b"syntax error in expression",
-        Fault::DivideByZero => b"divide by zero",
-        Fault::OutOfRange => b"whole number out of range",
-        Fault::NegativeShift => b"negative shift",
-        Fault::BadSize => b"match_max must be 1 to 1000000",
-        Fault::TooManyIds => b"too many spawn ids",
-        Fault::MissingWord => b"a flag needs a word after it",
-        Fault::RegexNotHere => b"-re is not in this profile",
-        Fault::BreakOutside => b"break outside of a loop",
-        Fault::ContinueOutside => b"continue outside of a loop",
-        Fault::AgainOutside => b"exp_continue outside of expect",
-        Fault::TooManyNested => b"too many nested evaluations",
-        Fault::NotOpen(None) => b"spawn id \"\" not open",
-        Fault::NoVariable(_) => b"can't read \"a(i)\": no such variable",
-        Fault::IsArray(_) => b"\"a(i)\" is an array",
-        Fault::NotArray(_) => b"\"a(i)\" is not an array",
-        Fault::NoElement(_) => b"can't read \"a(i)\": no such element",
-        Fault::NotANumber(_) => b"expected a whole number but got \"a(i)\"",
-        Fault::NotATruth(_) => b"expected a truth value but got \"a(i)\"",
-        Fault::NotOpen(Some(_)) => b"spawn id a(i) not open",
-        Fault::BadFlag(_) => b"bad flag \"a(i)\"",
-        Fault::InvalidCommand(_) => b"invalid command name \"cmd\"",
-        Fault::NotInProfile(_) => b"cmd is not in this profile",
-        Fault::WrongArgs(_) => b"wrong # args for \"cmd\"",
-        Fault::BadArgument { .. } => b"bad argument \"a(i)\" for \"cmd\"",
-        Fault::CannotExecute(_) => b"couldn't execute \"a(i)\"",
-        Fault::CannotConnect { .. } => b"couldn't connect to cmd:7",
-        Fault::CannotOpenLog(_) => b"couldn't open log file \"a(i)\"",
-        Fault::SendFailed { .. } => b"send to exp4 failed after 0 bytes",
-        Fault::NoChannel(_) => b"no such channel \"a(i)\"",
+impl Answers for Faults {
+    fn answer<A: Allocator + Copy>(
+        &self,
+        row: &[Vec<u8>],
+        answer: &mut Vec<u8, A>,
+    ) -> Result<(), NoMemory> {
+        let [place] = row else {
+            return Ok(());
+        };
+        let place = number(place);
+        let alloc = *answer.allocator();
+        let Some(fault) = fault_at(alloc, place)? else {
+            return Ok(());
+        };
+        let text = fault.text(alloc)?;
+        if place_of(&fault) == place && !is_said_before(alloc, place, &text)? {
+            answer.extend_from_slice(&text)?;
+        }
+        Ok(())
     }
 }
 
+/// Whether an error before this place has the same text.
+fn is_said_before<A: Allocator + Copy>(
+    alloc: A,
+    place: u64,
+    text: &[u8],
+) -> Result<bool, NoMemory> {
+    for other in 0..place {
+        if let Some(fault) = fault_at(alloc, other)? {
+            if fault.text(alloc)?.as_slice() == text {
+                return Ok(true);
+            }
+        }
+    }
+    Ok(false)
+}
+
+/// The place of an error. A new one needs a place of its own, and a row.
+fn place_of<A: Allocator>(fault: &Fault<A>) -> u64 {
+    match fault {
+        Fault::ListOpenBrace => 0,
+        Fault::ListOpenQuote => 1,
+        Fault::ListAfterBrace => 2,
+        Fault::ListAfterQuote => 3,
+        Fault::EscapeNotHere => 4,
+        Fault::PatternTooLong => 5,
+        Fault::OpenBrace => 6,
+        Fault::OpenBracket => 7,
+        Fault::OpenQuote => 8,
+        Fault::AfterBrace => 9,
+        Fault::AfterQuote => 10,
+        Fault::TooDeep => 11,
+        Fault::BadVariable => 12,
+        Fault::BadExpression => 13,
+        Fault::DivideByZero => 14,
+        Fault::OutOfRange => 15,
+        Fault::NegativeShift => 16,
+        Fault::BadSize => 17,
+        Fault::TooManyIds => 18,
+        Fault::MissingWord => 19,
+        Fault::RegexNotHere => 20,
+        Fault::BreakOutside => 21,
+        Fault::ContinueOutside => 22,
+        Fault::AgainOutside => 23,
+        Fault::TooManyNested => 24,
+        Fault::NotOpen(None) => 25,
+        Fault::SendFailed { .. } => 26,
+        Fault::NoVariable(_) => 27,
+        Fault::IsArray(_) => 28,
+        Fault::NotArray(_) => 29,
+        Fault::NoElement(_) => 30,
+        Fault::NotANumber(_) => 31,
+        Fault::NotATruth(_) => 32,
+        Fault::NotOpen(Some(_)) => 33,
+        Fault::BadFlag(_) => 34,
+        Fault::CannotExecute(_) => 35,
+        Fault::CannotOpenLog(_) => 36,
+        Fault::NoChannel(_) => 37,
+        Fault::InvalidCommand(_) => 38,
+        Fault::NotInProfile(_) => 39,
+        Fault::WrongArgs(_) => 40,
+        Fault::CannotConnect { .. } => 41,
+        Fault::BadArgument { .. } => 42,
+    }
+}
+
+/// The error at a place, if there is one: the names in it are `a(i)` and, of commands and hosts,
+/// `cmd`.
+fn fault_at<A: Allocator + Copy>(alloc: A, place: u64) -> Result<Option<Fault<A>>, NoMemory> {
+    if place < 27 {
+        return Ok(plain_fault(place));
+    }
+    if place < 38 {
+        return Ok(naming_fault(Vec::from_slice(alloc, b"a(i)")?, place));
+    }
+    let command = Vec::from_slice(alloc, b"cmd")?;
+    if place == 42 {
+        let word = Vec::from_slice(alloc, b"a(i)")?;
+        return Ok(Some(Fault::BadArgument { word, command }));
+    }
+    Ok(command_fault(command, place))
+}
+
 /// The error at a place, if it is one that names nothing.
-fn plain_fault<A: Allocator>(place: u8) -> Option<Fault<A>> {
+fn plain_fault<A: Allocator>(place: u64) -> Option<Fault<A>> {
     Some(match place {
         0 => Fault::ListOpenBrace,
         1 => Fault::ListOpenQuote,
@@ -87,101 +141,39 @@ fn plain_fault<A: Allocator>(place: u8) -> Option<Fault<A>> {
         23 => Fault::AgainOutside,
         24 => Fault::TooManyNested,
         25 => Fault::NotOpen(None),
+        26 => Fault::SendFailed { id: Id(4), sent: 0 },
         _ => return None,
     })
 }
 
-/// The error at a place, if it is one that names something: the word `a(i)` and the command `cmd`.
-fn naming_fault<A: Allocator>(
-    word: Vec<u8, A>,
-    command: Vec<u8, A>,
-    place: u8,
-) -> Option<Fault<A>> {
+/// The error at a place, if it is one that names a word.
+fn naming_fault<A: Allocator>(word: Vec<u8, A>, place: u64) -> Option<Fault<A>> {
     Some(match place {
-        26 => Fault::NoVariable(word),
-        27 => Fault::IsArray(word),
-        28 => Fault::NotArray(word),
-        29 => Fault::NoElement(word),
-        30 => Fault::NotANumber(word),
-        31 => Fault::NotATruth(word),
-        32 => Fault::NotOpen(Some(word)),
-        33 => Fault::BadFlag(word),
-        34 => Fault::InvalidCommand(command),
-        35 => Fault::NotInProfile(command),
-        36 => Fault::WrongArgs(command),
-        37 => Fault::BadArgument { word, command },
-        38 => Fault::CannotExecute(word),
-        39 => Fault::CannotConnect {
-            host: command,
+        27 => Fault::NoVariable(word),
+        28 => Fault::IsArray(word),
+        29 => Fault::NotArray(word),
+        30 => Fault::NoElement(word),
+        31 => Fault::NotANumber(word),
+        32 => Fault::NotATruth(word),
+        33 => Fault::NotOpen(Some(word)),
+        34 => Fault::BadFlag(word),
+        35 => Fault::CannotExecute(word),
+        36 => Fault::CannotOpenLog(word),
+        37 => Fault::NoChannel(word),
+        _ => return None,
+    })
+}
+
+/// The error at a place, if it is one that names a command or a host.
+fn command_fault<A: Allocator>(name: Vec<u8, A>, place: u64) -> Option<Fault<A>> {
+    Some(match place {
+        38 => Fault::InvalidCommand(name),
+        39 => Fault::NotInProfile(name),
+        40 => Fault::WrongArgs(name),
+        41 => Fault::CannotConnect {
+            host: name,
             port: 7,
         },
-        40 => Fault::CannotOpenLog(word),
-        41 => Fault::SendFailed { id: Id(4), sent: 0 },
-        42 => Fault::NoChannel(word),
         _ => return None,
     })
-}
-
-/// The error at a place.
-fn fault_at<A: Allocator + Copy>(alloc: A, place: u8) -> Result<Fault<A>, Fail> {
-    if let Some(fault) = plain_fault(place) {
-        return Ok(fault);
-    }
-    let word = Vec::from_slice(alloc, b"a(i)")?;
-    let command = Vec::from_slice(alloc, b"cmd")?;
-    match naming_fault(word, command, place) {
-        Some(fault) => Ok(fault),
-        None => Err(Fail::from("no error has this place")),
-    }
-}
-
-/// Tests an error's text with memory at hand, and then with each request for it refused.
-fn names<A: Allocator + Copy, B: Allocator>(
-    rt: &impl Abort,
-    heap: &Refusing<B>,
-    alloc: A,
-    fault: &Fault<A>,
-    wanted: &[u8],
-) -> Result<(), Fail> {
-    assert_eq!(rt; fault.text(alloc)?.as_slice(), wanted);
-    let before = heap.refused();
-    let mut answered: u64 = 0;
-    for nth in 1..100 {
-        heap.refuse_nth(nth);
-        match fault.text(alloc) {
-            Err(_) => answered = answered.saturating_add(1),
-            Ok(text) => {
-                assert_eq!(rt; text.as_slice(), wanted);
-                break;
-            }
-        }
-    }
-    heap.refuse_none();
-    assert!(rt; 0 < answered && answered < 99, "of {wanted:?}");
-    let refused = heap.refused().checked_sub(before);
-    assert_eq!(rt; refused, Some(answered), "of {wanted:?}");
-    Ok(())
-}
-
-/// Tests the text of every error, each of which has a text of its own.
-fn names_each<A: Allocator + Copy, B: Allocator>(
-    rt: &impl Abort,
-    heap: &Refusing<B>,
-    alloc: A,
-) -> Result<(), Fail> {
-    for place in 0..FAULTS {
-        let fault = fault_at(alloc, place)?;
-        names(rt, heap, alloc, &fault, wanted(&fault))?;
-        for other in 0..place {
-            let other = fault_at(alloc, other)?;
-            assert!(rt; wanted(&other) != wanted(&fault));
-        }
-    }
-    Ok(())
-}
-
-#[test]
-fn names_each_error_or_says_that_memory_was_refused(rt: HostRuntime) -> Result<(), Fail> {
-    let heap = Refusing::new(rt.alloc());
-    names_each(&rt, &heap, &heap)
 }

@@ -1,10 +1,50 @@
 //! A frame of variables on top of the others.
 
-use refusal::Refusing;
+use memory::NoMemory;
 use std::alloc::Allocator;
-use std::test::Fail;
-use tclstate::Scopes;
+use tables::{Answers, push_angled};
+use tclstate::{ScopeError, Scopes};
 use tcltext::Value;
+
+/// The table of frames.
+pub struct Frames;
+
+impl Answers for Frames {
+    fn answer<A: Allocator + Copy>(
+        &self,
+        row: &[Vec<u8>],
+        answer: &mut Vec<u8, A>,
+    ) -> Result<(), NoMemory> {
+        let [outer, inner] = row else {
+            return Ok(());
+        };
+        let alloc = *answer.allocator();
+        let mut scopes = Scopes::new(alloc);
+        set(alloc, &mut scopes, outer)?;
+        tell(answer, &scopes)?;
+        if let Err(refusal) = scopes.push_frame(alloc) {
+            // What answers here although memory was refused fails the row.
+            return if holds(&scopes, outer) {
+                Err(refusal)
+            } else {
+                Ok(())
+            };
+        }
+        tell(answer, &scopes)?;
+        set(alloc, &mut scopes, inner)?;
+        tell(answer, &scopes)?;
+        scopes.pop_frame();
+        tell(answer, &scopes)
+    }
+}
+
+/// Sets the variable `x`.
+fn set<A: Allocator + Copy>(alloc: A, scopes: &mut Scopes<A>, text: &[u8]) -> Result<(), NoMemory> {
+    match scopes.set(alloc, b"x", None, Value::from_slice(alloc, text)?) {
+        Err(ScopeError::NoMemory(refusal)) => Err(refusal),
+        _ => Ok(()),
+    }
+}
 
 /// Whether the variable `x` is there and holds this text.
 fn holds<A: Allocator + Copy>(scopes: &Scopes<A>, text: &[u8]) -> bool {
@@ -14,20 +54,10 @@ fn holds<A: Allocator + Copy>(scopes: &Scopes<A>, text: &[u8]) -> bool {
     }
 }
 
-#[test]
-fn hides_the_variables_below_until_it_goes(rt: HostRuntime) -> Result<(), Fail> {
-    let heap = Refusing::new(rt.alloc());
-    let mut scopes = Scopes::new(&heap);
-    scopes.set(&heap, b"x", None, Value::from_slice(&heap, b"outer")?)?;
-    heap.refuse_all();
-    assert!(&rt; scopes.push_frame(&heap).is_err());
-    heap.refuse_none();
-    assert!(&rt; holds(&scopes, b"outer"));
-    scopes.push_frame(&heap)?;
-    assert!(&rt; scopes.get(b"x", None).is_err());
-    scopes.set(&heap, b"x", None, Value::from_slice(&heap, b"inner")?)?;
-    assert!(&rt; holds(&scopes, b"inner"));
-    scopes.pop_frame();
-    assert!(&rt; holds(&scopes, b"outer"));
-    Ok(())
+/// Writes what the variable `x` holds, if it is there.
+fn tell<A: Allocator + Copy>(answer: &mut Vec<u8, A>, scopes: &Scopes<A>) -> Result<(), NoMemory> {
+    match scopes.get(b"x", None) {
+        Ok(value) => push_angled(answer, value.as_slice()),
+        Err(_) => Ok(answer.push(b'-')?),
+    }
 }

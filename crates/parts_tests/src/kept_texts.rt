@@ -1,61 +1,79 @@
-//! Tests that texts are kept, and that a refusal of memory leaves them as they were.
+//! Texts that are kept.
 
 use kept::Kept;
-use refusal::Refusing;
+use memory::NoMemory;
+use std::alloc::Allocator;
 use std::rc::Rc;
-use std::test::Fail;
+use tables::{Answers, number, push_shown};
+use tclparse::Script;
 
-const TEXTS: usize = 300;
+/// The table of how many texts are kept.
+pub struct KeptTexts;
 
-#[test]
-fn keeps_the_last_256_texts(rt: HostRuntime) -> Result<(), Fail> {
-    let mut kept = Kept::new(rt.alloc());
-    let mut first = Vec::new(rt.alloc());
-    for n in 0..TEXTS {
-        let text = format!(in rt.alloc(); "set x {n}")?;
-        let script = kept.get(text.as_bytes())?;
-        assert_eq!(rt; kept.len(), (n + 1).min(256));
-        let again = kept.get(text.as_bytes())?;
-        assert!(rt; Rc::ptr_eq(&script.commands, &again.commands));
-        assert_eq!(rt; kept.len(), (n + 1).min(256));
-        first.push(script)?;
+impl Answers for KeptTexts {
+    fn answer<A: Allocator + Copy>(
+        &self,
+        row: &[Vec<u8>],
+        answer: &mut Vec<u8, A>,
+    ) -> Result<(), NoMemory> {
+        let [texts, most] = row else {
+            return Ok(());
+        };
+        let (texts, most) = (number(texts) as usize, number(most) as usize);
+        let mut kept = Kept::new(*answer.allocator());
+        let first = keep(*answer.allocator(), &mut kept, texts, most)?;
+        tell_again(answer, &mut kept, &first)
     }
-    // From the newest text to the oldest, so that no kept text goes out before it is asked for.
-    for (n, script) in first.iter().enumerate().rev() {
-        let text = format!(in rt.alloc(); "set x {n}")?;
-        let again = kept.get(text.as_bytes())?;
-        let same = Rc::ptr_eq(&script.commands, &again.commands);
-        assert_eq!(&rt; same, TEXTS - 256 <= n, "text {n}");
-        assert_eq!(rt; script.commands.len(), 1);
-    }
-    Ok(())
 }
 
-#[test]
-fn answers_the_tree_where_keeping_is_refused(rt: HostRuntime) -> Result<(), Fail> {
-    let memory = Refusing::new(rt.alloc());
-    let heap = &memory;
-    let mut refused_in_vain = false;
-    for n in 1..60u64 {
-        let mut kept = Kept::new(heap);
-        let before = heap.refused();
-        heap.refuse_nth(n);
-        let read = kept.get(b"puts [a b]");
-        let refused = heap.refused() > before;
-        heap.refuse_none();
-        assert_eq!(&rt;
-            kept.len(),
-            usize::from(!refused),
-            "with request {n} refused"
-        );
-        match read {
-            Ok(script) => {
-                assert_eq!(rt; script.commands.len(), 1);
-                refused_in_vain |= refused;
-            }
-            Err(_) => assert!(&rt; refused, "with request {n}"),
+/// Keeps so many texts, and gives their trees as far as each is the same when it is asked for
+/// again, and no more than `most` are kept.
+fn keep<A: Allocator + Copy>(
+    alloc: A,
+    kept: &mut Kept<A>,
+    texts: usize,
+    most: usize,
+) -> Result<Vec<Script<A>, A>, NoMemory> {
+    let mut first = Vec::new(alloc);
+    for n in 0..texts {
+        let text = format!(in alloc; "set x {n}")?;
+        let script = kept.get(text.as_bytes())?;
+        let before = kept.len();
+        let again = kept.get(text.as_bytes())?;
+        let is_same = Rc::ptr_eq(&script.commands, &again.commands);
+        let wanted = n.saturating_add(1).min(most);
+        if is_same && before == wanted && kept.len() == wanted {
+            first.push(script)?;
         }
     }
-    assert!(rt; refused_in_vain);
-    Ok(())
+    Ok(first)
+}
+
+/// Writes of how many trees there are, and of those, from the newest to the oldest so that no kept
+/// text goes out before it is asked for, which is the first that is not the same any more, and how
+/// many are of one command.
+fn tell_again<A: Allocator + Copy>(
+    answer: &mut Vec<u8, A>,
+    kept: &mut Kept<A>,
+    first: &Vec<Script<A>, A>,
+) -> Result<(), NoMemory> {
+    let mut same = 0u64;
+    let mut single = 0u64;
+    let mut gone = 0usize;
+    for (n, script) in first.iter().enumerate().rev() {
+        let text = format!(in *answer.allocator(); "set x {n}")?;
+        let again = kept.get(text.as_bytes())?;
+        if Rc::ptr_eq(&script.commands, &again.commands) {
+            same = same.saturating_add(1);
+        } else {
+            gone = gone.max(n);
+        }
+        if script.commands.len() == 1 {
+            single = single.saturating_add(1);
+        }
+    }
+    push_shown(
+        answer,
+        format_args!("{same} same, {gone} gone, {single} single"),
+    )
 }

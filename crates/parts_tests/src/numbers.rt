@@ -2,91 +2,71 @@
 
 use acts::decimal::{push_decimal, read_decimal};
 use acts::{Id, Limits};
-use refusal::Refusing;
-use std::test::Fail;
+use memory::NoMemory;
+use std::alloc::Allocator;
+use tables::{Answers, number, push_shown};
 
-#[test]
-fn takes_a_limit_of_1_to_a_million_millions(rt: HostRuntime) {
-    let rows = [
-        (0, None),
-        (1, Some(1)),
-        (1_000_000_000_000, Some(1_000_000_000_000)),
-        (1_000_000_000_001, None),
-        (u64::MAX, None),
-    ];
-    for (ticks, wanted) in rows {
-        assert_eq!(rt;
-            Limits::new(ticks).map(|limits| limits.ticks),
-            wanted,
-            "of {ticks}"
-        );
-    }
-}
+/// The table of limits, ids and numbers.
+pub struct Numbers;
 
-#[test]
-fn reads_and_spells_ids(rt: HostRuntime) -> Result<(), Fail> {
-    let rows: [(&[u8], Option<Id>); 12] = [
-        (b"exp4", Some(Id(4))),
-        (b"exp10", Some(Id(10))),
-        (b"exp18446744073709551615", Some(Id(u64::MAX))),
-        (b"exp18446744073709551616", None),
-        (b"exp04", None),
-        (b"exp", None),
-        (b"EXP4", None),
-        (b"4", None),
-        (b"exp+4", None),
-        (b"exp4 ", None),
-        (b"exp\xff", None),
-        (b"", None),
-    ];
-    for (text, wanted) in rows {
-        assert_eq!(rt; Id::read(text), wanted, "of {text:?}");
-        if let Some(id) = wanted {
-            assert_eq!(rt; id.text(rt.alloc())?.as_slice(), text);
+impl Answers for Numbers {
+    fn answer<A: Allocator + Copy>(
+        &self,
+        row: &[Vec<u8>],
+        answer: &mut Vec<u8, A>,
+    ) -> Result<(), NoMemory> {
+        let [kind, text] = row else {
+            return Ok(());
+        };
+        let is_there = match kind.as_slice() {
+            b"limit" => tell_limit(answer, number(text))?,
+            b"id" => tell_id(answer, text)?,
+            _ => tell_number(answer, text)?,
+        };
+        if !is_there {
+            answer.extend_from_slice(b"none")?;
         }
+        Ok(())
     }
-    Ok(())
 }
 
-#[test]
-fn reads_and_writes_numbers(rt: HostRuntime) -> Result<(), Fail> {
-    let rows: [(&[u8], Option<u64>); 12] = [
-        (b"0", Some(0)),
-        (b"7", Some(7)),
-        (b"100", Some(100)),
-        (b"18446744073709551615", Some(u64::MAX)),
-        (b"18446744073709551616", None),
-        (b"00", None),
-        (b"07", None),
-        (b"+7", None),
-        (b"-7", None),
-        (b"7 ", None),
-        (b"\xb2", None),
-        (b"", None),
-    ];
-    for (text, wanted) in rows {
-        assert_eq!(rt; read_decimal(text), wanted, "of {text:?}");
-        if let Some(number) = wanted {
-            let mut line = Vec::from_slice(rt.alloc(), b"failed ")?;
-            push_decimal(&mut line, number)?;
-            assert_eq!(rt; line.strip_prefix(b"failed "), Some(text));
-        }
-    }
-    Ok(())
+/// Writes how many ticks a limit of this many has, and says whether there is one.
+fn tell_limit<A: Allocator + Copy>(answer: &mut Vec<u8, A>, ticks: u64) -> Result<bool, NoMemory> {
+    let Some(limits) = Limits::new(ticks) else {
+        return Ok(false);
+    };
+    push_shown(answer, limits.ticks)?;
+    Ok(true)
 }
 
-#[test]
-fn says_when_memory_is_refused_and_changes_nothing(rt: HostRuntime) -> Result<(), Fail> {
-    let heap = Refusing::new(rt.alloc());
-    let mut line = Vec::from_slice(&heap, b"failed ")?;
+/// Writes the number of the id that a text names, and how the id is spelled, and says whether there
+/// is one.
+fn tell_id<A: Allocator + Copy>(answer: &mut Vec<u8, A>, text: &[u8]) -> Result<bool, NoMemory> {
+    let Some(id) = Id::read(text) else {
+        return Ok(false);
+    };
+    push_shown(answer, id.0)?;
+    answer.push(b' ')?;
+    let spelled = id.text(*answer.allocator())?;
+    answer.extend_from_slice(&spelled)?;
+    Ok(true)
+}
+
+/// Writes the number that a text spells, and its digits behind a word, and says whether there is
+/// one. A refusal is handed on where it has left the word as it was.
+fn tell_number<A: Allocator + Copy>(
+    answer: &mut Vec<u8, A>,
+    text: &[u8],
+) -> Result<bool, NoMemory> {
+    let Some(number) = read_decimal(text) else {
+        return Ok(false);
+    };
+    push_shown(answer, number)?;
+    let mut line = Vec::from_slice(*answer.allocator(), b" failed ")?;
     line.shrink_to_fit();
-    heap.refuse_all();
-    assert!(rt; push_decimal(&mut line, u64::MAX).is_err());
-    assert_eq!(rt; line.as_slice(), b"failed ".as_slice());
-    for nth in 1..=2 {
-        heap.refuse_nth(nth);
-        assert!(rt; Id(u64::MAX).text(&heap).is_err());
+    match push_decimal(&mut line, number) {
+        Err(refusal) if line.as_slice() == b" failed ".as_slice() => return Err(refusal),
+        _ => answer.extend_from_slice(&line)?,
     }
-    assert_eq!(rt; heap.refused(), 3);
-    Ok(())
+    Ok(true)
 }
