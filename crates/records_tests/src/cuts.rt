@@ -1,59 +1,55 @@
 //! Records that are cut after each byte.
 
+use crate::reading::tell_fault;
+use memory::NoMemory;
 use records::{RecordFault, read_entries, read_record};
+use std::alloc::Allocator;
+use tables::{Answers, push_shown};
 
-/// A record of version 1.
-const FIRST: &[u8] = b"rx-record 1\nstarted 100\ndone\narrive exp4 68690a\ndone\ndone\n";
+/// The table of cuts.
+pub struct Cuts;
 
-/// The same as a record of version 2, which states the rows of the wait.
-const SECOND: &[u8] =
-    b"rx-record 2\nstarted 100\ndone\nwait exp4:0:2000\narrive exp4 68690a\ndone\ndone\n";
-
-/// The expected result of reading a text that is cut: how many answers it has, or its fault.
-fn wanted(front: &[u8]) -> Result<usize, RecordFault> {
-    if front.len() < 12 {
-        return Err(RecordFault::Header);
-    }
-    let ends = front.iter().filter(|b| **b == b'\n').count();
-    let waits = front.iter().filter(|b| **b == b'w').count();
-    let is_behind_wait = front.ends_with(b":2000\n");
-    if front.ends_with(b"\n") && !is_behind_wait {
-        return Ok(ends.saturating_sub(1).saturating_sub(waits));
-    }
-    Err(RecordFault::Line((ends as u64).saturating_add(1)))
-}
-
-#[test]
-fn reads_a_record_of_version_1_that_is_cut(rt: HostRuntime) {
-    for end in 0..=FIRST.len() {
-        let front = &FIRST[..end];
-        let came = read_record(rt.alloc(), front).map(|answers| answers.len());
-        assert!(rt; came == wanted(front), "{end}: {came:?}");
-        let came = read_entries(rt.alloc(), front).map(|entries| entries.len());
-        assert!(rt; came == wanted(front), "{end}: {came:?}");
+impl Answers for Cuts {
+    fn answer<A: Allocator + Copy>(
+        &self,
+        row: &[Vec<u8>],
+        answer: &mut Vec<u8, A>,
+    ) -> Result<(), NoMemory> {
+        let [kind, text] = row else {
+            return Ok(());
+        };
+        let has_entries = kind.as_slice() == b"entries".as_slice();
+        for end in 0..=text.len() {
+            let front = text.get(..end).unwrap_or(b"");
+            let count = if has_entries {
+                count_entries(*answer.allocator(), front)
+            } else {
+                count_answers(*answer.allocator(), front)
+            };
+            tell_count(answer, count)?;
+        }
+        Ok(())
     }
 }
 
-#[test]
-fn reads_a_record_of_version_2_that_is_cut(rt: HostRuntime) {
-    for end in 0..=SECOND.len() {
-        let front = &SECOND[..end];
-        let came = read_entries(rt.alloc(), front).map(|entries| entries.len());
-        assert!(rt; came == wanted(front), "{end}: {came:?}");
-    }
+/// How many answers a record has.
+fn count_answers<A: Allocator + Copy>(alloc: A, text: &[u8]) -> Result<usize, RecordFault> {
+    Ok(read_record(alloc, text)?.len())
 }
 
-#[test]
-fn names_the_line_that_is_cut(rt: HostRuntime) {
-    let last = SECOND.len().saturating_sub(1);
-    let came = read_entries(rt.alloc(), &SECOND[..last]).map(|entries| entries.len());
-    assert_eq!(rt; came, Err(RecordFault::Line(7)));
-    let came = read_entries(
-        rt.alloc(),
-        b"rx-record 2\nstarted 100\ndone\nwait exp4:0:2000\n",
-    );
-    assert_eq!(rt;
-        came.map(|entries| entries.len()),
-        Err(RecordFault::Line(5))
-    );
+/// How many entries a record has.
+fn count_entries<A: Allocator + Copy>(alloc: A, text: &[u8]) -> Result<usize, RecordFault> {
+    Ok(read_entries(alloc, text)?.len())
+}
+
+/// Writes a number, or what is wrong.
+fn tell_count<A: Allocator + Copy>(
+    answer: &mut Vec<u8, A>,
+    count: Result<usize, RecordFault>,
+) -> Result<(), NoMemory> {
+    match count {
+        Ok(count) => push_shown(answer, count)?,
+        Err(fault) => tell_fault(answer, fault)?,
+    }
+    Ok(answer.push(b';')?)
 }

@@ -1,24 +1,42 @@
 //! The digits of arrivals, which are converted many at a time and the last ones one by one.
 
+use crate::reading::tell_fault;
 use acts::{Answer, Id};
+use memory::NoMemory;
 use records::{Counted, RecordFault, read_record, write_record};
-use std::alloc::Global;
-use std::test::Fail;
-
-/// How many bytes arrive: none, some, and some more or fewer than are converted at a time.
-const SIZES: [usize; 14] = [0, 1, 15, 16, 17, 31, 32, 33, 64, 256, 511, 512, 513, 545];
+use std::alloc::Allocator;
+use tables::{Answers, number, push_shown};
 
 /// What stands before the digits of an arrival in its record.
-const FRONT: &str = "rx-record 1\narrive exp4 ";
+const FRONT: &[u8] = b"rx-record 1\narrive exp4 ";
 
-/// Bytes that are no lower case digits: those beside the digits, upper case ones, and some more
-/// that differ from a digit in one bit.
-const OTHERS: &[u8] = b"/:`g@GABCDEF \0\x10\x7f\x80\xb0\xb9\xe1\xe6\xff";
+/// The table of digits.
+pub struct Digits;
 
-/// `size` bytes from `first` on, each number that a byte can be in turn.
-fn bytes_from(alloc: Global, first: u8, size: usize) -> Result<Vec<u8>, Fail> {
+impl Answers for Digits {
+    fn answer<A: Allocator + Copy>(
+        &self,
+        row: &[Vec<u8>],
+        answer: &mut Vec<u8, A>,
+    ) -> Result<(), NoMemory> {
+        let [kind, first, size, field] = row else {
+            return Ok(());
+        };
+        let (first, size) = (number(first), number(size));
+        match kind.as_slice() {
+            b"again" => tell_again(answer, first, size),
+            b"odd" => tell_odd(answer, first, size),
+            b"taken" => tell_taken(answer, first, size, number(field) as usize),
+            b"others" => tell_others(answer, first, size, field),
+            _ => Ok(()),
+        }
+    }
+}
+
+/// Bytes from `first` on, each number that a byte can be in turn.
+fn bytes_from<A: Allocator>(alloc: A, first: u64, size: u64) -> Result<Vec<u8, A>, NoMemory> {
     let mut bytes = Vec::new(alloc);
-    let mut byte = first;
+    let mut byte = first.to_le_bytes()[0];
     for _ in 0..size {
         bytes.push(byte)?;
         byte = byte.wrapping_add(1);
@@ -27,95 +45,135 @@ fn bytes_from(alloc: Global, first: u8, size: usize) -> Result<Vec<u8>, Fail> {
 }
 
 /// The record of the arrival of bytes, whose digits are formatted one by one.
-fn record_of(alloc: Global, bytes: &[u8]) -> Result<Vec<u8>, Fail> {
-    let mut text = Vec::from_slice(alloc, FRONT.as_bytes())?;
+fn record_of<A: Allocator + Copy>(alloc: A, bytes: &[u8]) -> Result<Vec<u8, A>, NoMemory> {
+    let mut text = Vec::from_slice(alloc, FRONT)?;
     for byte in bytes {
-        let digits = format!(in alloc; "{byte:02x}")?;
-        text.extend_from_slice(digits.as_bytes())?;
+        push_shown(&mut text, format_args!("{byte:02x}"))?;
     }
     text.push(b'\n')?;
     Ok(text)
 }
 
-#[test]
-fn reads_and_writes_each_size(rt: HostRuntime) -> Result<(), Fail> {
-    for size in SIZES {
-        for first in 0..16u8 {
-            let bytes = bytes_from(rt.alloc(), first, size)?;
-            let text = record_of(rt.alloc(), &bytes)?;
-            let answers = read_record(rt.alloc(), &text)?;
-            let came = match answers.as_slice() {
-                [Answer::Arrive(Id(4), came)] => came.as_slice() == bytes.as_slice(),
-                _ => false,
-            };
-            assert!(rt; came, "{size} from {first}: {answers:?}");
-            let mut taken = vec![in rt.alloc(); 0u8; text.len()]?;
-            let mut sink = Counted::new(&mut taken[..]);
-            assert!(rt; write_record(&answers, &mut sink).is_ok());
-            drop(sink);
-            assert_eq!(rt; taken.as_slice(), text.as_slice(), "{size} from {first}");
+/// The record of the arrival of bytes from `first` on.
+fn record_from<A: Allocator + Copy>(
+    alloc: A,
+    first: u64,
+    size: u64,
+) -> Result<Vec<u8, A>, NoMemory> {
+    record_of(alloc, &bytes_from(alloc, first, size)?)
+}
+
+/// Reads a record, and writes whether its answer is the arrival of these bytes and whether it is
+/// written again as it was.
+fn tell_again<A: Allocator + Copy>(
+    answer: &mut Vec<u8, A>,
+    first: u64,
+    size: u64,
+) -> Result<(), NoMemory> {
+    let bytes = bytes_from(*answer.allocator(), first, size)?;
+    let record = record_of(*answer.allocator(), &bytes)?;
+    let answers = match read_record(*answer.allocator(), &record) {
+        Ok(answers) => answers,
+        Err(fault) => return tell_fault(answer, fault),
+    };
+    let mut taken = vec![in *answer.allocator(); 0u8; record.len()]?;
+    let mut sink = Counted::new(&mut taken[..]);
+    let is_written = write_record(&answers, &mut sink).is_ok();
+    drop(sink);
+    let is_same = is_written && taken == record;
+    let is_read = is_arrival(&answers, &bytes);
+    push_shown(answer, format_args!("{is_read} {is_same}"))
+}
+
+/// Whether the one answer is the arrival of these bytes.
+fn is_arrival<A: Allocator>(answers: &[Answer<A>], bytes: &[u8]) -> bool {
+    match answers {
+        [Answer::Arrive(Id(4), came)] => came.as_slice() == bytes,
+        _ => false,
+    }
+}
+
+/// Writes what is wrong with a record that has one digit more.
+fn tell_odd<A: Allocator + Copy>(
+    answer: &mut Vec<u8, A>,
+    first: u64,
+    size: u64,
+) -> Result<(), NoMemory> {
+    let mut text = record_from(*answer.allocator(), first, size)?;
+    let _newline = text.pop();
+    text.extend_from_slice(b"0\n")?;
+    match fault_of(*answer.allocator(), &text) {
+        Some(fault) => tell_fault(answer, fault),
+        None => Ok(answer.extend_from_slice(b"read")?),
+    }
+}
+
+/// Writes each byte with which a record is read, where it stands in the place of the digit of this
+/// number.
+fn tell_taken<A: Allocator + Copy>(
+    answer: &mut Vec<u8, A>,
+    first: u64,
+    size: u64,
+    number: usize,
+) -> Result<(), NoMemory> {
+    let record = record_from(*answer.allocator(), first, size)?;
+    for byte in 0..=u8::MAX {
+        let text = with_byte(*answer.allocator(), &record, number, byte)?;
+        if fault_of(*answer.allocator(), &text).is_none() {
+            answer.push(byte)?;
         }
     }
     Ok(())
 }
 
-#[test]
-fn refuses_another_byte_at_each_place(rt: HostRuntime) -> Result<(), Fail> {
-    let bytes = bytes_from(rt.alloc(), 0xa0, 33)?;
-    let mut text = record_of(rt.alloc(), &bytes)?;
-    for place in FRONT.len()..text.len().saturating_sub(1) {
-        let digit = text[place];
-        for other in OTHERS {
-            text[place] = *other;
-            let read = read_record(rt.alloc(), &text);
-            let is_refused = matches!(&read, Err(RecordFault::Line(2)));
-            assert!(rt; is_refused, "{other} at {place}: {read:?}");
-        }
-        text[place] = digit;
+/// Writes how often the second line is wrong where one of these bytes stands in the place of one
+/// digit, and whether the record itself is read.
+fn tell_others<A: Allocator + Copy>(
+    answer: &mut Vec<u8, A>,
+    first: u64,
+    size: u64,
+    others: &[u8],
+) -> Result<(), NoMemory> {
+    let record = record_from(*answer.allocator(), first, size)?;
+    let mut refused = 0u64;
+    for other in others {
+        let count = count_refused(*answer.allocator(), &record, *other)?;
+        refused = refused.saturating_add(count);
     }
-    assert!(rt; read_record(rt.alloc(), &text).is_ok());
-    Ok(())
+    let is_read = fault_of(*answer.allocator(), &record).is_none();
+    push_shown(answer, format_args!("{refused} refused, {is_read}"))
 }
 
-/// Whether a record is read in which this byte stands in the place of a digit, by its number.
-fn is_read(alloc: Global, record: &[u8], number: usize, byte: u8) -> Result<bool, Fail> {
-    let (front, rest) = record.split_at(FRONT.len().saturating_add(number).min(record.len()));
-    let mut text = Vec::from_slice(alloc, front)?;
-    text.push(byte)?;
-    if let [_, rest @ ..] = rest {
-        text.extend_from_slice(rest)?;
-    }
-    Ok(read_record(alloc, &text).is_ok())
-}
-
-#[test]
-fn takes_the_lower_case_digits_alone(rt: HostRuntime) -> Result<(), Fail> {
-    let bytes = bytes_from(rt.alloc(), 0xa0, 17)?;
-    let record = record_of(rt.alloc(), &bytes)?;
-    // The first and the last digit of each half of a step, and one of the digits after the step.
-    for number in [0, 15, 16, 31, 32] {
-        for byte in 0..=u8::MAX {
-            let is_digit = matches!(byte, b'0'..=b'9' | b'a'..=b'f');
-            let read = is_read(rt.alloc(), &record, number, byte)?;
-            assert_eq!(rt; read, is_digit, "{byte} at digit {number}");
+/// In how many places of a digit this byte makes the second line of a record wrong.
+fn count_refused<A: Allocator + Copy>(alloc: A, record: &[u8], byte: u8) -> Result<u64, NoMemory> {
+    let mut refused = 0u64;
+    for number in 0..record.len().saturating_sub(FRONT.len()).saturating_sub(1) {
+        let text = with_byte(alloc, record, number, byte)?;
+        if matches!(fault_of(alloc, &text), Some(RecordFault::Line(2))) {
+            refused = refused.saturating_add(1);
         }
     }
-    Ok(())
+    Ok(refused)
 }
 
-#[test]
-fn refuses_an_odd_number_of_digits(rt: HostRuntime) -> Result<(), Fail> {
-    for size in SIZES {
-        let bytes = bytes_from(rt.alloc(), 0, size)?;
-        let mut text = record_of(rt.alloc(), &bytes)?;
-        let _newline = text.pop();
-        text.push(b'0')?;
-        text.push(b'\n')?;
-        let read = read_record(rt.alloc(), &text);
-        assert!(rt;
-            matches!(&read, Err(RecordFault::Line(2))),
-            "{size}: {read:?}"
-        );
+/// A record in which this byte stands in the place of a digit, by its number.
+fn with_byte<A: Allocator>(
+    alloc: A,
+    record: &[u8],
+    number: usize,
+    byte: u8,
+) -> Result<Vec<u8, A>, NoMemory> {
+    let mut text = Vec::from_slice(alloc, record)?;
+    if let Some(digit) = text.get_mut(FRONT.len().saturating_add(number)) {
+        *digit = byte;
     }
-    Ok(())
+    Ok(text)
+}
+
+/// What is wrong with a record, if something is.
+fn fault_of<A: Allocator + Copy>(alloc: A, text: &[u8]) -> Option<RecordFault> {
+    match read_record(alloc, text) {
+        Ok(_) => None,
+        Err(fault) => Some(fault),
+    }
 }

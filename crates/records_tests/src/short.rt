@@ -20,7 +20,10 @@ impl<S: Sink> Sink for Short<'_, S> {
         if self.inner.failed() {
             self.late.set(self.late.get().saturating_add(1));
         }
-        self.inner.put(&bytes[..bytes.len().min(1)])
+        match bytes {
+            [first, ..] => self.inner.put(&[*first]),
+            [] => self.inner.put(bytes),
+        }
     }
 
     fn failed(&self) -> bool {
@@ -30,4 +33,9 @@ impl<S: Sink> Sink for Short<'_, S> {
     fn fault(&self) -> Option<io::Error> {
         self.inner.fault()
     }
+}
+
+/// Whether a text is written as far as there was room for it.
+pub fn is_front(taken: &[u8], text: &[u8], room: usize) -> bool {
+    taken.get(..room) == text.get(..room)
 }

@@ -1,70 +1,76 @@
 //! Records that are written, to writers that fail after each number of bytes.
 
-use crate::short::Short;
+use crate::short::{Short, is_front};
+use memory::NoMemory;
 use records::{Counted, read_entries, read_record, write_entries, write_record};
+use std::alloc::Allocator;
 use std::cell::Cell;
-use std::test::Fail;
+use tables::{Answers, push_shown};
 
-/// A record of version 1, with an answer of each kind.
-const FIRST: &[u8] = b"rx-record 1\ndone\nfailed 0\nstarted 18446744073709551615\nrefused\n\
-    exited 0\nexited 255\nexited -\narrive exp4 \narrive exp5 00ff0a\n\
-    ended exp18446744073709551615\ntimeout\n";
+/// The table of records that are written.
+pub struct Written;
 
-/// A record of version 2, with waits for no rows, for one and for two.
-const SECOND: &[u8] = b"rx-record 2\nstarted 100\ndone\nwait\ntimeout\n\
-    wait exp4:0:2000 exp5:1000000:1000000\narrive exp4 68690a\narrive exp5 \nwait exp7:1:1\n\
-    ended exp7\nexited -\n";
-
-#[test]
-fn writes_answers_until_a_writer_fails(rt: HostRuntime) -> Result<(), Fail> {
-    for room in 0..=FIRST.len() {
-        let answers = read_record(rt.alloc(), FIRST)?;
-        let mut taken = vec![in rt.alloc(); 0u8; FIRST.len()]?;
-        let late = Cell::new(0);
-        let mut sink = Short {
-            inner: Counted::new(&mut taken[..room]),
-            late: &late,
+impl Answers for Written {
+    fn answer<A: Allocator + Copy>(
+        &self,
+        row: &[Vec<u8>],
+        answer: &mut Vec<u8, A>,
+    ) -> Result<(), NoMemory> {
+        let [kind, text, written] = row else {
+            return Ok(());
         };
-        let written = write_record(&answers, &mut sink);
-        assert_eq!(rt; written.is_err(), room < FIRST.len(), "{room}");
-        drop(sink);
-        assert_eq!(rt; &taken[..room], &FIRST[..room]);
-        assert_eq!(rt; late.get(), 0);
+        let is_of_answers = kind.as_slice() == b"answers".as_slice();
+        let mut well = 0u64;
+        for room in 0..=written.len() {
+            let is_well = if is_of_answers {
+                is_record_written(*answer.allocator(), text, written, room)?
+            } else {
+                are_entries_written(*answer.allocator(), text, written, room)?
+            };
+            well = well.saturating_add(if is_well { 1 } else { 0 });
+        }
+        push_shown(answer, well)
     }
-    Ok(())
 }
 
-#[test]
-fn writes_entries_until_a_writer_fails(rt: HostRuntime) -> Result<(), Fail> {
-    for room in 0..=SECOND.len() {
-        let entries = read_entries(rt.alloc(), SECOND)?;
-        let mut taken = vec![in rt.alloc(); 0u8; SECOND.len()]?;
-        let late = Cell::new(0);
-        let mut sink = Short {
-            inner: Counted::new(&mut taken[..room]),
-            late: &late,
-        };
-        let written = write_entries(&entries, &mut sink);
-        assert_eq!(rt; written.is_err(), room < SECOND.len(), "{room}");
-        drop(sink);
-        assert_eq!(rt; &taken[..room], &SECOND[..room]);
-        assert_eq!(rt; late.get(), 0);
-    }
-    Ok(())
-}
-
-#[test]
-fn writes_a_record_of_version_1_as_one_of_version_2(rt: HostRuntime) -> Result<(), Fail> {
-    let entries = read_entries(rt.alloc(), FIRST)?;
-    let mut taken = vec![in rt.alloc(); 0u8; FIRST.len()]?;
+/// Whether the answers of a record are written as this text, as far as there is room for it.
+fn is_record_written<A: Allocator + Copy>(
+    alloc: A,
+    record: &[u8],
+    text: &[u8],
+    room: usize,
+) -> Result<bool, NoMemory> {
+    let Ok(answers) = read_record(alloc, record) else {
+        return Ok(false);
+    };
+    let mut taken = vec![in alloc; 0u8; room]?;
     let late = Cell::new(0);
     let mut sink = Short {
         inner: Counted::new(&mut taken[..]),
         late: &late,
     };
-    assert!(rt; write_entries(&entries, &mut sink).is_ok());
+    let has_failed = write_record(&answers, &mut sink).is_err();
     drop(sink);
-    assert_eq!(rt; &taken[..12], b"rx-record 2\n".as_slice());
-    assert_eq!(rt; &taken[12..], &FIRST[12..]);
-    Ok(())
+    Ok(has_failed == (room < text.len()) && late.get() == 0 && is_front(&taken, text, room))
+}
+
+/// Whether the entries of a record are written as this text, as far as there is room for it.
+fn are_entries_written<A: Allocator + Copy>(
+    alloc: A,
+    record: &[u8],
+    text: &[u8],
+    room: usize,
+) -> Result<bool, NoMemory> {
+    let Ok(entries) = read_entries(alloc, record) else {
+        return Ok(false);
+    };
+    let mut taken = vec![in alloc; 0u8; room]?;
+    let late = Cell::new(0);
+    let mut sink = Short {
+        inner: Counted::new(&mut taken[..]),
+        late: &late,
+    };
+    let has_failed = write_entries(&entries, &mut sink).is_err();
+    drop(sink);
+    Ok(has_failed == (room < text.len()) && late.get() == 0 && is_front(&taken, text, room))
 }
