@@ -1,8 +1,8 @@
 -- The code of if.
-use Rattle.std.proofs.Common.{◌≡◌, ℕ, ◌+◌, false, true, List, [], ◌∷◌, ◌++◌, codes, Option, Some, None, length, refl, sym, subst}
+use Rattle.std.proofs.Common.{◌≡◌, ℕ, ◌+◌, List, [], ◌∷◌, ◌++◌, Option, Some, None, length, refl, sym, subst}
 use Rattle.std.specs.Prelude.{slice_set}
-use Rattle.code.specs.Blocks.{BehindBlock, BodyBlock, BranchesBlock, FormulaBlock, OwnBlock, ScriptBlock, WordsBlock}
-use Rattle.code.specs.Code.{At, BehindAt, BodyAt, BranchesAt, CommandAt, CommandsAt, IsLast, WordsAt, branch, conditional, deeper, else_if, at_last, literals, no_else, own}
+use Rattle.code.specs.Blocks.{BehindBlock, BodyBlock, BranchesBlock, FormulaBlock, ScriptBlock}
+use Rattle.code.specs.Code.{BehindAt, BodyAt, CommandsAt, IsLast, branch, deeper, else_if, at_last, no_else}
 use Rattle.code.specs.Conditional.{AreBehind, AreBranches, IsBody, ends, first, goes_on, nothing}
 use Rattle.code.specs.declared.conditional.Branch.{Branch}
 use Rattle.code.specs.declared.instruction.Instruction.{Instruction}
@@ -12,7 +12,7 @@ use Rattle.code.proofs.Forks.{filled_length, forked, second_begins}
 use Rattle.formulas.specs.View.{formula_of}
 use Rattle.tclparse.specs.Fault.{Fault}
 use Rattle.tclparse.specs.Grammar.{IsScript}
-use Rattle.tclparse.specs.Tree.{Commands, Words}
+use Rattle.tclparse.specs.Tree.{Commands}
 use Rattle.tclparse.specs.declared.script.Script.{Script}
 
 module _ {A : Type 0} where
@@ -117,38 +117,4 @@ module _ {A : Type 0} where
             (second_begins one two filled_one (length tested) (i.Unless (length two)) put_two
             fill_one)
             lies.3));
-      }
-
-  -- the words of if, for where a procedure hides it, and then its own code
-  pub conditional_block : (old hole one two filled_one all new : List (Instruction A))
-      (name : List ℕ) (args : List (List ℕ)) (ws : Words) → name ≡ codes "if" →
-      ws ≡ literals (codes "if" ∷ args) → hole ≡ old ++ i.Hole ∷ [] → WordsBlock hole one ws →
-      two ≡ one ++ i.Hole ∷ [] →
-      filled_one ≡ slice_set two (length old) (i.Unhidden name (length two)) →
-      BranchesBlock filled_one all args →
-      new ≡ slice_set all (length one) (i.Jump (length all)) → OwnBlock true old new ws
-  conditional_block old hole one two filled_one all new name args ws named are put_one
-      worded put_two fill_one second fill_two =
-      let fork = forked old hole one two filled_one all new (λ n. i.Unhidden name n) (λ n. tt)
-      (λ later. WordsAt later false 0 (length hole) ws (length one))
-      (λ later. BranchesAt later (length filled_one) args (length all))
-      put_one worded put_two fill_one second fill_two in
-      record {
-        extends = fork.extends;
-        lies = λ later kept.
-            let lies = fork.lies later kept in
-            subst (λ w. CommandAt later (length old) w (length new)) (sym are)
-            (own
-            (subst (λ n. At later (length old) (i.Unhidden n (length one + 1))) named lies.0)
-            (subst (λ k. WordsAt later false 0 k (literals (codes "if" ∷ args)) (length one))
-            (longer old hole i.Hole put_one)
-            (subst (λ w. WordsAt later false 0 (length hole) w (length one)) are lies.1))
-            lies.2
-            (conditional
-            (subst (λ k. BranchesAt later (length one + 1) args k)
-            (sym (filled_length all new (length one) (i.Jump (length all)) fill_two))
-            (subst (λ k. BranchesAt later k args (length all))
-            (second_begins one two filled_one (length old) (i.Unhidden name (length two)) put_two
-            fill_one)
-            lies.3))));
       }

@@ -8,3 +8,5 @@ pub mod Formulas
 pub mod Literals
 pub mod Fronts
 pub mod Conditionals
+pub mod Turns
+pub mod Owns

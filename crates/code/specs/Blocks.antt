@@ -1,6 +1,6 @@
 -- What a call puts after the code that stands there already.
-use Rattle.std.specs.Prelude.{⊤, ◌≡◌, ℕ, ◌+◌, Bool, true, false, List, Option, length}
-use Rattle.code.specs.Code.{At, JoinsAt, PartsAt, WordsAt, CommandAt, CommandsAt, ScriptAt, BranchesAt, BehindAt, BodyAt, FormulaAt, LinksAt, ArgumentsAt}
+use Rattle.std.specs.Prelude.{⊤, ◌≡◌, ℕ, ◌+◌, Bool, true, false, List, Option, codes, length}
+use Rattle.code.specs.Code.{At, JoinsAt, PartsAt, WordsAt, CommandAt, CommandsAt, ScriptAt, BranchesAt, BehindAt, BodyAt, OwnAt, FormulaAt, LinksAt, ArgumentsAt}
 use Rattle.code.specs.declared.instruction.Instruction.{Instruction}
 use Rattle.code.specs.declared.instruction.Instruction.TheVariants as i
 use Rattle.tclparse.specs.Fault.{Fault}
@@ -88,6 +88,17 @@ BehindBlock old new args = Block old new (λ later. BehindAt later (length old) 
 abbrev pub BodyBlock : {A : Type 0} → List (Instruction A) → List (Instruction A) → List ℕ →
     Type 0
 BodyBlock old new text = Block old new (λ later. BodyAt later (length old) text (length new))
+
+-- what the command of this name does with the words after it
+abbrev pub ItsBlock : {A : Type 0} → List ℕ → List (Instruction A) → List (Instruction A) →
+    List (List ℕ) → Type 0
+ItsBlock name old new args = Block old new (λ later.
+    OwnAt later name (length old) args (length new))
+
+-- the turns of a loop, whose test and body these words are
+abbrev pub TurnsBlock : {A : Type 0} → List (Instruction A) → List (Instruction A) →
+    List (List ℕ) → Type 0
+TurnsBlock old new args = ItsBlock (codes "while") old new args
 
 -- a formula
 abbrev pub FormulaBlock : {A : Type 0} → List (Instruction A) → List (Instruction A) → Formula →

@@ -109,11 +109,17 @@ mutual
         CommandAt code (place + 1) ws mid → CommandsAt code mid cs end →
         CommandsAt code place (command ws cs) end
 
-  -- what the command of this name does with the words after it
+  -- what the command of this name does with the words after it: if; or while, whose body stands
+  -- before its test, and after both of them the empty value (if(n); while(n))
   pub data OwnAt {A : Type 0} (code : List (Instruction A)) :
       List ℕ → ℕ → List (List ℕ) → ℕ → Type 0 where
     conditional : {place end : ℕ} {args : List (List ℕ)} → BranchesAt code place args end →
         OwnAt code (codes "if") place args end
+    turns : {place mid turn : ℕ} {test body : List ℕ} {f : Formula} → IsFormula (Ok f) test →
+        At code place (i.Jump (mid + 1)) → BodyAt code (place + 1) body mid →
+        At code mid i.EndTurn → FormulaAt code (mid + 1) f turn →
+        At code turn (i.Turn (place + 1) (mid + 1)) → At code (turn + 1) (i.Text []) →
+        OwnAt code (codes "while") place (test ∷ body ∷ []) (turn + 2)
 
   -- a test, a body that runs where it holds, and what is done where it does not; the test and the
   -- body are what their words are read as (if(n))

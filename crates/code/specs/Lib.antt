@@ -1,3 +1,4 @@
 pub mod Code
 pub mod Blocks
 pub mod Conditional
+pub mod Own

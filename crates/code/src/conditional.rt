@@ -1,18 +1,15 @@
 //! The code of `if` whose words are literals (if(n)).
 
-ghost use Rattle.std.specs.Prelude.{◌≡◌, [], ◌∷◌, ℕ, List, true, codes, reverse, IfOk, IfSome, OnOk};
-ghost use Rattle.code.specs.Blocks.{BehindBlock, BodyBlock, BranchesBlock, OwnBlock};
-ghost use Rattle.code.specs.Code.{literals};
+ghost use Rattle.std.specs.Prelude.{[], ◌∷◌, ℕ, List, codes, reverse, IfOk, IfSome, OnOk};
+ghost use Rattle.code.specs.Blocks.{BehindBlock, BodyBlock, BranchesBlock};
 ghost use Rattle.code.specs.Conditional.{Are, AreBehind, AreBranches, IsAfter, IsBody, IsConditional, IsRead};
-ghost use Rattle.tclparse.specs.Tree.{no_words};
-ghost use Rattle.tclparse.specs.View.{words_then};
 
 use crate::branches::{Behind, behind_of, front_of};
-use crate::emit::{emit_script, emit_words};
+use crate::emit::emit_script;
 use crate::formula::{emit_formula, fill};
 use crate::instruction::Instruction;
 use crate::literal::literal_of;
-use crate::nest::{Flat, Nest};
+use crate::nest::Nest;
 use formulas::{Formula, ReadError};
 use memory::NoMemory;
 use std::alloc::Allocator;
@@ -25,8 +22,8 @@ const MOST_BRANCHES: u32 = 100;
 /// A test and its body.
 #[derive(Drop)]
 pub(crate) struct Branch<A: Allocator> {
-    test: Formula<A>,
-    body: Script<A>,
+    pub test: Formula<A>,
+    pub body: Script<A>,
 }
 
 /// The branches, the last one first, and the last body, if there is one.
@@ -37,7 +34,7 @@ pub(crate) struct Conditional<A: Allocator> {
 }
 
 /// Reads a test and its body; `None` where the test is no formula.
-fn read_branch<A: Allocator + Copy>(
+pub(crate) fn read_branch<A: Allocator + Copy>(
     alloc: A,
     test: &[u8],
     body: &[u8],
@@ -129,7 +126,7 @@ impl<A: Allocator + Copy> Conditional<A> {
 }
 
 /// Puts the code of a body, which runs one level deeper.
-fn emit_body<A: Allocator + Copy, N: Nest<A>>(
+pub(crate) fn emit_body<A: Allocator + Copy, N: Nest<A>>(
     code: &mut Vec<Instruction<A>, A>,
     body: &Script<A>,
     nest: &N,
@@ -202,7 +199,7 @@ fn emit_behind<A: Allocator + Copy, N: Nest<A>>(
 }
 
 /// Puts the code of all branches.
-fn emit_branches<A: Allocator + Copy, N: Nest<A>>(
+pub(crate) fn emit_branches<A: Allocator + Copy, N: Nest<A>>(
     code: &mut Vec<Instruction<A>, A>,
     own: &Conditional<A>,
     nest: &N,
@@ -214,27 +211,4 @@ fn emit_branches<A: Allocator + Copy, N: Nest<A>>(
         Some((first, more)) => Ok(emit_branch(code, first, more, &own.otherwise, nest)?),
         None => Ok(()),
     }
-}
-
-/// Puts the code of `if`: its words, for where a procedure hides it, and then its own.
-pub(crate) fn emit_conditional<A: Allocator + Copy, N: Nest<A>>(
-    code: &mut Vec<Instruction<A>, A>,
-    words: &[Word<A>],
-    own: &Conditional<A>,
-    nest: &N,
-) -> Result<(), NoMemory>
-    ensures { (args : List (List ℕ)) →
-        words_then words.now no_words ≡ literals (codes "if" ∷ args) → IsConditional own.now args →
-        OnOk result (OwnBlock true code.old.items code.new.items (words_then words.now no_words)) }
-{
-    let name = Value::from_slice(*code.allocator(), b"if")?;
-    let unhidden = code.len();
-    code.push(Instruction::Hole)?;
-    emit_words(code, words, &Flat)?;
-    let over = code.len();
-    code.push(Instruction::Hole)?;
-    fill(code, unhidden, Instruction::Unhidden(name, code.len()));
-    emit_branches(code, own, nest)?;
-    fill(code, over, Instruction::Jump(code.len()));
-    Ok(())
 }

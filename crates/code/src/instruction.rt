@@ -58,6 +58,13 @@ pub enum Instruction<A: Allocator> {
     /// Where no procedure has this name, this place is next: there stands the code that the command
     /// of this name has of its own (proc(n)).
     Unhidden(Value<A>, usize),
+    /// Drops the truth value of a loop's test. Where it is true, a tick is taken, and the first
+    /// place, where the body stands, is next: the only way back. From there up to `EndTurn`,
+    /// `continue` goes to the second place, where the test stands, and `break` to the place after
+    /// this one (while(n)).
+    Turn(usize, usize),
+    /// The body of a loop is over: its value, which is on top, is dropped (while(n)).
+    EndTurn,
     /// Nothing yet: a jump will stand here. No code that is whole has it.
     Hole,
 }

@@ -9,6 +9,8 @@ mod formula;
 mod instruction;
 mod literal;
 mod nest;
+mod own;
+mod repeat;
 mod whole;
 
 pub use instruction::Instruction;

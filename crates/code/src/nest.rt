@@ -1,7 +1,7 @@
 //! How deep the scripts that stand in the words of commands have code.
 
-use crate::conditional::{Conditional, emit_conditional};
 use crate::instruction::Instruction;
+use crate::own::{Own, emit_own};
 use memory::NoMemory;
 use std::alloc::Allocator;
 use tclparse::Word;
@@ -26,7 +26,7 @@ pub(crate) struct Flat;
 /// Commands have code of their own, and the scripts in their words have it as deep as this says.
 pub(crate) struct Deeper<N>(N);
 
-/// As deep as the code of a whole script goes: an `if` within four bodies begins by its words.
+/// As deep as the code of a whole script goes: a command within four bodies begins by its words.
 pub(crate) const NESTED: Deeper<Deeper<Deeper<Deeper<Flat>>>> = Deeper(Deeper(Deeper(Deeper(
     Flat,
 ))));
@@ -39,9 +39,9 @@ impl<A: Allocator + Copy> Nest<A> for Flat {
 
 impl<A: Allocator + Copy, N: Nest<A>> Nest<A> for Deeper<N> {
     fn put(&self, code: &mut Vec<Instruction<A>, A>, words: &[Word<A>]) -> Result<bool, NoMemory> {
-        match Conditional::read(*code.allocator(), words)? {
+        match Own::read(*code.allocator(), words)? {
             Some(own) => {
-                emit_conditional(code, words, &own, &self.0)?;
+                emit_own(code, words, &own, &self.0)?;
                 Ok(true)
             }
             None => Ok(false),

@@ -4,10 +4,12 @@ pub mod Operands
 pub mod Standing
 pub mod Grows
 pub mod Meanings
-pub mod Scripts
-pub mod Bodies
 pub mod Parts
 pub mod Formulas
+pub mod Loops
+pub mod Resumed
+pub mod Scripts
+pub mod Bodies
 pub mod Operators
 pub mod Words
 pub mod Conditionals

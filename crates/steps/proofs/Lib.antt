@@ -1,3 +1,4 @@
 pub mod Does
 pub mod Leads
 pub mod Meanings
+pub mod Measure

@@ -6,8 +6,7 @@ use Rattle.evaluation.specs.Evaluated.{evaluated}
 use Rattle.plan.specs.Plan.{and_then, onward}
 use Rattle.runs.specs.Commands.{command}
 use Rattle.runs.specs.Scripts.{plan_of}
-use Rattle.state.specs.Prelude.{Code, Dialogue, Gives, gives, IsTree, Leaves, Outcome, Status, Stops}
-use Rattle.state.specs.Outcome.{Stop}
+use Rattle.state.specs.Prelude.{Dialogue, gives, IsTree, Outcome, Status}
 use Rattle.state.specs.Piece.{Script, ScriptTree, Tree}
 use Rattle.tclparse.specs.Formula.{Formula}
 use Rattle.steps.specs.Does.{Arrives}
@@ -15,7 +14,8 @@ use Rattle.steps.specs.Goes.{Goes}
 use Rattle.steps.specs.Layout.{HeadAt, FramesAt}
 use Rattle.steps.specs.Machine.{machine}
 use Rattle.steps.specs.Places.{Head, Frame, brackets, left_of, spot_at}
-use Rattle.steps.specs.Spot.{Spot, Did, Went, Reads, Begins, Over, Stuck, with_top, beginning_at}
+use Rattle.steps.specs.Loops.{resumed}
+use Rattle.steps.specs.Spot.{Spot, Did, Went, Reads, Begins, Over, Stuck, beginning_at}
 
 module _ {A X : Type 0} (code : List (Instruction A)) (last : Status → Outcome → Dialogue X) where
   -- the run of the code stands where this is left to be done, and then what is done last
@@ -37,15 +37,19 @@ module _ {A X : Type 0} (code : List (Instruction A)) (last : Status → Outcome
     pub goes : Goes p then
     pub at : Here spot s then
 
-  -- it continues as a command, whose value leads on from here; every other outcome is the last one
+  -- what is left stands where the outcome of a command led, or is the last one
+  abbrev pub Resumes : Did → Dialogue X → Type 0
+  Resumes (Went spot s) p = Here spot s p
+  Resumes (Over outcome s) p = p ≡ last s outcome
+  Resumes did p = ⊥
+
+  -- it continues as a command, whose outcome leads on from here
   pub record Waits (words : List (List ℕ)) (spot : Spot) (s : Status) (p : Dialogue X) :
       Type 0 where
     pub next : Status → Outcome → Dialogue X
     pub goes : Goes p (and_then (command spot.levels s words) (onward next))
-    pub value : (t : Status) (value : List ℕ) → Here (with_top value spot) t (next t (Gives value))
-    pub leaves : (t : Status) (c : Code) (value : List ℕ) →
-        next t (Leaves c value) ≡ last t (Leaves c value)
-    pub stops : (t : Status) (stop : Stop) → next t (Stops stop) ≡ last t (Stops stop)
+    pub resumes : (t : Status) (outcome : Outcome) →
+        Resumes (resumed spot outcome t) (next t outcome)
 
   -- what an instruction did is what was left to be done
   abbrev pub Follows : Did → Dialogue X → Type 0
@@ -84,5 +88,6 @@ abbrev pub FormulasBegin : Type 0 → Type 0 → Type 0
 FormulasBegin A X =
     (code : List (Instruction A)) (last : Status → Outcome → Dialogue X) (f : Formula)
     (levels : ℕ) (s : Status) → FormulaAt code 0 f (length code) → levels ≤ 255 →
-    Here code last (record { place = 0; operands = []; marks = []; levels = levels }) s
+    Here code last
+    (record { place = 0; operands = []; marks = []; levels = levels; handlers = [] }) s
     (and_then (evaluated levels f s (λ t value. gives value t)) (onward last))

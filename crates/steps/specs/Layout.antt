@@ -4,9 +4,9 @@ use Rattle.code.specs.Code.{At, JoinsAt, PartsAt, WordsAt, CommandAt, ScriptAt, 
 use Rattle.code.specs.declared.instruction.Instruction.{Instruction}
 use Rattle.code.specs.declared.instruction.Instruction.TheVariants as i
 use Rattle.conditions.specs.Branches.{Branch}
-use Rattle.state.specs.Prelude.{ScriptTree}
-use Rattle.steps.specs.Operand.{Outer, Prefixed, Row, Right, Holds, Argument, Test, Chosen, Condition}
-use Rattle.steps.specs.Places.{Head, Has, Part, Joins, Gathers, Evaluates, Values, Starts, Chooses, Enters, Frame, Rest, Bracket, Body, Skip}
+use Rattle.state.specs.Prelude.{LoopTree, ScriptTree}
+use Rattle.steps.specs.Operand.{Outer, Prefixed, Row, Right, Holds, Argument, Test, Chosen, Condition, Turning}
+use Rattle.steps.specs.Places.{Head, Has, Part, Joins, Gathers, Evaluates, Values, Starts, Chooses, Enters, Repeats, Finishes, Frame, Rest, Bracket, Body, Skip, Turns}
 use Rattle.steps.specs.Word.{Around, Open, Word, Plain, Expands, Operand}
 use Rattle.tclparse.specs.Formula.{Formula}
 use Rattle.tclparse.specs.FormulaGrammar.{IsFormula}
@@ -32,6 +32,29 @@ module _ {A : Type 0} (code : List (Instruction A)) where
     pub script : ScriptAt code (place + 1) tree.commands tree.fault stop
     pub leaves : At code stop i.Leave
     pub ends : end ≡ stop + 1
+
+  -- a loop: the body of a turn, its test at the first place, what begins a turn at the second, and
+  -- after this the empty value; no script stands after its turns
+  pub record LoopAt (loop : LoopTree) (test turn : ℕ) : Type 0 where
+    pub body : ℕ
+    pub ends : ℕ
+    pub enters : EntersAt body loop.body ends
+    pub done : At code ends i.EndTurn
+    pub behind : test ≡ ends + 1
+    pub formula : FormulaAt code test loop.test turn
+    pub turns : At code turn (i.Turn body test)
+    pub over : At code (turn + 1) (i.Text [])
+    pub no_step : loop.step ≡ None
+
+  -- the second place, or a jump to it
+  pub data LeadsTo : ℕ → ℕ → Type 0 where
+    there : {place : ℕ} → LeadsTo place place
+    jumps : {place to : ℕ} → At code place (i.Jump to) → place + 1 ≤ to → LeadsTo place to
+
+  -- a loop that goes on with its test
+  abbrev pub RepeatsAt : ℕ → LoopTree → ℕ → Type 0
+  RepeatsAt place loop end =
+      (test : ℕ) × (turn : ℕ) × LeadsTo place test × LoopAt loop test turn × (end ≡ turn + 2)
 
   -- the branches of if that are left, each a test, its body, a jump behind all of them, and what is
   -- left after it; and then the last body, or the empty text
@@ -73,6 +96,8 @@ module _ {A : Type 0} (code : List (Instruction A)) where
       (mid : ℕ) × At code place (i.Jump mid) × (place + 1 ≤ mid) × OperandAt mid outer end
   OperandAt place (Condition body more otherwise ∷ outer) end =
       ConditionAt place body more otherwise end
+  OperandAt place (Turning loop ∷ outer) end =
+      (test : ℕ) × LoopAt loop test place × (end ≡ place + 2)
 
   -- after the value of a word come the words after it
   abbrev pub WordAt : ℕ → Word → ℕ → Type 0
@@ -117,6 +142,8 @@ module _ {A : Type 0} (code : List (Instruction A)) where
   HeadAt place (Starts ws) end = CommandAt code place ws end
   HeadAt place (Chooses more otherwise) end = ChoosesAt place more otherwise end
   HeadAt place (Enters tree) end = EntersAt place tree end
+  HeadAt place (Repeats loop) end = RepeatsAt place loop end
+  HeadAt place Finishes end = At code place (i.Text []) × (end ≡ place + 1)
 
   -- from here on the code does what the frames do with the value on top
   abbrev pub FramesAt : ℕ → List Frame → Type 0
@@ -129,3 +156,6 @@ module _ {A : Type 0} (code : List (Instruction A)) where
   FramesAt place (Body ∷ frames) = At code place i.Leave × FramesAt (place + 1) frames
   FramesAt place (Skip ∷ frames) =
       (end : ℕ) × At code place (i.Jump end) × (place + 1 ≤ end) × FramesAt end frames
+  FramesAt place (Turns loop test turn ∷ frames) =
+      At code place i.EndTurn × (test ≡ place + 1) × LoopAt loop test turn ×
+      FramesAt (turn + 2) frames

@@ -1,6 +1,7 @@
 pub mod Spot
 pub mod Moves
 pub mod Formulas
+pub mod Loops
 pub mod Machine
 pub mod Does
 pub mod View

@@ -4,24 +4,19 @@ use Rattle.acts.specs.Flaw as flaw
 use Rattle.code.specs.declared.instruction.Instruction.{Instruction}
 use Rattle.code.specs.declared.instruction.Instruction.TheVariants as i
 use Rattle.meanings.specs.Meaning.{flaw_of_list}
-use Rattle.state.specs.Prelude.{Gives, Stops, Status}
+use Rattle.state.specs.Prelude.{Gives, Status}
 use Rattle.state.specs.Faults.{flaw_of_fault}
 use Rattle.state.specs.Piece.{ListText}
-use Rattle.state.specs.Outcome as stop
 use Rattle.state.specs.Variables.{flaw_of_trouble, spelled}
 use Rattle.steps.specs.Formulas.{calling, choosing, joining_both, jumping, prefixing, putting, telling, unless}
-use Rattle.steps.specs.Moves.{fails, on_top, with_operands}
+use Rattle.steps.specs.Loops.{ending, turning}
+use Rattle.steps.specs.Moves.{fails, on_top, ticked, with_operands}
 use Rattle.steps.specs.Spot.{Spot, Did, Went, Reads, Begins, Over, Stuck, with_top}
 use Rattle.tclparse.specs.Seen.{fault_of}
 use Rattle.tclstate.specs.Pairs.{found}
 use Rattle.tclstate.specs.Procs.{Procedure}
 use Rattle.tclstate.specs.Scopes.{Trouble, read}
 use Rattle.tcltext.specs.Flaw as list
-
--- takes a tick, where one is left; else the run stops (this project's own rule)
-abbrev pub ticked : ℕ → Status → (Status → Did) → Did
-ticked zero s next = Over (Stops stop.Limit) s
-ticked (suc left) s next = next (record s { left = left })
 
 -- goes on with the value of a variable, or is over with the error that it could not be read
 -- (set(n))
@@ -121,6 +116,8 @@ does i.Truth spot s = telling spot s
 does (i.Unless place) spot s = unless place spot s
 does (i.Jump place) spot s = jumping place spot s
 does (i.Unhidden name place) spot s = unhidden (found s.procedures name) place spot s
+does (i.Turn body test) spot s = turning body test spot s
+does i.EndTurn spot s = ending spot s
 does i.Hole spot s = Stuck
 
 -- the next place

@@ -1,11 +1,17 @@
 -- What the instructions of all kinds have in common.
-use Rattle.std.specs.Prelude.{ℕ, List, [], ◌∷◌}
-use Rattle.state.specs.Prelude.{Flaw, text_of, Error, Leaves, Status}
+use Rattle.std.specs.Prelude.{ℕ, zero, suc, List, [], ◌∷◌}
+use Rattle.state.specs.Outcome as stop
+use Rattle.state.specs.Prelude.{Flaw, text_of, Error, Leaves, Stops, Status}
 use Rattle.steps.specs.Spot.{Spot, Did, Over, Stuck}
 
 -- the code is over with an error, whose value is the error's text (Tcl(n), return codes)
 abbrev pub fails : Flaw → Status → Did
 fails flaw s = Over (Leaves Error (text_of flaw)) s
+
+-- takes a tick, where one is left; else the run stops (this project's own rule)
+abbrev pub ticked : ℕ → Status → (Status → Did) → Did
+ticked zero s next = Over (Stops stop.Limit) s
+ticked (suc left) s next = next (record s { left = left })
 
 -- what is done with the first of these and with those after it, where there is one (this project's
 -- own rule)

@@ -2,13 +2,14 @@
 use Rattle.std.specs.Prelude.{ℕ, List, [], ◌∷◌, ◌++◌, Option, if◌then◌else◌, reverse}
 use Rattle.conditions.specs.Branches.{Branch}
 use Rattle.conditions.specs.Conditional.{chosen}
+use Rattle.conditions.specs.Loop.{turned}
 use Rattle.evaluation.specs.Evaluated.{arguments, evaluated, linked, on_truth, told}
 use Rattle.operators.specs.Binary.{binary}
 use Rattle.operators.specs.Function as function
 use Rattle.operators.specs.Truth.{truth_of}
 use Rattle.operators.specs.Unary.{unary}
 use Rattle.state.specs.Meant.{on_meaning}
-use Rattle.state.specs.Prelude.{Course, gives, Status}
+use Rattle.state.specs.Prelude.{Course, gives, LoopTree, Status}
 use Rattle.tclparse.specs.Formula.{Formula, Formulas, Links}
 use Rattle.tclparse.specs.declared.operator.Binary.{Binary}
 use Rattle.tclparse.specs.declared.operator.Function.{Function}
@@ -17,8 +18,8 @@ use Rattle.tclparse.specs.declared.operator.Unary.{Unary}
 -- what an operand is evaluated for: a prefix operator; the operators after it in a row; an operator
 -- with this left operand, in a row; the truth value of && or ||, in a row; a function with these
 -- values so far, the last one first; a choice; what is chosen, after which the code goes on
--- elsewhere; if, with the body that runs where the value is true and what is done where it is not
--- (expr(n); if(n))
+-- elsewhere; if, with the body that runs where the value is true and what is done where it is not;
+-- the next turn of a loop (expr(n); if(n); while(n))
 pub data Outer : Type 0 where
   Prefixed : (operator : Unary) → Outer
   Row : (links : Links) → Outer
@@ -28,6 +29,7 @@ pub data Outer : Type 0 where
   Test : (one other : Formula) → Outer
   Chosen : Outer
   Condition : (body : List ℕ) (more : List Branch) (otherwise : Option (List ℕ)) → Outer
+  Turning : (loop : LoopTree) → Outer
 
 -- what follows the value of an operand, by what it is evaluated for, the innermost first (expr(n))
 abbrev pub operand_on : ℕ → List Outer → Status → List ℕ → Course
@@ -51,6 +53,8 @@ operand_on levels (Test one other ∷ outer) = λ s value.
 operand_on levels (Chosen ∷ outer) = operand_on levels outer
 operand_on levels (Condition body more otherwise ∷ outer) = λ s value.
     on_truth (truth_of value) s (λ holds. chosen levels body more otherwise s holds)
+operand_on levels (Turning loop ∷ outer) = λ s value.
+    on_truth (truth_of value) s (λ holds. turned loop levels s holds)
 
 -- the operands that wait, on top of these
 abbrev pub waiting : List Outer → List (List ℕ) → List (List ℕ)
@@ -63,3 +67,4 @@ waiting (Argument g before rest ∷ outer) below = before ++ waiting outer below
 waiting (Test one other ∷ outer) below = waiting outer below
 waiting (Chosen ∷ outer) below = waiting outer below
 waiting (Condition body more otherwise ∷ outer) below = below
+waiting (Turning loop ∷ outer) below = below

@@ -1,14 +1,15 @@
 -- What is left to be done at a place of the code, as the proof sees it.
-use Rattle.std.specs.Prelude.{ℕ, suc, List, [], ◌∷◌, ◌++◌, Bool, true, false, Option, length, reverse}
+use Rattle.std.specs.Prelude.{ℕ, suc, ◌+◌, List, [], ◌∷◌, ◌++◌, Bool, true, false, Option, length, reverse}
 use Rattle.conditions.specs.Branches.{Branch}
 use Rattle.conditions.specs.Conditional.{chooses, passes}
+use Rattle.conditions.specs.Loop.{again, behind_body}
 use Rattle.evaluation.specs.Evaluated.{evaluated}
 use Rattle.plan.specs.Plan.{and_then, onward, after}
 use Rattle.runs.specs.Commands.{command}
 use Rattle.runs.specs.Scripts.{script}
-use Rattle.state.specs.Prelude.{Course, Dialogue, gives, inside, on_value, Outcome, ScriptTree, Status}
+use Rattle.state.specs.Prelude.{Course, Dialogue, gives, inside, LoopTree, on_value, Outcome, ScriptTree, Status}
 use Rattle.steps.specs.Operand.{Outer, operand_on, waiting}
-use Rattle.steps.specs.Spot.{Spot}
+use Rattle.steps.specs.Spot.{Handler, Spot}
 use Rattle.steps.specs.Word.{Open, bytes_of, course_with, is_counted, operands_of}
 use Rattle.tclparse.specs.Fault.{Fault}
 use Rattle.tclparse.specs.Formula.{Formula}
@@ -19,7 +20,8 @@ use Rattle.words.specs.Words.{words}
 -- value is put after the bytes of an open word; a command goes on with its next word, after these
 -- words, the last one first, which are counted or not; a formula is evaluated; the value of an
 -- operand is on top; a command begins with its first word, or with its own code; the branches of if
--- that are left are looked through; a body begins
+-- that are left are looked through; a body begins; a loop goes on with its next turn; a loop is
+-- over
 pub data Head : Type 0 where
   Has : (value : List ℕ) → Head
   Part : (word : Open) → Head
@@ -30,15 +32,20 @@ pub data Head : Type 0 where
   Starts : (words : Words) → Head
   Chooses : (more : List Branch) (otherwise : Option (List ℕ)) → Head
   Enters : (tree : ScriptTree) → Head
+  Repeats : (loop : LoopTree) → Head
+  Finishes : Head
 
 -- what is done with a value once it is on top: the commands of a script that are left follow; or a
 -- script in brackets is over, and its value is put after the bytes of an open word; or a body is
--- over, and its outcome is passed on; or the code goes on elsewhere (Tcl(n), rules 1 and 7; if(n))
+-- over, and its outcome is passed on; or the code goes on elsewhere; or the body of a turn is over,
+-- and then comes the test of its loop, which stands at the first place, with the next turn at the
+-- second (Tcl(n), rules 1 and 7; if(n); while(n))
 pub data Frame : Type 0 where
   Rest : (commands : Commands) (fault : Option Fault) → Frame
   Bracket : (word : Open) → Frame
   Body : Frame
   Skip : Frame
+  Turns : (loop : LoopTree) (test turn : ℕ) → Frame
 
 -- what is being done, as a course
 abbrev pub course_of : ℕ → Head → Status → Course
@@ -52,6 +59,8 @@ course_of levels (Values value outer) s = operand_on levels outer s value
 course_of levels (Starts ws) s = words levels ws [] s (command levels)
 course_of levels (Chooses more otherwise) s = chooses levels more otherwise s
 course_of levels (Enters tree) s = inside levels tree s passes
+course_of levels (Repeats loop) s = again loop levels s
+course_of levels Finishes s = gives [] s
 
 -- what is done next, the top frame first; what is around a script in brackets, or around a body,
 -- stands one level up
@@ -63,6 +72,7 @@ nexts levels (Bracket word ∷ frames) =
     on_value (λ s value. course_of (suc levels) (Joins value word) s) ∷ nexts (suc levels) frames
 nexts levels (Body ∷ frames) = passes ∷ nexts (suc levels) frames
 nexts levels (Skip ∷ frames) = nexts levels frames
+nexts levels (Turns loop test turn ∷ frames) = behind_body loop levels ∷ nexts levels frames
 
 -- what is done with an outcome: the frames from the top down, and then what is done last
 abbrev pub onward_of : {X : Type 0} → (Status → Outcome → Dialogue X) → ℕ → List Frame →
@@ -82,6 +92,7 @@ beneath (Rest cs f ∷ frames) = beneath frames
 beneath (Bracket word ∷ frames) = operands_of word (beneath frames)
 beneath (Body ∷ frames) = beneath frames
 beneath (Skip ∷ frames) = beneath frames
+beneath (Turns loop test turn ∷ frames) = beneath frames
 
 -- where words are counted, one more mark
 abbrev pub marked : Bool → ℕ → List ℕ → List ℕ
@@ -96,6 +107,23 @@ marks_beneath (Bracket word ∷ frames) =
     marked (is_counted word.word) (length (beneath frames)) (marks_beneath frames)
 marks_beneath (Body ∷ frames) = marks_beneath frames
 marks_beneath (Skip ∷ frames) = marks_beneath frames
+marks_beneath (Turns loop test turn ∷ frames) = marks_beneath frames
+
+-- the handlers that the frames have: one for each turn that is open
+abbrev pub handlers_beneath : ℕ → List Frame → List Handler
+handlers_beneath levels [] = []
+handlers_beneath levels (Rest cs f ∷ frames) = handlers_beneath levels frames
+handlers_beneath levels (Bracket word ∷ frames) = handlers_beneath (suc levels) frames
+handlers_beneath levels (Body ∷ frames) = handlers_beneath (suc levels) frames
+handlers_beneath levels (Skip ∷ frames) = handlers_beneath levels frames
+handlers_beneath levels (Turns loop test turn ∷ frames) =
+    record {
+      again = test;
+      over = turn + 1;
+      operands = length (beneath frames);
+      marks = length (marks_beneath frames);
+      levels = levels;
+    } ∷ handlers_beneath levels frames
 
 -- all operands
 abbrev pub operands_at : Head → List Frame → List (List ℕ)
@@ -108,6 +136,8 @@ operands_at (Values value outer) frames = value ∷ waiting outer (beneath frame
 operands_at (Starts ws) frames = beneath frames
 operands_at (Chooses more otherwise) frames = beneath frames
 operands_at (Enters tree) frames = beneath frames
+operands_at (Repeats loop) frames = beneath frames
+operands_at Finishes frames = beneath frames
 
 -- all marks
 abbrev pub marks_at : Head → List Frame → List ℕ
@@ -121,6 +151,8 @@ marks_at (Values value outer) frames = marks_beneath frames
 marks_at (Starts ws) frames = marks_beneath frames
 marks_at (Chooses more otherwise) frames = marks_beneath frames
 marks_at (Enters tree) frames = marks_beneath frames
+marks_at (Repeats loop) frames = marks_beneath frames
+marks_at Finishes frames = marks_beneath frames
 
 -- where the run of the code stands
 abbrev pub spot_at : ℕ → ℕ → Head → List Frame → Spot
@@ -129,6 +161,7 @@ spot_at place levels head frames = record {
   operands = operands_at head frames;
   marks = marks_at head frames;
   levels = levels;
+  handlers = handlers_beneath levels frames;
 }
 
 -- how many scripts in brackets and bodies are open
@@ -138,3 +171,4 @@ brackets (Rest cs f ∷ frames) = brackets frames
 brackets (Bracket word ∷ frames) = suc (brackets frames)
 brackets (Body ∷ frames) = suc (brackets frames)
 brackets (Skip ∷ frames) = brackets frames
+brackets (Turns loop test turn ∷ frames) = brackets frames

@@ -3,14 +3,26 @@ use Rattle.std.specs.Prelude.{ℕ, List, [], ◌∷◌}
 use Rattle.state.specs.Piece.{Text, Tree}
 use Rattle.state.specs.Prelude.{Outcome, Status}
 
+-- what a turn of a loop does with continue and with break: the place where the test stands, the
+-- place behind the loop, and how many operands, marks and levels there are outside of the turn
+-- (while(n))
+pub record Handler : Type 0 where
+  pub again : ℕ
+  pub over : ℕ
+  pub operands : ℕ
+  pub marks : ℕ
+  pub levels : ℕ
+
 -- the place of the next instruction; the operands, the top one first; of each command whose words
--- are counted, how many operands stand below its words, the innermost first; and the levels that
--- may still nest (this project's own rule)
+-- are counted, how many operands stand below its words, the innermost first; the levels that may
+-- still nest; and the handlers of the turns that are open, the innermost first (this project's own
+-- rule)
 pub record Spot : Type 0 where
   pub place : ℕ
   pub operands : List (List ℕ)
   pub marks : List ℕ
   pub levels : ℕ
+  pub handlers : List Handler
 
 -- an instruction leads on; it leads on by what a text is read as; a command begins by its words,
 -- whose value is to be put on top; the code is over; or an operand is missing (this project's own
@@ -28,4 +40,10 @@ with_top value spot = record spot { operands = value ∷ spot.operands }
 
 -- where a code begins: the empty text, which is the value of a script without commands, is on top
 abbrev pub beginning_at : ℕ → Spot
-beginning_at levels = record { place = 0; operands = [] ∷ []; marks = []; levels = levels }
+beginning_at levels = record {
+  place = 0;
+  operands = [] ∷ [];
+  marks = [];
+  levels = levels;
+  handlers = [];
+}

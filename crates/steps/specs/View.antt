@@ -1,11 +1,22 @@
 -- What the values of the code stand for.
-use Rattle.std.specs.Prelude.{ℕ, Option, Some, None, reverse}
+use Rattle.std.specs.Prelude.{ℕ, Option, Some, None, map, reverse}
 use Rattle.state.specs.Prelude.{Scopes, Status, outcome_of}
+use Rattle.steps.specs.declared.handler.Handler as turns
 use Rattle.steps.specs.declared.spot.Spot as coded
 use Rattle.steps.specs.declared.stopped.Stopped.{Stopped}
 use Rattle.steps.specs.declared.stopped.Stopped.TheVariants as stopped
-use Rattle.steps.specs.Spot.{Spot, Did, Went, Begins, Over, Stuck}
+use Rattle.steps.specs.Spot.{Handler, Spot, Did, Went, Begins, Over, Stuck}
 use Rattle.tclstate.specs.Procs.{Procs}
+
+-- what a turn of a loop does with continue and with break
+abbrev pub handler_of : turns.Handler → Handler
+handler_of handler = record {
+  again = handler.again;
+  over = handler.over;
+  operands = handler.operands;
+  marks = handler.marks;
+  levels = handler.levels;
+}
 
 -- where the run of a code stands
 abbrev pub spot_of : {A : Type 0} → coded.Spot A → Spot
@@ -14,6 +25,7 @@ spot_of spot = record {
   operands = reverse spot.operands.items;
   marks = reverse spot.marks.items;
   levels = spot.levels;
+  handlers = reverse (map handler_of spot.handlers.items);
 }
 
 -- the result of an instruction: the run goes on, or has stopped there

@@ -2,13 +2,17 @@
 #![tactic(auto)]
 
 mod advancing;
+mod handler;
 pub mod laws;
+mod looping;
 mod operating;
 mod spot;
 mod stepping;
 mod stopped;
 
 pub use advancing::advance;
+pub use handler::Handler;
+pub use looping::resume;
 pub use spot::Spot;
 pub use stepping::step;
 pub use stopped::Stopped;

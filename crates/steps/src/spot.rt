@@ -1,6 +1,6 @@
 //! Where the run of a code stands, and how instructions change it.
 
-ghost use Rattle.std.specs.Prelude.{◌≡◌, ◌-◌, [], ◌∷◌, length, Some, IfOk};
+ghost use Rattle.std.specs.Prelude.{◌≡◌, ◌≤◌, ◌-◌, [], ◌∷◌, length, Some, IfOk};
 ghost use Rattle.state.specs.Prelude.{Status};
 ghost use Rattle.steps.specs.Machine.{beginning, beginning_counted, counting, entering, joining, leaving, ticking};
 ghost use Rattle.steps.specs.Moves.{on_top};
@@ -8,6 +8,7 @@ ghost use Rattle.steps.specs.Spot.{Over as is_over, Went as goes, beginning_at, 
 ghost use Rattle.state.specs.Prelude.{Gives};
 ghost use Rattle.steps.specs.View.{did_of, spot_of, with_parts};
 
+use crate::handler::Handler;
 use crate::stopped::Stopped;
 use memory::NoMemory;
 use state::{Leave, Stop};
@@ -26,6 +27,8 @@ pub struct Spot<A: Allocator> {
     pub marks: Vec<usize, A>,
     /// The levels that may still nest.
     pub levels: u8,
+    /// The handlers of the turns of loops that are open, the innermost last.
+    pub handlers: Vec<Handler, A>,
 }
 
 impl<A: Allocator + Copy> Spot<A> {
@@ -43,6 +46,7 @@ impl<A: Allocator + Copy> Spot<A> {
             operands,
             marks: Vec::new(alloc),
             levels,
+            handlers: Vec::new(alloc),
         })
     }
 
@@ -72,6 +76,7 @@ impl<A: Allocator + Copy> Spot<A> {
         ensures does { (s : Status) →
             did_of result (spot_of self.new) (with_parts s.scopes s.procedures left.new s)
             ≡ ticking (spot_of self.old) (with_parts s.scopes s.procedures left.old s) }
+        ensures ticks { left.new ≤ left.old }
         ensures place { self.new.place ≡ self.old.place }
     {
         let Some(_) = self.operands.pop() else {

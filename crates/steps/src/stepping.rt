@@ -9,6 +9,7 @@ ghost use Rattle.steps.specs.Spot.{Reads as reads_text};
 ghost use Rattle.tclstate.specs.Pairs.{found};
 ghost use Rattle.steps.specs.View.{did_of, spot_of, with_parts};
 
+use crate::looping::{end_turn, turn};
 use crate::operating::{apply, choose, join_both, jump, jump_unless, number, prefix, tell};
 use crate::spot::Spot;
 use crate::stopped::{Stopped, failed};
@@ -137,7 +138,8 @@ fn perform<A: Allocator + Copy>(
     ensures does { (s : Status) → IfOk result (λ stopped. Does
         (said instruction.now (spot_of spot.old) (with_parts scopes.now procs.now left.old s))
         (did_of stopped (spot_of spot.new) (with_parts scopes.now procs.now left.new s))) }
-    ensures place { spot.old.place ≤ spot.new.place }
+    ensures ticks { left.new ≤ left.old }
+    ensures place { left.new ≡ left.old → spot.old.place ≤ spot.new.place }
 {
     match instruction {
         Instruction::Next => Ok(spot.tick(left)),
@@ -164,6 +166,8 @@ fn perform<A: Allocator + Copy>(
         Instruction::Unhidden(name, place) => {
             Ok(jump_unhidden(spot, procs, name.as_slice(), *place))
         }
+        Instruction::Turn(body, test) => Ok(turn(alloc, spot, *body, *test, left)?),
+        Instruction::EndTurn => Ok(end_turn(spot)),
         Instruction::Hole => Ok(Some(Stopped::Stuck)),
     }
 }
@@ -185,7 +189,8 @@ pub fn step<A: Allocator + Copy>(
         (with_parts scopes.now procs.now left.old s))
         (did_of stopped (spot_of spot.new) (with_parts scopes.now procs.now left.new s))) }
     ensures onward { IfOk result (λ stopped. IfNone stopped
-        ((spot.old.place < length code.now) × (spot.old.place < spot.new.place))) }
+        ((spot.old.place < length code.now) × (left.new ≤ left.old) ×
+        (left.new ≡ left.old → spot.old.place < spot.new.place))) }
 {
     let Some(instruction) = code.get(spot.place) else {
         return Ok(Some(spot.finish()));

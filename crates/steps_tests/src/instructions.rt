@@ -32,6 +32,10 @@ fn show<A: Allocator>(shown: &mut Vec<u8, A>, it: &Instruction<A>) -> Result<(),
         Instruction::Unless(15) => (b"unless 15", b""),
         Instruction::Jump(16) => (b"jump 16", b""),
         Instruction::Unhidden(name, 7) => (b"unhidden 7 ", name.as_slice()),
+        Instruction::Jump(14) => (b"jump 14", b""),
+        Instruction::Jump(17) => (b"jump 17", b""),
+        Instruction::Turn(8, 14) => (b"turn 8 14", b""),
+        Instruction::EndTurn => (b"end turn", b""),
         Instruction::Command(3) => (b"command 3", b""),
         _ => (b"another", b""),
     };
@@ -83,6 +87,21 @@ fn a_condition_has_code_of_its_own_after_that_of_its_words(rt: HostRuntime) -> R
     }
     let wanted: &[u8] = b"next\nunhidden 7 if\ntext if\ntext 1\ntext f\ncommand 3\njump 16\n\
         numeral 1\nunless 15\nenter\nnext\ntext f\ncommand 1\nleave\njump 16\ntext \n";
+    assert_eq!(&rt; shown.as_slice(), wanted);
+    Ok(())
+}
+
+#[test]
+fn a_loop_begins_with_its_test_behind_its_body(rt: HostRuntime) -> Result<(), Fail> {
+    let script = Script::read(rt.alloc(), b"while 1 f")?;
+    let code = code_of(rt.alloc(), &script)?;
+    let mut shown = Vec::new(rt.alloc());
+    for it in &code {
+        show(&mut shown, it)?;
+    }
+    let wanted: &[u8] = b"next\nunhidden 7 while\ntext while\ntext 1\ntext f\ncommand 3\n\
+        jump 17\njump 14\nenter\nnext\ntext f\ncommand 1\nleave\nend turn\nnumeral 1\n\
+        turn 8 14\ntext \n";
     assert_eq!(&rt; shown.as_slice(), wanted);
     Ok(())
 }

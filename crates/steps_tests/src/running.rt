@@ -2,11 +2,11 @@
 
 use code::{Instruction, code_of, formula_code};
 use formulas::Formula;
-use state::Leave;
+use state::{Code, Leave, Outcome};
 use std::alloc::{Allocator, Global};
 use std::process::Abort;
 use std::test::Fail;
-use steps::{Spot, Stopped, advance};
+use steps::{Spot, Stopped, advance, resume};
 use tclparse::Script;
 use tclstate::{Formals, Procedure, Procs, Scopes};
 use tcltext::Value;
@@ -29,57 +29,87 @@ fn variables(alloc: Global) -> Result<Scopes<Global>, Fail> {
     Ok(scopes)
 }
 
-/// Puts how a run stopped after a text, and says whether it goes on.
-fn show<A: Allocator>(shown: &mut Vec<u8, A>, stopped: &Stopped<A>) -> Result<bool, Fail> {
-    let goes_on = match stopped {
+/// Puts how a run stopped after a text.
+fn show<A: Allocator>(shown: &mut Vec<u8, A>, stopped: &Stopped<A>) -> Result<(), Fail> {
+    match stopped {
         Stopped::Begins(words) => {
             for word in words {
                 shown.push(b'<')?;
                 shown.extend_from_slice(word.as_slice())?;
                 shown.push(b'>')?;
             }
-            true
         }
-        Stopped::Over(Ok(value)) => {
-            shown.extend_from_slice(value.as_slice())?;
-            false
-        }
-        Stopped::Over(Err(Leave::Coded(_, value))) => {
-            shown.extend_from_slice(value.as_slice())?;
-            false
-        }
-        Stopped::Over(Err(Leave::Stopped(_))) => {
-            shown.extend_from_slice(b"stopped")?;
-            false
-        }
-        Stopped::Stuck => {
-            shown.extend_from_slice(b"stuck")?;
-            false
-        }
-    };
+        Stopped::Over(Ok(value)) => shown.extend_from_slice(value.as_slice())?,
+        Stopped::Over(Err(Leave::Coded(_, value))) => shown.extend_from_slice(value.as_slice())?,
+        Stopped::Over(Err(Leave::Stopped(_))) => shown.extend_from_slice(b"stopped")?,
+        Stopped::Stuck => shown.extend_from_slice(b"stuck")?,
+    }
     shown.push(b'\n')?;
-    Ok(goes_on)
+    Ok(())
 }
 
-/// The commands of a code, each with the value `v`, and how it ends, where these procedures are
-/// defined and 3 ticks are left.
+/// The outcome of the command that begins, if one does, by its name: that of `break` and of
+/// `continue`, how often there was a `count`, or else the value `v`.
+fn outcome_of(
+    alloc: Global,
+    stopped: &Stopped<Global>,
+    counts: &mut u8,
+) -> Result<Option<Outcome<Global>>, Fail> {
+    let Stopped::Begins(words) = stopped else {
+        return Ok(None);
+    };
+    let name = match words.as_slice() {
+        [name, ..] => name.as_slice(),
+        [] => b"",
+    };
+    if name == b"break".as_slice() {
+        return Ok(Some(Err(Leave::Coded(Code::Break, Value::empty()))));
+    }
+    if name == b"continue".as_slice() {
+        return Ok(Some(Err(Leave::Coded(Code::Continue, Value::empty()))));
+    }
+    if name == b"count".as_slice() {
+        *counts = counts.saturating_add(1);
+        let digit = [b'0'.saturating_add(*counts)];
+        return Ok(Some(Ok(Value::from_slice(alloc, &digit)?)));
+    }
+    Ok(Some(Ok(Value::from_slice(alloc, b"v")?)))
+}
+
+/// The commands of a code, and how it ends, where these procedures are defined and so many ticks
+/// and levels are left.
+fn commands_within(
+    alloc: Global,
+    procs: &Procs<Global>,
+    code: &[Instruction<Global>],
+    mut left: u64,
+    levels: u8,
+) -> Result<Vec<u8>, Fail> {
+    let scopes = variables(alloc)?;
+    let mut spot = Spot::new(alloc, levels)?;
+    let mut counts = 0;
+    let mut shown = Vec::new(alloc);
+    for _ in 0..20 {
+        let stopped = advance(alloc, code, &mut spot, &scopes, procs, &mut left)?;
+        show(&mut shown, &stopped)?;
+        let Some(outcome) = outcome_of(alloc, &stopped, &mut counts)? else {
+            return Ok(shown);
+        };
+        if let Some(over) = resume(&mut spot, outcome)? {
+            show(&mut shown, &over)?;
+            return Ok(shown);
+        }
+    }
+    Ok(shown)
+}
+
+/// The same, where 3 ticks and 2 levels are left.
 fn commands_beside(
     alloc: Global,
     procs: &Procs<Global>,
     code: &[Instruction<Global>],
 ) -> Result<Vec<u8>, Fail> {
-    let scopes = variables(alloc)?;
-    let mut spot = Spot::new(alloc, 2)?;
-    let mut left = 3;
-    let mut shown = Vec::new(alloc);
-    for _ in 0..9 {
-        let stopped = advance(alloc, code, &mut spot, &scopes, procs, &mut left)?;
-        if !show(&mut shown, &stopped)? {
-            return Ok(shown);
-        }
-        spot.put(Value::from_slice(alloc, b"v")?)?;
-    }
-    Ok(shown)
+    Ok(commands_within(alloc, procs, code, 3, 2)?)
 }
 
 /// The same, where no procedure is defined.
@@ -236,6 +266,113 @@ fn a_body_takes_a_level_and_gives_it_back(rt: HostRuntime) -> Result<(), Fail> {
         rt.alloc(),
         b"if 1 {f [g]}; f [h]",
         b"<g>\n<f><v>\nstopped\n",
+    )?;
+    Ok(())
+}
+
+/// Holds the commands of a script against those that are wanted, where there are ticks enough and 3
+/// levels.
+fn repeat(rt: &impl Abort, alloc: Global, text: &[u8], wanted: &[u8]) -> Result<(), Fail> {
+    let script = Script::read(alloc, text)?;
+    let code = code_of(alloc, &script)?;
+    let shown = commands_within(alloc, &Procs::new(alloc), &code, 40, 3)?;
+    assert_eq!(rt; shown.as_slice(), wanted);
+    Ok(())
+}
+
+#[test]
+fn a_loop_runs_as_tclsh_runs_it(rt: HostRuntime) -> Result<(), Fail> {
+    // tclsh 8.6.13, with these variables, where `count` counts its calls, and each other command
+    // that it has not prints its words and has the value `v`
+    let scripts: [(&[u8], &[u8]); 6] = [
+        (
+            b"while {[count] < 3} {f $i}; g",
+            b"<count>\n<f><2>\n<count>\n<f><2>\n<count>\n<g>\nv\n",
+        ),
+        (
+            b"while {[count] < 3 && [f] eq \"v\"} then",
+            b"<count>\n<f>\n<then>\n<count>\n<f>\n<then>\n<count>\n\n",
+        ),
+        (b"while 0 {f \"}", b"\n"),
+        (b"while 1 {f \"}", b"missing \"\n"),
+        (
+            b"while {[count] < 4} {while 1 {break}; f}; g",
+            b"<count>\n<break>\n<f>\n<count>\n<break>\n<f>\n<count>\n<break>\n<f>\n\
+                <count>\n<g>\nv\n",
+        ),
+        (
+            b"while {[count] < 3} {if {$a} {continue}; f}; g",
+            b"<count>\n<continue>\n<count>\n<continue>\n<count>\n<g>\nv\n",
+        ),
+    ];
+    for (text, wanted) in scripts {
+        repeat(&rt, rt.alloc(), text, wanted)?;
+    }
+    Ok(())
+}
+
+#[test]
+fn break_and_continue_lead_out_of_words(rt: HostRuntime) -> Result<(), Fail> {
+    // tclsh 8.6.13, as above
+    let scripts: [(&[u8], &[u8]); 6] = [
+        (
+            b"f [while {[count] < 3} {f; break; g}]",
+            b"<count>\n<f>\n<break>\n<f><>\nv\n",
+        ),
+        (
+            b"while {[count] < 3} {f; continue; g}; h",
+            b"<count>\n<f>\n<continue>\n<count>\n<f>\n<continue>\n<count>\n<h>\nv\n",
+        ),
+        (
+            b"while {[count] < 3} {f a[continue]b}; h",
+            b"<count>\n<continue>\n<count>\n<continue>\n<count>\n<h>\nv\n",
+        ),
+        (
+            b"f {*}{a b} c[while 1 {g {*}{c d} [break]}] e",
+            b"<break>\n<f><a><b><c><e>\nv\n",
+        ),
+        (b"while 1 {while {[break]} {f}; g}; h", b"<break>\n<h>\nv\n"),
+        (
+            b"while 1 {break}; f [g [h]]",
+            b"<break>\n<h>\n<g><v>\n<f><v>\nv\n",
+        ),
+    ];
+    for (text, wanted) in scripts {
+        repeat(&rt, rt.alloc(), text, wanted)?;
+    }
+    Ok(())
+}
+
+#[test]
+fn a_loop_without_code_of_its_own_begins_by_its_words(rt: HostRuntime) -> Result<(), Fail> {
+    // its words are no literals, its test is no formula, or there are too few of them
+    let scripts: [(&[u8], &[u8]); 3] = [
+        (b"while $a g", b"<while><1><g>\nv\n"),
+        (b"while {1 +} f", b"<while><1 +><f>\nv\n"),
+        (b"while 1", b"<while><1>\nv\n"),
+    ];
+    for (text, wanted) in scripts {
+        compare(&rt, rt.alloc(), text, wanted)?;
+    }
+    Ok(())
+}
+
+#[test]
+fn a_turn_takes_a_tick_and_a_level(rt: HostRuntime) -> Result<(), Fail> {
+    // three ticks are there
+    let scripts: [(&[u8], &[u8]); 3] = [
+        (b"while 1 {}", b"stopped\n"),
+        (b"while 1 f", b"<f>\nstopped\n"),
+        (b"break; f", b"<break>\n\n"),
+    ];
+    for (text, wanted) in scripts {
+        compare(&rt, rt.alloc(), text, wanted)?;
+    }
+    repeat(
+        &rt,
+        rt.alloc(),
+        b"while 1 {f [g [h [i]]]}",
+        b"too many nested evaluations\n",
     )?;
     Ok(())
 }

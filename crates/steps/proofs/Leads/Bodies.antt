@@ -12,9 +12,9 @@ use Rattle.steps.specs.Follows.{Comes, Follows}
 use Rattle.steps.specs.Goes.{here, calls, reads}
 use Rattle.steps.specs.Layout.{EntersAt, FramesAt}
 use Rattle.steps.specs.Machine.{machine}
-use Rattle.steps.specs.Places.{Has, Enters, Frame, Rest, Body, beneath, brackets, left_of, marks_beneath, onward_of, spot_at}
+use Rattle.steps.specs.Places.{Has, Enters, Frame, Rest, Body, beneath, brackets, handlers_beneath, left_of, marks_beneath, onward_of, spot_at}
 use Rattle.steps.proofs.Leads.Silent.{same_goes}
-use Rattle.steps.proofs.Leads.Standing.{by, leaves_pass, sooner, stands}
+use Rattle.steps.proofs.Leads.Standing.{by, errors_pass, sooner, stands}
 
 module _ {A X : Type 0} (code : List (Instruction A)) (last : Status → Outcome → Dialogue X) where
   -- a body begins: its text is read
@@ -25,6 +25,7 @@ module _ {A X : Type 0} (code : List (Instruction A)) (last : Status → Outcome
         operands = beneath fs;
         marks = marks_beneath fs;
         levels = levels;
+        handlers = handlers_beneath levels fs;
       }) s (and_then (within levels body s passes) (onward (onward_of last levels fs)))
   body_begins place levels body fs end s (deeper {mid = mid} {leave = leave} {cs = cs} {f = f} is
       enters commands ends leaves) behind fits =
@@ -49,7 +50,7 @@ module _ {A X : Type 0} (code : List (Instruction A)) (last : Status → Outcome
       (left_of last levels (Enters tree) fs s)
   enters_leads zero tree fs s place end at behind fits =
       by code last i.Enter (spot_at place zero (Enters tree) fs) s _ at.enters
-      (same_goes (leaves_pass code last zero fs s _ _))
+      (same_goes (errors_pass code last zero fs s _))
   enters_leads (suc levels) tree fs s place end at behind fits =
       by code last i.Enter (spot_at place (suc levels) (Enters tree) fs) s _ at.enters
       (sooner code last _ s (calls here)

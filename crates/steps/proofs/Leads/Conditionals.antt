@@ -1,8 +1,8 @@
--- A command that has code of its own: if.
+-- A command that has code of its own.
 use Rattle.std.proofs.Common.{◌≡◌, ◌∙◌, ℕ, ◌+◌, ◌≤◌, List, [], ◌∷◌, ◌++◌, false, Option, Some, None, Ok, option_map, append_assoc, codes, refl, sym, ap, subst, arith, if◌then◌else◌}
 use Rattle.std.specs.Prelude.{slice_get}
 use Rattle.std.proofs.lemmas.List.{append-nil}
-use Rattle.code.specs.Code.{At, CommandAt, by_words, own, OwnAt, conditional, BranchesAt, branch, BehindAt, no_else, at_last, else_if, IsBranch, without_then, with_then, IsLast, with_else, without_else, deeper, WordsAt, literals}
+use Rattle.code.specs.Code.{At, CommandAt, by_words, own, OwnAt, conditional, turns, BranchesAt, branch, BehindAt, no_else, at_last, else_if, IsBranch, without_then, with_then, IsLast, with_else, without_else, deeper, WordsAt, literals}
 use Rattle.code.specs.declared.instruction.Instruction.{Instruction}
 use Rattle.code.specs.declared.instruction.Instruction.TheVariants as i
 use Rattle.conditions.specs.Branches as definition
@@ -21,6 +21,7 @@ use Rattle.steps.specs.Places.{Has, Gathers, Starts, Chooses, Frame, Skip, brack
 use Rattle.steps.proofs.Leads.Bodies.{enters_leads}
 use Rattle.steps.proofs.Leads.Formulas.{formula_leads}
 use Rattle.steps.proofs.Leads.Grows.{behind_grows, own_grows, words_grow}
+use Rattle.steps.proofs.Leads.Loops.{while_begins}
 use Rattle.steps.proofs.Leads.Meanings.{jump_leads}
 use Rattle.steps.proofs.Leads.Silent.{same_goes}
 use Rattle.steps.proofs.Leads.Standing.{by, silently, sooner, stands}
@@ -145,6 +146,14 @@ module _ {A X : Type 0} (code : List (Instruction A)) (last : Status → Outcome
       ∙ ap (λ known. on_branches levels known s) branches_at.is)))
       (stands code last place levels (Chooses branches_at.it.tests branches_at.it.otherwise) fs end
       s branches_at.at behind fits)
+  own_begins levels fs s name place args end none (turns {mid = mid} {turn = turn} {test = test}
+      {body = body} {f = f} is jump body_at done formula begins over) behind fits =
+      sooner code last _ s
+      (same_goes (ap (λ c. and_then c (onward (onward_of last levels fs)))
+      (literal_words levels (codes "while" ∷ args) [] s (command levels)
+      ∙ ap (λ procedure. called procedure levels (codes "while") args s) none)))
+      (while_begins code last levels fs s place mid turn test body f is jump body_at done formula
+      begins over behind fits)
 
   -- a procedure hides it, or none does
   unhidden_leads : (procedure : Option Procedure) (levels : ℕ) (fs : List Frame) (s : Status)

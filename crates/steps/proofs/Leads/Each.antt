@@ -15,12 +15,13 @@ use Rattle.steps.specs.Does.{Does, same, reads, Arrives, stays, then}
 use Rattle.steps.specs.Goes.{here}
 use Rattle.steps.specs.Layout.{FramesAt, HeadAt}
 use Rattle.steps.specs.Machine.{machine}
-use Rattle.steps.specs.Places.{Head, Has, Part, Joins, Gathers, Evaluates, Values, Starts, Chooses, Enters, Frame, Rest, brackets, left_of, spot_at}
+use Rattle.steps.specs.Places.{Head, Has, Part, Joins, Gathers, Evaluates, Values, Starts, Chooses, Enters, Repeats, Finishes, Frame, Rest, brackets, left_of, spot_at}
 use Rattle.steps.specs.Spot.{Spot, Did, beginning_at}
 use Rattle.steps.proofs.Leads.Bodies.{enters_leads}
 use Rattle.steps.proofs.Leads.Conditionals.{chooses_lead, starts_leads}
 use Rattle.steps.proofs.Leads.Opened.{joins_lead, open_leads}
 use Rattle.steps.proofs.Leads.Formulas.{formula_leads}
+use Rattle.steps.proofs.Leads.Loops.{finishes_lead, repeats_lead}
 use Rattle.steps.proofs.Leads.Operators.{operand_leads}
 use Rattle.steps.proofs.Leads.Scripts.{has_leads}
 use Rattle.steps.proofs.Leads.Standing.{silently, stands_here}
@@ -52,6 +53,10 @@ module _ {A X : Type 0} (code : List (Instruction A)) (last : Status → Outcome
       chooses_lead code last levels end frames s place more otherwise at behind fits
   head_leads place levels (Enters tree) frames end s at behind fits =
       enters_leads code last levels tree frames s place end at behind fits
+  head_leads place levels (Repeats loop) frames end s at behind fits =
+      repeats_lead code last levels end frames s loop place at behind fits
+  head_leads place levels Finishes frames end s at behind fits =
+      finishes_lead code last levels end frames s place at.0 at.1 behind fits
 
   leads : (spot : Spot) (s : Status) (p : Dialogue X) → Here code last spot s p →
       Follows code last (machine (slice_get code spot.place) spot s) p
@@ -88,7 +93,7 @@ module _ {A X : Type 0} (code : List (Instruction A)) (last : Status → Outcome
   -- where a formula begins
   formula_begins : (f : Formula) (levels : ℕ) (s : Status) → FormulaAt code 0 f (length code) →
       levels ≤ 255 →
-      Here code last (record { place = 0; operands = []; marks = []; levels = levels }) s
+      Here code last (record { place = 0; operands = []; marks = []; levels = levels; handlers = [] }) s
       (and_then (evaluated levels f s (λ t value. gives value t)) (onward last))
   formula_begins f levels s at fits =
       stands_here code last 0 levels (Evaluates f []) [] (length code) s (length code, at, refl)

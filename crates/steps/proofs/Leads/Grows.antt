@@ -1,6 +1,6 @@
 -- Code ends at its beginning, or after it.
 use Rattle.std.proofs.Common.{ℕ, ◌≤◌, List, Bool, Option, arith}
-use Rattle.code.specs.Code.{JoinsAt, first, joined, PartsAt, over, empty, text, value, item, bracket, WordsAt, begins, begins_counted, one, counts, spread, CommandAt, by_words, own, CommandsAt, done, next, FaultAt, none, fault, OwnAt, conditional, BranchesAt, branch, BehindAt, no_else, at_last, else_if, BodyAt, deeper, FormulaAt, number, parts, called, prefixed, in_row, chosen, LinksAt, no_more, both, and_also, or_else, ArgumentsAt, no_argument, argument}
+use Rattle.code.specs.Code.{JoinsAt, first, joined, PartsAt, over, empty, text, value, item, bracket, WordsAt, begins, begins_counted, one, counts, spread, CommandAt, by_words, own, CommandsAt, done, next, FaultAt, none, fault, OwnAt, conditional, turns, BranchesAt, branch, BehindAt, no_else, at_last, else_if, BodyAt, deeper, FormulaAt, number, parts, called, prefixed, in_row, chosen, LinksAt, no_more, both, and_also, or_else, ArgumentsAt, no_argument, argument}
 use Rattle.code.specs.declared.instruction.Instruction.{Instruction}
 use Rattle.tclparse.specs.Fault.{Fault}
 use Rattle.tclparse.specs.Formula.{Formula, Links, Formulas}
@@ -47,6 +47,8 @@ module _ {A : Type 0} (code : List (Instruction A)) where
     pub own_grows : {name : List ℕ} {place : ℕ} {args : List (List ℕ)} {end : ℕ} →
         OwnAt code name place args end → place ≤ end
     own_grows (conditional it) = branches_grow it
+    own_grows (turns is jump body ends test turn last) =
+        omega (arith, body_grows body, formula_grows test)
 
     branches_grow : {place : ℕ} {args : List (List ℕ)} {end : ℕ} → BranchesAt code place args end →
         place ≤ end

@@ -17,11 +17,11 @@ use Rattle.steps.specs.Goes.{here, reads}
 use Rattle.steps.specs.Layout.{FramesAt, OperandAt}
 use Rattle.steps.specs.Moves.{with_operands}
 use Rattle.steps.specs.Operand.{Outer, operand_on, waiting}
-use Rattle.steps.specs.Places.{Frame, Values, beneath, brackets, marks_beneath, onward_of}
+use Rattle.steps.specs.Places.{Frame, Values, beneath, brackets, handlers_beneath, marks_beneath, onward_of}
 use Rattle.steps.specs.Spot.{Spot, Did, Went, Stuck}
-use Rattle.steps.proofs.Leads.Operands.{words_above, words_below}
+use Rattle.steps.proofs.Leads.Operands.{words_above, lowest_below}
 use Rattle.steps.proofs.Leads.Silent.{same_goes}
-use Rattle.steps.proofs.Leads.Standing.{leaves_pass, silently, stands}
+use Rattle.steps.proofs.Leads.Standing.{errors_pass, silently, stands}
 use Rattle.tclparse.specs.declared.operator.Function.{Function}
 use Rattle.tcltext.specs.Flaw as list
 
@@ -35,8 +35,7 @@ module _ {A X : Type 0} (code : List (Instruction A)) (last : Status → Outcome
       Follows code last (on_split s next split)
       (and_then (on_list s course split) (onward (onward_of last levels fs)))
   split_leads levels fs s next course f (Ok es) = f es
-  split_leads levels fs s next course f (Err why) = same_goes (leaves_pass code last levels fs s _
-      _)
+  split_leads levels fs s next course f (Err why) = same_goes (errors_pass code last levels fs s _)
 
   pub meaning_leads : (m : Meaning) (levels : ℕ) (fs : List Frame) (s : Status)
       (next : List ℕ → Did) (course : List ℕ → Course) →
@@ -46,7 +45,7 @@ module _ {A X : Type 0} (code : List (Instruction A)) (last : Status → Outcome
       (and_then (meant.on_meaning m s course) (onward (onward_of last levels fs)))
   meaning_leads (Gives v) levels fs s next course f = f v
   meaning_leads (Raises flaw) levels fs s next course f =
-      same_goes (leaves_pass code last levels fs s _ _)
+      same_goes (errors_pass code last levels fs s _)
   meaning_leads (Splits text more) levels fs s next course f = λ split is.
       silently code last _ (reads {text = ListText text} split is here)
       (split_leads levels fs s (λ es. on_meaning (more es) s next)
@@ -65,7 +64,7 @@ module _ {A X : Type 0} (code : List (Instruction A)) (last : Status → Outcome
       (and_then (evaluation.on_truth r s course) (onward (onward_of last levels fs)))
   truth_leads (Ok holds) levels fs s next course f = f holds
   truth_leads (Err flaw) levels fs s next course f =
-      same_goes (leaves_pass code last levels fs s _ _)
+      same_goes (errors_pass code last levels fs s _)
 
   -- where an operand stands, without its value
   abbrev pub below_at : ℕ → ℕ → List Outer → List Frame → Spot
@@ -74,6 +73,7 @@ module _ {A X : Type 0} (code : List (Instruction A)) (last : Status → Outcome
     operands = waiting outer (beneath fs);
     marks = marks_beneath fs;
     levels = levels;
+    handlers = handlers_beneath levels fs;
   }
 
   -- the value of a function of texts is an operand
@@ -106,6 +106,7 @@ module _ {A X : Type 0} (code : List (Instruction A)) (last : Status → Outcome
         operands = values ++ waiting outer (beneath fs);
         marks = marks_beneath fs;
         levels = levels;
+        handlers = handlers_beneath levels fs;
       }) s)
       (and_then (meant.on_meaning (function.call f (reverse values)) s
       (λ v. operand_on levels outer s v)) (onward (onward_of last levels fs)))
@@ -120,5 +121,5 @@ module _ {A X : Type 0} (code : List (Instruction A)) (last : Status → Outcome
       (with_operands (reverse (take (length below) (reverse (values ++ below)))) spot) s) p)
       (sym (words_above values below))
       (subst (λ os. Follows code last (gives (function.call f (reverse values))
-      (with_operands os spot) s) p) (sym (words_below values below))
+      (with_operands os spot) s) p) (sym (lowest_below values below))
       (gives_leads (function.call f (reverse values)) place levels outer fs end s at behind fits)))

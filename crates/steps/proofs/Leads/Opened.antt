@@ -13,14 +13,14 @@ use Rattle.steps.specs.Follows.{Follows}
 use Rattle.steps.specs.Goes.{reads}
 use Rattle.steps.specs.Layout.{FramesAt, JoinedAt, OpenAt, OuterAt, WordAt}
 use Rattle.steps.specs.Machine.{machine, spread}
-use Rattle.steps.specs.Places.{Part, Joins, Gathers, Frame, beneath, brackets, course_of, left_of, marks_beneath, onward_of, spot_at}
+use Rattle.steps.specs.Places.{Part, Joins, Gathers, Frame, beneath, brackets, handlers_beneath, course_of, left_of, marks_beneath, onward_of, spot_at}
 use Rattle.steps.specs.Spot.{Went}
 use Rattle.steps.specs.Word.{Around, Open, Word, Plain, Expands, Operand, word_on}
 use Rattle.steps.proofs.Leads.Operands.{elements_after, last_first}
 use Rattle.steps.proofs.Leads.Operators.{operand_leads}
 use Rattle.steps.proofs.Leads.Parts.{PartLeads, enter_leads, opened, start_leads, text_leads, variable_leads}
 use Rattle.steps.proofs.Leads.Silent.{same_goes}
-use Rattle.steps.proofs.Leads.Standing.{by, sooner, leaves_pass, stands, value_leads}
+use Rattle.steps.proofs.Leads.Standing.{by, sooner, errors_pass, stands, value_leads}
 use Rattle.steps.proofs.Leads.Words.{words_lead}
 use Rattle.tclparse.specs.Tree.{Parts, no_parts, Words}
 use Rattle.tclstate.specs.Scopes.{read}
@@ -40,6 +40,7 @@ module _ {A X : Type 0} (code : List (Instruction A)) (last : Status → Outcome
           operands = before ++ beneath fs;
           marks = length (beneath fs) ∷ marks_beneath fs;
           levels = levels;
+          handlers = handlers_beneath levels fs;
         }) s split)
         (and_then (word_on levels (Expands before rest) s bytes) (onward (onward_of last levels
         fs)))
@@ -50,6 +51,7 @@ module _ {A X : Type 0} (code : List (Instruction A)) (last : Status → Outcome
           operands = os;
           marks = length (beneath fs) ∷ marks_beneath fs;
           levels = levels;
+          handlers = handlers_beneath levels fs;
         }) s)
         (and_then (word_on levels (Expands before rest) s bytes) (onward (onward_of last levels
         fs))))
@@ -63,7 +65,7 @@ module _ {A X : Type 0} (code : List (Instruction A)) (last : Status → Outcome
         s
         (count, tt, words_at) behind fits))
     split_leads bytes before rest place count (Err why) is words_at behind fits =
-        reads (Err why) is (same_goes (leaves_pass code last levels fs s _ _))
+        reads (Err why) is (same_goes (errors_pass code last levels fs s _))
 
     -- the value of a word
     word_leads : (bytes : List ℕ) (word : Word) (place : ℕ) → WordAt code place word end →

@@ -6,9 +6,10 @@ use Rattle.std.proofs.lemmas.Bool.{le-leb}
 use Rattle.std.proofs.lemmas.List.{reverse-append, reverse-reverse, length-reverse}
 use Rattle.std.proofs.Math.Seq.{take-append_seam, drop-append_seam}
 use Rattle.state.specs.Prelude.{Status}
+use Rattle.steps.specs.Loops.{lowest}
 use Rattle.steps.specs.Machine.{beginning}
 use Rattle.steps.specs.Moves.{with_operands}
-use Rattle.steps.specs.Spot.{Spot, Begins, Stuck}
+use Rattle.steps.specs.Spot.{Spot, Handler, Begins, Stuck}
 
 -- the words, of which the last one is on top
 pub words_above : (words below : List (List ℕ)) →
@@ -19,9 +20,9 @@ words_above words below =
     ∙ drop-append_seam (reverse below) (reverse words)
 
 -- the operands below them
-pub words_below : (words below : List (List ℕ)) →
-    reverse (take (length below) (reverse (words ++ below))) ≡ below
-words_below words below =
+pub lowest_below : {X : Type 0} (words below : List X) →
+    lowest (length below) (words ++ below) ≡ below
+lowest_below words below =
     ap (λ os. reverse (take (length below) os)) (reverse-append words below)
     ∙ ap (λ n. reverse (take n (reverse below ++ reverse words))) (sym (length-reverse below))
     ∙ ap reverse (take-append_seam (reverse below) (reverse words))
@@ -32,16 +33,26 @@ pub words_left : (count : ℕ) (words below : List (List ℕ)) → count ≡ len
     length (words ++ below) - count ≡ length below
 words_left count words below is = omega (arith, is, length-append words below)
 
+-- a spot with these operands
+abbrev with_rest : ℕ → List ℕ → ℕ → List Handler → List (List ℕ) → Spot
+with_rest place marks levels handlers operands = record {
+  place = place;
+  operands = operands;
+  marks = marks;
+  levels = levels;
+  handlers = handlers;
+}
+
 -- a command begins by the words above these operands
 pub begins_with : (n : ℕ) (words below : List (List ℕ)) (place : ℕ) (marks : List ℕ) (levels : ℕ)
-    (s : Status) → n ≡ length below →
+    (handlers : List Handler) (s : Status) → n ≡ length below →
     beginning n
-    (record { place = place; operands = words ++ below; marks = marks; levels = levels }) s
+    (with_rest place marks levels handlers (words ++ below)) s
     ≡ Begins (reverse words)
-    (record { place = place; operands = below; marks = marks; levels = levels }) s
-begins_with n words below place marks levels s is =
+    (with_rest place marks levels handlers below) s
+begins_with n words below place marks levels handlers s is =
     let at : Spot =
-    record { place = place; operands = words ++ below; marks = marks; levels = levels } in
+    with_rest place marks levels handlers (words ++ below) in
     let within : length below ≤ length (words ++ below) =
     omega (arith, length-append words below) in
     ap (λ m. beginning m at s) is
@@ -52,7 +63,7 @@ begins_with n words below place marks levels s is =
     ∙ ap (λ ws. Begins ws (with_operands (reverse (take (length below) (reverse (words ++ below))))
     at) s)
     (words_above words below)
-    ∙ ap (λ os. Begins (reverse words) (with_operands os at) s) (words_below words below)
+    ∙ ap (λ os. Begins (reverse words) (with_operands os at) s) (lowest_below words below)
 
 -- the elements of a list, with the words before them
 pub elements_after : (elements words : List (List ℕ)) →

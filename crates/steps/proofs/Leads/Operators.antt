@@ -3,6 +3,7 @@ use Rattle.std.proofs.Common.{◌≡◌, ℕ, suc, ◌+◌, ◌-◌, ◌≤◌, 
 use Rattle.std.specs.Prelude.{slice_get, reverse}
 use Rattle.code.specs.Code.{At, LinksAt, no_more, both, and_also, or_else, ArgumentsAt, no_argument, argument}
 use Rattle.conditions.specs.Conditional as definition
+use Rattle.conditions.specs.Loop as loops
 use Rattle.code.specs.declared.instruction.Instruction.{Instruction}
 use Rattle.code.specs.declared.instruction.Instruction.TheVariants as i
 use Rattle.evaluation.specs.Evaluated.{arguments, evaluated, told}
@@ -13,20 +14,22 @@ use Rattle.operators.specs.Truth.{truth_of}
 use Rattle.operators.specs.Unary.{unary}
 use Rattle.plan.specs.Plan.{and_then, onward}
 use Rattle.state.specs.Meant.{on_meaning}
-use Rattle.state.specs.Prelude.{Dialogue, Outcome, Status}
+use Rattle.state.specs.Prelude.{Dialogue, inside, Outcome, Status}
 use Rattle.steps.specs.Follows.{Follows}
 use Rattle.steps.specs.Layout.{FramesAt, OperandAt}
 use Rattle.steps.specs.Machine.{machine}
-use Rattle.steps.specs.Operand.{Outer, Prefixed, Row, Right, Holds, Argument, Test, Chosen, Condition, operand_on, waiting}
-use Rattle.steps.specs.Places.{Evaluates, Values, Chooses, Frame, Skip, beneath, brackets, left_of, marks_beneath, onward_of, spot_at}
+use Rattle.steps.specs.Operand.{Outer, Prefixed, Row, Right, Holds, Argument, Test, Chosen, Condition, Turning, operand_on, waiting}
+use Rattle.steps.specs.Places.{Evaluates, Values, Chooses, Frame, Skip, beneath, brackets, handlers_beneath, left_of, marks_beneath, onward_of, spot_at}
 use Rattle.steps.proofs.Leads.Formulas.{formula_leads}
 use Rattle.steps.proofs.Leads.Bodies.{body_begins}
 use Rattle.steps.proofs.Leads.Grows.{body_grows, formula_grows}
+use Rattle.steps.proofs.Leads.Loops.{loop_over, turn_begins}
 use Rattle.steps.proofs.Leads.Meanings.{below_at, call_leads, gives_leads, jump_leads, truth_leads}
 use Rattle.steps.proofs.Leads.Operands.{last_first, words_left}
 use Rattle.steps.proofs.Leads.Scripts.{has_leads}
-use Rattle.steps.proofs.Leads.Standing.{by, stands}
+use Rattle.steps.proofs.Leads.Standing.{by, comes_here, stands, tick_leads}
 use Rattle.steps.specs.Formulas.{calling, deciding, jumping}
+use Rattle.steps.specs.Loops.{turned}
 use Rattle.steps.specs.Spot.{Went}
 use Rattle.tclparse.specs.Formula.{Formulas, Links}
 use Rattle.tclparse.specs.declared.operator.Function.{Function}
@@ -103,6 +106,7 @@ module _ {A X : Type 0} (code : List (Instruction A)) (last : Status → Outcome
           operands = v ∷ (before ++ waiting outer (beneath fs));
           marks = marks_beneath fs;
           levels = levels;
+          handlers = handlers_beneath levels fs;
         }) s)
         (and_then (on_meaning (function.call g (reverse (v ∷ before))) s
         (λ w. operand_on levels outer s w)) (onward (onward_of last levels fs)))
@@ -205,4 +209,19 @@ module _ {A X : Type 0} (code : List (Instruction A)) (last : Status → Outcome
           | false ↦ jump_leads code last (at.0 + 1) _ s _ (omega (arith, body_grows code at.2))
               (stands code last (at.0 + 1) levels (Chooses more otherwise) fs end s at.5 behind
               fits)
+        ]))
+    operand_leads place v (Turning loop ∷ outer) at behind fits =
+        let loop_at = at.1 in
+        let over : FramesAt code (place + 2) fs = subst (λ n. FramesAt code n fs) at.2 behind in
+        by code last (i.Turn loop_at.body at.0) (spot_at place levels (Values v (Turning loop ∷
+        outer)) fs) s _ loop_at.turns
+        (truth_leads code last (truth_of v) levels fs s
+        (λ holds. turned loop_at.body at.0 holds (below_at code last (place + 1) levels [] fs) s)
+        (λ holds. loops.turned loop levels s holds)
+        (elim [
+          | true ↦ tick_leads code last s.left levels fs s _
+              (λ t. inside levels loop.body t (loops.behind_body loop levels))
+              (λ t. turn_begins code last levels fs t loop at.0 place loop_at over fits)
+          | false ↦ comes_here code last _ s
+              (loop_over code last levels fs s loop at.0 place loop_at over fits)
         ]))

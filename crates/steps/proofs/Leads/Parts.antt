@@ -14,7 +14,7 @@ use Rattle.steps.specs.Machine.{machine}
 use Rattle.steps.specs.Places.{Has, Part, Joins, Frame, Rest, Bracket, brackets, course_of, left_of, onward_of, spot_at}
 use Rattle.steps.specs.Word.{Around, Open, Word, bytes_of, index_on, word_on}
 use Rattle.steps.proofs.Leads.Silent.{same_goes}
-use Rattle.steps.proofs.Leads.Standing.{by, sooner, leaves_pass, stands, value_leads}
+use Rattle.steps.proofs.Leads.Standing.{by, sooner, errors_pass, stands, value_leads}
 use Rattle.tclparse.specs.Tree.{Parts, no_parts, variable, script, Commands, bytes_then}
 use Rattle.tclstate.specs.Scopes.{read}
 use Rattle.words.proofs.Steps.{literal}
@@ -76,7 +76,7 @@ module _ {A X : Type 0} (code : List (Instruction A)) (last : Status → Outcome
       fits =
       by code last i.Enter (spot_at place zero (Part (opened so_far (script cs ps) outer word)) fs)
       s _ enter
-      (same_goes (leaves_pass code last zero fs s _ _))
+      (same_goes (errors_pass code last zero fs s _))
   enter_leads (suc levels) outer word fs s so_far cs ps place at end enter commands leave joined
       behind fits =
       by code last i.Enter (spot_at place (suc levels) (Part (opened so_far (script cs ps) outer

@@ -1,31 +1,62 @@
 -- How a place is shown: by the instruction that stands there, and by the place that comes next.
-use Rattle.std.proofs.Common.{◌≡◌, ℕ, zero, suc, ◌+◌, ◌≤◌, List, [], ◌∷◌, Some, Result, Ok, Err, refl, sym, subst}
+use Rattle.std.proofs.Common.{◌≡◌, ◌∙◌, ℕ, zero, suc, ◌+◌, ◌≤◌, List, [], ◌∷◌, Some, Result, Ok, Err, refl, sym, ap, subst}
 use Rattle.std.specs.Prelude.{slice_get}
 use Rattle.code.specs.Code.{At}
 use Rattle.code.specs.declared.instruction.Instruction.{Instruction}
+use Rattle.conditions.specs.Loop.{again, steps}
 use Rattle.plan.specs.Plan.{and_then, onward}
 use Rattle.state.specs.Dialogue.{tick_of}
 use Rattle.state.specs.Outcome.{Stop}
-use Rattle.state.specs.Prelude.{Code, Course, Dialogue, Leaves, Outcome, Status, Stops}
+use Rattle.state.specs.Prelude.{Again, AgainRunning, Break, Code, Continue, Course, Dialogue, Error, leaves, Leaves, Outcome, Return, Status, Stops}
+use Rattle.state.specs.Turn.{on_turn}
 use Rattle.state.specs.Variables.{found}
 use Rattle.steps.specs.Follows.{Here, Comes, Follows}
 use Rattle.steps.specs.Goes.{Goes, here}
 use Rattle.steps.specs.Layout.{HeadAt, FramesAt}
-use Rattle.steps.specs.Machine.{machine, ticked, with_value}
-use Rattle.steps.specs.Places.{Head, Frame, Rest, Bracket, Body, Skip, brackets, left_of, onward_of, spot_at}
+use Rattle.steps.specs.Machine.{machine, with_value}
+use Rattle.steps.specs.Moves.{ticked}
+use Rattle.steps.specs.Places.{Head, Frame, Rest, Bracket, Body, Skip, Turns, brackets, left_of, onward_of, spot_at}
 use Rattle.steps.specs.Spot.{Spot, Did, Went, Reads, Begins, Over, Stuck}
 use Rattle.steps.proofs.Leads.Silent.{same_goes, then_goes}
 use Rattle.tclstate.specs.Scopes.{Trouble}
 
+-- a code that a turn of a loop passes on
+abbrev pub IsPassed : Code → Type 0
+IsPassed Break = ⊥
+IsPassed Continue = ⊥
+IsPassed code = Unit {0}
+
+turn_passes : (next : Status → Course) (s : Status) (c : Code) (value : List ℕ) → IsPassed c →
+    on_turn next s (Leaves c value) ≡ leaves c value s
+turn_passes next s Error value passed = refl
+turn_passes next s Return value passed = refl
+turn_passes next s Break value passed = absurd passed
+turn_passes next s Continue value passed = absurd passed
+turn_passes next s Again value passed = refl
+turn_passes next s AgainRunning value passed = refl
+
 module _ {A X : Type 0} (code : List (Instruction A)) (last : Status → Outcome → Dialogue X) where
-  -- another code than ok goes past all frames
+  -- another code than ok, break and continue goes past all frames
   pub leaves_pass : (levels : ℕ) (frames : List Frame) (s : Status) (c : Code) (value : List ℕ) →
-      onward_of last levels frames s (Leaves c value) ≡ last s (Leaves c value)
-  leaves_pass levels [] s c value = refl
-  leaves_pass levels (Rest cs f ∷ frames) s c value = leaves_pass levels frames s c value
-  leaves_pass levels (Bracket word ∷ frames) s c value = leaves_pass (suc levels) frames s c value
-  leaves_pass levels (Body ∷ frames) s c value = leaves_pass (suc levels) frames s c value
-  leaves_pass levels (Skip ∷ frames) s c value = leaves_pass levels frames s c value
+      IsPassed c → onward_of last levels frames s (Leaves c value) ≡ last s (Leaves c value)
+  leaves_pass levels [] s c value passed = refl
+  leaves_pass levels (Rest cs f ∷ frames) s c value passed =
+      leaves_pass levels frames s c value passed
+  leaves_pass levels (Bracket word ∷ frames) s c value passed =
+      leaves_pass (suc levels) frames s c value passed
+  leaves_pass levels (Body ∷ frames) s c value passed =
+      leaves_pass (suc levels) frames s c value passed
+  leaves_pass levels (Skip ∷ frames) s c value passed =
+      leaves_pass levels frames s c value passed
+  leaves_pass levels (Turns loop test turn ∷ frames) s c value passed =
+      ap (λ course. and_then course (onward (onward_of last levels frames)))
+      (turn_passes (steps loop.step levels (again loop levels)) s c value passed)
+      ∙ leaves_pass levels frames s c value passed
+
+  -- so does an error
+  pub errors_pass : (levels : ℕ) (frames : List Frame) (s : Status) (value : List ℕ) →
+      onward_of last levels frames s (Leaves Error value) ≡ last s (Leaves Error value)
+  errors_pass levels frames s value = leaves_pass levels frames s Error value tt
 
   -- and so does a stop
   pub stops_pass : (levels : ℕ) (frames : List Frame) (s : Status) (stop : Stop) →
@@ -35,6 +66,7 @@ module _ {A X : Type 0} (code : List (Instruction A)) (last : Status → Outcome
   stops_pass levels (Bracket word ∷ frames) s stop = stops_pass (suc levels) frames s stop
   stops_pass levels (Body ∷ frames) s stop = stops_pass (suc levels) frames s stop
   stops_pass levels (Skip ∷ frames) s stop = stops_pass levels frames s stop
+  stops_pass levels (Turns loop test turn ∷ frames) s stop = stops_pass levels frames s stop
 
   -- this is left to be done there
   pub stands_here : (place levels : ℕ) (head : Head) (frames : List Frame) (end : ℕ) (s : Status) →
@@ -62,6 +94,11 @@ module _ {A X : Type 0} (code : List (Instruction A)) (last : Status → Outcome
     at = stands_here place levels head frames end s at behind fits;
   }
 
+  -- it continues as itself
+  pub comes_here : {p : Dialogue X} (spot : Spot) (s : Status) → Here code last spot s p →
+      Comes code last spot s p
+  comes_here {p = p} spot s at = record { then = p; goes = here; at = at }
+
   -- some silent steps first
   pub sooner : {p q : Dialogue X} (spot : Spot) (s : Status) → Goes p q →
       Comes code last spot s q → Comes code last spot s p
@@ -75,9 +112,7 @@ module _ {A X : Type 0} (code : List (Instruction A)) (last : Status → Outcome
   silently (Begins words spot s) g f = record {
     next = f.next;
     goes = then_goes g f.goes;
-    value = f.value;
-    leaves = f.leaves;
-    stops = f.stops;
+    resumes = f.resumes;
   }
   silently (Over outcome s) g f = then_goes g f
   silently Stuck g f = f
@@ -108,4 +143,4 @@ module _ {A X : Type 0} (code : List (Instruction A)) (last : Status → Outcome
       (and_then (found r name s course) (onward (onward_of last levels frames)))
   value_leads (Ok value) name levels frames s next course f = f value
   value_leads (Err trouble) name levels frames s next course f =
-      same_goes (leaves_pass levels frames s _ _)
+      same_goes (errors_pass levels frames s _)

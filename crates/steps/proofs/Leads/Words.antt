@@ -11,12 +11,13 @@ use Rattle.steps.specs.Follows.{Follows}
 use Rattle.steps.specs.Goes.{here}
 use Rattle.steps.specs.Layout.{CountIs, FramesAt}
 use Rattle.steps.specs.Machine.{beginning, machine}
-use Rattle.steps.specs.Places.{Has, Gathers, Frame, beneath, brackets, left_of, onward_of, marks_beneath, spot_at}
+use Rattle.steps.specs.Places.{Gathers, Frame, beneath, brackets, handlers_beneath, left_of, onward_of, marks_beneath, spot_at}
 use Rattle.steps.specs.Spot.{Went}
 use Rattle.steps.specs.Word.{Plain, Expands}
 use Rattle.steps.proofs.Leads.Operands.{begins_with, words_left}
 use Rattle.steps.proofs.Leads.Parts.{start_leads}
-use Rattle.steps.proofs.Leads.Standing.{by, leaves_pass, stands, stands_here, stops_pass}
+use Rattle.steps.proofs.Leads.Resumed.{outcome_leads}
+use Rattle.steps.proofs.Leads.Standing.{by, stands}
 use Rattle.tclparse.specs.Tree.{Words, no_words}
 
 module _ {A X : Type 0} (code : List (Instruction A)) (last : Status → Outcome → Dialogue X) where
@@ -44,19 +45,18 @@ module _ {A X : Type 0} (code : List (Instruction A)) (last : Status → Outcome
         operands = before ++ beneath fs;
         marks = marks_beneath fs;
         levels = levels;
+        handlers = handlers_beneath levels fs;
       }) s)
       (and_then (command levels s (reverse before)) (onward (onward_of last levels fs)))
   begin_leads levels place n counted before fs s is behind fits =
       subst (λ did. Follows code last did
       (and_then (command levels s (reverse before)) (onward (onward_of last levels fs))))
-      (sym (begins_with n before (beneath fs) (place + 1) (marks_beneath fs) levels s is))
+      (sym (begins_with n before (beneath fs) (place + 1) (marks_beneath fs) levels
+      (handlers_beneath levels fs) s is))
       (record {
         next = onward_of last levels fs;
         goes = here;
-        value = λ t v. stands_here code last (place + 1) levels (Has v) fs (place + 1) t refl behind
-            fits;
-        leaves = λ t c v. leaves_pass code last levels fs t c v;
-        stops = λ t stop. stops_pass code last levels fs t stop;
+        resumes = λ t outcome. outcome_leads code last (place + 1) levels fs t behind fits outcome;
       })
 
   -- from here on the words are counted
@@ -72,6 +72,7 @@ module _ {A X : Type 0} (code : List (Instruction A)) (last : Status → Outcome
         operands = before ++ beneath fs;
         marks = n ∷ marks_beneath fs;
         levels = levels;
+        handlers = handlers_beneath levels fs;
       }) s)
       (left_of last levels (Gathers false before rest) fs s))
       (sym (words_left count before (beneath fs) is))

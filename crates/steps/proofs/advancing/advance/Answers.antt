@@ -1,7 +1,8 @@
-use Rattle.std.proofs.Common.{slice_get, subst}
+use Rattle.std.proofs.Common.{◌≡◌, ◌<◌, ◌≤◌, IfNone, length, slice_get, subst}
 use Rattle.steps.specs.Does.{Does, stays, then}
 use Rattle.steps.specs.Machine.{machine}
 use Rattle.steps.specs.View.{did_of, spot_of, with_parts}
+use Rattle.steps.proofs.Measure.{falls}
 use Rattle.steps.proofs.advancing.advance.Goals as goal
 
 pub steps-init : goal.steps-init
@@ -17,6 +18,18 @@ steps-preserved g c = λ s.
     (with_parts scopes procs c.steps.left s))
     (did_of o (spot_of c.step.new.spot) (with_parts scopes procs c.step.new.left s)))
     c.in_default.is (c.in_ok-stopped.ensures.does s))
+
+pub steps-smaller : goal.steps-smaller
+steps-smaller g c =
+    let place = c.steps.spot.place in
+    let next = c.step.new.spot.place in
+    let left = c.steps.left in
+    let now = c.step.new.left in
+    let size = length c.args.code.now in
+    let onward : (place < size) × (now ≤ left) × (now ≡ left → place < next) =
+    subst (λ o. IfNone o ((place < size) × (now ≤ left) × (now ≡ left → place < next)))
+    c.in_default.is c.in_ok-stopped.ensures.onward in
+    falls size place next left now onward.0 onward.1 onward.2
 
 pub returns-in-Some : goal.returns-in-Some
 returns-in-Some g c = λ s.

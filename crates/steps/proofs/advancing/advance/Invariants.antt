@@ -1,4 +1,4 @@
-use Rattle.std.proofs.Common.{◌-◌, length}
+use Rattle.std.proofs.Common.{◌+◌, ◌-◌, ◌*◌, length}
 use Rattle.state.specs.Prelude.{Status}
 use Rattle.steps.specs.Does.{Arrives}
 use Rattle.steps.specs.Spot.{Went}
@@ -12,4 +12,5 @@ invariant-steps g l = (s : Status) →
     (Went (spot_of l.spot) (with_parts l.fn.scopes l.fn.procs l.left s))
 
 abbrev pub decreases-steps : goal.decreases-steps
-decreases-steps g l = length l.code - l.spot.place
+decreases-steps g l =
+    l.left * (length l.code + 1) + (length l.code - l.spot.place)

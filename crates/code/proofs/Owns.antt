@@ -1,0 +1,72 @@
+-- A command that has code of its own.
+use Rattle.std.proofs.Common.{◌≡◌, ℕ, ◌+◌, false, true, List, [], ◌∷◌, ◌++◌, codes, length, sym, subst}
+use Rattle.std.specs.Prelude.{slice_set}
+use Rattle.code.specs.Blocks.{BranchesBlock, ItsBlock, OwnBlock, TurnsBlock, WordsBlock}
+use Rattle.code.specs.Code.{At, CommandAt, OwnAt, WordsAt, conditional, literals, own}
+use Rattle.code.specs.Conditional.{IsConditional, IsRead}
+use Rattle.code.specs.Own.{IsOwn, name_of}
+use Rattle.code.specs.declared.conditional.Branch.{Branch}
+use Rattle.code.specs.declared.conditional.Conditional.{Conditional}
+use Rattle.code.specs.declared.instruction.Instruction.{Instruction}
+use Rattle.code.specs.declared.instruction.Instruction.TheVariants as i
+use Rattle.code.specs.declared.own.Own.{Own}
+use Rattle.code.specs.declared.own.Own.TheVariants as read
+use Rattle.code.proofs.Built.{longer}
+use Rattle.code.proofs.Forks.{filled_length, forked, second_begins}
+use Rattle.tclparse.specs.Tree.{Words}
+
+module _ {A : Type 0} where
+  -- the words of a command, for where a procedure hides it, and then its own code
+  pub own_block : (old hole one two filled_one all new : List (Instruction A))
+      (name known : List ℕ) (args : List (List ℕ)) (ws : Words) → name ≡ known →
+      ws ≡ literals (known ∷ args) → hole ≡ old ++ i.Hole ∷ [] → WordsBlock hole one ws →
+      two ≡ one ++ i.Hole ∷ [] →
+      filled_one ≡ slice_set two (length old) (i.Unhidden name (length two)) →
+      ItsBlock known filled_one all args →
+      new ≡ slice_set all (length one) (i.Jump (length all)) → OwnBlock true old new ws
+  own_block old hole one two filled_one all new name known args ws named are put_one worded put_two
+      fill_one second fill_two =
+      let fork = forked old hole one two filled_one all new (λ n. i.Unhidden name n) (λ n. tt)
+      (λ later. WordsAt later false 0 (length hole) ws (length one))
+      (λ later. OwnAt later known (length filled_one) args (length all))
+      put_one worded put_two fill_one second fill_two in
+      record {
+        extends = fork.extends;
+        lies = λ later kept.
+            let lies = fork.lies later kept in
+            subst (λ w. CommandAt later (length old) w (length new)) (sym are)
+            (own
+            (subst (λ n. At later (length old) (i.Unhidden n (length one + 1))) named lies.0)
+            (subst (λ k. WordsAt later false 0 k (literals (known ∷ args)) (length one))
+            (longer old hole i.Hole put_one)
+            (subst (λ w. WordsAt later false 0 (length hole) w (length one)) are lies.1))
+            lies.2
+            (subst (λ k. OwnAt later known (length one + 1) args k)
+            (sym (filled_length all new (length one) (i.Jump (length all)) fill_two))
+            (subst (λ k. OwnAt later known k args (length all))
+            (second_begins one two filled_one (length old) (i.Unhidden name (length two)) put_two
+            fill_one)
+            lies.3)));
+      }
+
+  -- what if does
+  pub if_block : (old new : List (Instruction A)) (known : Own A) (it : Conditional A) →
+      known ≡ read.If it →
+      ((args : List (List ℕ)) → IsConditional it args → BranchesBlock old new args) →
+      (args : List (List ℕ)) → IsOwn known args → ItsBlock (name_of known) old new args
+  if_block old new known it is block args read_as =
+      subst (λ o. IsOwn o args → ItsBlock (name_of o) old new args) (sym is)
+      (λ r. let put = block args r in record {
+        extends = put.extends;
+        lies = λ later kept. conditional (put.lies later kept);
+      }) read_as
+
+  -- what while does
+  pub while_block : (old new : List (Instruction A)) (known : Own A) (it : Branch A) →
+      known ≡ read.While it →
+      ((test body : List ℕ) → IsRead it test body → TurnsBlock old new (test ∷ body ∷ [])) →
+      (args : List (List ℕ)) → IsOwn known args → ItsBlock (name_of known) old new args
+  while_block old new known it is block args read_as =
+      subst (λ o. IsOwn o args → ItsBlock (name_of o) old new args) (sym is)
+      (λ r. subst (λ texts. ItsBlock (codes "while") old new texts) (sym r.2) (block r.0 r.1 r.3))
+      read_as

@@ -1,0 +1,12 @@
+use Rattle.code.proofs.Owns.{if_block, while_block}
+use Rattle.code.proofs.own.emit_its.Goals as goal
+
+pub returns-in_ok-emit_branches-in-If : goal.returns-in_ok-emit_branches-in-If
+returns-in_ok-emit_branches-in-If g c = λ args is.
+    if_block c.args.code.now.items c.emit_branches.new.code.items c.args.own.now c.in-If.own
+    c.in-If.is c.in_ok-emit_branches-in-If.ensures args is
+
+pub returns-in_ok-emit_turns-in-While : goal.returns-in_ok-emit_turns-in-While
+returns-in_ok-emit_turns-in-While g c = λ args is.
+    while_block c.args.code.now.items c.emit_turns.new.code.items c.args.own.now c.in-While.own
+    c.in-While.is c.in_ok-emit_turns-in-While.ensures args is

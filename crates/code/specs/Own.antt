@@ -1,0 +1,16 @@
+-- What the words of a command that has code of its own are read as.
+use Rattle.std.specs.Prelude.{◌≡◌, ℕ, List, [], ◌∷◌, codes}
+use Rattle.code.specs.Conditional.{IsConditional, IsRead}
+use Rattle.code.specs.declared.own.Own.{Own}
+use Rattle.code.specs.declared.own.Own.TheVariants as own
+
+-- the name of the command
+abbrev pub name_of : {A : Type 0} → Own A → List ℕ
+name_of (own.If it) = codes "if"
+name_of (own.While it) = codes "while"
+
+-- it is what the words after the name are read as (if(n); while(n))
+abbrev pub IsOwn : {A : Type 0} → Own A → List (List ℕ) → Type 0
+IsOwn (own.If it) args = IsConditional it args
+IsOwn (own.While it) args =
+    (test : List ℕ) × (body : List ℕ) × (args ≡ test ∷ body ∷ []) × IsRead it test body

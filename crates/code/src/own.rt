@@ -1,0 +1,92 @@
+//! The code that a command has of its own.
+
+ghost use Rattle.std.specs.Prelude.{◌≡◌, ◌∷◌, ℕ, List, true, IfOk, IfSome, OnOk};
+ghost use Rattle.code.specs.Blocks.{ItsBlock, OwnBlock};
+ghost use Rattle.code.specs.Conditional.{Are};
+ghost use Rattle.code.specs.Own.{IsOwn, name_of};
+ghost use Rattle.tclparse.specs.Tree.{no_words};
+ghost use Rattle.tclparse.specs.View.{words_then};
+
+use crate::conditional::{Branch, Conditional, emit_branches};
+use crate::emit::emit_words;
+use crate::formula::fill;
+use crate::instruction::Instruction;
+use crate::nest::{Flat, Nest};
+use crate::repeat::{emit_turns, read_while};
+use memory::NoMemory;
+use std::alloc::Allocator;
+use tclparse::Word;
+use tcltext::Value;
+
+/// What the words of a command are read as.
+#[derive(Drop)]
+pub(crate) enum Own<A: Allocator> {
+    /// `if`.
+    If(Conditional<A>),
+    /// `while`, with a test and a body.
+    While(Branch<A>),
+}
+
+impl<A: Allocator + Copy> Own<A> {
+    /// Reads the words of a command that has code of its own; `None` where it has none.
+    pub(crate) fn read(alloc: A, words: &[Word<A>]) -> Result<Option<Own<A>>, NoMemory>
+        ensures { IfOk result (λ read. IfSome read (λ own. (args : List (List ℕ)) ×
+            Are words.now (name_of own ∷ args) × IsOwn own args)) }
+    {
+        if let Some(own) = Conditional::read(alloc, words)? {
+            return Ok(Some(Own::If(own)));
+        }
+        match read_while(alloc, words)? {
+            Some(own) => Ok(Some(Own::While(own))),
+            None => Ok(None),
+        }
+    }
+
+    /// The name of the command.
+    fn name(&self) -> &[u8]
+        ensures { result.now ≡ name_of self.now }
+    {
+        match self {
+            Own::If(_) => b"if",
+            Own::While(_) => b"while",
+        }
+    }
+}
+
+/// Puts what the command does.
+fn emit_its<A: Allocator + Copy, N: Nest<A>>(
+    code: &mut Vec<Instruction<A>, A>,
+    own: &Own<A>,
+    nest: &N,
+) -> Result<(), NoMemory>
+    ensures { (args : List (List ℕ)) → IsOwn own.now args →
+        OnOk result (ItsBlock (name_of own.now) code.old.items code.new.items args) }
+{
+    match own {
+        Own::If(own) => Ok(emit_branches(code, own, nest)?),
+        Own::While(own) => Ok(emit_turns(code, own, nest)?),
+    }
+}
+
+/// Puts the code of a command: its words, for where a procedure hides it, and then its own.
+pub(crate) fn emit_own<A: Allocator + Copy, N: Nest<A>>(
+    code: &mut Vec<Instruction<A>, A>,
+    words: &[Word<A>],
+    own: &Own<A>,
+    nest: &N,
+) -> Result<(), NoMemory>
+    ensures { (args : List (List ℕ)) → Are words.now (name_of own.now ∷ args) →
+        IsOwn own.now args →
+        OnOk result (OwnBlock true code.old.items code.new.items (words_then words.now no_words)) }
+{
+    let name = Value::from_slice(*code.allocator(), own.name())?;
+    let unhidden = code.len();
+    code.push(Instruction::Hole)?;
+    emit_words(code, words, &Flat)?;
+    let over = code.len();
+    code.push(Instruction::Hole)?;
+    fill(code, unhidden, Instruction::Unhidden(name, code.len()));
+    emit_its(code, own, nest)?;
+    fill(code, over, Instruction::Jump(code.len()));
+    Ok(())
+}
