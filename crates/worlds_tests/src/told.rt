@@ -21,6 +21,8 @@ impl Runner<Global> for Asking {
     // Nothing is kept.
     ghost told = { λ _ _ _. ⊤ };
 
+    ghost stays = { λ _. tt };
+
     fn run<W: World<Global> + Refuses<Global>, S: Sink>(
         &mut self,
         alloc: Global,
