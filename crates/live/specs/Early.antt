@@ -1,5 +1,5 @@
 -- What is kept of the bytes that come while something is sent.
-use Rattle.std.specs.Prelude.{◌≡◌, ◌≢◌, ◌+◌, ◌*◌, ◌++◌, ℕ, List, [], ◌∷◌, take, Result, Ok, Err, ⊤}
+use Rattle.std.specs.Prelude.{◌≡◌, ◌≢◌, ◌+◌, ◌*◌, ◌-◌, ◌++◌, ℕ, min, List, [], ◌∷◌, length, take, Result, Ok, Err, ⊤}
 use Rattle.std.specs.List.{AllByRecursion}
 use Rattle.std.specs.IoError.{error_kind}
 use Rattle.std.specs.declared.io.Error.{Error}
@@ -17,6 +17,11 @@ use Rattle.live.specs.declared.link.Look.TheVariants.{Bytes, Silence, End}
 abbrev pub most_early : ℕ → ℕ
 most_early size = 1000000 + 2 * size
 
+-- how many more bytes are kept beside these while a text of this size is sent; a count has 64 bits
+-- (this project's own)
+abbrev pub early_room : ℕ → List ℕ → ℕ
+early_room size kept = min (most_early size) 18446744073709551615 - length kept
+
 -- bytes that were kept come first, and those of them that do not come now stay kept: while any are
 -- kept, no others come (this project's own)
 abbrev pub HandsOn : (kept rest : List ℕ) → Look → List ℕ → Type 0
@@ -30,6 +35,12 @@ abbrev pub LooksEarly : {S : Type 0} → (S → Call → S → Type 0) → Id �
     S → Look → List ℕ → S → Type 0
 LooksEarly step id [] before found room after = Looks step id before found room after
 LooksEarly step id (byte ∷ kept) before found room after = before ≡ after
+
+-- a look into a room of this many bytes found this (this project's own)
+abbrev pub LooksInto : {S : Type 0} → (S → Call → S → Type 0) → Id → (size : ℕ) → S → Look → S →
+    Type 0
+LooksInto step id size before found after =
+    (room : List ℕ) × (length room ≡ size) × Looks step id before found room after
 
 -- a call that reads from no link and writes to none
 abbrev pub IsIdle : Call → Type 0

@@ -1,9 +1,9 @@
 //! The programs and servers that are open, under their ids.
 
-ghost use Rattle.std.specs.Prelude.{◌≡◌, [], ◌+◌, ◌++◌, ◌-◌, ◌<◌, ◌≤◌, length, max, take, ◌==◌, filter, not, position, vec_len, OnOk};
+ghost use Rattle.std.specs.Prelude.{◌≡◌, [], ◌+◌, ◌++◌, ◌<◌, ◌≤◌, length, max, min, take, ◌==◌, filter, not, position, vec_len, IfOk, OnOk};
 ghost use Rattle.std.specs.Vec.{vec_capacity};
 ghost use Rattle.std.specs.Io.{StartsWith};
-ghost use Rattle.live.specs.Early.{Exchanged, HandsOn, LooksEarly, UnlessMemory, most_early};
+ghost use Rattle.live.specs.Early.{Exchanged, HandsOn, LooksEarly, LooksInto, UnlessMemory, early_room, most_early};
 ghost use Rattle.live.specs.Look.{IsWithin};
 ghost use Rattle.live.specs.declared.link.Look.TheVariants.{Silence};
 
@@ -80,6 +80,9 @@ pub fn keep<S: System>(
     ensures owner { S.Link.owner peer.new.link ≡ S.Link.owner peer.old.link }
     ensures reads { UnlessMemory result (Exchanged S.step (S.Link.owner peer.old.link) system.old
         peer.old.early.items [] [] peer.new.early.items system.new) }
+    ensures looks { IfOk result (λ found. LooksInto S.step (S.Link.owner peer.old.link)
+        (min (early_room size peer.old.early.items) (length room.old))
+        system.old found system.new) }
 {
     let most = room_left(&peer.early, size).min(room.len());
     let room = &mut room[..most];
@@ -104,14 +107,16 @@ impl<L> Peer<L> {
     }
 
     /// Whether no more bytes are kept while a text of this size is sent.
-    pub fn is_full(&self, size: usize) -> bool {
+    pub fn is_full(&self, size: usize) -> bool
+        ensures { result ≡ (early_room size self.now.early.items == 0) }
+    {
         room_left(&self.early, size) == 0
     }
 }
 
 /// How many more bytes may be kept beside these while a text of this size is sent.
 fn room_left(early: &VecDeque<u8>, size: usize) -> usize
-    ensures { result ≤ most_early size - length early.now.items }
+    ensures { result ≡ early_room size early.now.items }
 {
     LEAST_EARLY
         .saturating_add(size.saturating_mul(EARLY_FOR_EACH))

@@ -1,4 +1,5 @@
-use Rattle.std.proofs.Common.{◌++◌, ◌∙◌, ap, sym, take, append-nil}
+use Rattle.std.proofs.Common.{◌++◌, ◌∙◌, ap, sym, take, append-nil, arith, rules}
+use Rattle.std.proofs.lemmas.List.{length-take-le}
 use Rattle.live.proofs.Exchanging.{exchanged_reads}
 use Rattle.live.proofs.Looking.{found_is, none_found}
 use Rattle.live.proofs.peers.keep.Goals as goal
@@ -19,3 +20,11 @@ returns-in_default-clause-reads g c =
     exchanged_reads g.S.System.step _ _ _ _ _ gots made
     (c.reserve.ensures.items
     ∙ sym (ap (λ new. c.args.peer.now.early.items ++ new) none ∙ append-nil _))
+
+pub returns-in_ok-write-clause-looks : goal.returns-in_ok-write-clause-looks
+returns-in_ok-write-clause-looks g c =
+    (c.read_once-found.new.room, search (arith, rules, length-take-le), c.in-Bytes.ensures.looks)
+
+pub returns-in_default-clause-looks : goal.returns-in_default-clause-looks
+returns-in_default-clause-looks g c =
+    (c.read_once-found.new.room, search (arith, rules, length-take-le), c.read_once-found.ensures.looks)
