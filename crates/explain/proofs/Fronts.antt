@@ -1,10 +1,10 @@
 -- The words of a call of rx-explain: what is said of the story, and what is left for rx.
 use Rattle.std.proofs.Common.{◌≡◌, ◌≢◌, ◌⊎◌, ℕ, List, [], ◌∷◌, ◌++◌, Option, Some, None, refl, ap, sym, subst, ◌∙◌, inl, inr, flat_map, get_or, length, arith}
-use Rattle.std.specs.Prelude.{IfNone, IfSome, codes}
+use Rattle.std.specs.Prelude.{IfNone, codes}
 use Rattle.arguments.specs.Arguments.{AreScript, Call, Command, IsCall, IsFile, IsOneCall, Limit, Name, Record, Replay, Setting, spelled, word_of}
 use Rattle.teller.specs.declared.telling.Detail.{Detail}
 use Rattle.teller.specs.declared.telling.Detail.TheVariants.{Brief, Whole}
-use Rattle.explain.specs.Asked.{Asks, AsksOnly, detail_words, story_words}
+use Rattle.explain.specs.Asked.{Asks, AsksOnly, IsFront, Spells}
 
 -- no option of rx is spelled as one of the story
 no_story_name : (name : Name) → word_of name ≢ codes "--story"
@@ -63,8 +63,7 @@ pub data Front (words left : List (List ℕ)) (file : Option (List ℕ)) : Type 
       words ≡ codes "--brief" ∷ codes "--story" ∷ name ∷ left → Front words left file
 
 front_of : (words left : List (List ℕ)) (file : Option (List ℕ)) (detail : Detail) →
-    (words ≡ (story_words file ++ detail_words detail) ++ left)
-    ⊎ (words ≡ (detail_words detail ++ story_words file) ++ left) → Front words left file
+    Spells words file detail left → Front words left file
 front_of words left None Whole (inl is) = Bare refl is
 front_of words left None Whole (inr is) = Bare refl is
 front_of words left None Brief (inl is) = Briefly refl is
@@ -164,45 +163,32 @@ module _ (words rest : List (List ℕ)) where
   bare_left is no_name no_word other left call (Turned found file e) calls =
       absurd (no_word (codes "--story" ∷ found ∷ left) e)
 
-  -- so they ask for the call of rx that these words are, and for no other story, or for none
-  module _ (file : Option (List ℕ)) (leaves : (other : Option (List ℕ)) (left : List (List ℕ))
-      (call : Call) → Front words left other → IsCall left call → Leaves file other call) where
-    asks_only : (detail : Detail) (call : Call) →
-        (words ≡ (story_words file ++ detail_words detail) ++ rest)
-        ⊎ (words ≡ (detail_words detail ++ story_words file) ++ rest) → IsOneCall rest call →
-        AsksOnly words file detail call
-    asks_only detail call spells (calls, only) = (
-      record { rest = rest; spells = spells; calls = calls },
-      λ other_file other_detail other asks.
-          let (same, is) = leaves other_file asks.rest other
-          (front_of words asks.rest other_file other_detail asks.spells) asks.calls in
-          (same, only other is),
-    )
+  -- so they say this of a story and nothing else
+  pub says : (file : Option (List ℕ)) (detail : Detail) → Spells words file detail rest →
+      ((other : Option (List ℕ)) (left : List (List ℕ)) (call : Call) → Front words left other →
+      IsCall left call → Leaves file other call) → IsFront words file detail rest
+  says file detail spells leaves = record {
+    spells = spells;
+    only = λ other_file other_detail left call spelled calls.
+        leaves other_file left call (front_of words left other_file other_detail spelled) calls;
+  }
 
-    -- the same of what is read of them, where something is
-    pub some_asks : {X : Type 0} (file_of : X → Option (List ℕ)) (detail_of : X → Detail)
-        (holds : X → Call → Type 0) (detail : Detail) (result : Option X) →
-        IfSome result (λ asked. file_of asked ≡ file) →
-        IfSome result (λ asked. detail_of asked ≡ detail) →
-        IfSome result (λ asked. (call : Call) × IsOneCall rest call × holds asked call) →
-        (words ≡ (story_words file ++ detail_words detail) ++ rest)
-        ⊎ (words ≡ (detail_words detail ++ story_words file) ++ rest) →
-        IfSome result (λ asked. (call : Call)
-        × AsksOnly words (file_of asked) (detail_of asked) call × holds asked call)
-    some_asks file_of detail_of holds detail None files details calls spells = tt
-    some_asks file_of detail_of holds detail (Some asked) files details (call, one, is) spells = (
-      call,
-      subst (λ named. AsksOnly words named (detail_of asked) call) (sym files)
-          (subst (λ much. AsksOnly words file much call) (sym details)
-          (asks_only detail call spells one)),
-      is,
-    )
+-- words that leave a call of rx ask for that call and for no other
+pub asks_only : (words rest : List (List ℕ)) (file : Option (List ℕ)) (detail : Detail)
+    (call : Call) → IsFront words file detail rest → IsOneCall rest call →
+    AsksOnly words file detail call
+asks_only words rest file detail call front (calls, one) = (
+  record { rest = rest; spells = front.spells; calls = calls },
+  λ other_file other_detail other asks.
+      let (same, is) = front.only other_file other_detail asks.rest other asks.spells asks.calls in
+      (same, one other is),
+)
 
-    pub none_asks : {X : Type 0} (result : Option X) →
-        IfNone result ((call : Call) → ¬ IsCall rest call) →
-        IfNone result ((other : Option (List ℕ)) (detail : Detail) (call : Call) →
-        ¬ Asks words other detail call)
-    none_asks None none = λ other detail call asks.
-        let (same, is) = leaves other asks.rest call
-        (front_of words asks.rest other detail asks.spells) asks.calls in none call is
-    none_asks (Some asked) none = tt
+-- words that leave no call of rx ask for none, and nothing is read of them
+pub asks_none : {X : Type 0} (words rest : List (List ℕ)) (file : Option (List ℕ))
+    (detail : Detail) → IsFront words file detail rest → ((call : Call) → ¬ IsCall rest call) →
+    (read : Option X) → IfNone read ((other : Option (List ℕ)) (much : Detail) (call : Call) →
+    ¬ Asks words other much call)
+asks_none words rest file detail front none None = λ other much call asks.
+    let (same, is) = front.only other much asks.rest call asks.spells asks.calls in none call is
+asks_none words rest file detail front none (Some read) = tt

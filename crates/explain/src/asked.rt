@@ -2,8 +2,8 @@
 
 ghost use Rattle.std.specs.Prelude.{◌≡◌, ◌≢◌, ◌∷◌, ℕ, List, Option, IfNone, IfSome, codes};
 ghost use Rattle.std.specs.Option.{option_copied};
-ghost use Rattle.arguments.specs.Arguments.{Call, Holds, IsCall, IsOneCall, texts};
-ghost use Rattle.explain.specs.Asked.{Asks, AsksOnly};
+ghost use Rattle.arguments.specs.Arguments.{Call, Holds, texts};
+ghost use Rattle.explain.specs.Asked.{Asks, AsksOnly, IsFront};
 ghost use Rattle.teller.specs.declared.telling.Detail.{Detail as Much};
 
 use arguments::Arguments;
@@ -28,35 +28,30 @@ pub(crate) fn asked_by(words: &[Vec<u8, Global>]) -> Option<Asked<'_>>
     ensures none { IfNone result ((file : Option (List ℕ)) (detail : Much) (call : Call)
         → ¬ Asks (texts words.entry.now) file detail call) }
 {
+    let (file, detail, rest) = front_of(words);
+    let call = Arguments::read(rest)?;
+    Some(Asked { detail, file, call })
+}
+
+/// What words say of a story before the words of a call of `rx`: its file and its detail; and the
+/// words that are left.
+fn front_of(words: &[Vec<u8, Global>]) -> (Option<&[u8]>, Detail, &[Vec<u8, Global>])
+    ensures { IsFront (texts words.entry.now) (option_copied result.0) result.1
+        (texts result.2.now) }
+{
     if let Some((file, rest)) = story_at(words) {
         return match brief_at(rest) {
-            Some(rest) => told_of(Some(file), Detail::Brief, rest),
-            None => told_of(Some(file), Detail::Whole, rest),
+            Some(rest) => (Some(file), Detail::Brief, rest),
+            None => (Some(file), Detail::Whole, rest),
         };
     }
     let Some(rest) = brief_at(words) else {
-        return told_of(None, Detail::Whole, words);
+        return (None, Detail::Whole, words);
     };
     match story_at(rest) {
-        Some((file, rest)) => told_of(Some(file), Detail::Brief, rest),
-        None => told_of(None, Detail::Brief, rest),
+        Some((file, rest)) => (Some(file), Detail::Brief, rest),
+        None => (None, Detail::Brief, rest),
     }
-}
-
-/// The story of the call of `rx` that has these words, if they are one.
-fn told_of<'a>(
-    file: Option<&'a [u8]>,
-    detail: Detail,
-    words: &'a [Vec<u8, Global>],
-) -> Option<Asked<'a>>
-    ensures file { IfSome result (λ asked. option_copied asked.file ≡ option_copied file.entry) }
-    ensures detail { IfSome result (λ asked. asked.detail ≡ detail) }
-    ensures call { IfSome result (λ asked. (call : Call)
-        × IsOneCall (texts words.entry.now) call × Holds asked.call call) }
-    ensures none { IfNone result ((call : Call) → ¬ IsCall (texts words.entry.now) call) }
-{
-    let call = Arguments::read(words)?;
-    Some(Asked { detail, file, call })
 }
 
 /// The file that `--story` names at the beginning of the words, and the words after it.
