@@ -2,14 +2,9 @@
 //! what a history keeps, and of spellings and lines.
 #![tactic(auto)]
 
-mod causes;
-mod events;
-mod floods;
-mod spellings;
+mod rows;
 
-use crate::causes::Causes;
-use crate::floods::Floods;
-use crate::spellings::Spellings;
+use crate::rows::{Causes, Floods, Spellings};
 use std::io;
 use std::process::ExitCode;
 use tables::{Memory, run_table};
