@@ -3,28 +3,15 @@
 //! with two slow searches.
 #![tactic(auto)]
 
-mod escapes;
-mod lists;
-mod long;
-mod long_scripts;
-mod numbers;
 mod patterns;
-mod show;
+mod scripts;
 mod slow;
-mod starved;
-mod substitution;
-mod trees;
+mod texts;
 
-use crate::escapes::Escapes;
-use crate::lists::Lists;
-use crate::long::Long;
-use crate::long_scripts::LongScripts;
-use crate::numbers::Numbers;
-use crate::patterns::Patterns;
-use crate::slow::random::run_random;
-use crate::starved::run_starved;
-use crate::substitution::Substitution;
-use crate::trees::Trees;
+use crate::patterns::{Long, Patterns, run_starved};
+use crate::scripts::{LongScripts, Substitution, Trees};
+use crate::slow::run_random;
+use crate::texts::{Escapes, Lists, Numbers};
 use std::io;
 use std::process::ExitCode;
 use tables::{Memory, run_table};

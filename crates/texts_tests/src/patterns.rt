@@ -1,9 +1,14 @@
-//! Patterns: sought in windows, tested against whole texts, and counted.
+//! Patterns: sought in windows, tested against whole texts, counted, and searched without memory;
+//! and long texts.
 
+use crate::scripts::push_repeated;
+use crate::texts::{field, push_number, tell_list_fault};
 use memory::NoMemory;
-use std::alloc::Allocator;
+use refusal::Refusing;
+use std::alloc::{Allocator, Global};
+use std::io;
 use tables::{Answers, number, push_shown, repeated};
-use tcltext::{Found, Pattern, PatternError, Scratch, Search};
+use tcltext::{Found, Pattern, PatternError, Scratch, Search, join_list, read_int, split_list};
 
 /// The table of patterns.
 pub struct Patterns;
@@ -14,19 +19,24 @@ impl Answers for Patterns {
         row: &[Vec<u8>],
         answer: &mut Vec<u8, A>,
     ) -> Result<(), NoMemory> {
-        let [name, pattern, window, numbers @ ..] = row else {
-            return Ok(());
-        };
-        let outcome = match numbers {
-            [times, most] => count(pattern, window, number(times), number(most), answer),
-            _ => tell(name, pattern, window, answer),
+        let (kind, text, window) = (field(row, 0), field(row, 1), field(row, 2));
+        let outcome = if 3 < row.len() {
+            count(
+                text,
+                window,
+                number(field(row, 3)),
+                number(field(row, 4)),
+                answer,
+            )
+        } else {
+            tell(kind, text, window, answer)
         };
         told(answer, outcome)
     }
 }
 
 /// Writes why a text is no pattern, if that is the outcome.
-pub fn told<A: Allocator + Copy>(
+fn told<A: Allocator + Copy>(
     answer: &mut Vec<u8, A>,
     outcome: Result<(), PatternError>,
 ) -> Result<(), NoMemory> {
@@ -54,7 +64,7 @@ fn tell<A: Allocator + Copy>(
 
 /// Reads a pattern of a kind: `exact`, `plain`, or another word for a glob; `folded` before it
 /// folds letters.
-pub fn read<A: Allocator + Copy>(
+fn read<A: Allocator + Copy>(
     alloc: A,
     kind: &[u8],
     text: &[u8],
@@ -101,16 +111,25 @@ fn take<A: Allocator + Copy>(
 }
 
 /// Writes where a pattern is found.
-pub fn find<A: Allocator + Copy>(
+fn find<A: Allocator + Copy>(
     kind: &[u8],
     text: &[u8],
     window: &[u8],
     answer: &mut Vec<u8, A>,
 ) -> Result<(), PatternError> {
-    let alloc = *answer.allocator();
-    let pattern = read(alloc, kind, text)?;
-    let search = search_in(alloc, &pattern, window)?;
+    let search = searched(*answer.allocator(), kind, text, window)?;
     Ok(push_place(answer, search.found)?)
+}
+
+/// Reads a pattern, and searches for it.
+fn searched<A: Allocator + Copy>(
+    alloc: A,
+    kind: &[u8],
+    text: &[u8],
+    window: &[u8],
+) -> Result<Search, PatternError> {
+    let pattern = read(alloc, kind, text)?;
+    search_in(alloc, &pattern, window)
 }
 
 /// Writes where a glob is found in a window repeated `times` times, and how many steps that took if
@@ -122,10 +141,18 @@ fn count<A: Allocator + Copy>(
     most: u64,
     answer: &mut Vec<u8, A>,
 ) -> Result<(), PatternError> {
-    let alloc = *answer.allocator();
-    let window = repeated(alloc, window, times)?;
-    let pattern = Pattern::glob(alloc, glob)?;
-    let search = search_in(alloc, &pattern, &window)?;
+    let window = repeated(*answer.allocator(), window, times)?;
+    let search = searched(*answer.allocator(), b"glob", glob, &window)?;
+    Ok(push_search(answer, search, most)?)
+}
+
+/// Writes where a search found something, and how many steps it took if they are 0 or more than
+/// `most`.
+fn push_search<A: Allocator + Copy>(
+    answer: &mut Vec<u8, A>,
+    search: Search,
+    most: u64,
+) -> Result<(), NoMemory> {
     push_place(answer, search.found)?;
     if search.steps == 0 || most < search.steps {
         push_shown(answer, format_args!(" in {} steps", search.steps))?;
@@ -134,7 +161,7 @@ fn count<A: Allocator + Copy>(
 }
 
 /// Writes yes or no.
-pub fn push_whether<A: Allocator>(answer: &mut Vec<u8, A>, holds: bool) -> Result<(), NoMemory> {
+fn push_whether<A: Allocator>(answer: &mut Vec<u8, A>, holds: bool) -> Result<(), NoMemory> {
     let word: &[u8] = if holds { b"yes" } else { b"no" };
     Ok(answer.extend_from_slice(word)?)
 }
@@ -148,4 +175,129 @@ fn push_place<A: Allocator + Copy>(
         Some(Found { start, end }) => push_shown(answer, format_args!("{start} {end}")),
         None => Ok(answer.extend_from_slice(b"none")?),
     }
+}
+
+/// The table of long texts.
+pub struct Long;
+
+impl Answers for Long {
+    fn answer<A: Allocator + Copy>(
+        &self,
+        row: &[Vec<u8>],
+        answer: &mut Vec<u8, A>,
+    ) -> Result<(), NoMemory> {
+        if 3 < row.len() {
+            find_long(row, answer)
+        } else {
+            let times = number(field(row, 2));
+            let text = repeated(*answer.allocator(), field(row, 1), times)?;
+            tell_long(field(row, 0), &text, answer)
+        }
+    }
+}
+
+/// Writes where a long pattern is found in a long window: a beginning, a piece many times, and an
+/// end, in a window that repeats a text.
+fn find_long<A: Allocator + Copy>(
+    row: &[Vec<u8>],
+    answer: &mut Vec<u8, A>,
+) -> Result<(), NoMemory> {
+    let alloc = *answer.allocator();
+    let window = repeated(alloc, field(row, 5), number(field(row, 6)))?;
+    let mut text = Vec::new(alloc);
+    push_pattern(&mut text, row)?;
+    let outcome = find(field(row, 0), &text, &window, answer);
+    told(answer, outcome)
+}
+
+fn push_pattern<A: Allocator + Copy>(
+    text: &mut Vec<u8, A>,
+    row: &[Vec<u8>],
+) -> Result<(), NoMemory> {
+    text.extend_from_slice(field(row, 1))?;
+    push_repeated(text, field(row, 2), number(field(row, 3)))?;
+    Ok(text.extend_from_slice(field(row, 4))?)
+}
+
+/// Writes what a long text is: a list, a number, or a pattern that takes itself or does not.
+fn tell_long<A: Allocator + Copy>(
+    kind: &[u8],
+    text: &[u8],
+    answer: &mut Vec<u8, A>,
+) -> Result<(), NoMemory> {
+    match kind {
+        b"many" => measure(text, answer),
+        b"number" => push_number(answer, read_int(text)),
+        _ => {
+            let outcome = take_itself(kind.strip_prefix(b"whole ").unwrap_or(kind), text, answer);
+            told(answer, outcome)
+        }
+    }
+}
+
+/// Writes the measures of a list.
+fn measure<A: Allocator + Copy>(text: &[u8], answer: &mut Vec<u8, A>) -> Result<(), NoMemory> {
+    match split_list(*answer.allocator(), text) {
+        Ok(list) => push_measures(answer, &list),
+        Err(fault) => tell_list_fault(answer, fault),
+    }
+}
+
+/// Writes how many elements a list has, how long the first one is, and how long the list is
+/// written.
+fn push_measures<A: Allocator + Copy>(
+    answer: &mut Vec<u8, A>,
+    list: &[Vec<u8, A>],
+) -> Result<(), NoMemory> {
+    let many = list.len();
+    let first = match list.first() {
+        Some(element) => element.len(),
+        None => 0,
+    };
+    let all = join_list(*answer.allocator(), list)?.len();
+    let measures = format_args!("{many} elements, {first} bytes in the first, {all} in all");
+    push_shown(answer, measures)
+}
+
+/// Writes whether a text, read as a pattern, takes the whole text.
+fn take_itself<A: Allocator + Copy>(
+    kind: &[u8],
+    text: &[u8],
+    answer: &mut Vec<u8, A>,
+) -> Result<(), PatternError> {
+    take(read(*answer.allocator(), kind, text)?, text, answer)
+}
+
+/// Prints whether texts are searched and taken without memory.
+pub fn run_starved<R: Print + AllocGlobal>(rt: &R) -> io::Result<bool> {
+    let is_well = matches!(search_starved(rt.alloc()), Ok(true));
+    let word = if is_well { "well" } else { "FAILED" };
+    println!(rt; "without memory: {word}")?;
+    Ok(is_well)
+}
+
+/// Whether patterns are searched without memory.
+fn search_starved(alloc: Global) -> Result<bool, PatternError> {
+    let heap = Refusing::new(alloc);
+    let pattern = Pattern::glob(&heap, b"a[b-d]*c")?;
+    is_found_starved(&heap, &heap, pattern)
+}
+
+/// Whether a pattern is found and not found, takes a text, and folds letters, while every request
+/// for memory is refused.
+fn is_found_starved<A: Allocator + Copy>(
+    alloc: A,
+    heap: &Refusing<Global>,
+    pattern: Pattern<A>,
+) -> Result<bool, PatternError> {
+    heap.refuse_all();
+    let before = heap.requests();
+    let mut scratch = Scratch::new(alloc, 8)?;
+    let found = pattern.find(b"xabccx", &mut scratch).found;
+    let missed = pattern.find(b"xxxx", &mut scratch).found;
+    let is_taken = pattern.whole(b"adc");
+    let folded = pattern.fold().find(b"xAbCcx", &mut scratch).found;
+    let place = Some(Found { start: 1, end: 5 });
+    let is_all_found = found == place && missed.is_none() && folded == place;
+    Ok(is_all_found && is_taken && heap.requests() == before)
 }

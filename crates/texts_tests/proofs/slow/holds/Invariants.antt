@@ -1,6 +1,6 @@
 use Rattle.std.proofs.Common.{length}
 use Rattle.std.specs.Bool.{⊤}
-use Rattle.texts_tests.proofs.slow.items.holds.Given as goal
+use Rattle.texts_tests.proofs.slow.holds.Given as goal
 
 abbrev pub invariant-loop-rest : goal.invariant-loop-rest
 invariant-loop-rest l = ⊤

@@ -1,5 +1,5 @@
 use Rattle.std.proofs.Common.{◌+◌, length}
-use Rattle.texts_tests.proofs.slow.pairs.+takes.Given as goal
+use Rattle.texts_tests.proofs.slow.+takes.Given as goal
 
 abbrev pub decreases-takes : goal.decreases-takes
 decreases-takes l = length l.items.now + length l.text.now

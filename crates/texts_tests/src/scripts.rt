@@ -1,0 +1,346 @@
+//! Scripts and the words of their commands: their trees, long and deep ones, and the values of
+//! words.
+//!
+//! A tree is written as a text to compare: each word in `<` and `>`, `*` before one that is
+//! expanded, `;` after each command. A variable is `${name}`, an element `$name(index)`, a script
+//! stands in `[` and `]`.
+
+use crate::texts::{field, fields};
+use memory::NoMemory;
+use std::alloc::Allocator;
+use tables::{Answers, number, push_angled, push_shown, repeated};
+use tclparse::{Command, Fault, Part, Script, Word, Words, variable_name};
+use tclstate::{ScopeError, Scopes};
+use tcltext::Value;
+use words::{Gathered, begin, resume};
+
+#[cycle(show)]
+fn show_part<A: Allocator>(answer: &mut Vec<u8, A>, part: &Part<A>) -> Result<(), NoMemory> {
+    match part {
+        Part::Literal(bytes) => answer.extend_from_slice(bytes.as_slice())?,
+        Part::Variable(name) => {
+            answer.extend_from_slice(b"${")?;
+            answer.extend_from_slice(name.as_slice())?;
+            answer.push(b'}')?;
+        }
+        Part::Element(name, index) => {
+            answer.push(b'$')?;
+            answer.extend_from_slice(name.as_slice())?;
+            answer.push(b'(')?;
+            show_parts(answer, index)?;
+            answer.push(b')')?;
+        }
+        Part::Bracket(commands) => {
+            answer.push(b'[')?;
+            show_commands(answer, commands)?;
+            answer.push(b']')?;
+        }
+    }
+    Ok(())
+}
+
+#[cycle(show)]
+fn show_parts<A: Allocator>(
+    answer: &mut Vec<u8, A>,
+    parts: &Vec<Part<A>, A>,
+) -> Result<(), NoMemory> {
+    for part in parts {
+        show_part(answer, part)?;
+    }
+    Ok(())
+}
+
+#[cycle(show)]
+fn show_words<A: Allocator>(
+    answer: &mut Vec<u8, A>,
+    words: &Vec<Word<A>, A>,
+) -> Result<(), NoMemory> {
+    for word in words {
+        if word.expands {
+            answer.push(b'*')?;
+        }
+        answer.push(b'<')?;
+        show_parts(answer, &word.parts)?;
+        answer.push(b'>')?;
+    }
+    Ok(())
+}
+
+#[cycle(show)]
+fn show_commands<A: Allocator>(
+    answer: &mut Vec<u8, A>,
+    commands: &Vec<Command<A>, A>,
+) -> Result<(), NoMemory> {
+    for command in commands {
+        show_words(answer, &command.words)?;
+        answer.push(b';')?;
+    }
+    Ok(())
+}
+
+/// Writes a fault, if there is one, after what was read before it.
+fn push_fault<A: Allocator + Copy>(
+    answer: &mut Vec<u8, A>,
+    fault: Option<Fault>,
+) -> Result<(), NoMemory> {
+    match fault {
+        Some(fault) => push_shown(answer, format_args!(" ! {fault}")),
+        None => Ok(()),
+    }
+}
+
+/// The table of trees: scripts, braced arguments of `expect`, and names of variables.
+pub struct Trees;
+
+impl Answers for Trees {
+    fn answer<A: Allocator + Copy>(
+        &self,
+        row: &[Vec<u8>],
+        answer: &mut Vec<u8, A>,
+    ) -> Result<(), NoMemory> {
+        let text = field(row, 1);
+        match field(row, 0) {
+            b"script" => read_script(text, answer),
+            b"parts" => count_parts(text, answer),
+            b"argument" => read_argument(text, answer),
+            _ => read_name(text, answer),
+        }
+    }
+}
+
+fn read_script<A: Allocator + Copy>(text: &[u8], answer: &mut Vec<u8, A>) -> Result<(), NoMemory> {
+    let script = Script::read(*answer.allocator(), text)?;
+    push_script(answer, &script)
+}
+
+fn push_script<A: Allocator + Copy>(
+    answer: &mut Vec<u8, A>,
+    script: &Script<A>,
+) -> Result<(), NoMemory> {
+    show_commands(answer, &script.commands)?;
+    push_fault(answer, script.fault)
+}
+
+/// Writes how many parts the first word of a script has.
+fn count_parts<A: Allocator + Copy>(text: &[u8], answer: &mut Vec<u8, A>) -> Result<(), NoMemory> {
+    match parts_in(*answer.allocator(), text)? {
+        Some(many) => push_shown(answer, many),
+        None => Ok(()),
+    }
+}
+
+/// How many parts the first word of a script has, if there is one.
+fn parts_in<A: Allocator + Copy>(alloc: A, text: &[u8]) -> Result<Option<usize>, NoMemory> {
+    let script = Script::read(alloc, text)?;
+    Ok(first_parts(&script))
+}
+
+fn first_parts<A: Allocator>(script: &Script<A>) -> Option<usize> {
+    let command = script.commands.first()?;
+    let word = command.words.first()?;
+    Some(word.parts.len())
+}
+
+fn read_argument<A: Allocator + Copy>(
+    text: &[u8],
+    answer: &mut Vec<u8, A>,
+) -> Result<(), NoMemory> {
+    let read = Words::read(*answer.allocator(), text)?;
+    push_argument(answer, &read)
+}
+
+fn push_argument<A: Allocator + Copy>(
+    answer: &mut Vec<u8, A>,
+    read: &Words<A>,
+) -> Result<(), NoMemory> {
+    show_words(answer, &read.words)?;
+    push_fault(answer, read.fault)
+}
+
+fn read_name<A: Allocator + Copy>(word: &[u8], answer: &mut Vec<u8, A>) -> Result<(), NoMemory> {
+    let name = match variable_name(word) {
+        Ok(name) => name,
+        Err(fault) => return push_shown(answer, fault),
+    };
+    push_angled(answer, name.name)?;
+    match name.index {
+        Some(index) => push_angled(answer, index),
+        None => Ok(()),
+    }
+}
+
+/// The table of long and deep texts. Each is read in time linear in its length, or the program
+/// would not end.
+pub struct LongScripts;
+
+impl Answers for LongScripts {
+    fn answer<A: Allocator + Copy>(
+        &self,
+        row: &[Vec<u8>],
+        answer: &mut Vec<u8, A>,
+    ) -> Result<(), NoMemory> {
+        let mut text = Vec::new(*answer.allocator());
+        push_long(&mut text, row)?;
+        if field(row, 0) == b"script".as_slice() {
+            count_commands(&text, answer)
+        } else {
+            count_words(&text, answer)
+        }
+    }
+}
+
+/// Writes a long text: a beginning, a piece many times, a middle, another piece as many times, and
+/// an end.
+fn push_long<A: Allocator + Copy>(text: &mut Vec<u8, A>, row: &[Vec<u8>]) -> Result<(), NoMemory> {
+    let times = number(field(row, 3));
+    text.extend_from_slice(field(row, 1))?;
+    push_repeated(text, field(row, 2), times)?;
+    text.extend_from_slice(field(row, 4))?;
+    push_repeated(text, field(row, 5), times)?;
+    Ok(text.extend_from_slice(field(row, 6))?)
+}
+
+/// Writes a piece many times.
+pub fn push_repeated<A: Allocator + Copy>(
+    text: &mut Vec<u8, A>,
+    piece: &[u8],
+    times: u64,
+) -> Result<(), NoMemory> {
+    let all = repeated(*text.allocator(), piece, times)?;
+    Ok(text.extend_from_slice(&all)?)
+}
+
+fn count_commands<A: Allocator + Copy>(
+    text: &[u8],
+    answer: &mut Vec<u8, A>,
+) -> Result<(), NoMemory> {
+    let script = Script::read(*answer.allocator(), text)?;
+    push_count(answer, script.commands.len(), script.fault)
+}
+
+fn count_words<A: Allocator + Copy>(text: &[u8], answer: &mut Vec<u8, A>) -> Result<(), NoMemory> {
+    let read = Words::read(*answer.allocator(), text)?;
+    push_count(answer, read.words.len(), read.fault)
+}
+
+fn push_count<A: Allocator + Copy>(
+    answer: &mut Vec<u8, A>,
+    many: usize,
+    fault: Option<Fault>,
+) -> Result<(), NoMemory> {
+    push_shown(answer, many)?;
+    push_fault(answer, fault)
+}
+
+/// The variables that the commands name, with their indexes and values.
+const VARIABLES: [(&[u8], Option<&[u8]>, &[u8]); 6] = [
+    (b"a", None, b"1"),
+    (b"l", None, b"u {v w}"),
+    (b"t", Some(b"x"), b"2"),
+    (b"t", Some(b"y"), b"3"),
+    (b"t", Some(b"y2"), b"4"),
+    (b"t", Some(b"x1"), b"1"),
+];
+
+/// The table of commands, whose words have values.
+pub struct Substitution;
+
+impl Answers for Substitution {
+    fn answer<A: Allocator + Copy>(
+        &self,
+        row: &[Vec<u8>],
+        answer: &mut Vec<u8, A>,
+    ) -> Result<(), NoMemory> {
+        let mut scopes = Scopes::new(*answer.allocator());
+        set_variables(&mut scopes, *answer.allocator())?;
+        tell_substituted(answer, &scopes, field(row, 1), fields(row, 2))
+    }
+}
+
+fn set_variables<A: Allocator + Copy>(scopes: &mut Scopes<A>, alloc: A) -> Result<(), NoMemory> {
+    for (name, index, value) in VARIABLES {
+        let value = Value::from_slice(alloc, value)?;
+        if let Err(ScopeError::NoMemory(refusal)) = scopes.set(alloc, name, index, value) {
+            return Err(refusal);
+        }
+    }
+    Ok(())
+}
+
+/// Writes the values of the words of a text's first command, with these values for the scripts in
+/// them.
+fn tell_substituted<A: Allocator + Copy>(
+    answer: &mut Vec<u8, A>,
+    scopes: &Scopes<A>,
+    text: &[u8],
+    values: &[Vec<u8>],
+) -> Result<(), NoMemory> {
+    let gathered = substituted(*answer.allocator(), scopes, text, values)?;
+    tell(answer, &gathered)
+}
+
+fn substituted<A: Allocator + Copy>(
+    alloc: A,
+    scopes: &Scopes<A>,
+    text: &[u8],
+    values: &[Vec<u8>],
+) -> Result<Gathered<A>, NoMemory> {
+    let script = Script::read(alloc, text)?;
+    match script.commands.first() {
+        Some(command) => gather(alloc, scopes, command, values),
+        None => Ok(Gathered::Values(Vec::new(alloc))),
+    }
+}
+
+/// What comes of a command, once its scripts have had these values.
+fn gather<A: Allocator + Copy>(
+    alloc: A,
+    scopes: &Scopes<A>,
+    command: &Command<A>,
+    values: &[Vec<u8>],
+) -> Result<Gathered<A>, NoMemory> {
+    let mut gathered = begin(alloc, scopes, command.words.clone()?)?;
+    for value in values {
+        gathered = resumed(alloc, scopes, gathered, value)?;
+    }
+    Ok(gathered)
+}
+
+/// Gives a script its value; nothing is left where none waits for one.
+fn resumed<A: Allocator + Copy>(
+    alloc: A,
+    scopes: &Scopes<A>,
+    gathered: Gathered<A>,
+    value: &[u8],
+) -> Result<Gathered<A>, NoMemory> {
+    match gathered {
+        Gathered::Script(_, gathering) => {
+            resume(alloc, scopes, gathering, Value::from_slice(alloc, value)?)
+        }
+        _ => Ok(Gathered::Values(Vec::new(alloc))),
+    }
+}
+
+fn tell<A: Allocator + Copy>(
+    answer: &mut Vec<u8, A>,
+    gathered: &Gathered<A>,
+) -> Result<(), NoMemory> {
+    match gathered {
+        Gathered::Values(words) => push_words(answer, words),
+        Gathered::Fault(fault) => {
+            let text = fault.text(*answer.allocator())?;
+            Ok(answer.extend_from_slice(&text)?)
+        }
+        Gathered::Script(_, _) => Ok(answer.extend_from_slice(b"one more script")?),
+    }
+}
+
+fn push_words<A: Allocator + Copy>(
+    answer: &mut Vec<u8, A>,
+    words: &[Value<A>],
+) -> Result<(), NoMemory> {
+    for word in words {
+        push_angled(answer, word.as_slice())?;
+    }
+    Ok(())
+}
