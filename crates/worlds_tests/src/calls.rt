@@ -1,19 +1,133 @@
-//! Words and files that a call of the program reads.
+//! Calls of the program, the files that they name, and what is read for them from outside.
 
-use refusal::Refusing;
-use std::alloc::Global;
+use crate::{field, fields};
+use memory::NoMemory;
+use std::alloc::Allocator;
+use std::cell::Cell;
 use std::env::FillError;
 use std::io::{self, ErrorKind, Read};
 use std::rt::Env;
-use std::test::Fail;
-use worlds::folder::Disk;
+use tables::{number, push_angled, push_shown};
+use worlds::folder::{Disk, Folder};
 use worlds::input::{read_all, read_words};
 use worlds::program::perform;
 use worlds::{Counted, Unread};
 
+/// A folder with one file, which gives one text when it is opened first, and another one later.
+#[derive(Drop)]
+struct Shelf<'a> {
+    first: &'a [u8],
+    later: &'a [u8],
+    is_lasting: bool,
+    opened: Cell<bool>,
+}
+
+impl<'a> Folder for Shelf<'a> {
+    type File = &'a [u8];
+
+    type Made = Vec<u8>;
+
+    type Standard = &'a [u8];
+
+    ghost use Rattle.std.specs.Prelude.{⊤};
+
+    ghost opens = { λ _ _ _. ⊤ };
+
+    ghost makes = { λ _ _ _. ⊤ };
+
+    ghost same = { λ _ _ _ _. ⊤ };
+
+    fn open(&self, name: &str) -> io::Result<&'a [u8]> {
+        if name != "r" {
+            return Err(io::Error::from(ErrorKind::NotFound));
+        }
+        if self.opened.get() {
+            return Ok(self.later);
+        }
+        self.opened.set(true);
+        Ok(self.first)
+    }
+
+    fn make(&self, _name: &str) -> io::Result<Vec<u8>> {
+        Err(io::Error::from(ErrorKind::Other))
+    }
+
+    fn standard(&self) -> &'a [u8] {
+        b""
+    }
+
+    fn is_lasting(&self, _name: &str) -> bool {
+        self.is_lasting
+    }
+
+    fn is_same(&self, _first: &[u8], _second: &[u8]) -> bool {
+        false
+    }
+}
+
+/// Writes the status of a call, and what it writes to the two outputs.
+pub fn tell_call<A: Allocator + Copy>(
+    rt: &HostRuntime,
+    row: &[Vec<u8>],
+    answer: &mut Vec<u8, A>,
+) -> Result<(), NoMemory> {
+    tell_performed(rt, &Disk { rt }, fields(row, 1), answer)
+}
+
+/// Writes the same of a call whose record is in a file that may change while it is read.
+pub fn tell_reread<A: Allocator + Copy>(
+    rt: &HostRuntime,
+    row: &[Vec<u8>],
+    answer: &mut Vec<u8, A>,
+) -> Result<(), NoMemory> {
+    let files = Shelf {
+        first: field(row, 1),
+        later: field(row, 2),
+        is_lasting: field(row, 0) == b"lasting".as_slice(),
+        opened: Cell::new(false),
+    };
+    tell_performed(rt, &files, fields(row, 3), answer)
+}
+
+/// Writes the status of a call with these files, and what it writes to the two outputs.
+fn tell_performed<F: Folder, A: Allocator + Copy>(
+    rt: &HostRuntime,
+    files: &F,
+    words: &[Vec<u8>],
+    answer: &mut Vec<u8, A>,
+) -> Result<(), NoMemory> {
+    let (mut printed, mut told) = (Vec::new(rt.alloc()), Vec::new(rt.alloc()));
+    let status = performed(rt, files, words, &mut printed, &mut told);
+    push_call(answer, status, &printed, &told)
+}
+
+/// Performs a call, and gives its status.
+fn performed<F: Folder>(
+    rt: &HostRuntime,
+    files: &F,
+    words: &[Vec<u8>],
+    printed: &mut Vec<u8>,
+    told: &mut Vec<u8>,
+) -> u8 {
+    let (mut out, mut err) = (Counted::new(printed), Counted::new(told));
+    perform(rt, files, words, &mut out, &mut err)
+}
+
+/// Writes a status, and then what was written to the two outputs.
+fn push_call<A: Allocator + Copy>(
+    answer: &mut Vec<u8, A>,
+    status: u8,
+    printed: &[u8],
+    told: &[u8],
+) -> Result<(), NoMemory> {
+    push_shown(answer, format_args!("{status} "))?;
+    answer.extend_from_slice(printed)?;
+    Ok(answer.extend_from_slice(told)?)
+}
+
 /// The words of a call, the program's name first.
 #[derive(Drop)]
-struct Words<'a>(&'a [&'a [u8]]);
+struct Words<'a>(&'a [Vec<u8>]);
 
 impl Env for Words<'_> {
     fn arg(&self, place: usize, room: &mut [u8]) -> Result<usize, FillError> {
@@ -36,34 +150,37 @@ impl Env for Words<'_> {
     }
 }
 
-#[test]
-fn reads_arguments_as_their_bytes(rt: HostRuntime) -> Result<(), Fail> {
-    let long = [b'x'; 513];
-    let call: [&[u8]; 4] = [b"rx", b"", b"\xff\xfe", &long];
-    let words = read_words(&Words(&call), rt.alloc())?;
-    assert_eq!(rt; words.len(), 3);
-    for (word, wanted) in words.iter().zip(&call[1..]) {
-        assert_eq!(rt; word.as_slice(), *wanted);
+/// Writes the arguments that are read of a call.
+pub fn tell_words<A: Allocator + Copy>(
+    row: &[Vec<u8>],
+    answer: &mut Vec<u8, A>,
+) -> Result<(), NoMemory> {
+    match read_words(&Words(fields(row, 1)), *answer.allocator()) {
+        Ok(words) => push_words(answer, &words),
+        Err(fault) => push_unread(answer, fault),
+    }
+}
+
+/// Writes words, each between angles.
+fn push_words<A: Allocator + Copy>(
+    answer: &mut Vec<u8, A>,
+    words: &[Vec<u8, A>],
+) -> Result<(), NoMemory> {
+    for word in words {
+        push_angled(answer, word)?;
     }
     Ok(())
 }
 
-#[test]
-fn ends_arguments_without_memory(rt: HostRuntime) -> Result<(), Fail> {
-    let heap = Refusing::new(rt.alloc());
-    let call: [&[u8]; 3] = [b"rx", b"a", b"b"];
-    for n in 1..100u64 {
-        let refused = heap.refused();
-        heap.refuse_nth(n);
-        let words = read_words(&Words(&call), &heap);
-        if heap.refused() == refused {
-            assert!(rt; matches!(&words, Ok(words) if words.len() == 2));
-            assert!(rt; 3 < n);
-            return Ok(());
-        }
-        assert!(rt; matches!(&words, Err(Unread::NoMemory(_))), "{n}");
+/// Writes that nothing is read. A refusal of memory is handed on.
+fn push_unread<A: Allocator + Copy>(
+    answer: &mut Vec<u8, A>,
+    fault: Unread,
+) -> Result<(), NoMemory> {
+    match fault {
+        Unread::NoMemory(refusal) => Err(refusal),
+        Unread::Refused => Ok(answer.extend_from_slice(b"refused")?),
     }
-    Err(Fail::from("each request was refused"))
 }
 
 /// A reader that is interrupted once before each byte, and fails after some.
@@ -89,193 +206,18 @@ impl Read for Halting<'_> {
     }
 }
 
-#[test]
-fn reads_on_after_an_interruption(rt: HostRuntime) -> Result<(), Fail> {
-    for room in 0..=5 {
-        let mut reader = Halting {
-            bytes: b"puts",
-            room,
-            interrupted: false,
-        };
-        let text = read_all(rt.alloc(), &mut reader);
-        if room == 5 {
-            assert!(rt; matches!(&text, Ok(text) if text.as_slice() == b"puts".as_slice()));
-        } else {
-            assert!(rt; matches!(&text, Err(Unread::Refused)), "{room}");
-        }
+/// Writes what is read of a text by a reader that is interrupted, and fails after so many reads.
+pub fn tell_read<A: Allocator + Copy>(
+    row: &[Vec<u8>],
+    answer: &mut Vec<u8, A>,
+) -> Result<(), NoMemory> {
+    let mut reader = Halting {
+        bytes: field(row, 1),
+        room: number(field(row, 2)) as usize,
+        interrupted: false,
+    };
+    match read_all(*answer.allocator(), &mut reader) {
+        Ok(text) => push_angled(answer, &text),
+        Err(fault) => push_unread(answer, fault),
     }
-    Ok(())
-}
-
-/// The status of a call, and what it writes to standard output and to standard error.
-fn performed(rt: &HostRuntime, words: &[Vec<u8>]) -> (u8, Vec<u8>, Vec<u8>) {
-    let mut printed = Vec::new(rt.alloc());
-    let mut told = Vec::new(rt.alloc());
-    let status = perform(
-        rt,
-        &Disk { rt },
-        words,
-        &mut Counted::new(&mut printed),
-        &mut Counted::new(&mut told),
-    );
-    (status, printed, told)
-}
-
-/// The status of a call, and what it writes to the two outputs, as one text.
-fn shown(alloc: Global, status: u8, printed: &[u8], told: &[u8]) -> Result<String<Global>, Fail> {
-    let printed = std::str::from_utf8(printed)?;
-    let told = std::str::from_utf8(told)?;
-    Ok(format!(in alloc; "{status} {printed}{told}")?)
-}
-
-/// The words of a call as their bytes.
-fn words_of(alloc: Global, call: &[&str]) -> Result<Vec<Vec<u8>>, Fail> {
-    let mut words = Vec::new(alloc);
-    for word in call {
-        words.push(Vec::from_slice(alloc, word.as_bytes())?)?;
-    }
-    Ok(words)
-}
-
-/// The status of a call and what it writes to the two outputs, as one text.
-fn told(rt: &HostRuntime, call: &[&str]) -> Result<String<Global>, Fail> {
-    let words = words_of(rt.alloc(), call)?;
-    let (status, printed, told) = performed(rt, &words);
-    shown(rt.alloc(), status, &printed, &told)
-}
-
-/// A missing file, a folder, a file that is there and empty, and one that takes nothing.
-const FILES: [(&[&str], &str); 20] = [
-    (&["missing"], "2 rx: cannot open missing\n"),
-    (&["-f", "-missing", "a"], "2 rx: cannot open -missing\n"),
-    (&["--limit", "1", "."], "2 rx: cannot open .\n"),
-    (&["/dev/null"], "0 "),
-    (&["-f", "/dev/null", "a"], "0 "),
-    (&["-c", "puts a", "missing"], "2 rx: cannot open missing\n"),
-    (
-        &["--replay", "/dev/null", "missing"],
-        "2 rx: cannot open missing\n",
-    ),
-    (
-        &["--replay", "missing", "/dev/null"],
-        "2 rx: cannot open missing\n",
-    ),
-    (
-        &["--replay", "missing", "absent"],
-        "2 rx: cannot open absent\n",
-    ),
-    (&["--replay", "/dev/null", "."], "2 rx: cannot open .\n"),
-    (&["--replay", ".", "-c", "puts a"], "2 rx: cannot open .\n"),
-    (
-        &["--replay", "/dev/null", "/dev/null"],
-        "5 rx: bad record /dev/null at line 1\n",
-    ),
-    (
-        &["--record", "missing/g", "-c", "puts a"],
-        "2 rx: cannot open missing/g\n",
-    ),
-    (
-        &["--record", "missing/g", "missing"],
-        "2 rx: cannot open missing\n",
-    ),
-    (
-        &["--record", "missing/g", "--replay", "absent", "-c", ""],
-        "2 rx: cannot open absent\n",
-    ),
-    (
-        &["--record", "missing/g", "--replay", "/dev/null", "-c", ""],
-        "5 rx: bad record /dev/null at line 1\n",
-    ),
-    (
-        &["--record", "/dev/full", "-c", "puts a"],
-        "4 a\nrx: output failed\n",
-    ),
-    (&["--record", "/dev/null", "-c", "puts a"], "0 a\n"),
-    (&["--record", "/dev/null", "/dev/null"], "0 "),
-    (
-        &["--record", "-", "--replay", "-", "-c", "puts a"],
-        "2 rx: cannot open -\n",
-    ),
-];
-
-#[test]
-fn tells_files_that_cannot_be_read_or_made(rt: HostRuntime) -> Result<(), Fail> {
-    for (call, wanted) in FILES {
-        let found = told(&rt, call)?;
-        assert_eq!(rt; found.as_str(), wanted, "{call:?}");
-    }
-    Ok(())
-}
-
-/// Calls that are refused, the last of them for want of a file.
-#[test]
-fn tells_the_usage(rt: HostRuntime) -> Result<(), Fail> {
-    let calls: [&[&str]; 4] = [&["--replay", "missing"], &["-missing"], &["--", "s"], &[]];
-    for call in calls {
-        let found = told(&rt, call)?;
-        assert_eq!(rt;
-            found.as_str(),
-            "2 usage: rx [-c cmds]... [--replay F] [--record G] [--limit N] [[-f] file [args]]\n",
-            "{call:?}"
-        );
-    }
-    Ok(())
-}
-
-/// Texts of `-c` with a newline after each, before the text of a file; `$argv0`, `$argv`, `$argc`.
-const SCRIPTS: [(&[&str], &str); 10] = [
-    (&["-c", "puts hi"], "0 hi\n"),
-    (&["-c", "puts b", "-c", "puts a"], "0 b\na\n"),
-    (&["-c", "puts {a", "-c", "b}"], "0 a\nb\n"),
-    (&["-c", "# puts a", "-c", "puts c"], "0 c\n"),
-    (&["-c", "puts {", "/dev/null"], "1 missing close-brace\n"),
-    (
-        &["-c", "puts a", "--limit", "1", "-c", "puts b"],
-        "3 a\nrx: command limit reached\n",
-    ),
-    (&["-c", "puts a; exit 7", "/dev/null"], "7 a\n"),
-    (
-        &["-c", "puts $argv0; puts $argv; puts $argc"],
-        "0 rx\n\n0\n",
-    ),
-    (
-        &["-c", "puts $argv0; puts $argv; puts $argc", "/dev/null"],
-        "0 /dev/null\n\n0\n",
-    ),
-    (
-        &[
-            "-c",
-            "puts $argv0; puts $argv; puts $argc",
-            "-f",
-            "/dev/null",
-            "#a",
-            "b c",
-            "",
-            "-c",
-            "{",
-            "#a",
-        ],
-        "0 /dev/null\n{#a} {b c} {} -c \\{ #a\n6\n",
-    ),
-];
-
-#[test]
-fn runs_scripts_of_calls(rt: HostRuntime) -> Result<(), Fail> {
-    for (call, wanted) in SCRIPTS {
-        let found = told(&rt, call)?;
-        assert_eq!(rt; found.as_str(), wanted, "{call:?}");
-    }
-    Ok(())
-}
-
-#[test]
-fn hands_arguments_on_as_their_bytes(rt: HostRuntime) -> Result<(), Fail> {
-    let call = ["-c", "puts -nonewline $argv", "/dev/null"];
-    let mut words = words_of(rt.alloc(), &call)?;
-    words.push(Vec::from_slice(rt.alloc(), b"\xff\xfe")?)?;
-    let (status, printed, told) = performed(&rt, &words);
-    assert_eq!(rt; status, 0);
-    assert_eq!(rt; printed.as_slice(), b"\xff\xfe".as_slice());
-    assert!(rt; told.is_empty());
-    Ok(())
 }
