@@ -64,24 +64,6 @@ module _ {A : Type 0} where
       ∙ ap (λ t. word false (bytes_then b no_parts) t)
       (ap (λ vs. words_then vs no_words) (sym (behind_two x y ws)) ∙ last))
 
-  -- three words that are literals
-  pub three_literals : (ws : List (Word A)) (u v w : Word A) (a b c : List ℕ) →
-      3 ≤ length ws → length ws < 4 → u ≡ get_or ws 0 u → v ≡ get_or ws 1 v → w ≡ get_or ws 2 w →
-      IsLiteral u a → IsLiteral v b → IsLiteral w c → Are ws (a ∷ b ∷ c ∷ [])
-  three_literals [] u v w a b c three four first second third is other last =
-      absurd (omega (arith, three))
-  three_literals (x ∷ []) u v w a b c three four first second third is other last =
-      absurd (omega (arith, three))
-  three_literals (x ∷ y ∷ []) u v w a b c three four first second third is other last =
-      absurd (omega (arith, three))
-  three_literals (x ∷ y ∷ z ∷ []) u v w a b c three four first second third is other last =
-      literal_then x u a (words_then (y ∷ z ∷ []) no_words) first is
-      ∙ ap (λ t. word false (bytes_then a no_parts) t)
-      (literal_then y v b (words_then (z ∷ []) no_words) second other
-      ∙ ap (λ t. word false (bytes_then b no_parts) t) (literal_then z w c no_words third last))
-  three_literals (x ∷ y ∷ z ∷ more ∷ ws) u v w a b c three four first second third is other last =
-      absurd (omega (arith, three, four))
-
   -- no words
   pub no_literals : (ws : List (Word A)) → length ws ≡ 0 → Are ws []
   no_literals [] none = refl

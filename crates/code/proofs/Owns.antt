@@ -1,16 +1,18 @@
 -- A command that has code of its own.
-use Rattle.std.proofs.Common.{◌≡◌, ℕ, ◌+◌, false, true, List, [], ◌∷◌, ◌++◌, codes, length, sym, subst}
+use Rattle.std.proofs.Common.{◌≡◌, ℕ, ◌+◌, false, true, List, [], ◌∷◌, ◌++◌, codes, length, Option, None, sym, subst}
 use Rattle.std.specs.Prelude.{slice_set}
 use Rattle.code.specs.Blocks.{BranchesBlock, ItsBlock, OwnBlock, TurnsBlock, WordsBlock}
-use Rattle.code.specs.Code.{At, CommandAt, OwnAt, WordsAt, conditional, literals, own}
-use Rattle.code.specs.Conditional.{IsConditional, IsRead}
+use Rattle.code.specs.Code.{At, CommandAt, OwnAt, WordsAt, conditional, literals, own, while_loop}
+use Rattle.code.specs.Conditional.{IsConditional}
 use Rattle.code.specs.Own.{IsOwn, name_of}
-use Rattle.code.specs.declared.conditional.Branch.{Branch}
+use Rattle.code.specs.Repeat.{AreTurns, IsFor}
 use Rattle.code.specs.declared.conditional.Conditional.{Conditional}
 use Rattle.code.specs.declared.instruction.Instruction.{Instruction}
 use Rattle.code.specs.declared.instruction.Instruction.TheVariants as i
 use Rattle.code.specs.declared.own.Own.{Own}
 use Rattle.code.specs.declared.own.Own.TheVariants as read
+use Rattle.code.specs.declared.repeat.For.{For}
+use Rattle.code.specs.declared.repeat.Turns.{Turns}
 use Rattle.code.proofs.Built.{longer}
 use Rattle.code.proofs.Forks.{filled_length, forked, second_begins}
 use Rattle.tclparse.specs.Tree.{Words}
@@ -62,11 +64,29 @@ module _ {A : Type 0} where
       }) read_as
 
   -- what while does
-  pub while_block : (old new : List (Instruction A)) (known : Own A) (it : Branch A) →
+  pub while_block : (old new : List (Instruction A)) (known : Own A) (it : Turns A) →
       known ≡ read.While it →
-      ((test body : List ℕ) → IsRead it test body → TurnsBlock old new (test ∷ body ∷ [])) →
+      ((test : List ℕ) (step : Option (List ℕ)) (body : List ℕ) → AreTurns it test step body →
+      TurnsBlock old new test step body) →
       (args : List (List ℕ)) → IsOwn known args → ItsBlock (name_of known) old new args
   while_block old new known it is block args read_as =
       subst (λ o. IsOwn o args → ItsBlock (name_of o) old new args) (sym is)
-      (λ r. subst (λ texts. ItsBlock (codes "while") old new texts) (sym r.2) (block r.0 r.1 r.3))
+      (λ r. let put = block r.0 None r.1 r.3 in
+      subst (λ texts. ItsBlock (codes "while") old new texts) (sym r.2)
+      (record {
+        extends = put.extends;
+        lies = λ later kept. while_loop (put.lies later kept);
+      }))
+      read_as
+
+  -- what for does
+  pub for_block : (old new : List (Instruction A)) (known : Own A) (it : For A) →
+      known ≡ read.For it →
+      ((start test step body : List ℕ) → IsFor it start test step body →
+      ItsBlock (codes "for") old new (start ∷ test ∷ step ∷ body ∷ [])) →
+      (args : List (List ℕ)) → IsOwn known args → ItsBlock (name_of known) old new args
+  for_block old new known it is block args read_as =
+      subst (λ o. IsOwn o args → ItsBlock (name_of o) old new args) (sym is)
+      (λ r. subst (λ texts. ItsBlock (codes "for") old new texts) (sym r.4)
+      (block r.0 r.1 r.2 r.3 r.5))
       read_as

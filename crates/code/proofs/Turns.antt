@@ -1,71 +1,127 @@
 -- The code of the turns of a loop.
-use Rattle.std.proofs.Common.{◌≡◌, ◌∙◌, ℕ, ◌+◌, List, [], ◌∷◌, ◌++◌, Ok, length, codes, sym, subst, arith}
+use Rattle.std.proofs.Common.{◌≡◌, ℕ, ◌+◌, List, [], ◌∷◌, ◌++◌, Option, Some, None, Ok, length, codes, sym, subst, arith}
 use Rattle.std.specs.Prelude.{slice_set}
-use Rattle.code.specs.Blocks.{BodyBlock, Extends, FormulaBlock, Keeps, TurnsBlock}
-use Rattle.code.specs.Code.{At, BodyAt, FormulaAt, OwnAt, turns}
+use Rattle.code.specs.Blocks.{BodyBlock, Extends, FormulaBlock, ItsBlock, Keeps, StepBlock, TurnsBlock}
+use Rattle.code.specs.Code.{At, BodyAt, FormulaAt, StepAt, TurnsAt, for_loop, no_step, steps, turns}
+use Rattle.code.specs.Conditional.{IsBody}
+use Rattle.code.specs.Repeat.{IsStep}
 use Rattle.code.specs.declared.instruction.Instruction.{Instruction}
 use Rattle.code.specs.declared.instruction.Instruction.TheVariants as i
 use Rattle.code.proofs.Built.{extended, filled, filled_after, holes, kept_on, kept_then, longer, onward, stands, stands_filled}
 use Rattle.code.proofs.Forks.{filled_length}
 use Rattle.tclparse.specs.Formula.{Formula}
 use Rattle.tclparse.specs.FormulaGrammar.{IsFormula}
+use Rattle.tclparse.specs.declared.script.Script.{Script}
 
 module _ {A : Type 0} where
-  -- a body, after a jump to the test, and a test, after which a turn begins
-  pub turns_block : (old hole bodied ended filled_one tested turned new : List (Instruction A))
-      (f : Formula) (test body : List ℕ) → IsFormula (Ok f) test → hole ≡ old ++ i.Hole ∷ [] →
-      BodyBlock hole bodied body → ended ≡ bodied ++ i.EndTurn ∷ [] →
-      filled_one ≡ slice_set ended (length old) (i.Jump (length ended)) →
+  -- the end of a turn, where no script runs after it
+  pub no_step_block : (old new : List (Instruction A)) (read : Option (Script A))
+      (text : Option (List ℕ)) → read ≡ None → IsStep read text →
+      new ≡ old ++ i.EndTurn ∷ [] → StepBlock old new text
+  no_step_block old new None None none is put = record {
+    extends = extended old new i.EndTurn put;
+    lies = λ later kept. subst (λ n. StepAt later (length old) None n)
+        (sym (longer old new i.EndTurn put)) (no_step (stands old new later i.EndTurn tt put kept));
+  }
+  no_step_block old new None (Some text) none is put = absurd is
+  no_step_block old new (Some script) text none is put = absurd cc
+
+  -- the script that runs after each turn, and the end of a turn
+  pub step_block : (old entered between new : List (Instruction A)) (text : List ℕ) →
+      entered ≡ old ++ i.Step ∷ [] → BodyBlock entered between text →
+      new ≡ between ++ i.EndTurn ∷ [] → StepBlock old new (Some text)
+  step_block old entered between new text enters inside put =
+      let entering = extended old entered i.Step enters in
+      let ending = extended between new i.EndTurn put in record {
+        extends = onward entering (onward inside.extends ending);
+        lies = λ later kept.
+            let on = kept_on ending kept in
+            subst (λ n. StepAt later (length old) (Some text) n)
+            (sym (longer between new i.EndTurn put))
+            (steps (stands old entered later i.Step tt enters (kept_on inside.extends on))
+            (subst (λ n. BodyAt later n text (length between)) (longer old entered i.Step enters)
+            (inside.lies later on))
+            (stands between new later i.EndTurn tt put kept));
+      }
+
+  pub some_step_block : (old new : List (Instruction A)) (read : Option (Script A))
+      (script : Script A) (text : Option (List ℕ)) → read ≡ Some script → IsStep read text →
+      ((known : List ℕ) → IsBody script known → StepBlock old new (Some known)) →
+      StepBlock old new text
+  some_step_block old new read script None some is block =
+      let none : IsStep (Some script) None = subst (λ r. IsStep r None) some is in absurd none
+  some_step_block old new read script (Some text) some is block =
+      block text (subst (λ r. IsStep r (Some text)) some is)
+
+  -- a body, after a jump to the test, and what stands after it; and a test, after which a turn
+  -- begins
+  pub turns_block : (old hole bodied stepped filled_one tested turned new : List (Instruction A))
+      (f : Formula) (test : List ℕ) (step : Option (List ℕ)) (body : List ℕ) →
+      IsFormula (Ok f) test → hole ≡ old ++ i.Hole ∷ [] → BodyBlock hole bodied body →
+      StepBlock bodied stepped step →
+      filled_one ≡ slice_set stepped (length old) (i.Jump (length stepped)) →
       FormulaBlock filled_one tested f →
-      turned ≡ tested ++ i.Turn (length hole) (length ended) ∷ [] →
-      new ≡ turned ++ i.Text [] ∷ [] → TurnsBlock old new (test ∷ body ∷ [])
-  turns_block old hole bodied ended filled_one tested turned new f test body is put_hole bodies
-      put_end fill tests put_turn put_over =
+      turned ≡ tested ++ i.Turn (length hole) (length bodied) ∷ [] →
+      new ≡ turned ++ i.Text [] ∷ [] → TurnsBlock old new test step body
+  turns_block old hole bodied stepped filled_one tested turned new f test step body is put_hole
+      bodies ends fill tests put_turn put_over =
       let n = length old in
-      let m = length bodied in
-      let jump : Instruction A = i.Jump (length ended) in
-      let turn : Instruction A = i.Turn (length hole) (length ended) in
-      let again = extended bodied ended i.EndTurn put_end in
+      let jump : Instruction A = i.Jump (length stepped) in
+      let turn : Instruction A = i.Turn (length hole) (length bodied) in
       let turning = extended tested turned turn put_turn in
       let over = extended turned new (i.Text []) put_over in
       let at_body : length hole ≡ n + 1 = longer old hole i.Hole put_hole in
-      let at_test : length ended ≡ m + 1 = longer bodied ended i.EndTurn put_end in
-      let hole_at : At ended n i.Hole =
-      again.kept n i.Hole (bodies.extends.kept n i.Hole (holes old hole put_hole)) in
-      let up_to_ended = onward (extended old hole i.Hole put_hole) (onward bodies.extends again) in
+      let hole_at : At stepped n i.Hole =
+      ends.extends.kept n i.Hole (bodies.extends.kept n i.Hole (holes old hole put_hole)) in
+      let up_to_stepped =
+      onward (extended old hole i.Hole put_hole) (onward bodies.extends ends.extends) in
       let up_to_filled : Extends old filled_one =
       subst (λ code. Extends old code) (sym fill)
-      (filled_after old ended n jump (omega arith) up_to_ended) in
+      (filled_after old stepped n jump (omega arith) up_to_stepped) in
       record {
         extends = onward up_to_filled (onward tests.extends (onward turning over));
         lies = λ later kept.
             let kept_turned = kept_on over kept in
             let kept_tested = kept_on turning kept_turned in
             let kept_filled = kept_on tests.extends kept_tested in
-            let kept_ended : Keeps ended later =
-            kept_then (subst (λ code. Keeps ended code) (sym fill) (filled ended n jump hole_at))
+            let kept_stepped : Keeps stepped later =
+            kept_then
+            (subst (λ code. Keeps stepped code) (sym fill) (filled stepped n jump hole_at))
             kept_filled in
-            let ends : length new ≡ length tested + 2 =
+            let ends_at : length new ≡ length tested + 2 =
             omega (
               arith,
               longer turned new (i.Text []) put_over,
               longer tested turned turn
                   put_turn,
             ) in
-            subst (λ k. OwnAt later (codes "while") n (test ∷ body ∷ []) k) (sym ends)
+            subst (λ k. TurnsAt later n test step body k) (sym ends_at)
             (turns is
-            (subst (λ k. At later n (i.Jump k)) at_test
-            (stands_filled ended later n jump tt hole_at
-            (subst (λ code. Keeps code later) fill kept_filled)))
-            (subst (λ k. BodyAt later k body m) at_body (bodies.lies later (kept_on again
-            kept_ended)))
-            (stands bodied ended later i.EndTurn tt put_end kept_ended)
+            (stands_filled stepped later n jump tt hole_at
+            (subst (λ code. Keeps code later) fill kept_filled))
+            (subst (λ k. BodyAt later k body (length bodied)) at_body
+            (bodies.lies later (kept_on ends.extends kept_stepped)))
+            (ends.lies later kept_stepped)
             (subst (λ k. FormulaAt later k f (length tested))
-            (filled_length ended filled_one n jump fill ∙ at_test)
-            (tests.lies later kept_tested))
-            (subst (λ k. At later (length tested) (i.Turn k (m + 1))) at_body
-            (subst (λ k. At later (length tested) (i.Turn (length hole) k)) at_test
-            (stands tested turned later turn tt put_turn kept_turned)))
+            (filled_length stepped filled_one n jump fill) (tests.lies later kept_tested))
+            (subst (λ k. At later (length tested) (i.Turn k (length bodied))) at_body
+            (stands tested turned later turn tt put_turn kept_turned))
             (subst (λ k. At later k (i.Text [])) (longer tested turned turn put_turn)
             (stands turned new later (i.Text []) tt put_over kept)));
+      }
+
+  -- a start, whose value is dropped, and turns
+  pub for_block : (old started dropped new : List (Instruction A))
+      (start test step body : List ℕ) → BodyBlock old started start →
+      dropped ≡ started ++ i.Discard ∷ [] → TurnsBlock dropped new test (Some step) body →
+      ItsBlock (codes "for") old new (start ∷ test ∷ step ∷ body ∷ [])
+  for_block old started dropped new start test step body starts put repeats =
+      let dropping = extended started dropped i.Discard put in record {
+        extends = onward starts.extends (onward dropping repeats.extends);
+        lies = λ later kept.
+            let kept_dropped = kept_on repeats.extends kept in
+            for_loop (starts.lies later (kept_on dropping kept_dropped))
+            (stands started dropped later i.Discard tt put kept_dropped)
+            (subst (λ n. TurnsAt later n test (Some step) body (length new))
+            (longer started dropped i.Discard put) (repeats.lies later kept));
       }

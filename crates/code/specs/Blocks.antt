@@ -1,6 +1,6 @@
 -- What a call puts after the code that stands there already.
-use Rattle.std.specs.Prelude.{⊤, ◌≡◌, ℕ, ◌+◌, Bool, true, false, List, Option, codes, length}
-use Rattle.code.specs.Code.{At, JoinsAt, PartsAt, WordsAt, CommandAt, CommandsAt, ScriptAt, BranchesAt, BehindAt, BodyAt, OwnAt, FormulaAt, LinksAt, ArgumentsAt}
+use Rattle.std.specs.Prelude.{⊤, ◌≡◌, ℕ, ◌+◌, Bool, true, false, List, Option, length}
+use Rattle.code.specs.Code.{At, JoinsAt, PartsAt, WordsAt, CommandAt, CommandsAt, ScriptAt, BranchesAt, BehindAt, BodyAt, OwnAt, TurnsAt, StepAt, FormulaAt, LinksAt, ArgumentsAt}
 use Rattle.code.specs.declared.instruction.Instruction.{Instruction}
 use Rattle.code.specs.declared.instruction.Instruction.TheVariants as i
 use Rattle.tclparse.specs.Fault.{Fault}
@@ -95,10 +95,16 @@ abbrev pub ItsBlock : {A : Type 0} → List ℕ → List (Instruction A) → Lis
 ItsBlock name old new args = Block old new (λ later.
     OwnAt later name (length old) args (length new))
 
--- the turns of a loop, whose test and body these words are
-abbrev pub TurnsBlock : {A : Type 0} → List (Instruction A) → List (Instruction A) →
-    List (List ℕ) → Type 0
-TurnsBlock old new args = ItsBlock (codes "while") old new args
+-- the turns of a loop with this test, this script after each turn, if there is one, and this body
+abbrev pub TurnsBlock : {A : Type 0} → List (Instruction A) → List (Instruction A) → List ℕ →
+    Option (List ℕ) → List ℕ → Type 0
+TurnsBlock old new test step body = Block old new (λ later.
+    TurnsAt later (length old) test step body (length new))
+
+-- what stands after the body of a turn
+abbrev pub StepBlock : {A : Type 0} → List (Instruction A) → List (Instruction A) →
+    Option (List ℕ) → Type 0
+StepBlock old new step = Block old new (λ later. StepAt later (length old) step (length new))
 
 -- a formula
 abbrev pub FormulaBlock : {A : Type 0} → List (Instruction A) → List (Instruction A) → Formula →

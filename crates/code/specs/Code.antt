@@ -109,17 +109,38 @@ mutual
         CommandAt code (place + 1) ws mid → CommandsAt code mid cs end →
         CommandsAt code place (command ws cs) end
 
-  -- what the command of this name does with the words after it: if; or while, whose body stands
-  -- before its test, and after both of them the empty value (if(n); while(n))
+  -- what the command of this name does with the words after it: if; while; or for, whose start
+  -- runs before its turns, and has its value dropped (if(n); while(n); for(n))
   pub data OwnAt {A : Type 0} (code : List (Instruction A)) :
       List ℕ → ℕ → List (List ℕ) → ℕ → Type 0 where
     conditional : {place end : ℕ} {args : List (List ℕ)} → BranchesAt code place args end →
         OwnAt code (codes "if") place args end
-    turns : {place mid turn : ℕ} {test body : List ℕ} {f : Formula} → IsFormula (Ok f) test →
-        At code place (i.Jump (mid + 1)) → BodyAt code (place + 1) body mid →
-        At code mid i.EndTurn → FormulaAt code (mid + 1) f turn →
-        At code turn (i.Turn (place + 1) (mid + 1)) → At code (turn + 1) (i.Text []) →
-        OwnAt code (codes "while") place (test ∷ body ∷ []) (turn + 2)
+    while_loop : {place end : ℕ} {test body : List ℕ} → TurnsAt code place test None body end →
+        OwnAt code (codes "while") place (test ∷ body ∷ []) end
+    for_loop : {place mid end : ℕ} {start test step body : List ℕ} →
+        BodyAt code place start mid → At code mid i.Discard →
+        TurnsAt code (mid + 1) test (Some step) body end →
+        OwnAt code (codes "for") place (start ∷ test ∷ step ∷ body ∷ []) end
+
+  -- the turns of a loop with this test, this script after each turn, if there is one, and this
+  -- body: the body stands before the test, with which the loop begins, and after both of them the
+  -- empty value (while(n); for(n))
+  pub data TurnsAt {A : Type 0} (code : List (Instruction A)) :
+      ℕ → List ℕ → Option (List ℕ) → List ℕ → ℕ → Type 0 where
+    turns : {place mid again turn : ℕ} {test body : List ℕ} {step : Option (List ℕ)}
+        {f : Formula} → IsFormula (Ok f) test → At code place (i.Jump again) →
+        BodyAt code (place + 1) body mid → StepAt code mid step again →
+        FormulaAt code again f turn → At code turn (i.Turn (place + 1) mid) →
+        At code (turn + 1) (i.Text []) → TurnsAt code place test step body (turn + 2)
+
+  -- what stands after the body of a turn: the end of the turn, and before that the script that runs
+  -- after each turn, if there is one (for(n))
+  pub data StepAt {A : Type 0} (code : List (Instruction A)) :
+      ℕ → Option (List ℕ) → ℕ → Type 0 where
+    no_step : {place : ℕ} → At code place i.EndTurn → StepAt code place None (place + 1)
+    steps : {place mid : ℕ} {text : List ℕ} → At code place i.Step →
+        BodyAt code (place + 1) text mid → At code mid i.EndTurn →
+        StepAt code place (Some text) (mid + 1)
 
   -- a test, a body that runs where it holds, and what is done where it does not; the test and the
   -- body are what their words are read as (if(n))

@@ -1,4 +1,5 @@
 pub mod Code
 pub mod Blocks
 pub mod Conditional
+pub mod Repeat
 pub mod Own

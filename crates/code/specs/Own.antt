@@ -1,6 +1,7 @@
 -- What the words of a command that has code of its own are read as.
-use Rattle.std.specs.Prelude.{◌≡◌, ℕ, List, [], ◌∷◌, codes}
-use Rattle.code.specs.Conditional.{IsConditional, IsRead}
+use Rattle.std.specs.Prelude.{◌≡◌, ℕ, List, [], ◌∷◌, codes, None}
+use Rattle.code.specs.Conditional.{IsConditional}
+use Rattle.code.specs.Repeat.{AreTurns, IsFor}
 use Rattle.code.specs.declared.own.Own.{Own}
 use Rattle.code.specs.declared.own.Own.TheVariants as own
 
@@ -8,9 +9,13 @@ use Rattle.code.specs.declared.own.Own.TheVariants as own
 abbrev pub name_of : {A : Type 0} → Own A → List ℕ
 name_of (own.If it) = codes "if"
 name_of (own.While it) = codes "while"
+name_of (own.For it) = codes "for"
 
--- it is what the words after the name are read as (if(n); while(n))
+-- it is what the words after the name are read as (if(n); while(n); for(n))
 abbrev pub IsOwn : {A : Type 0} → Own A → List (List ℕ) → Type 0
 IsOwn (own.If it) args = IsConditional it args
 IsOwn (own.While it) args =
-    (test : List ℕ) × (body : List ℕ) × (args ≡ test ∷ body ∷ []) × IsRead it test body
+    (test : List ℕ) × (body : List ℕ) × (args ≡ test ∷ body ∷ []) × AreTurns it test None body
+IsOwn (own.For it) args =
+    (start : List ℕ) × (test : List ℕ) × (step : List ℕ) × (body : List ℕ) ×
+    (args ≡ start ∷ test ∷ step ∷ body ∷ []) × IsFor it start test step body

@@ -59,12 +59,18 @@ pub enum Instruction<A: Allocator> {
     /// of this name has of its own (proc(n)).
     Unhidden(Value<A>, usize),
     /// Drops the truth value of a loop's test. Where it is true, a tick is taken, and the first
-    /// place, where the body stands, is next: the only way back. From there up to `EndTurn`,
-    /// `continue` goes to the second place, where the test stands, and `break` to the place after
-    /// this one (while(n)).
+    /// place, where the body stands, is next: the only way back. Within the body `continue` goes to
+    /// the second place, where the body ends, with the empty text on top, and `break` to the place
+    /// after this one (while(n)).
     Turn(usize, usize),
-    /// The body of a loop is over: its value, which is on top, is dropped (while(n)).
+    /// The body of a turn is over: its value, which is on top, is dropped, and the script that runs
+    /// after each turn begins. Within it `break` goes where it went within the body, and `continue`
+    /// is passed on to what is around the loop (for(n)).
+    Step,
+    /// A turn is over: the value on top is dropped (while(n), for(n)).
     EndTurn,
+    /// The value on top is dropped (for(n)).
+    Discard,
     /// Nothing yet: a jump will stand here. No code that is whole has it.
     Hole,
 }

@@ -1,12 +1,19 @@
 //! Words that are texts as they stand.
 
-ghost use Rattle.std.specs.Prelude.{◌≡◌, IfSome};
-ghost use Rattle.code.specs.Conditional.{IsLiteral};
+ghost use Rattle.std.specs.Prelude.{◌≡◌, ◌∷◌, ℕ, List, IfSome};
+ghost use Rattle.code.specs.Conditional.{Are, IsLiteral};
 ghost use Rattle.tclparse.specs.Tree.{bytes_then, no_parts};
 ghost use Rattle.tclparse.specs.View.{part_view, parts_then};
 
 use std::alloc::Allocator;
 use tclparse::{Part, Word};
+
+/// The text of a word, and the words after it.
+#[derive(Drop)]
+pub(crate) struct First<'a, A: Allocator> {
+    pub text: &'a [u8],
+    pub rest: &'a [Word<A>],
+}
 
 /// The text of a word that has no substitutions; `None` where it has some, or is a list of words.
 pub(crate) fn literal_of<A: Allocator>(word: &Word<A>) -> Option<&[u8]>
@@ -16,6 +23,18 @@ pub(crate) fn literal_of<A: Allocator>(word: &Word<A>) -> Option<&[u8]>
         return None;
     }
     text_of(&word.parts)
+}
+
+/// The text of the first of some words, where it is a literal.
+pub(crate) fn first_of<A: Allocator>(words: &[Word<A>]) -> Option<First<'_, A>>
+    ensures { IfSome result (λ first. (texts : List (List ℕ)) → Are first.rest.now texts →
+        Are words.now (first.text.now ∷ texts)) }
+{
+    let [word, rest @ ..] = words else {
+        return None;
+    };
+    let text = literal_of(word)?;
+    Some(First { text, rest })
 }
 
 /// The text of these parts, where they are one literal, or none.

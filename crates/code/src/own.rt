@@ -7,12 +7,12 @@ ghost use Rattle.code.specs.Own.{IsOwn, name_of};
 ghost use Rattle.tclparse.specs.Tree.{no_words};
 ghost use Rattle.tclparse.specs.View.{words_then};
 
-use crate::conditional::{Branch, Conditional, emit_branches};
+use crate::conditional::{Conditional, emit_branches};
 use crate::emit::emit_words;
 use crate::formula::fill;
 use crate::instruction::Instruction;
 use crate::nest::{Flat, Nest};
-use crate::repeat::{emit_turns, read_while};
+use crate::repeat::{For, Turns, emit_for, emit_turns, read_for, read_while};
 use memory::NoMemory;
 use std::alloc::Allocator;
 use tclparse::Word;
@@ -23,8 +23,10 @@ use tcltext::Value;
 pub(crate) enum Own<A: Allocator> {
     /// `if`.
     If(Conditional<A>),
-    /// `while`, with a test and a body.
-    While(Branch<A>),
+    /// `while`.
+    While(Turns<A>),
+    /// `for`.
+    For(For<A>),
 }
 
 impl<A: Allocator + Copy> Own<A> {
@@ -36,8 +38,11 @@ impl<A: Allocator + Copy> Own<A> {
         if let Some(own) = Conditional::read(alloc, words)? {
             return Ok(Some(Own::If(own)));
         }
-        match read_while(alloc, words)? {
-            Some(own) => Ok(Some(Own::While(own))),
+        if let Some(own) = read_while(alloc, words)? {
+            return Ok(Some(Own::While(own)));
+        }
+        match read_for(alloc, words)? {
+            Some(own) => Ok(Some(Own::For(own))),
             None => Ok(None),
         }
     }
@@ -49,6 +54,7 @@ impl<A: Allocator + Copy> Own<A> {
         match self {
             Own::If(_) => b"if",
             Own::While(_) => b"while",
+            Own::For(_) => b"for",
         }
     }
 }
@@ -65,6 +71,7 @@ fn emit_its<A: Allocator + Copy, N: Nest<A>>(
     match own {
         Own::If(own) => Ok(emit_branches(code, own, nest)?),
         Own::While(own) => Ok(emit_turns(code, own, nest)?),
+        Own::For(own) => Ok(emit_for(code, own, nest)?),
     }
 }
 

@@ -1,12 +1,12 @@
 -- Where the code of what is left to be done stands.
 use Rattle.std.specs.Prelude.{◌≡◌, ℕ, suc, ◌+◌, ◌≤◌, List, [], ◌∷◌, Bool, true, false, Option, Some, None, Ok, is_some, length, slice_get}
-use Rattle.code.specs.Code.{At, JoinsAt, PartsAt, WordsAt, CommandAt, ScriptAt, BodyAt, FormulaAt, LinksAt, ArgumentsAt}
+use Rattle.code.specs.Code.{At, JoinsAt, PartsAt, WordsAt, CommandAt, ScriptAt, BodyAt, TurnsAt, FormulaAt, LinksAt, ArgumentsAt}
 use Rattle.code.specs.declared.instruction.Instruction.{Instruction}
 use Rattle.code.specs.declared.instruction.Instruction.TheVariants as i
 use Rattle.conditions.specs.Branches.{Branch}
 use Rattle.state.specs.Prelude.{LoopTree, ScriptTree}
 use Rattle.steps.specs.Operand.{Outer, Prefixed, Row, Right, Holds, Argument, Test, Chosen, Condition, Turning}
-use Rattle.steps.specs.Places.{Head, Has, Part, Joins, Gathers, Evaluates, Values, Starts, Chooses, Enters, Repeats, Finishes, Frame, Rest, Bracket, Body, Skip, Turns}
+use Rattle.steps.specs.Places.{Head, Has, Part, Joins, Gathers, Evaluates, Values, Starts, Chooses, Enters, Repeats, Finishes, Frame, Rest, Bracket, Body, Skip, For, Turns}
 use Rattle.steps.specs.Word.{Around, Open, Word, Plain, Expands, Operand}
 use Rattle.tclparse.specs.Formula.{Formula}
 use Rattle.tclparse.specs.FormulaGrammar.{IsFormula}
@@ -33,18 +33,30 @@ module _ {A : Type 0} (code : List (Instruction A)) where
     pub leaves : At code stop i.Leave
     pub ends : end ≡ stop + 1
 
-  -- a loop: the body of a turn, its test at the first place, what begins a turn at the second, and
-  -- after this the empty value; no script stands after its turns
-  pub record LoopAt (loop : LoopTree) (test turn : ℕ) : Type 0 where
+  -- after the body of a turn: the script that runs after it, if there is one, and then the end of
+  -- the turn
+  abbrev pub StepsAt : ℕ → Option ScriptTree → ℕ → Type 0
+  StepsAt place None end = At code place i.EndTurn × (end ≡ place + 1)
+  StepsAt place (Some step) end =
+      (over : ℕ) × At code place i.Step × EntersAt (place + 1) step over ×
+      At code over i.EndTurn × (end ≡ over + 1)
+
+  -- a loop: the body of a turn, what stands after it, the test, what begins a turn at this place,
+  -- and after this the empty value
+  pub record LoopAt (loop : LoopTree) (turn : ℕ) : Type 0 where
     pub body : ℕ
     pub ends : ℕ
+    pub test : ℕ
     pub enters : EntersAt body loop.body ends
-    pub done : At code ends i.EndTurn
-    pub behind : test ≡ ends + 1
+    pub steps : StepsAt ends loop.step test
     pub formula : FormulaAt code test loop.test turn
-    pub turns : At code turn (i.Turn body test)
+    pub turns : At code turn (i.Turn body ends)
     pub over : At code (turn + 1) (i.Text [])
-    pub no_step : loop.step ≡ None
+
+  -- the body of a turn is over here, where it ends, or else the script after it is
+  abbrev pub PartAt : ℕ → (loop : LoopTree) → (turn : ℕ) → LoopAt loop turn → Option ℕ → Type 0
+  PartAt place loop turn at (Some end) = (end ≡ place) × (at.ends ≡ place)
+  PartAt place loop turn at None = At code place i.EndTurn × (at.test ≡ place + 1)
 
   -- the second place, or a jump to it
   pub data LeadsTo : ℕ → ℕ → Type 0 where
@@ -54,7 +66,7 @@ module _ {A : Type 0} (code : List (Instruction A)) where
   -- a loop that goes on with its test
   abbrev pub RepeatsAt : ℕ → LoopTree → ℕ → Type 0
   RepeatsAt place loop end =
-      (test : ℕ) × (turn : ℕ) × LeadsTo place test × LoopAt loop test turn × (end ≡ turn + 2)
+      (turn : ℕ) × (at : LoopAt loop turn) × LeadsTo place at.test × (end ≡ turn + 2)
 
   -- the branches of if that are left, each a test, its body, a jump behind all of them, and what is
   -- left after it; and then the last body, or the empty text
@@ -97,7 +109,7 @@ module _ {A : Type 0} (code : List (Instruction A)) where
   OperandAt place (Condition body more otherwise ∷ outer) end =
       ConditionAt place body more otherwise end
   OperandAt place (Turning loop ∷ outer) end =
-      (test : ℕ) × LoopAt loop test place × (end ≡ place + 2)
+      LoopAt loop place × (end ≡ place + 2)
 
   -- after the value of a word come the words after it
   abbrev pub WordAt : ℕ → Word → ℕ → Type 0
@@ -156,6 +168,8 @@ module _ {A : Type 0} (code : List (Instruction A)) where
   FramesAt place (Body ∷ frames) = At code place i.Leave × FramesAt (place + 1) frames
   FramesAt place (Skip ∷ frames) =
       (end : ℕ) × At code place (i.Jump end) × (place + 1 ≤ end) × FramesAt end frames
-  FramesAt place (Turns loop test turn ∷ frames) =
-      At code place i.EndTurn × (test ≡ place + 1) × LoopAt loop test turn ×
-      FramesAt (turn + 2) frames
+  FramesAt place (For test step body ∷ frames) =
+      At code place i.Discard ×
+      ((end : ℕ) × TurnsAt code (place + 1) test (Some step) body end × FramesAt end frames)
+  FramesAt place (Turns loop ends turn ∷ frames) =
+      (at : LoopAt loop turn) × PartAt place loop turn at ends × FramesAt (turn + 2) frames

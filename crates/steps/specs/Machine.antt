@@ -9,7 +9,7 @@ use Rattle.state.specs.Faults.{flaw_of_fault}
 use Rattle.state.specs.Piece.{ListText}
 use Rattle.state.specs.Variables.{flaw_of_trouble, spelled}
 use Rattle.steps.specs.Formulas.{calling, choosing, joining_both, jumping, prefixing, putting, telling, unless}
-use Rattle.steps.specs.Loops.{ending, turning}
+use Rattle.steps.specs.Loops.{ending, stepping, turning}
 use Rattle.steps.specs.Moves.{fails, on_top, ticked, with_operands}
 use Rattle.steps.specs.Spot.{Spot, Did, Went, Reads, Begins, Over, Stuck, with_top}
 use Rattle.tclparse.specs.Seen.{fault_of}
@@ -92,6 +92,10 @@ abbrev pub unhidden : Option Procedure → ℕ → Spot → Status → Did
 unhidden None place spot s = jumping place spot s
 unhidden (Some procedure) place spot s = Went spot s
 
+-- the value on top is dropped (for(n))
+abbrev pub discarding : Spot → Status → Did
+discarding spot s = on_top spot.operands (λ value below. Went (with_operands below spot) s)
+
 -- what an instruction does, where the next place is at hand
 abbrev pub does : {A : Type 0} → Instruction A → Spot → Status → Did
 does i.Next spot s = ticking spot s
@@ -116,8 +120,10 @@ does i.Truth spot s = telling spot s
 does (i.Unless place) spot s = unless place spot s
 does (i.Jump place) spot s = jumping place spot s
 does (i.Unhidden name place) spot s = unhidden (found s.procedures name) place spot s
-does (i.Turn body test) spot s = turning body test spot s
+does (i.Turn body end) spot s = turning body end spot s
+does i.Step spot s = stepping spot s
 does i.EndTurn spot s = ending spot s
+does i.Discard spot s = discarding spot s
 does i.Hole spot s = Stuck
 
 -- the next place

@@ -1,8 +1,9 @@
 -- What is left to be done at a place of the code, as the proof sees it.
-use Rattle.std.specs.Prelude.{ℕ, suc, ◌+◌, List, [], ◌∷◌, ◌++◌, Bool, true, false, Option, length, reverse}
+use Rattle.std.specs.Prelude.{ℕ, suc, ◌+◌, List, [], ◌∷◌, ◌++◌, Bool, true, false, Option, Some, None, length, reverse}
 use Rattle.conditions.specs.Branches.{Branch}
 use Rattle.conditions.specs.Conditional.{chooses, passes}
-use Rattle.conditions.specs.Loop.{again, behind_body}
+use Rattle.conditions.specs.ForLoop.{started}
+use Rattle.conditions.specs.Loop.{again, behind_body, on_step}
 use Rattle.evaluation.specs.Evaluated.{evaluated}
 use Rattle.plan.specs.Plan.{and_then, onward, after}
 use Rattle.runs.specs.Commands.{command}
@@ -37,15 +38,18 @@ pub data Head : Type 0 where
 
 -- what is done with a value once it is on top: the commands of a script that are left follow; or a
 -- script in brackets is over, and its value is put after the bytes of an open word; or a body is
--- over, and its outcome is passed on; or the code goes on elsewhere; or the body of a turn is over,
--- and then comes the test of its loop, which stands at the first place, with the next turn at the
--- second (Tcl(n), rules 1 and 7; if(n); while(n))
+-- over, and its outcome is passed on; or the code goes on elsewhere; or the start of for is over,
+-- and turns with this test, this script after each turn and this body follow; or the body of a turn
+-- is over, at the place where it ends, or else, without a place, the script after it is, and then
+-- the loop goes on, whose next turn begins at the other place (Tcl(n), rules 1 and 7; if(n);
+-- while(n); for(n))
 pub data Frame : Type 0 where
   Rest : (commands : Commands) (fault : Option Fault) → Frame
   Bracket : (word : Open) → Frame
   Body : Frame
   Skip : Frame
-  Turns : (loop : LoopTree) (test turn : ℕ) → Frame
+  For : (test step body : List ℕ) → Frame
+  Turns : (loop : LoopTree) (ends : Option ℕ) (turn : ℕ) → Frame
 
 -- what is being done, as a course
 abbrev pub course_of : ℕ → Head → Status → Course
@@ -62,6 +66,11 @@ course_of levels (Enters tree) s = inside levels tree s passes
 course_of levels (Repeats loop) s = again loop levels s
 course_of levels Finishes s = gives [] s
 
+-- what follows the body of a turn, or else the script after it (while(n), for(n))
+abbrev pub behind_part : LoopTree → ℕ → Option ℕ → Status → Outcome → Course
+behind_part loop levels (Some end) = behind_body loop levels
+behind_part loop levels None = on_step (again loop levels)
+
 -- what is done next, the top frame first; what is around a script in brackets, or around a body,
 -- stands one level up
 abbrev pub nexts : ℕ → List Frame → List (Status → Outcome → Course)
@@ -72,7 +81,9 @@ nexts levels (Bracket word ∷ frames) =
     on_value (λ s value. course_of (suc levels) (Joins value word) s) ∷ nexts (suc levels) frames
 nexts levels (Body ∷ frames) = passes ∷ nexts (suc levels) frames
 nexts levels (Skip ∷ frames) = nexts levels frames
-nexts levels (Turns loop test turn ∷ frames) = behind_body loop levels ∷ nexts levels frames
+nexts levels (For test step body ∷ frames) =
+    on_value (started levels test step body) ∷ nexts levels frames
+nexts levels (Turns loop ends turn ∷ frames) = behind_part loop levels ends ∷ nexts levels frames
 
 -- what is done with an outcome: the frames from the top down, and then what is done last
 abbrev pub onward_of : {X : Type 0} → (Status → Outcome → Dialogue X) → ℕ → List Frame →
@@ -92,7 +103,8 @@ beneath (Rest cs f ∷ frames) = beneath frames
 beneath (Bracket word ∷ frames) = operands_of word (beneath frames)
 beneath (Body ∷ frames) = beneath frames
 beneath (Skip ∷ frames) = beneath frames
-beneath (Turns loop test turn ∷ frames) = beneath frames
+beneath (For test step body ∷ frames) = beneath frames
+beneath (Turns loop ends turn ∷ frames) = beneath frames
 
 -- where words are counted, one more mark
 abbrev pub marked : Bool → ℕ → List ℕ → List ℕ
@@ -107,7 +119,8 @@ marks_beneath (Bracket word ∷ frames) =
     marked (is_counted word.word) (length (beneath frames)) (marks_beneath frames)
 marks_beneath (Body ∷ frames) = marks_beneath frames
 marks_beneath (Skip ∷ frames) = marks_beneath frames
-marks_beneath (Turns loop test turn ∷ frames) = marks_beneath frames
+marks_beneath (For test step body ∷ frames) = marks_beneath frames
+marks_beneath (Turns loop ends turn ∷ frames) = marks_beneath frames
 
 -- the handlers that the frames have: one for each turn that is open
 abbrev pub handlers_beneath : ℕ → List Frame → List Handler
@@ -116,9 +129,10 @@ handlers_beneath levels (Rest cs f ∷ frames) = handlers_beneath levels frames
 handlers_beneath levels (Bracket word ∷ frames) = handlers_beneath (suc levels) frames
 handlers_beneath levels (Body ∷ frames) = handlers_beneath (suc levels) frames
 handlers_beneath levels (Skip ∷ frames) = handlers_beneath levels frames
-handlers_beneath levels (Turns loop test turn ∷ frames) =
+handlers_beneath levels (For test step body ∷ frames) = handlers_beneath levels frames
+handlers_beneath levels (Turns loop ends turn ∷ frames) =
     record {
-      again = test;
+      ends = ends;
       over = turn + 1;
       operands = length (beneath frames);
       marks = length (marks_beneath frames);
@@ -171,4 +185,5 @@ brackets (Rest cs f ∷ frames) = brackets frames
 brackets (Bracket word ∷ frames) = suc (brackets frames)
 brackets (Body ∷ frames) = suc (brackets frames)
 brackets (Skip ∷ frames) = brackets frames
-brackets (Turns loop test turn ∷ frames) = brackets frames
+brackets (For test step body ∷ frames) = brackets frames
+brackets (Turns loop ends turn ∷ frames) = brackets frames

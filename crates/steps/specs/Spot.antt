@@ -1,13 +1,13 @@
 -- Where the run of a code stands, and the result of an instruction.
-use Rattle.std.specs.Prelude.{ℕ, List, [], ◌∷◌}
+use Rattle.std.specs.Prelude.{ℕ, List, [], ◌∷◌, Option}
 use Rattle.state.specs.Piece.{Text, Tree}
 use Rattle.state.specs.Prelude.{Outcome, Status}
 
--- what a turn of a loop does with continue and with break: the place where the test stands, the
--- place behind the loop, and how many operands, marks and levels there are outside of the turn
--- (while(n))
+-- what a turn of a loop does with continue and with break: the place where its body ends, unless it
+-- is over and the script after it runs; the place after the loop; and how many operands, marks and
+-- levels there are outside of the turn (while(n), for(n))
 pub record Handler : Type 0 where
-  pub again : ℕ
+  pub ends : Option ℕ
   pub over : ℕ
   pub operands : ℕ
   pub marks : ℕ

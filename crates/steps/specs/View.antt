@@ -11,7 +11,7 @@ use Rattle.tclstate.specs.Procs.{Procs}
 -- what a turn of a loop does with continue and with break
 abbrev pub handler_of : turns.Handler → Handler
 handler_of handler = record {
-  again = handler.again;
+  ends = handler.ends;
   over = handler.over;
   operands = handler.operands;
   marks = handler.marks;

@@ -1,11 +1,12 @@
 //! What `continue` and `break` do in a turn of a loop.
 
-/// What a turn of a loop does with `continue` and with `break` (while(n)).
+/// What a turn of a loop does with `continue` and with `break` (while(n), for(n)).
 #[derive(Clone, Copy, Debug)]
 pub struct Handler {
-    /// The place where the test of the loop stands.
-    pub again: usize,
-    /// The place behind the loop.
+    /// The place where the body of the turn ends, to which `continue` leads; `None` once it is
+    /// over, while the script that stands after it runs.
+    pub ends: Option<usize>,
+    /// The place after the loop, to which `break` leads.
     pub over: usize,
     /// How many operands there are outside of the turn.
     pub operands: usize,

@@ -2,7 +2,7 @@
 
 ghost use Rattle.std.specs.Prelude.{◌≡◌, ◌≤◌, ◌-◌, [], ◌∷◌, length, Some, IfOk};
 ghost use Rattle.state.specs.Prelude.{Status};
-ghost use Rattle.steps.specs.Machine.{beginning, beginning_counted, counting, entering, joining, leaving, ticking};
+ghost use Rattle.steps.specs.Machine.{beginning, beginning_counted, counting, discarding, entering, joining, leaving, ticking};
 ghost use Rattle.steps.specs.Moves.{on_top};
 ghost use Rattle.steps.specs.Spot.{Over as is_over, Went as goes, beginning_at, with_top};
 ghost use Rattle.state.specs.Prelude.{Gives};
@@ -86,6 +86,18 @@ impl<A: Allocator + Copy> Spot<A> {
             return Some(Stopped::Over(Err(Leave::Stopped(Stop::Limit))));
         }
         *left -= 1;
+        None
+    }
+
+    /// Drops the value on top.
+    pub fn discard(&mut self) -> Option<Stopped<A>>
+        ensures does { (s : Status) →
+            did_of result (spot_of self.new) s ≡ discarding (spot_of self.old) s }
+        ensures place { self.new.place ≡ self.old.place }
+    {
+        let Some(_) = self.operands.pop() else {
+            return Some(Stopped::Stuck);
+        };
         None
     }
 

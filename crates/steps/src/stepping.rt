@@ -9,7 +9,7 @@ ghost use Rattle.steps.specs.Spot.{Reads as reads_text};
 ghost use Rattle.tclstate.specs.Pairs.{found};
 ghost use Rattle.steps.specs.View.{did_of, spot_of, with_parts};
 
-use crate::looping::{end_turn, turn};
+use crate::looping::{begin_step, end_turn, turn};
 use crate::operating::{apply, choose, join_both, jump, jump_unless, number, prefix, tell};
 use crate::spot::Spot;
 use crate::stopped::{Stopped, failed};
@@ -166,8 +166,10 @@ fn perform<A: Allocator + Copy>(
         Instruction::Unhidden(name, place) => {
             Ok(jump_unhidden(spot, procs, name.as_slice(), *place))
         }
-        Instruction::Turn(body, test) => Ok(turn(alloc, spot, *body, *test, left)?),
+        Instruction::Turn(body, end) => Ok(turn(alloc, spot, *body, *end, left)?),
+        Instruction::Step => Ok(begin_step(spot)?),
         Instruction::EndTurn => Ok(end_turn(spot)),
+        Instruction::Discard => Ok(spot.discard()),
         Instruction::Hole => Ok(Some(Stopped::Stuck)),
     }
 }

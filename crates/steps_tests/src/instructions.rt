@@ -34,9 +34,16 @@ fn show<A: Allocator>(shown: &mut Vec<u8, A>, it: &Instruction<A>) -> Result<(),
         Instruction::Unhidden(name, 7) => (b"unhidden 7 ", name.as_slice()),
         Instruction::Jump(14) => (b"jump 14", b""),
         Instruction::Jump(17) => (b"jump 17", b""),
-        Instruction::Turn(8, 14) => (b"turn 8 14", b""),
+        Instruction::Turn(8, 13) => (b"turn 8 13", b""),
         Instruction::EndTurn => (b"end turn", b""),
         Instruction::Command(3) => (b"command 3", b""),
+        Instruction::Unhidden(name, 9) => (b"unhidden 9 ", name.as_slice()),
+        Instruction::Jump(28) => (b"jump 28", b""),
+        Instruction::Jump(31) => (b"jump 31", b""),
+        Instruction::Turn(16, 21) => (b"turn 16 21", b""),
+        Instruction::Step => (b"step", b""),
+        Instruction::Discard => (b"discard", b""),
+        Instruction::Command(5) => (b"command 5", b""),
         _ => (b"another", b""),
     };
     shown.extend_from_slice(name)?;
@@ -101,7 +108,25 @@ fn a_loop_begins_with_its_test_behind_its_body(rt: HostRuntime) -> Result<(), Fa
     }
     let wanted: &[u8] = b"next\nunhidden 7 while\ntext while\ntext 1\ntext f\ncommand 3\n\
         jump 17\njump 14\nenter\nnext\ntext f\ncommand 1\nleave\nend turn\nnumeral 1\n\
-        turn 8 14\ntext \n";
+        turn 8 13\ntext \n";
+    assert_eq!(&rt; shown.as_slice(), wanted);
+    Ok(())
+}
+
+#[test]
+fn a_script_before_the_turns_and_one_after_each_stand_around_the_body(
+    rt: HostRuntime,
+) -> Result<(), Fail> {
+    let script = Script::read(rt.alloc(), b"for f 1 g h")?;
+    let code = code_of(rt.alloc(), &script)?;
+    let mut shown = Vec::new(rt.alloc());
+    for it in &code {
+        show(&mut shown, it)?;
+    }
+    let wanted: &[u8] = b"next\nunhidden 9 for\ntext for\ntext f\ntext 1\ntext g\ntext h\n\
+        command 5\njump 31\nenter\nnext\ntext f\ncommand 1\nleave\ndiscard\njump 28\n\
+        enter\nnext\ntext h\ncommand 1\nleave\nstep\nenter\nnext\ntext g\ncommand 1\nleave\n\
+        end turn\nnumeral 1\nturn 16 21\ntext \n";
     assert_eq!(&rt; shown.as_slice(), wanted);
     Ok(())
 }

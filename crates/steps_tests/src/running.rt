@@ -344,12 +344,73 @@ fn break_and_continue_lead_out_of_words(rt: HostRuntime) -> Result<(), Fail> {
 }
 
 #[test]
+fn a_loop_with_a_start_runs_as_tclsh_runs_it(rt: HostRuntime) -> Result<(), Fail> {
+    // tclsh 8.6.13, as above
+    let scripts: [(&[u8], &[u8]); 7] = [
+        (
+            b"for {f} {[count] < 3} {g $i} {h}; k",
+            b"<f>\n<count>\n<h>\n<g><2>\n<count>\n<h>\n<g><2>\n<count>\n<k>\nv\n",
+        ),
+        (b"f [for {f} 0 {g} {h}]", b"<f>\n<f><>\nv\n"),
+        (
+            b"for f {[count] < 3} g {h; break; k}; l",
+            b"<f>\n<count>\n<h>\n<break>\n<l>\nv\n",
+        ),
+        (
+            b"for f {[count] < 3} g {h [continue] k}; l",
+            b"<f>\n<count>\n<continue>\n<g>\n<count>\n<continue>\n<g>\n<count>\n<l>\nv\n",
+        ),
+        (
+            b"for f {[count] < 3} {g a[break]} h; l",
+            b"<f>\n<count>\n<h>\n<break>\n<l>\nv\n",
+        ),
+        (b"for {} 1 {f \"} g", b"<g>\nmissing \"\n"),
+        (b"for {} 0 {f \"} {g \"}", b"\n"),
+    ];
+    for (text, wanted) in scripts {
+        repeat(&rt, rt.alloc(), text, wanted)?;
+    }
+    Ok(())
+}
+
+#[test]
+fn what_a_loop_does_not_end_leads_out_of_it(rt: HostRuntime) -> Result<(), Fail> {
+    // tclsh 8.6.13, as above
+    let scripts: [(&[u8], &[u8]); 5] = [
+        (
+            b"while {[count] < 3} {for f 1 continue g; h}; k",
+            b"<count>\n<f>\n<g>\n<continue>\n<count>\n<f>\n<g>\n<continue>\n<count>\n<k>\nv\n",
+        ),
+        (
+            b"while {[count] < 3} {for break 1 f g; h}; k",
+            b"<count>\n<break>\n<k>\nv\n",
+        ),
+        (
+            b"while {[count] < 3} {for continue 1 f g; h}; k",
+            b"<count>\n<continue>\n<count>\n<continue>\n<count>\n<k>\nv\n",
+        ),
+        (
+            b"while {[count] < 4} {for f {[count] < 3} g {if {$a} {continue}}; h}; k",
+            b"<count>\n<f>\n<count>\n<continue>\n<g>\n<count>\n<h>\n<count>\n<k>\nv\n",
+        ),
+        (b"for {} {[break]} f g; h", b"<break>\n\n"),
+    ];
+    for (text, wanted) in scripts {
+        repeat(&rt, rt.alloc(), text, wanted)?;
+    }
+    Ok(())
+}
+
+#[test]
 fn a_loop_without_code_of_its_own_begins_by_its_words(rt: HostRuntime) -> Result<(), Fail> {
     // its words are no literals, its test is no formula, or there are too few of them
-    let scripts: [(&[u8], &[u8]); 3] = [
+    let scripts: [(&[u8], &[u8]); 6] = [
         (b"while $a g", b"<while><1><g>\nv\n"),
         (b"while {1 +} f", b"<while><1 +><f>\nv\n"),
         (b"while 1", b"<while><1>\nv\n"),
+        (b"for $a 1 g h", b"<for><1><1><g><h>\nv\n"),
+        (b"for f {1 +} g h", b"<for><f><1 +><g><h>\nv\n"),
+        (b"for f 1 g", b"<for><f><1><g>\nv\n"),
     ];
     for (text, wanted) in scripts {
         compare(&rt, rt.alloc(), text, wanted)?;
@@ -360,19 +421,24 @@ fn a_loop_without_code_of_its_own_begins_by_its_words(rt: HostRuntime) -> Result
 #[test]
 fn a_turn_takes_a_tick_and_a_level(rt: HostRuntime) -> Result<(), Fail> {
     // three ticks are there
-    let scripts: [(&[u8], &[u8]); 3] = [
+    let scripts: [(&[u8], &[u8]); 6] = [
         (b"while 1 {}", b"stopped\n"),
         (b"while 1 f", b"<f>\nstopped\n"),
+        (b"for {} 1 {} {}", b"stopped\n"),
+        (b"for f 1 g h", b"<f>\nstopped\n"),
+        (b"for {} 1 g h", b"<h>\nstopped\n"),
         (b"break; f", b"<break>\n\n"),
     ];
     for (text, wanted) in scripts {
         compare(&rt, rt.alloc(), text, wanted)?;
     }
-    repeat(
-        &rt,
-        rt.alloc(),
+    let nested: [&[u8]; 3] = [
         b"while 1 {f [g [h [i]]]}",
-        b"too many nested evaluations\n",
-    )?;
+        b"for {} 1 {f [g [h [i]]]} {}",
+        b"for {f [g [h [i]]]} 1 {} {}",
+    ];
+    for text in nested {
+        repeat(&rt, rt.alloc(), text, b"too many nested evaluations\n")?;
+    }
     Ok(())
 }

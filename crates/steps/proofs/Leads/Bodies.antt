@@ -1,13 +1,13 @@
 -- A script that runs one level deeper.
-use Rattle.std.proofs.Common.{ℕ, zero, suc, ◌+◌, ◌≤◌, List, [], ◌∷◌, refl, subst, arith}
+use Rattle.std.proofs.Common.{◌≡◌, ℕ, zero, suc, ◌+◌, ◌≤◌, List, [], ◌∷◌, refl, subst, arith}
 use Rattle.std.specs.Prelude.{slice_get}
 use Rattle.code.specs.Code.{BodyAt, deeper}
 use Rattle.code.specs.declared.instruction.Instruction.{Instruction}
 use Rattle.code.specs.declared.instruction.Instruction.TheVariants as i
 use Rattle.conditions.specs.Conditional.{passes}
 use Rattle.plan.specs.Plan.{and_then, onward}
-use Rattle.state.specs.Piece.{ScriptText}
-use Rattle.state.specs.Prelude.{Dialogue, Outcome, ScriptTree, Status, within}
+use Rattle.state.specs.Piece.{IsTree, ScriptText}
+use Rattle.state.specs.Prelude.{Course, Dialogue, inside, Outcome, ScriptTree, Status, within}
 use Rattle.steps.specs.Follows.{Comes, Follows}
 use Rattle.steps.specs.Goes.{here, calls, reads}
 use Rattle.steps.specs.Layout.{EntersAt, FramesAt}
@@ -15,6 +15,37 @@ use Rattle.steps.specs.Machine.{machine}
 use Rattle.steps.specs.Places.{Has, Enters, Frame, Rest, Body, beneath, brackets, handlers_beneath, left_of, marks_beneath, onward_of, spot_at}
 use Rattle.steps.proofs.Leads.Silent.{same_goes}
 use Rattle.steps.proofs.Leads.Standing.{by, errors_pass, sooner, stands}
+
+-- what follows a script may be done once its outcome has passed
+pub inside_passes : {X : Type 0} (levels : ℕ) (tree : ScriptTree) (s : Status)
+    (next : Status → Outcome → Course) (last : Status → Outcome → Dialogue X) →
+    and_then (inside levels tree s next) (onward last)
+    ≡ and_then (inside levels tree s passes) (onward (λ t o. and_then (next t o) (onward last)))
+inside_passes zero tree s next last = refl
+inside_passes (suc levels) tree s next last = refl
+
+-- what a body is read as, and where that stands
+pub record Read {A : Type 0} (code : List (Instruction A)) (place : ℕ) (body : List ℕ) (end : ℕ) :
+    Type 0 where
+  pub tree : ScriptTree
+  pub is : IsTree (ScriptText body) tree
+  pub at : EntersAt code place tree end
+
+pub body_read : {A : Type 0} (code : List (Instruction A)) {place : ℕ} {body : List ℕ} {end : ℕ} →
+    BodyAt code place body end → Read code place body end
+body_read code (deeper {mid = mid} {leave = leave} {cs = cs} {f = f} is enters commands ends
+    leaves) =
+    record {
+      tree = record { commands = cs; fault = f };
+      is = is;
+      at = record {
+        enters = enters;
+        stop = leave;
+        script = record { mid = mid; commands = commands; ends = ends };
+        leaves = leaves;
+        ends = refl;
+      };
+    }
 
 module _ {A X : Type 0} (code : List (Instruction A)) (last : Status → Outcome → Dialogue X) where
   -- a body begins: its text is read
@@ -27,19 +58,10 @@ module _ {A X : Type 0} (code : List (Instruction A)) (last : Status → Outcome
         levels = levels;
         handlers = handlers_beneath levels fs;
       }) s (and_then (within levels body s passes) (onward (onward_of last levels fs)))
-  body_begins place levels body fs end s (deeper {mid = mid} {leave = leave} {cs = cs} {f = f} is
-      enters commands ends leaves) behind fits =
-      sooner code last _ s
-      (reads {text = ScriptText body} (record { commands = cs; fault = f }) is here)
-      (stands code last place levels (Enters (record { commands = cs; fault = f })) fs (leave + 1) s
-      (record {
-        enters = enters;
-        stop = leave;
-        script = record { mid = mid; commands = commands; ends = ends };
-        leaves = leaves;
-        ends = refl;
-      })
-      behind fits)
+  body_begins place levels body fs end s at behind fits =
+      let read = body_read code at in
+      sooner code last _ s (reads {text = ScriptText body} read.tree read.is here)
+      (stands code last place levels (Enters read.tree) fs end s read.at behind fits)
 
   -- its script begins, where a level is left
   pub enters_leads : (levels : ℕ) (tree : ScriptTree) (fs : List Frame) (s : Status)

@@ -2,7 +2,7 @@
 use Rattle.std.proofs.Common.{◌≡◌, ◌∙◌, ℕ, ◌+◌, ◌≤◌, List, [], ◌∷◌, ◌++◌, false, Option, Some, None, Ok, option_map, append_assoc, codes, refl, sym, ap, subst, arith, if◌then◌else◌}
 use Rattle.std.specs.Prelude.{slice_get}
 use Rattle.std.proofs.lemmas.List.{append-nil}
-use Rattle.code.specs.Code.{At, CommandAt, by_words, own, OwnAt, conditional, turns, BranchesAt, branch, BehindAt, no_else, at_last, else_if, IsBranch, without_then, with_then, IsLast, with_else, without_else, deeper, WordsAt, literals}
+use Rattle.code.specs.Code.{At, CommandAt, by_words, own, OwnAt, conditional, while_loop, for_loop, BranchesAt, branch, BehindAt, no_else, at_last, else_if, IsBranch, without_then, with_then, IsLast, with_else, without_else, WordsAt, literals}
 use Rattle.code.specs.declared.instruction.Instruction.{Instruction}
 use Rattle.code.specs.declared.instruction.Instruction.TheVariants as i
 use Rattle.conditions.specs.Branches as definition
@@ -11,17 +11,17 @@ use Rattle.conditions.specs.Conditional.{on_branches}
 use Rattle.plan.specs.Plan.{and_then, onward}
 use Rattle.runs.specs.Commands.{called, command}
 use Rattle.state.specs.Piece.{FormulaText, ScriptText}
-use Rattle.state.specs.Prelude.{Course, Dialogue, Outcome, ScriptTree, Status}
+use Rattle.state.specs.Prelude.{Course, Dialogue, Outcome, Status}
 use Rattle.steps.specs.Follows.{Comes, Follows}
 use Rattle.steps.specs.Goes.{here, reads}
 use Rattle.steps.specs.Layout.{ChoosesAt, FramesAt}
 use Rattle.steps.specs.Machine.{machine, unhidden}
 use Rattle.steps.specs.Operand.{Condition}
 use Rattle.steps.specs.Places.{Has, Gathers, Starts, Chooses, Frame, Skip, brackets, left_of, onward_of, spot_at}
-use Rattle.steps.proofs.Leads.Bodies.{enters_leads}
+use Rattle.steps.proofs.Leads.Bodies.{body_read, enters_leads}
 use Rattle.steps.proofs.Leads.Formulas.{formula_leads}
 use Rattle.steps.proofs.Leads.Grows.{behind_grows, own_grows, words_grow}
-use Rattle.steps.proofs.Leads.Loops.{while_begins}
+use Rattle.steps.proofs.Leads.Loops.{for_begins, while_begins}
 use Rattle.steps.proofs.Leads.Meanings.{jump_leads}
 use Rattle.steps.proofs.Leads.Silent.{same_goes}
 use Rattle.steps.proofs.Leads.Standing.{by, silently, sooner, stands}
@@ -113,19 +113,10 @@ module _ {A X : Type 0} (code : List (Instruction A)) (last : Status → Outcome
       by code last (i.Text []) (spot_at place levels (Chooses [] None) fs) s _ at.0
       (stands code last (place + 1) levels (Has []) fs (place + 1) s refl
       (subst (λ n. FramesAt code n fs) at.1 behind) fits)
-  chooses_lead levels end fs s place [] (Some body) (deeper {mid = mid} {leave = leave} {cs = cs}
-      {f = f} is enters commands ends leaves) behind fits =
-      let tree : ScriptTree = record { commands = cs; fault = f } in
-      silently code last _ (reads {text = ScriptText body} tree is here)
-      (enters_leads code last levels tree fs s place (leave + 1)
-      (record {
-        enters = enters;
-        stop = leave;
-        script = record { mid = mid; commands = commands; ends = ends };
-        leaves = leaves;
-        ends = refl;
-      })
-      behind fits)
+  chooses_lead levels end fs s place [] (Some body) at behind fits =
+      let read = body_read code at in
+      silently code last _ (reads {text = ScriptText body} read.tree read.is here)
+      (enters_leads code last levels read.tree fs s place end read.at behind fits)
   chooses_lead levels end fs s place (first ∷ more) otherwise at behind fits =
       silently code last _ (reads {text = FormulaText first.test} (Ok at.0) at.2 here)
       (formula_leads code last levels end fs s (Condition first.body more otherwise ∷ []) place at.0
@@ -146,14 +137,21 @@ module _ {A X : Type 0} (code : List (Instruction A)) (last : Status → Outcome
       ∙ ap (λ known. on_branches levels known s) branches_at.is)))
       (stands code last place levels (Chooses branches_at.it.tests branches_at.it.otherwise) fs end
       s branches_at.at behind fits)
-  own_begins levels fs s name place args end none (turns {mid = mid} {turn = turn} {test = test}
-      {body = body} {f = f} is jump body_at done formula begins over) behind fits =
+  own_begins levels fs s name place args end none (while_loop {test = test} {body = body} at) behind
+      fits =
       sooner code last _ s
       (same_goes (ap (λ c. and_then c (onward (onward_of last levels fs)))
       (literal_words levels (codes "while" ∷ args) [] s (command levels)
       ∙ ap (λ procedure. called procedure levels (codes "while") args s) none)))
-      (while_begins code last levels fs s place mid turn test body f is jump body_at done formula
-      begins over behind fits)
+      (while_begins code last levels fs s place test body end at behind fits)
+  own_begins levels fs s name place args end none (for_loop {mid = mid} {start = start}
+      {test = test} {step = step} {body = body} start_at drops at) behind fits =
+      sooner code last _ s
+      (same_goes (ap (λ c. and_then c (onward (onward_of last levels fs)))
+      (literal_words levels (codes "for" ∷ args) [] s (command levels)
+      ∙ ap (λ procedure. called procedure levels (codes "for") args s) none)))
+      (for_begins code last levels fs s place mid start test step body end start_at drops at behind
+      fits)
 
   -- a procedure hides it, or none does
   unhidden_leads : (procedure : Option Procedure) (levels : ℕ) (fs : List Frame) (s : Status)

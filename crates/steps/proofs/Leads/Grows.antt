@@ -1,6 +1,6 @@
 -- Code ends at its beginning, or after it.
 use Rattle.std.proofs.Common.{ℕ, ◌≤◌, List, Bool, Option, arith}
-use Rattle.code.specs.Code.{JoinsAt, first, joined, PartsAt, over, empty, text, value, item, bracket, WordsAt, begins, begins_counted, one, counts, spread, CommandAt, by_words, own, CommandsAt, done, next, FaultAt, none, fault, OwnAt, conditional, turns, BranchesAt, branch, BehindAt, no_else, at_last, else_if, BodyAt, deeper, FormulaAt, number, parts, called, prefixed, in_row, chosen, LinksAt, no_more, both, and_also, or_else, ArgumentsAt, no_argument, argument}
+use Rattle.code.specs.Code.{JoinsAt, first, joined, PartsAt, over, empty, text, value, item, bracket, WordsAt, begins, begins_counted, one, counts, spread, CommandAt, by_words, own, CommandsAt, done, next, FaultAt, none, fault, OwnAt, conditional, while_loop, for_loop, TurnsAt, turns, StepAt, no_step, steps, BranchesAt, branch, BehindAt, no_else, at_last, else_if, BodyAt, deeper, FormulaAt, number, parts, called, prefixed, in_row, chosen, LinksAt, no_more, both, and_also, or_else, ArgumentsAt, no_argument, argument}
 use Rattle.code.specs.declared.instruction.Instruction.{Instruction}
 use Rattle.tclparse.specs.Fault.{Fault}
 use Rattle.tclparse.specs.Formula.{Formula, Links, Formulas}
@@ -47,8 +47,18 @@ module _ {A : Type 0} (code : List (Instruction A)) where
     pub own_grows : {name : List ℕ} {place : ℕ} {args : List (List ℕ)} {end : ℕ} →
         OwnAt code name place args end → place ≤ end
     own_grows (conditional it) = branches_grow it
-    own_grows (turns is jump body ends test turn last) =
-        omega (arith, body_grows body, formula_grows test)
+    own_grows (while_loop it) = turns_grow it
+    own_grows (for_loop start drops it) = omega (arith, body_grows start, turns_grow it)
+
+    turns_grow : {place : ℕ} {test : List ℕ} {step : Option (List ℕ)} {body : List ℕ} {end : ℕ} →
+        TurnsAt code place test step body end → place ≤ end
+    turns_grow (turns is jump body after test turn last) =
+        omega (arith, body_grows body, step_grows after, formula_grows test)
+
+    step_grows : {place : ℕ} {step : Option (List ℕ)} {end : ℕ} → StepAt code place step end →
+        place ≤ end
+    step_grows (no_step ends) = omega arith
+    step_grows (steps at body ends) = omega (arith, body_grows body)
 
     branches_grow : {place : ℕ} {args : List (List ℕ)} {end : ℕ} → BranchesAt code place args end →
         place ≤ end

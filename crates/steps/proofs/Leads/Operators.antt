@@ -211,17 +211,18 @@ module _ {A X : Type 0} (code : List (Instruction A)) (last : Status → Outcome
               fits)
         ]))
     operand_leads place v (Turning loop ∷ outer) at behind fits =
-        let loop_at = at.1 in
-        let over : FramesAt code (place + 2) fs = subst (λ n. FramesAt code n fs) at.2 behind in
-        by code last (i.Turn loop_at.body at.0) (spot_at place levels (Values v (Turning loop ∷
-        outer)) fs) s _ loop_at.turns
+        let loop_at = at.0 in
+        let over : FramesAt code (place + 2) fs = subst (λ n. FramesAt code n fs) at.1 behind in
+        by code last (i.Turn loop_at.body loop_at.ends) (spot_at place levels (Values v (Turning
+        loop ∷ outer)) fs) s _ loop_at.turns
         (truth_leads code last (truth_of v) levels fs s
-        (λ holds. turned loop_at.body at.0 holds (below_at code last (place + 1) levels [] fs) s)
+        (λ holds. turned loop_at.body loop_at.ends holds
+        (below_at code last (place + 1) levels [] fs) s)
         (λ holds. loops.turned loop levels s holds)
         (elim [
           | true ↦ tick_leads code last s.left levels fs s _
               (λ t. inside levels loop.body t (loops.behind_body loop levels))
-              (λ t. turn_begins code last levels fs t loop at.0 place loop_at over fits)
+              (λ t. turn_begins code last levels fs t loop place loop_at over fits)
           | false ↦ comes_here code last _ s
-              (loop_over code last levels fs s loop at.0 place loop_at over fits)
+              (loop_over code last levels fs s loop place loop_at over fits)
         ]))

@@ -1,17 +1,15 @@
 -- The outcome of a command: its value is on top, a turn of a loop is left, or the code is over.
 use Rattle.std.proofs.Common.{◌≡◌, ◌∙◌, ℕ, suc, ◌+◌, ◌≤◌, List, [], ◌∷◌, ◌++◌, Bool, true, false, Option, None, Some, length, append_assoc, refl, sym, ap, subst, arith}
 use Rattle.code.specs.declared.instruction.Instruction.{Instruction}
-use Rattle.plan.specs.Plan.{and_then, onward}
-use Rattle.conditions.specs.Loop.{behind_body}
 use Rattle.state.specs.Prelude.{Again, AgainRunning, Break, Code, Continue, Dialogue, Error, Gives, Leaves, LoopTree, Outcome, Return, Status, Stops}
 use Rattle.steps.specs.Follows.{Here, Resumes}
-use Rattle.steps.specs.Layout.{FramesAt, LoopAt, there}
-use Rattle.steps.specs.Loops.{caught, lowest, resumed}
+use Rattle.steps.specs.Layout.{FramesAt}
+use Rattle.steps.specs.Loops.{caught, ending_body, ending_loop, lowest, outside, resumed}
 use Rattle.steps.specs.Operand.{Outer, Prefixed, Row, Right, Holds, Argument, Test, Chosen, Condition, Turning, waiting}
-use Rattle.steps.specs.Places.{Has, Frame, Rest, Bracket, Body, Skip, Turns, beneath, brackets, handlers_beneath, marked, marks_beneath, onward_of}
-use Rattle.steps.specs.Spot.{Handler, Spot}
+use Rattle.steps.specs.Places.{Has, Finishes, Frame, Rest, Bracket, Body, Skip, For, Turns, beneath, brackets, handlers_beneath, left_of, marked, marks_beneath, onward_of}
+use Rattle.steps.specs.Spot.{Did, Handler, Over, Spot, with_top}
 use Rattle.steps.specs.Word.{Around, Open, Word, Plain, Expands, Operand, around, before_of, operands_of, with_bytes}
-use Rattle.steps.proofs.Leads.Loops.{loop_over, next_turn}
+use Rattle.steps.proofs.Leads.Loops.{loop_over}
 use Rattle.steps.proofs.Leads.Operands.{lowest_below}
 use Rattle.steps.proofs.Leads.Standing.{leaves_pass, stands_here, stops_pass}
 
@@ -97,64 +95,101 @@ module _ {A X : Type 0} (code : List (Instruction A)) (last : Status → Outcome
   }
 
   -- the handler of a turn
-  abbrev handler_of : ℕ → ℕ → ℕ → List Frame → Handler
-  handler_of levels test turn fs = record {
-    again = test;
+  abbrev handler_of : ℕ → Option ℕ → ℕ → List Frame → Handler
+  handler_of levels ends turn fs = record {
+    ends = ends;
     over = turn + 1;
     operands = length (beneath fs);
     marks = length (marks_beneath fs);
     levels = levels;
   }
 
-  -- with this code a turn of a loop leads there
-  abbrev Lands : Code → List ℕ → (Handler → ℕ) → Type 0
-  Lands c value to = (levels : ℕ) (fs : List Frame) (s : Status) (loop : LoopTree) (test turn : ℕ) →
-      LoopAt code loop test turn → FramesAt code (turn + 2) fs → levels + brackets fs ≤ 255 →
-      Here code last (spot_below (to (handler_of levels test turn fs)) levels fs) s
-      (and_then (behind_body loop levels s (Leaves c value)) (onward (onward_of last levels fs)))
+  -- a spot with these operands and marks
+  abbrev spot_with : ℕ → ℕ → List Handler → List (List ℕ) → List ℕ → Spot
+  spot_with place levels handlers operands marks = record {
+    place = place;
+    operands = operands;
+    marks = marks;
+    levels = levels;
+    handlers = handlers;
+  }
+
+  -- outside of a turn there are the operands and the marks below it
+  outside_is : (levels place turn : ℕ) (ends : Option ℕ) (fs : List Frame) (handlers : List Handler)
+      (spot : Spot) → LiesOn spot.operands (beneath fs) → LiesOn spot.marks (marks_beneath fs) →
+      outside (handler_of levels ends turn fs) handlers place spot
+      ≡ spot_with place levels handlers (beneath fs) (marks_beneath fs)
+  outside_is levels place turn ends fs handlers spot operands marks =
+      ap (λ os. spot_with place levels handlers os (lowest (length (marks_beneath fs)) spot.marks))
+      (lowest_of spot.operands (beneath fs) operands)
+      ∙ ap (λ ms. spot_with place levels handlers (beneath fs) ms)
+      (lowest_of spot.marks (marks_beneath fs) marks)
+
+  -- with this code a part of a turn leads on as what follows it, or as what is around its loop
+  abbrev Lands : Code → List ℕ → Spot → Status → (Handler → List Handler → Did → Did) → Type 0
+  Lands c value spot s to = (levels place : ℕ) (fs : List Frame) (loop : LoopTree)
+      (ends : Option ℕ) (turn : ℕ) → FramesAt code place (Turns loop ends turn ∷ fs) →
+      levels + brackets fs ≤ 255 → LiesOn spot.operands (beneath fs) →
+      LiesOn spot.marks (marks_beneath fs) → (did : Did) →
+      Resumes code last did (onward_of last levels fs s (Leaves c value)) →
+      Resumes code last
+      (to (handler_of levels ends turn fs) (handlers_beneath levels fs) did)
+      (onward_of last levels (Turns loop ends turn ∷ fs) s (Leaves c value))
+
+  break_lands : (value : List ℕ) (spot : Spot) (s : Status) →
+      Lands Break value spot s (ending_loop spot s)
+  break_lands value spot s levels place fs loop (Some end) turn at fits operands marks did follows =
+      subst (λ there. Here code last there s (left_of last levels Finishes fs s))
+      (sym (outside_is levels (turn + 1) turn (Some end) fs (handlers_beneath levels fs) spot
+      operands marks))
+      (loop_over code last levels fs s loop turn at.0 at.2 fits)
+  break_lands value spot s levels place fs loop None turn at fits operands marks did follows =
+      subst (λ there. Here code last there s (left_of last levels Finishes fs s))
+      (sym (outside_is levels (turn + 1) turn None fs (handlers_beneath levels fs) spot operands
+      marks))
+      (loop_over code last levels fs s loop turn at.0 at.2 fits)
+
+  continue_lands : (value : List ℕ) (spot : Spot) (s : Status) →
+      Lands Continue value spot s (ending_body spot s)
+  continue_lands value spot s levels place fs loop (Some end) turn at fits operands marks did
+      follows =
+      subst (λ there. Here code last (with_top [] there) s
+      (left_of last levels (Has []) (Turns loop (Some end) turn ∷ fs) s))
+      (sym (outside_is levels end turn (Some end) fs
+      (handlers_beneath levels (Turns loop (Some end) turn ∷ fs)) spot operands marks))
+      (stands_here code last end levels (Has []) (Turns loop (Some end) turn ∷ fs) end s refl
+      (at.0, (refl, at.1.1 ∙ sym at.1.0), at.2) fits)
+  continue_lands value spot s levels place fs loop None turn at fits operands marks did follows =
+      follows
 
   -- so it is with all frames
-  caught_leads : (c : Code) (value : List ℕ) (to : Handler → ℕ) → Lands c value to →
-      (levels place : ℕ) (fs : List Frame) (spot : Spot) (s : Status) → FramesAt code place fs →
+  caught_leads : (c : Code) (value : List ℕ) (spot : Spot) (s : Status)
+      (to : Handler → List Handler → Did → Did) → Lands c value spot s to →
+      (levels place : ℕ) (fs : List Frame) → FramesAt code place fs →
       levels + brackets fs ≤ 255 → LiesOn spot.operands (beneath fs) →
       LiesOn spot.marks (marks_beneath fs) →
-      Resumes code last (caught (handlers_beneath levels fs) to spot (Leaves c value) s)
+      Resumes code last (caught (handlers_beneath levels fs) to (Over (Leaves c value) s))
       (onward_of last levels fs s (Leaves c value))
-  caught_leads c value to lands levels place [] spot s at fits operands marks = refl
-  caught_leads c value to lands levels place (Rest cs f ∷ fs) spot s at fits operands marks =
-      caught_leads c value to lands levels at.0 fs spot s at.2 fits operands marks
-  caught_leads c value to lands levels place (Bracket word ∷ fs) spot s at fits operands marks =
-      caught_leads c value to lands (suc levels) at.1.0 fs spot s at.1.2 (omega (arith, fits))
+  caught_leads c value spot s to lands levels place [] at fits operands marks = refl
+  caught_leads c value spot s to lands levels place (Rest cs f ∷ fs) at fits operands marks =
+      caught_leads c value spot s to lands levels at.0 fs at.2 fits operands marks
+  caught_leads c value spot s to lands levels place (Bracket word ∷ fs) at fits operands marks =
+      caught_leads c value spot s to lands (suc levels) at.1.0 fs at.1.2 (omega (arith, fits))
       (lies_on spot.operands (operands_of word (beneath fs)) (beneath fs) operands
       (word_above word (beneath fs)))
       (lies_on spot.marks _ (marks_beneath fs) marks (mark_above _ _ (marks_beneath fs)))
-  caught_leads c value to lands levels place (Body ∷ fs) spot s at fits operands marks =
-      caught_leads c value to lands (suc levels) (place + 1) fs spot s at.1 (omega (arith, fits))
+  caught_leads c value spot s to lands levels place (Body ∷ fs) at fits operands marks =
+      caught_leads c value spot s to lands (suc levels) (place + 1) fs at.1 (omega (arith, fits))
       operands marks
-  caught_leads c value to lands levels place (Skip ∷ fs) spot s at fits operands marks =
-      caught_leads c value to lands levels at.0 fs spot s at.3 fits operands marks
-  caught_leads c value to lands levels place (Turns loop test turn ∷ fs) spot s at fits operands
+  caught_leads c value spot s to lands levels place (Skip ∷ fs) at fits operands marks =
+      caught_leads c value spot s to lands levels at.0 fs at.3 fits operands marks
+  caught_leads c value spot s to lands levels place (For test step body ∷ fs) at fits operands
       marks =
-      let it = handler_of levels test turn fs in
-      subst (λ os. Here code last (record {
-        place = to it;
-        operands = os;
-        marks = lowest it.marks spot.marks;
-        levels = levels;
-        handlers = handlers_beneath levels fs;
-      }) s
-      (and_then (behind_body loop levels s (Leaves c value)) (onward (onward_of last levels fs))))
-      (sym (lowest_of spot.operands (beneath fs) operands))
-      (subst (λ ms. Here code last (record {
-        place = to it;
-        operands = beneath fs;
-        marks = ms;
-        levels = levels;
-        handlers = handlers_beneath levels fs;
-      }) s
-      (and_then (behind_body loop levels s (Leaves c value)) (onward (onward_of last levels fs))))
-      (sym (lowest_of spot.marks (marks_beneath fs) marks))
-      (lands levels fs s loop test turn at.2 at.3 fits))
+      caught_leads c value spot s to lands levels at.1.0 fs at.1.2 fits operands marks
+  caught_leads c value spot s to lands levels place (Turns loop ends turn ∷ fs) at fits operands
+      marks =
+      lands levels place fs loop ends turn at fits operands marks _
+      (caught_leads c value spot s to lands levels (turn + 2) fs at.2 fits operands marks)
 
   -- the outcome of a command
   pub outcome_leads : (place levels : ℕ) (fs : List Frame) (s : Status) → FramesAt code place fs →
@@ -164,15 +199,13 @@ module _ {A X : Type 0} (code : List (Instruction A)) (last : Status → Outcome
   outcome_leads place levels fs s at fits (Gives value) =
       stands_here code last place levels (Has value) fs place s refl at fits
   outcome_leads place levels fs s at fits (Leaves Break value) =
-      caught_leads Break value (λ handler. handler.over)
-      (λ l gs t loop test turn loop_at behind within. loop_over code last l gs t loop test turn
-      loop_at behind within) levels place fs (spot_below place levels fs) s at fits
-      (those [] (beneath fs)) (those [] (marks_beneath fs))
+      let spot = spot_below place levels fs in
+      caught_leads Break value spot s (ending_loop spot s) (break_lands value spot s) levels place
+      fs at fits (those [] (beneath fs)) (those [] (marks_beneath fs))
   outcome_leads place levels fs s at fits (Leaves Continue value) =
-      caught_leads Continue value (λ handler. handler.again)
-      (λ l gs t loop test turn loop_at behind within. next_turn code last l gs t loop test test turn
-      there loop_at behind within) levels place fs (spot_below place levels fs) s at fits
-      (those [] (beneath fs)) (those [] (marks_beneath fs))
+      let spot = spot_below place levels fs in
+      caught_leads Continue value spot s (ending_body spot s) (continue_lands value spot s) levels
+      place fs at fits (those [] (beneath fs)) (those [] (marks_beneath fs))
   outcome_leads place levels fs s at fits (Leaves Error value) =
       leaves_pass code last levels fs s Error value tt
   outcome_leads place levels fs s at fits (Leaves Return value) =

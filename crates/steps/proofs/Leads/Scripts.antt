@@ -6,17 +6,17 @@ use Rattle.code.specs.Code.{CommandsAt, done, next, FaultAt, none, fault}
 use Rattle.code.specs.declared.instruction.Instruction.{Instruction}
 use Rattle.code.specs.declared.instruction.Instruction.TheVariants as i
 use Rattle.runs.specs.Commands.{command}
-use Rattle.state.specs.Prelude.{Dialogue, Gives, LoopTree, Outcome, Status}
+use Rattle.state.specs.Prelude.{Dialogue, Gives, Outcome, Status}
 use Rattle.steps.specs.Follows.{Follows}
 use Rattle.steps.specs.Goes.{here, calls}
-use Rattle.steps.specs.Layout.{FramesAt, LeadsTo, there}
+use Rattle.steps.specs.Layout.{FramesAt}
 use Rattle.steps.specs.Machine.{ahead, machine}
-use Rattle.steps.specs.Places.{Has, Joins, Starts, Frame, Rest, Bracket, Body, Skip, Turns, brackets, onward_of, spot_at}
+use Rattle.steps.specs.Places.{Has, Joins, Starts, Frame, Rest, Bracket, Body, Skip, For, Turns, brackets, onward_of, spot_at}
 use Rattle.steps.specs.Spot.{Went, Stuck}
-use Rattle.steps.proofs.Leads.Loops.{next_turn}
+use Rattle.steps.proofs.Leads.Loops.{for_turns, part_over}
 use Rattle.steps.proofs.Leads.Meanings.{jump_leads}
 use Rattle.steps.proofs.Leads.Silent.{same_goes}
-use Rattle.steps.proofs.Leads.Standing.{by, comes_here, silently, errors_pass, stands, tick_leads}
+use Rattle.steps.proofs.Leads.Standing.{by, silently, errors_pass, stands, tick_leads}
 use Rattle.tclparse.specs.Fault.{Fault}
 use Rattle.tclparse.specs.Tree.{Commands}
 use Rattle.words.specs.Words.{words}
@@ -84,15 +84,13 @@ module _ {A X : Type 0} (code : List (Instruction A)) (last : Status → Outcome
       (jump_leads code last at.0 _ s _ at.2
       (stands code last at.0 levels (Has v) fs at.0 s refl at.3 fits))
 
-  -- the body of a turn is over
-  turn_leads : (place levels : ℕ) (loop : LoopTree) (test turn : ℕ) (fs : List Frame) (v : List ℕ)
-      (s : Status) → FramesAt code place (Turns loop test turn ∷ fs) →
-      levels + brackets fs ≤ 255 → ValueLeads place levels (Turns loop test turn ∷ fs) v s
-  turn_leads place levels loop test turn fs v s at fits =
-      by code last i.EndTurn (spot_at place levels (Has v) (Turns loop test turn ∷ fs)) s _ at.0
-      (comes_here code last _ s
-      (next_turn code last levels fs s loop (place + 1) test turn
-      (subst (λ n. LeadsTo code (place + 1) n) (sym at.1) there) at.2 at.3 fits))
+  -- the start of for is over
+  start_leads : (place levels : ℕ) (test step body : List ℕ) (fs : List Frame) (v : List ℕ)
+      (s : Status) → FramesAt code place (For test step body ∷ fs) → levels + brackets fs ≤ 255 →
+      ValueLeads place levels (For test step body ∷ fs) v s
+  start_leads place levels test step body fs v s at fits =
+      by code last i.Discard (spot_at place levels (Has v) (For test step body ∷ fs)) s _ at.0
+      (for_turns code last levels fs s v (place + 1) test step body at.1.0 at.1.1 at.1.2 fits)
 
   -- each frame
   pub has_leads : (place levels : ℕ) (fs : List Frame) (v : List ℕ) (s : Status) →
@@ -107,5 +105,7 @@ module _ {A X : Type 0} (code : List (Instruction A)) (last : Status → Outcome
       bracket_leads place levels word fs v s at fits
   has_leads place levels (Body ∷ fs) v s at fits = body_leads place levels fs v s at fits
   has_leads place levels (Skip ∷ fs) v s at fits = skip_leads place levels fs v s at fits
-  has_leads place levels (Turns loop test turn ∷ fs) v s at fits =
-      turn_leads place levels loop test turn fs v s at fits
+  has_leads place levels (For test step body ∷ fs) v s at fits =
+      start_leads place levels test step body fs v s at fits
+  has_leads place levels (Turns loop ends turn ∷ fs) v s at fits =
+      part_over code last levels fs s v loop place ends turn at.0 at.1 at.2 fits

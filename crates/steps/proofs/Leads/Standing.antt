@@ -1,13 +1,13 @@
 -- How a place is shown: by the instruction that stands there, and by the place that comes next.
-use Rattle.std.proofs.Common.{◌≡◌, ◌∙◌, ℕ, zero, suc, ◌+◌, ◌≤◌, List, [], ◌∷◌, Some, Result, Ok, Err, refl, sym, ap, subst}
+use Rattle.std.proofs.Common.{◌≡◌, ◌∙◌, ℕ, zero, suc, ◌+◌, ◌≤◌, List, [], ◌∷◌, Option, Some, None, Result, Ok, Err, refl, sym, ap, subst}
 use Rattle.std.specs.Prelude.{slice_get}
 use Rattle.code.specs.Code.{At}
 use Rattle.code.specs.declared.instruction.Instruction.{Instruction}
-use Rattle.conditions.specs.Loop.{again, steps}
+use Rattle.conditions.specs.Loop.{again, on_step, steps}
 use Rattle.plan.specs.Plan.{and_then, onward}
 use Rattle.state.specs.Dialogue.{tick_of}
 use Rattle.state.specs.Outcome.{Stop}
-use Rattle.state.specs.Prelude.{Again, AgainRunning, Break, Code, Continue, Course, Dialogue, Error, leaves, Leaves, Outcome, Return, Status, Stops}
+use Rattle.state.specs.Prelude.{Again, AgainRunning, Break, Code, Continue, Course, Dialogue, Error, leaves, Leaves, LoopTree, Outcome, Return, Status, Stops}
 use Rattle.state.specs.Turn.{on_turn}
 use Rattle.state.specs.Variables.{found}
 use Rattle.steps.specs.Follows.{Here, Comes, Follows}
@@ -15,7 +15,7 @@ use Rattle.steps.specs.Goes.{Goes, here}
 use Rattle.steps.specs.Layout.{HeadAt, FramesAt}
 use Rattle.steps.specs.Machine.{machine, with_value}
 use Rattle.steps.specs.Moves.{ticked}
-use Rattle.steps.specs.Places.{Head, Frame, Rest, Bracket, Body, Skip, Turns, brackets, left_of, onward_of, spot_at}
+use Rattle.steps.specs.Places.{Head, Frame, Rest, Bracket, Body, Skip, For, Turns, behind_part, brackets, left_of, onward_of, spot_at}
 use Rattle.steps.specs.Spot.{Spot, Did, Went, Reads, Begins, Over, Stuck}
 use Rattle.steps.proofs.Leads.Silent.{same_goes, then_goes}
 use Rattle.tclstate.specs.Scopes.{Trouble}
@@ -35,6 +35,23 @@ turn_passes next s Continue value passed = absurd passed
 turn_passes next s Again value passed = refl
 turn_passes next s AgainRunning value passed = refl
 
+step_passes : (next : Status → Course) (s : Status) (c : Code) (value : List ℕ) → IsPassed c →
+    on_step next s (Leaves c value) ≡ leaves c value s
+step_passes next s Error value passed = refl
+step_passes next s Return value passed = refl
+step_passes next s Break value passed = absurd passed
+step_passes next s Continue value passed = absurd passed
+step_passes next s Again value passed = refl
+step_passes next s AgainRunning value passed = refl
+
+part_passes : (loop : LoopTree) (levels : ℕ) (ends : Option ℕ) (s : Status) (c : Code)
+    (value : List ℕ) → IsPassed c →
+    behind_part loop levels ends s (Leaves c value) ≡ leaves c value s
+part_passes loop levels (Some end) s c value passed =
+    turn_passes (steps loop.step levels (again loop levels)) s c value passed
+part_passes loop levels None s c value passed =
+    step_passes (again loop levels) s c value passed
+
 module _ {A X : Type 0} (code : List (Instruction A)) (last : Status → Outcome → Dialogue X) where
   -- another code than ok, break and continue goes past all frames
   pub leaves_pass : (levels : ℕ) (frames : List Frame) (s : Status) (c : Code) (value : List ℕ) →
@@ -48,9 +65,11 @@ module _ {A X : Type 0} (code : List (Instruction A)) (last : Status → Outcome
       leaves_pass (suc levels) frames s c value passed
   leaves_pass levels (Skip ∷ frames) s c value passed =
       leaves_pass levels frames s c value passed
-  leaves_pass levels (Turns loop test turn ∷ frames) s c value passed =
+  leaves_pass levels (For test step body ∷ frames) s c value passed =
+      leaves_pass levels frames s c value passed
+  leaves_pass levels (Turns loop ends turn ∷ frames) s c value passed =
       ap (λ course. and_then course (onward (onward_of last levels frames)))
-      (turn_passes (steps loop.step levels (again loop levels)) s c value passed)
+      (part_passes loop levels ends s c value passed)
       ∙ leaves_pass levels frames s c value passed
 
   -- so does an error
@@ -66,7 +85,9 @@ module _ {A X : Type 0} (code : List (Instruction A)) (last : Status → Outcome
   stops_pass levels (Bracket word ∷ frames) s stop = stops_pass (suc levels) frames s stop
   stops_pass levels (Body ∷ frames) s stop = stops_pass (suc levels) frames s stop
   stops_pass levels (Skip ∷ frames) s stop = stops_pass levels frames s stop
-  stops_pass levels (Turns loop test turn ∷ frames) s stop = stops_pass levels frames s stop
+  stops_pass levels (For test step body ∷ frames) s stop = stops_pass levels frames s stop
+  stops_pass levels (Turns loop (Some end) turn ∷ frames) s stop = stops_pass levels frames s stop
+  stops_pass levels (Turns loop None turn ∷ frames) s stop = stops_pass levels frames s stop
 
   -- this is left to be done there
   pub stands_here : (place levels : ℕ) (head : Head) (frames : List Frame) (end : ℕ) (s : Status) →

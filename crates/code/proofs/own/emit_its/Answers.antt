@@ -1,4 +1,4 @@
-use Rattle.code.proofs.Owns.{if_block, while_block}
+use Rattle.code.proofs.Owns.{for_block, if_block, while_block}
 use Rattle.code.proofs.own.emit_its.Goals as goal
 
 pub returns-in_ok-emit_branches-in-If : goal.returns-in_ok-emit_branches-in-If
@@ -10,3 +10,8 @@ pub returns-in_ok-emit_turns-in-While : goal.returns-in_ok-emit_turns-in-While
 returns-in_ok-emit_turns-in-While g c = λ args is.
     while_block c.args.code.now.items c.emit_turns.new.code.items c.args.own.now c.in-While.own
     c.in-While.is c.in_ok-emit_turns-in-While.ensures args is
+
+pub returns-in_ok-emit_for-in-For : goal.returns-in_ok-emit_for-in-For
+returns-in_ok-emit_for-in-For g c = λ args is.
+    for_block c.args.code.now.items c.emit_for.new.code.items c.args.own.now c.in-For.own
+    c.in-For.is c.in_ok-emit_for-in-For.ensures args is

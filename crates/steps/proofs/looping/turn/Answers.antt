@@ -15,7 +15,7 @@ returns-in-Err-Fault-clause-does g c = λ s.
     let spot = spot_of c.args.spot.now in
     let t = with_parts s.scopes s.procedures c.args.left.now s in
     let body = c.args.body in
-    let test = c.args.test in
+    let end = c.args.end in
     let old = c.args.spot.now.operands.items in
     let new = c.pop.new.self.items in
     let v = c.in-Some.value in
@@ -24,7 +24,7 @@ returns-in-Err-Fault-clause-does g c = λ s.
     let is = c.in-Err-Fault.is ∙ ap (λ why. Err why) c.in-Err-Fault.field-0-is in
     c.in_ok-failed-in-Err-Fault.ensures (with_operands (reverse new) spot) t
     ∙ no_truth c.truth-2.result c.in-Err-Fault.fault v t
-    (λ holds. turned body test holds (with_operands (reverse new) spot) t) is told
+    (λ holds. turned body end holds (with_operands (reverse new) spot) t) is told
     ∙ sym (ap (λ os. on_top os (λ value below. on_truth (truth_of value) t
-    (λ holds. turned body test holds (with_operands below spot) t)))
+    (λ holds. turned body end holds (with_operands below spot) t)))
     (one_on_top old new c.pop.result v c.pop.ensures.items c.in-Some.is))

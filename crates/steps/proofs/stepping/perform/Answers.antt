@@ -170,12 +170,26 @@ returns-in_ok-turn-in-Turn-clause-does g c = λ s.
     does_so c.args.instruction.now _ spot t c.in-Turn.is
     (same_does (c.in_ok-turn-in-Turn.ensures.does t))
 
+pub returns-in_ok-begin_step-in-Step-clause-does : goal.returns-in_ok-begin_step-in-Step-clause-does
+returns-in_ok-begin_step-in-Step-clause-does g c = λ s.
+    let spot = spot_of c.args.spot.now in
+    let t = with_parts c.args.scopes.now c.args.procs.now c.args.left.now s in
+    does_so c.args.instruction.now _ spot t c.in-Step.is
+    (same_does (c.in_ok-begin_step-in-Step.ensures.does t))
+
 pub returns-in-EndTurn-clause-does : goal.returns-in-EndTurn-clause-does
 returns-in-EndTurn-clause-does g c = λ s.
     let spot = spot_of c.args.spot.now in
     let t = with_parts c.args.scopes.now c.args.procs.now c.args.left.now s in
     does_so c.args.instruction.now _ spot t c.in-EndTurn.is
     (same_does (c.end_turn.ensures.does t))
+
+pub returns-in-Discard-clause-does : goal.returns-in-Discard-clause-does
+returns-in-Discard-clause-does g c = λ s.
+    let spot = spot_of c.args.spot.now in
+    let t = with_parts c.args.scopes.now c.args.procs.now c.args.left.now s in
+    does_so c.args.instruction.now _ spot t c.in-Discard.is
+    (same_does (c.discard.ensures.does t))
 
 pub returns-in-Hole-clause-does : goal.returns-in-Hole-clause-does
 returns-in-Hole-clause-does g c = λ s.

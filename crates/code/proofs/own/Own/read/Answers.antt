@@ -1,5 +1,6 @@
-use Rattle.std.proofs.Common.{ℕ, List, [], ◌∷◌, IfSome, codes, refl, subst}
-use Rattle.code.specs.Conditional.{Are, IsRead}
+use Rattle.std.proofs.Common.{ℕ, List, [], ◌∷◌, IfSome, None, codes, refl, subst}
+use Rattle.code.specs.Conditional.{Are}
+use Rattle.code.specs.Repeat.{AreTurns, IsFor}
 use Rattle.code.proofs.own.Own.read.Goals as goal
 
 pub returns-in-Some-2 : goal.returns-in-Some-2
@@ -7,8 +8,22 @@ returns-in-Some-2 g c =
     let words = c.args.words.now in
     let own = c.in-Some-2.own in
     let read : (test : List ℕ) × (body : List ℕ) ×
-    Are words (codes "while" ∷ test ∷ body ∷ []) × IsRead own test body =
+    Are words (codes "while" ∷ test ∷ body ∷ []) × AreTurns own test None body =
     subst (λ r. IfSome r (λ it. (test : List ℕ) × (body : List ℕ) ×
-    Are words (codes "while" ∷ test ∷ body ∷ []) × IsRead it test body)) c.in-Some-2.is
+    Are words (codes "while" ∷ test ∷ body ∷ []) × AreTurns it test None body)) c.in-Some-2.is
     c.in_ok-own-2.ensures in
     (read.0 ∷ read.1 ∷ [], read.2, (read.0, read.1, refl, read.3))
+
+pub returns-in-Some-3 : goal.returns-in-Some-3
+returns-in-Some-3 g c =
+    let words = c.args.words.now in
+    let own = c.in-Some-3.own in
+    let read : (start : List ℕ) × (test : List ℕ) × (step : List ℕ) × (body : List ℕ) ×
+    Are words (codes "for" ∷ start ∷ test ∷ step ∷ body ∷ []) × IsFor own start test step body =
+    subst (λ r. IfSome r (λ it. (start : List ℕ) × (test : List ℕ) × (step : List ℕ) ×
+    (body : List ℕ) × Are words (codes "for" ∷ start ∷ test ∷ step ∷ body ∷ []) ×
+    IsFor it start test step body)) c.in-Some-3.is c.in_ok-own-3.ensures in (
+      read.0 ∷ read.1 ∷ read.2 ∷ read.3 ∷ [],
+      read.4,
+      (read.0, read.1, read.2, read.3, refl, read.5),
+    )
