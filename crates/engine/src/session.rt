@@ -3,6 +3,7 @@
 ghost use Rattle.std.specs.Prelude.{◌≡◌, ℕ, List, [], ◌++◌, IfOk, IfErr};
 ghost use Rattle.std.specs.Borrow.{sem};
 ghost use Rattle.acts.specs.History.{History};
+ghost use Rattle.engine.specs.Session.{end_in};
 ghost use Rattle.machine.specs.Frames.{IsWhole};
 ghost use Rattle.machine.specs.Phases.{GivesAgain, IsTold, MayFail};
 ghost use Rattle.machine.specs.View.{words_of};
@@ -144,19 +145,33 @@ impl<A: Allocator + Copy> Session<A> {
     pub fn into_end(self) -> Option<End<A>>
         ensures { result ≡ has_end self }
     {
+        end_of(self.into_phase())
+    }
+
+    /// How far the run has come.
+    fn into_phase(self) -> Phase<A>
+        ensures { result ≡ self.phase }
+    {
         let Session {
             frames: _,
             state: _,
             answers: _,
             phase,
         } = self;
-        match phase {
-            Phase::Over(end) => Some(end),
-            Phase::Has(_) => None,
-            Phase::Asks(_, _) => None,
-            Phase::Closes(_, _) => None,
-            Phase::Refused(_) => None,
-        }
+        phase
+    }
+}
+
+/// The end of a run that has come so far, if it is over.
+fn end_of<A: Allocator + Copy>(phase: Phase<A>) -> Option<End<A>>
+    ensures { result ≡ end_in phase }
+{
+    match phase {
+        Phase::Over(end) => Some(end),
+        Phase::Has(_) => None,
+        Phase::Asks(_, _) => None,
+        Phase::Closes(_, _) => None,
+        Phase::Refused(_) => None,
     }
 }
 
