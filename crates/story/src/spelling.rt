@@ -1,14 +1,22 @@
 //! Texts as Tcl reads them back, in double quotes (Tcl(n), rules 4 and 9).
 
+ghost use Rattle.std.specs.Prelude.{◌≡◌, ◌++◌, OnOk};
+ghost use Rattle.story.specs.Spelling.{is_printable, name_of, numbered, shortened, spelled, spelled_byte};
+
 use acts::decimal::push_decimal;
 use memory::NoMemory;
 use std::alloc::Allocator;
+
+/// The digits of a byte's number.
+const DIGITS: &[u8] = b"0123456789abcdef";
 
 /// Writes a text as Tcl reads it back, in double quotes: printable ASCII as it is, `\n`, `\r` and
 /// `\t`, other bytes by their numbers as in `\x00`, and `"`, `\`, `$` and `[` after a backslash.
 ///
 /// After an `Err` a beginning of it may have been written.
-pub fn push_spelled<A: Allocator>(out: &mut Vec<u8, A>, text: &[u8]) -> Result<(), NoMemory> {
+pub fn push_spelled<A: Allocator>(out: &mut Vec<u8, A>, text: &[u8]) -> Result<(), NoMemory>
+    ensures { OnOk result (out.new.items ≡ out.old.items ++ spelled text.now) }
+{
     out.push(b'"')?;
     for byte in text {
         push_byte(out, *byte)?;
@@ -20,11 +28,15 @@ pub fn push_spelled<A: Allocator>(out: &mut Vec<u8, A>, text: &[u8]) -> Result<(
 /// Writes a text as [`push_spelled`] does, and one of more than `most` bytes by its first and its
 /// last bytes and its length, as in `"first" .. "last" (4096 bytes)`: three quarters of `most`
 /// bytes, and one quarter.
+///
+/// After an `Err` a beginning of it may have been written.
 pub fn push_shortened<A: Allocator>(
     out: &mut Vec<u8, A>,
     text: &[u8],
     most: usize,
-) -> Result<(), NoMemory> {
+) -> Result<(), NoMemory>
+    ensures { OnOk result (out.new.items ≡ out.old.items ++ shortened most text.now) }
+{
     if text.len() <= most {
         return push_spelled(out, text);
     }
@@ -39,29 +51,46 @@ pub fn push_shortened<A: Allocator>(
 }
 
 /// Writes the spelling of a byte within double quotes.
-fn push_byte<A: Allocator>(out: &mut Vec<u8, A>, byte: u8) -> Result<(), NoMemory> {
-    match byte {
-        b'\n' => push_escape(out, b'n'),
-        b'\r' => push_escape(out, b'r'),
-        b'\t' => push_escape(out, b't'),
-        b'"' | b'\\' | b'$' | b'[' => push_escape(out, byte),
-        b' '..=b'~' => Ok(out.push(byte)?),
-        _ => push_number(out, byte),
+fn push_byte<A: Allocator>(out: &mut Vec<u8, A>, byte: u8) -> Result<(), NoMemory>
+    ensures { OnOk result (out.new.items ≡ out.old.items ++ spelled_byte byte) }
+{
+    if let Some(name) = name_of(byte) {
+        out.push(b'\\')?;
+        out.push(name)?;
+    } else if is_printable(byte) {
+        out.push(byte)?;
+    } else {
+        push_number(out, byte)?;
     }
-}
-
-/// Writes a backslash and the byte after it.
-fn push_escape<A: Allocator>(out: &mut Vec<u8, A>, name: u8) -> Result<(), NoMemory> {
-    out.push(b'\\')?;
-    out.push(name)?;
     Ok(())
 }
 
+/// What names a byte after a backslash, where something does: a letter, or the byte itself.
+fn name_of(byte: u8) -> Option<u8>
+    ensures { result ≡ name_of byte }
+{
+    match byte {
+        b'\n' => Some(b'n'),
+        b'\r' => Some(b'r'),
+        b'\t' => Some(b't'),
+        b'"' | b'\\' | b'$' | b'[' => Some(byte),
+        _ => None,
+    }
+}
+
+/// Whether ASCII prints a byte.
+fn is_printable(byte: u8) -> bool
+    ensures { result ≡ is_printable byte }
+{
+    matches!(byte, b' '..=b'~')
+}
+
 /// Writes a byte by its number, in two hexadecimal digits, which are as many as Tcl reads.
-fn push_number<A: Allocator>(out: &mut Vec<u8, A>, byte: u8) -> Result<(), NoMemory> {
-    let digits = b"0123456789abcdef";
-    push_escape(out, b'x')?;
-    out.push(digits[(byte / 16) as usize])?;
-    out.push(digits[(byte % 16) as usize])?;
+fn push_number<A: Allocator>(out: &mut Vec<u8, A>, byte: u8) -> Result<(), NoMemory>
+    ensures { OnOk result (out.new.items ≡ out.old.items ++ numbered byte) }
+{
+    out.extend_from_slice(b"\\x")?;
+    out.push(DIGITS[(byte / 16) as usize])?;
+    out.push(DIGITS[(byte % 16) as usize])?;
     Ok(())
 }
