@@ -1,7 +1,7 @@
 -- The words of a call of rx-explain: what is said of the story, and what is left for rx.
-use Rattle.std.proofs.Common.{◌≡◌, ◌≢◌, ◌⊎◌, ℕ, List, [], ◌∷◌, ◌++◌, Option, Some, None, refl, ap, sym, subst, ◌∙◌, inl, inr, flat_map, get_or, length, arith}
+use Rattle.std.proofs.Common.{◌≡◌, ◌≢◌, ℕ, List, [], ◌∷◌, ◌++◌, Option, Some, None, refl, ap, sym, subst, ◌∙◌, inl, inr, flat_map, get_or, length, arith}
 use Rattle.std.specs.Prelude.{IfNone, codes}
-use Rattle.arguments.specs.Arguments.{AreScript, Call, Command, IsCall, IsFile, IsOneCall, Limit, Name, Record, Replay, Setting, spelled, word_of}
+use Rattle.arguments.specs.Arguments.{AreScript, Call, Command, IsCall, IsOneCall, Limit, Name, Record, Replay, Setting, spelled, word_of}
 use Rattle.teller.specs.declared.telling.Detail.{Detail}
 use Rattle.teller.specs.declared.telling.Detail.TheVariants.{Brief, Whole}
 use Rattle.explain.specs.Asked.{Asks, AsksOnly, IsFront, Spells}
@@ -51,126 +51,133 @@ no_brief rest call is =
     (λ e. omega (arith, ap length e)) (λ e. omega (arith, ap length e)) no_brief_name is.spells
     is.script
 
--- what words begin with that ask for a story in this file, where these are left for rx
-pub data Front (words left : List (List ℕ)) (file : Option (List ℕ)) : Type 0 where
-  Bare : file ≡ None → words ≡ left → Front words left file
-  Briefly : file ≡ None → words ≡ codes "--brief" ∷ left → Front words left file
-  Named : (name : List ℕ) → file ≡ Some name → words ≡ codes "--story" ∷ name ∷ left →
-      Front words left file
-  Both : (name : List ℕ) → file ≡ Some name →
-      words ≡ codes "--story" ∷ name ∷ codes "--brief" ∷ left → Front words left file
-  Turned : (name : List ℕ) → file ≡ Some name →
-      words ≡ codes "--brief" ∷ codes "--story" ∷ name ∷ left → Front words left file
+-- what words begin with that ask for a story in this file, in so much detail, where these are left
+-- for rx
+pub data Front (words left : List (List ℕ)) (file : Option (List ℕ)) (detail : Detail) :
+    Type 0 where
+  Bare : file ≡ None → detail ≡ Whole → words ≡ left → Front words left file detail
+  Briefly : file ≡ None → detail ≡ Brief → words ≡ codes "--brief" ∷ left →
+      Front words left file detail
+  Named : (name : List ℕ) → file ≡ Some name → detail ≡ Whole →
+      words ≡ codes "--story" ∷ name ∷ left → Front words left file detail
+  Both : (name : List ℕ) → file ≡ Some name → detail ≡ Brief →
+      words ≡ codes "--story" ∷ name ∷ codes "--brief" ∷ left → Front words left file detail
+  Turned : (name : List ℕ) → file ≡ Some name → detail ≡ Brief →
+      words ≡ codes "--brief" ∷ codes "--story" ∷ name ∷ left → Front words left file detail
 
 front_of : (words left : List (List ℕ)) (file : Option (List ℕ)) (detail : Detail) →
-    Spells words file detail left → Front words left file
-front_of words left None Whole (inl is) = Bare refl is
-front_of words left None Whole (inr is) = Bare refl is
-front_of words left None Brief (inl is) = Briefly refl is
-front_of words left None Brief (inr is) = Briefly refl is
-front_of words left (Some name) Whole (inl is) = Named name refl is
-front_of words left (Some name) Whole (inr is) = Named name refl is
-front_of words left (Some name) Brief (inl is) = Both name refl is
-front_of words left (Some name) Brief (inr is) = Turned name refl is
+    Spells words file detail left → Front words left file detail
+front_of words left None Whole (inl is) = Bare refl refl is
+front_of words left None Whole (inr is) = Bare refl refl is
+front_of words left None Brief (inl is) = Briefly refl refl is
+front_of words left None Brief (inr is) = Briefly refl refl is
+front_of words left (Some name) Whole (inl is) = Named name refl refl is
+front_of words left (Some name) Whole (inr is) = Named name refl refl is
+front_of words left (Some name) Brief (inl is) = Both name refl refl is
+front_of words left (Some name) Brief (inr is) = Turned name refl refl is
 
--- where words begin so, each way to read them has this file, and leaves these words to rx
+-- where words begin so, each way to read them has this file and this detail, and leaves these words
+-- to rx
 module _ (words rest : List (List ℕ)) where
-  abbrev Leaves : Option (List ℕ) → Option (List ℕ) → Call → Type 0
-  Leaves file other call = (other ≡ file) × IsCall rest call
+  abbrev Leaves : Option (List ℕ) → Detail → Option (List ℕ) → Detail → Call → Type 0
+  Leaves file detail other more call =
+      (other ≡ file) × (more ≡ detail) × IsCall rest call
 
   pub both_left : (name : List ℕ) → words ≡ codes "--story" ∷ name ∷ codes "--brief" ∷ rest →
-      (other : Option (List ℕ)) (left : List (List ℕ)) (call : Call) → Front words left other →
-      IsCall left call → Leaves (Some name) other call
-  both_left name is other left call (Bare file e) calls =
+      (other : Option (List ℕ)) (more : Detail) (left : List (List ℕ)) (call : Call) →
+      Front words left other more → IsCall left call → Leaves (Some name) Brief other more call
+  both_left name is other more left call (Bare file much e) calls =
       absurd (no_story (name ∷ codes "--brief" ∷ rest) call
       (subst (λ list. IsCall list call) (sym e ∙ is) calls))
-  both_left name is other left call (Briefly file e) calls =
+  both_left name is other more left call (Briefly file much e) calls =
       let same : codes "--story" ≡ codes "--brief" = cc (sym is ∙ e) in absurd (other_option same)
-  both_left name is other left call (Named found file e) calls =
+  both_left name is other more left call (Named found file much e) calls =
       let same : left ≡ codes "--brief" ∷ rest = cc (sym is ∙ e) in
       absurd (no_brief rest call (subst (λ list. IsCall list call) same calls))
-  both_left name is other left call (Both found file e) calls =
+  both_left name is other more left call (Both found file much e) calls =
       let named : found ≡ name = cc (sym is ∙ e) in
       let same : left ≡ rest = cc (sym is ∙ e) in
-      (file ∙ ap Some named, subst (λ list. IsCall list call) same calls)
-  both_left name is other left call (Turned found file e) calls =
+      (file ∙ ap Some named, much, subst (λ list. IsCall list call) same calls)
+  both_left name is other more left call (Turned found file much e) calls =
       let same : codes "--story" ≡ codes "--brief" = cc (sym is ∙ e) in absurd (other_option same)
 
   pub named_left : (name : List ℕ) → words ≡ codes "--story" ∷ name ∷ rest →
       ((after : List (List ℕ)) → rest ≢ codes "--brief" ∷ after) →
-      (other : Option (List ℕ)) (left : List (List ℕ)) (call : Call) → Front words left other →
-      IsCall left call → Leaves (Some name) other call
-  named_left name is none other left call (Bare file e) calls =
+      (other : Option (List ℕ)) (more : Detail) (left : List (List ℕ)) (call : Call) →
+      Front words left other more → IsCall left call → Leaves (Some name) Whole other more call
+  named_left name is none other more left call (Bare file much e) calls =
       absurd (no_story (name ∷ rest) call (subst (λ list. IsCall list call) (sym e ∙ is) calls))
-  named_left name is none other left call (Briefly file e) calls =
+  named_left name is none other more left call (Briefly file much e) calls =
       let same : codes "--story" ≡ codes "--brief" = cc (sym is ∙ e) in absurd (other_option same)
-  named_left name is none other left call (Named found file e) calls =
+  named_left name is none other more left call (Named found file much e) calls =
       let named : found ≡ name = cc (sym is ∙ e) in
       let same : left ≡ rest = cc (sym is ∙ e) in
-      (file ∙ ap Some named, subst (λ list. IsCall list call) same calls)
-  named_left name is none other left call (Both found file e) calls =
+      (file ∙ ap Some named, much, subst (λ list. IsCall list call) same calls)
+  named_left name is none other more left call (Both found file much e) calls =
       let same : rest ≡ codes "--brief" ∷ left = cc (sym is ∙ e) in absurd (none left same)
-  named_left name is none other left call (Turned found file e) calls =
+  named_left name is none other more left call (Turned found file much e) calls =
       let same : codes "--story" ≡ codes "--brief" = cc (sym is ∙ e) in absurd (other_option same)
 
   pub turned_left : (name : List ℕ) → words ≡ codes "--brief" ∷ codes "--story" ∷ name ∷ rest →
-      (other : Option (List ℕ)) (left : List (List ℕ)) (call : Call) → Front words left other →
-      IsCall left call → Leaves (Some name) other call
-  turned_left name is other left call (Bare file e) calls =
+      (other : Option (List ℕ)) (more : Detail) (left : List (List ℕ)) (call : Call) →
+      Front words left other more → IsCall left call → Leaves (Some name) Brief other more call
+  turned_left name is other more left call (Bare file much e) calls =
       absurd (no_brief (codes "--story" ∷ name ∷ rest) call
       (subst (λ list. IsCall list call) (sym e ∙ is) calls))
-  turned_left name is other left call (Briefly file e) calls =
+  turned_left name is other more left call (Briefly file much e) calls =
       let same : left ≡ codes "--story" ∷ name ∷ rest = cc (sym is ∙ e) in
       absurd (no_story (name ∷ rest) call (subst (λ list. IsCall list call) same calls))
-  turned_left name is other left call (Named found file e) calls =
+  turned_left name is other more left call (Named found file much e) calls =
       let same : codes "--story" ≡ codes "--brief" = cc (sym e ∙ is) in absurd (other_option same)
-  turned_left name is other left call (Both found file e) calls =
+  turned_left name is other more left call (Both found file much e) calls =
       let same : codes "--story" ≡ codes "--brief" = cc (sym e ∙ is) in absurd (other_option same)
-  turned_left name is other left call (Turned found file e) calls =
+  turned_left name is other more left call (Turned found file much e) calls =
       let named : found ≡ name = cc (sym is ∙ e) in
       let same : left ≡ rest = cc (sym is ∙ e) in
-      (file ∙ ap Some named, subst (λ list. IsCall list call) same calls)
+      (file ∙ ap Some named, much, subst (λ list. IsCall list call) same calls)
 
   pub brief_left : words ≡ codes "--brief" ∷ rest →
       ((name : List ℕ) (after : List (List ℕ)) → rest ≢ codes "--story" ∷ name ∷ after) →
-      (other : Option (List ℕ)) (left : List (List ℕ)) (call : Call) → Front words left other →
-      IsCall left call → Leaves None other call
-  brief_left is none other left call (Bare file e) calls =
+      (other : Option (List ℕ)) (more : Detail) (left : List (List ℕ)) (call : Call) →
+      Front words left other more → IsCall left call → Leaves None Brief other more call
+  brief_left is none other more left call (Bare file much e) calls =
       absurd (no_brief rest call (subst (λ list. IsCall list call) (sym e ∙ is) calls))
-  brief_left is none other left call (Briefly file e) calls =
+  brief_left is none other more left call (Briefly file much e) calls =
       let same : left ≡ rest = cc (sym is ∙ e) in
-      (file, subst (λ list. IsCall list call) same calls)
-  brief_left is none other left call (Named found file e) calls =
+      (file, much, subst (λ list. IsCall list call) same calls)
+  brief_left is none other more left call (Named found file much e) calls =
       let same : codes "--story" ≡ codes "--brief" = cc (sym e ∙ is) in absurd (other_option same)
-  brief_left is none other left call (Both found file e) calls =
+  brief_left is none other more left call (Both found file much e) calls =
       let same : codes "--story" ≡ codes "--brief" = cc (sym e ∙ is) in absurd (other_option same)
-  brief_left is none other left call (Turned found file e) calls =
+  brief_left is none other more left call (Turned found file much e) calls =
       let same : rest ≡ codes "--story" ∷ found ∷ left = cc (sym is ∙ e) in
       absurd (none found left same)
 
   pub bare_left : words ≡ rest →
       ((name : List ℕ) (after : List (List ℕ)) → words ≢ codes "--story" ∷ name ∷ after) →
       ((after : List (List ℕ)) → words ≢ codes "--brief" ∷ after) →
-      (other : Option (List ℕ)) (left : List (List ℕ)) (call : Call) → Front words left other →
-      IsCall left call → Leaves None other call
-  bare_left is no_name no_word other left call (Bare file e) calls =
-      (file, subst (λ list. IsCall list call) (sym e ∙ is) calls)
-  bare_left is no_name no_word other left call (Briefly file e) calls = absurd (no_word left e)
-  bare_left is no_name no_word other left call (Named found file e) calls =
+      (other : Option (List ℕ)) (more : Detail) (left : List (List ℕ)) (call : Call) →
+      Front words left other more → IsCall left call → Leaves None Whole other more call
+  bare_left is no_name no_word other more left call (Bare file much e) calls =
+      (file, much, subst (λ list. IsCall list call) (sym e ∙ is) calls)
+  bare_left is no_name no_word other more left call (Briefly file much e) calls = absurd (no_word left e)
+  bare_left is no_name no_word other more left call (Named found file much e) calls =
       absurd (no_name found left e)
-  bare_left is no_name no_word other left call (Both found file e) calls =
+  bare_left is no_name no_word other more left call (Both found file much e) calls =
       absurd (no_name found (codes "--brief" ∷ left) e)
-  bare_left is no_name no_word other left call (Turned found file e) calls =
+  bare_left is no_name no_word other more left call (Turned found file much e) calls =
       absurd (no_word (codes "--story" ∷ found ∷ left) e)
 
   -- so they say this of a story and nothing else
   pub says : (file : Option (List ℕ)) (detail : Detail) → Spells words file detail rest →
-      ((other : Option (List ℕ)) (left : List (List ℕ)) (call : Call) → Front words left other →
-      IsCall left call → Leaves file other call) → IsFront words file detail rest
+      ((other : Option (List ℕ)) (more : Detail) (left : List (List ℕ)) (call : Call) →
+      Front words left other more → IsCall left call → Leaves file detail other more call) →
+      IsFront words file detail rest
   says file detail spells leaves = record {
     spells = spells;
     only = λ other_file other_detail left call spelled calls.
-        leaves other_file left call (front_of words left other_file other_detail spelled) calls;
+        leaves other_file other_detail left call
+        (front_of words left other_file other_detail spelled) calls;
   }
 
 -- words that leave a call of rx ask for that call and for no other
@@ -180,8 +187,9 @@ pub asks_only : (words rest : List (List ℕ)) (file : Option (List ℕ)) (detai
 asks_only words rest file detail call front (calls, one) = (
   record { rest = rest; spells = front.spells; calls = calls },
   λ other_file other_detail other asks.
-      let (same, is) = front.only other_file other_detail asks.rest other asks.spells asks.calls in
-      (same, one other is),
+      let (same, much, is) =
+      front.only other_file other_detail asks.rest other asks.spells asks.calls in
+      (same, much, one other is),
 )
 
 -- words that leave no call of rx ask for none, and nothing is read of them
@@ -190,5 +198,6 @@ pub asks_none : {X : Type 0} (words rest : List (List ℕ)) (file : Option (List
     (read : Option X) → IfNone read ((other : Option (List ℕ)) (much : Detail) (call : Call) →
     ¬ Asks words other much call)
 asks_none words rest file detail front none None = λ other much call asks.
-    let (same, is) = front.only other much asks.rest call asks.spells asks.calls in none call is
+    let (same, more, is) = front.only other much asks.rest call asks.spells asks.calls in
+    none call is
 asks_none words rest file detail front none (Some read) = tt

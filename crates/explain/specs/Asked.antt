@@ -1,5 +1,5 @@
 -- The words of a call of rx-explain (this project's own).
-use Rattle.std.specs.Prelude.{◌≡◌, ◌⊎◌, ℕ, Bool, true, false, List, [], ◌∷◌, ◌++◌, Option, Some, None, codes}
+use Rattle.std.specs.Prelude.{◌≡◌, ◌⊎◌, ℕ, List, [], ◌∷◌, ◌++◌, Option, Some, None, codes}
 use Rattle.arguments.specs.Arguments.{Call, IsCall}
 use Rattle.teller.specs.declared.telling.Detail.{Detail}
 use Rattle.teller.specs.declared.telling.Detail.TheVariants.{Brief, Whole}
@@ -34,13 +34,14 @@ abbrev pub AsksOnly : List (List ℕ) → Option (List ℕ) → Detail → Call 
 AsksOnly words file detail call =
     Asks words file detail call
     × ((other_file : Option (List ℕ)) (other_detail : Detail) (other : Call) →
-    Asks words other_file other_detail other → (other_file ≡ file) × (other ≡ call))
+    Asks words other_file other_detail other →
+    (other_file ≡ file) × (other_detail ≡ detail) × (other ≡ call))
 
 -- words say this of a story, and leave the rest for a call of rx; and whatever call they ask for,
--- it is that of this rest, with a story in this file
+-- it is that of this rest, with a story in this file and in so much detail
 pub record IsFront (words : List (List ℕ)) (file : Option (List ℕ)) (detail : Detail)
     (rest : List (List ℕ)) : Type 0 where
   pub spells : Spells words file detail rest
   pub only : (other_file : Option (List ℕ)) (other_detail : Detail) (left : List (List ℕ))
       (call : Call) → Spells words other_file other_detail left → IsCall left call →
-      (other_file ≡ file) × IsCall rest call
+      (other_file ≡ file) × (other_detail ≡ detail) × IsCall rest call

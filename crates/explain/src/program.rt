@@ -4,11 +4,10 @@ ghost use Rattle.std.specs.Prelude.{◌≡◌, ◌⊎◌, false, if◌then◌els
 ghost use Rattle.std.specs.Option.{option_copied};
 ghost use Rattle.arguments.specs.Arguments.{Call, Holds, texts};
 ghost use Rattle.explain.specs.Asked.{Asks};
-ghost use Rattle.explain.specs.Explained.{Explains, Rejects, Tells, usage};
+ghost use Rattle.explain.specs.Explained.{Ends, Explains, Rejects, StarvesOrTold, usage};
 ghost use Rattle.records.specs.Sink.{Takes};
 ghost use Rattle.teller.specs.declared.telling.Detail.{Detail as Much};
 ghost use Rattle.worlds.specs.Lacking.{IsOther, IsOtherRecord, IsUnmade};
-ghost use Rattle.worlds.specs.Play.{Starves};
 
 use crate::asked::{Asked, asked_by};
 use crate::watched::Story;
@@ -93,12 +92,15 @@ where
         → ¬ Asks (texts words.now) file detail call)
         → Rejects E.adds E.has_failed (out.old, err.old) (out.new, err.new) result }
 
-    // A call whose story is asked for does what it does as a call of `rx`, and its acts are told.
+    // A call whose story is asked for does what it does as a call of `rx`, and its acts are told
+    // with their answers, each once and in order; where the story is lost, the call ends as where a
+    // writer failed.
     ensures story { (file : Option (List ℕ)) (detail : Much) (call : Call)
         → Asks (texts words.now) file detail call
         → Explains (F.opens files.now) F.File.left F.File.reads F.Standard.left F.Standard.reads
-        (F.makes files.now) (F.same files.now) O.adds O.has_failed E.adds E.has_failed Global file
-        call (out.old, err.old) (out.new, err.new) result }
+        (F.makes files.now) (F.same files.now) O.adds O.has_failed E.adds E.has_failed
+        F.Made.contents T.adds T.has_failed told Global file detail call (out.old, err.old)
+        (out.new, err.new) result }
 {
     let Some(asked) = asked_by(words) else {
         return reject(err);
@@ -143,11 +145,10 @@ where
     requires out { O.has_failed out.old ≡ false }
     requires err { E.has_failed err.old ≡ false }
     ensures { (asked : Call) → Holds call.now asked
-        → Starves O.adds O.has_failed E.adds E.has_failed (out.old, err.old) (out.new, err.new)
-        result
-        ⊎ Tells (F.opens files.now) F.File.left F.File.reads F.Standard.left F.Standard.reads
-        (F.makes files.now) (F.same files.now) O.adds O.has_failed E.adds E.has_failed Global asked
-        (out.old, err.old) (out.new, err.new) result }
+        → StarvesOrTold (F.opens files.now) F.File.left F.File.reads F.Standard.left
+        F.Standard.reads (F.makes files.now) (F.same files.now) O.adds O.has_failed E.adds
+        E.has_failed S.adds S.has_failed detail sink Global asked (out.old, err.old)
+        (out.new, err.new) result }
 {
     let commands = match call.commands(rt.alloc()) {
         Ok(text) => text.len(),
@@ -156,10 +157,17 @@ where
     let mut story = Story::new(rt.alloc(), sink, detail, commands);
     let status = perform_call(rt, files, call, out, err, &mut story);
     story.end(status);
-    if story.failed() {
+    end_call(story.failed(), status, err)
+}
+
+/// Ends a call whose run had this status; where its story is lost, as where a writer failed.
+fn end_call<E: Sink>(lost: bool, ended: u8, err: &mut E) -> u8
+    ensures { Ends E.adds E.has_failed lost ended err.old err.new result }
+{
+    if lost {
         finish(Outcome::OutputFailed, err)
     } else {
-        status
+        ended
     }
 }
 

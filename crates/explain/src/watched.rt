@@ -1,13 +1,16 @@
 //! Stories: each watches a run, counts the acts that it is told, and has the run told.
 
-ghost use Rattle.std.specs.Prelude.{◌≡◌};
+ghost use Rattle.std.specs.Prelude.{◌≡◌, ◌||◌, ℕ, List, [], true, false, IsOkAnd};
+ghost use Rattle.explain.specs.Stories.{GoesOn, untold};
+ghost use Rattle.explain.specs.View.{told_of};
+ghost use Rattle.records.specs.Sink.{Takes};
 
 use crate::refusals::{Heeded, run_heeded};
 use acts::{Act, Answer, Limits, NoMemory, World};
 use engine::End;
 use machine::frame::Frame;
 use machine::{Waits, Watch};
-use records::Sink;
+use records::{Sink, put_all};
 use state::{Leaf, State};
 use std::alloc::Allocator;
 use tcltext::Value;
@@ -19,76 +22,120 @@ use worlds::recorded::{Refuses, Runner};
 pub struct Story<A: Allocator, S: Sink> {
     /// How many acts it was told, each with its answer.
     acts: u64,
-    teller: Teller<A, S>,
+    detail: Detail,
+    /// Whether memory was refused, after which nothing is told.
+    is_lost: bool,
+    sink: S,
+    teller: Teller<A>,
 }
 
 impl<A: Allocator + Copy, S: Sink> Story<A, S> {
     /// A story of which nothing is told yet. The first `commands` bytes of the script are the texts
     /// of `-c`. Takes no memory.
     pub fn new(alloc: A, sink: S, detail: Detail, commands: usize) -> Story<A, S>
-        ensures { result.acts ≡ 0 }
+        ensures { told_of result ≡ untold detail sink }
     {
         Story {
             acts: 0,
-            teller: Teller::new(alloc, sink, detail, commands),
+            detail,
+            is_lost: false,
+            sink,
+            teller: Teller::new(alloc, commands),
         }
     }
 
     /// Whether the story could not be told to its end: its sink failed, or memory was refused.
-    pub fn failed(&self) -> bool {
-        self.teller.failed()
+    pub fn failed(&self) -> bool
+        ensures { result ≡ (self.now.is_lost || S.has_failed self.now.sink) }
+    {
+        self.is_lost || self.sink.failed()
     }
 
     /// Tells the end of the story: what came after a wait was over, the error that ended the run,
     /// the wait that was open, and the status. Where no run began, there is nothing to tell.
     pub fn end(&mut self, status: u8)
-        ensures { self.new.acts ≡ self.old.acts }
+        ensures { GoesOn S.adds S.has_failed (told_of self.old) [] (told_of self.new) }
     {
-        self.teller.end(status);
+        let told = self.teller.end(status);
+        self.tell(told);
+    }
+
+    /// Takes note of whether memory was refused.
+    fn note(&mut self, noted: Result<(), NoMemory>)
+        ensures { GoesOn S.adds S.has_failed (told_of self.old) [] (told_of self.new) }
+    {
+        if noted.is_err() {
+            self.is_lost = true;
+        }
+    }
+
+    /// Tells these lines, unless the story is lost.
+    fn tell(&mut self, told: Result<Vec<u8, A>, NoMemory>)
+        ensures same { (self.new.acts ≡ self.old.acts) × (self.new.detail ≡ self.old.detail) }
+        ensures lost { self.old.is_lost ≡ true → self.new.is_lost ≡ true }
+        ensures tells { (text : List ℕ)
+            × Takes S.adds S.has_failed self.old.sink text self.new.sink
+            × (self.new.is_lost ≡ false → IsOkAnd told (λ lines. lines.items ≡ text)) }
+    {
+        let Ok(lines) = told else {
+            self.is_lost = true;
+            return;
+        };
+        if !self.is_lost {
+            put_all(&mut self.sink, &lines);
+        }
     }
 }
 
 impl<A: Allocator + Copy, S: Sink> Watch<A, Frame<A>, State<A>, Leaf<A, Waits<A>>> for Story<A, S> {
-    ghost use Rattle.std.specs.Prelude.{length};
-    ghost use Rattle.explain.specs.Counts.{CountsOn, goes_on, stands_still};
+    ghost use Rattle.explain.specs.Stories.{GoesOn, joined, rests};
+    ghost use Rattle.explain.specs.View.{told_of};
 
-    // It counts each act.
-    ghost told = { λ before acts after. CountsOn before.acts (length acts) after.acts };
+    // Its lines tell each act with its answer, once and in order.
+    ghost told = { λ before acts after.
+        GoesOn S.adds S.has_failed (told_of before) acts (told_of after) };
 
-    ghost stays = { λ x. stands_still x.acts };
+    ghost stays = { λ x. rests S.adds S.has_failed (told_of x) };
 
-    ghost joins = { λ x y z h k. goes_on x.acts y.acts z.acts h k };
+    ghost joins = { λ x y z h k.
+        joined S.adds S.has_failed (told_of x) (told_of y) (told_of z) h k };
 
     fn starts(&mut self, script: &[u8], args: &[Vec<u8, A>]) {
-        self.teller.starts(script, args);
+        let noted = self.teller.starts(script, args);
+        self.note(noted);
     }
 
     fn begins(&mut self, frames: &[Frame<A>], state: &State<A>, words: &[Value<A>]) {
-        self.teller.begins(frames, state, words);
+        let noted = self.teller.begins(frames, state, words);
+        self.note(noted);
     }
 
     fn says(&mut self, words: &[Value<A>]) {
-        self.teller.says(words);
+        let noted = self.teller.says(words);
+        self.note(noted);
     }
 
     fn leads(&mut self, frames: &[Frame<A>], state: &State<A>, leaf: &Leaf<A, Waits<A>>) {
-        self.teller.leads(frames, state, leaf);
+        let told = self.teller.leads(frames, state, leaf, self.detail);
+        self.tell(told);
     }
 
     fn answers(&mut self, act: &Act<A>, answer: &Answer<A>) {
         self.acts = self.acts.saturating_add(1);
-        self.teller.answers(act, answer, self.acts);
+        let told = self.teller.answers(act, answer, self.acts, self.detail);
+        self.tell(told);
     }
 }
 
 impl<A: Allocator + Copy, S: Sink> Runner<A> for Story<A, S> {
-    ghost use Rattle.std.specs.Prelude.{length};
-    ghost use Rattle.explain.specs.Counts.{CountsOn, stands_still};
+    ghost use Rattle.explain.specs.Stories.{GoesOn, rests};
+    ghost use Rattle.explain.specs.View.{told_of};
 
-    // It counts each act.
-    ghost told = { λ before acts after. CountsOn before.acts (length acts) after.acts };
+    // Its lines tell each act with its answer, once and in order.
+    ghost told = { λ before acts after.
+        GoesOn S.adds S.has_failed (told_of before) acts (told_of after) };
 
-    ghost stays = { λ x. stands_still x.acts };
+    ghost stays = { λ x. rests S.adds S.has_failed (told_of x) };
 
     fn run<W: World<A> + Refuses<A>, M: Sink>(
         &mut self,

@@ -1,20 +1,19 @@
 //! The choices of `expect`.
 
 use crate::branches::Branch;
-use crate::lines::push_count;
 use crate::telling::{Detail, Teller};
 use crate::wait::{Over, Wait, awaited_in};
+use acts::decimal::push_decimal;
 use acts::{Id, NoMemory};
 use dialog::{Keyword, Pair};
 use expects::turn::Turn;
 use machine::frame::Frame;
-use records::{Sink, put_all};
 use state::State;
 use std::alloc::Allocator;
 use story::{Difference, Ending, Vain, Why, push_line, push_sought, push_why, why_in_vain};
 use tcltext::{Found, Value};
 
-impl<A: Allocator + Copy, S: Sink> Teller<A, S> {
+impl<A: Allocator + Copy> Teller<A> {
     /// The wait of a turn that begins.
     ///
     /// # Errors
@@ -41,20 +40,24 @@ impl<A: Allocator + Copy, S: Sink> Teller<A, S> {
     /// `NoMemory`.
     pub(crate) fn choose(
         &mut self,
+        out: &mut Vec<u8, A>,
         frames: &[Frame<A>],
         state: &State<A>,
         turn: &Turn<A>,
+        detail: Detail,
     ) -> Result<(), NoMemory> {
         if self.wait.is_none() {
             let wait = self.wait_of(frames, state, turn)?;
-            if self.detail == Detail::Whole {
-                self.tell_command(wait.spot, b"looks at what has come")?;
+            if detail == Detail::Whole {
+                self.tell_command(out, wait.spot, b"looks at what has come")?;
             }
             self.wait = Some(wait);
         }
         match state.ids.table.last_found() {
-            Some((place, found)) => self.choose_pattern(turn.effective.pairs(), place, found)?,
-            None => self.choose_keyword()?,
+            Some((place, found)) => {
+                self.choose_pattern(out, turn.effective.pairs(), place, found, detail)?;
+            }
+            None => self.choose_keyword(out, detail)?,
         }
         self.see(frames, state, &Ok(Value::empty()))
     }
@@ -62,9 +65,11 @@ impl<A: Allocator + Copy, S: Sink> Teller<A, S> {
     /// Tells that the pattern of the pair at this place was chosen, and where it was found.
     fn choose_pattern(
         &mut self,
+        out: &mut Vec<u8, A>,
         pairs: &[Pair<A>],
         place: usize,
         found: Found,
+        detail: Detail,
     ) -> Result<(), NoMemory> {
         let Some(wait) = self.wait.take() else {
             return Ok(());
@@ -72,21 +77,31 @@ impl<A: Allocator + Copy, S: Sink> Teller<A, S> {
         let Some(pair) = pairs.get(place) else {
             return Ok(());
         };
-        if self.detail == Detail::Whole {
+        if detail == Detail::Whole {
             let branches = self.branches.of_pairs(self.alloc, pairs)?;
-            let mut told = Vec::new(self.alloc);
-            self.push_found(&mut told, branches.get(place), found, pair.stays())?;
-            for (at, branch) in branches.iter().enumerate() {
-                if at != place {
-                    self.push_taken(&mut told, &wait, branch)?;
-                }
-            }
-            put_all(&mut self.sink, &told);
+            self.push_found(out, branches.get(place), found, pair.stays())?;
+            self.push_others(out, &wait, &branches, place)?;
         }
         if pair.stays() {
             return Ok(());
         }
         self.heard.consume(pair.id(), found.end, wait.cause())
+    }
+
+    /// Writes which patterns stand in the window as well as that of the branch at this place.
+    fn push_others(
+        &self,
+        out: &mut Vec<u8, A>,
+        wait: &Wait<A>,
+        branches: &[Branch<A>],
+        place: usize,
+    ) -> Result<(), NoMemory> {
+        for (at, branch) in branches.iter().enumerate() {
+            if at != place {
+                self.push_taken(out, wait, branch)?;
+            }
+        }
+        Ok(())
     }
 
     /// Writes where a pattern was found, and how much was consumed.
@@ -103,14 +118,14 @@ impl<A: Allocator + Copy, S: Sink> Teller<A, S> {
         }
         let mut detail = Vec::new(self.alloc);
         detail.extend_from_slice(b"found at ")?;
-        push_count(&mut detail, found.start)?;
+        push_decimal(&mut detail, found.start as u64)?;
         detail.extend_from_slice(b" to ")?;
-        push_count(&mut detail, found.end)?;
+        push_decimal(&mut detail, found.end as u64)?;
         detail.extend_from_slice(b"; ")?;
         if stays {
             detail.extend_from_slice(b"nothing consumed (-notransfer)")?;
         } else {
-            push_count(&mut detail, found.end)?;
+            push_decimal(&mut detail, found.end as u64)?;
             detail.extend_from_slice(b" bytes consumed")?;
         }
         push_line(out, b"", &what, &detail)
@@ -152,21 +167,19 @@ impl<A: Allocator + Copy, S: Sink> Teller<A, S> {
 
     /// Tells which keyword was chosen, and why the patterns were not; all that the id has is
     /// consumed, where it was chosen for an end or a full buffer.
-    fn choose_keyword(&mut self) -> Result<(), NoMemory> {
+    fn choose_keyword(&mut self, out: &mut Vec<u8, A>, detail: Detail) -> Result<(), NoMemory> {
         let Some(wait) = &mut self.wait else {
             return Ok(());
         };
         let cause = wait.cause();
+        if wait.over.is_none() {
+            wait.over = full_id(wait).map(Over::Full);
+        }
         let (consumed, keyword) = match wait.over {
-            Some(Over::Time) => (None, first_named(wait, None, Keyword::Timeout)),
-            Some(Over::End(id)) => (Some(id), first_named(wait, Some(id), Keyword::Eof)),
-            Some(Over::Full(_)) | None => {
-                let full = full_id(wait);
-                wait.over = full.map(Over::Full);
-                (full, Some(Keyword::FullBuffer))
-            }
+            Some(over) => (over.id(), keyword_for(wait, over)),
+            None => (None, Some(Keyword::FullBuffer)),
         };
-        self.tell_vain(keyword)?;
+        self.tell_vain(out, keyword, detail)?;
         match consumed {
             Some(id) => {
                 let count = self.heard.window(id).len();
@@ -174,6 +187,15 @@ impl<A: Allocator + Copy, S: Sink> Teller<A, S> {
             }
             None => Ok(()),
         }
+    }
+}
+
+/// The keyword of the branch that is chosen where a wait is over so.
+pub(crate) fn keyword_for<A: Allocator>(wait: &Wait<A>, over: Over) -> Option<Keyword> {
+    match over {
+        Over::Time => first_named(wait, None, Keyword::Timeout),
+        Over::End(id) => first_named(wait, Some(id), Keyword::Eof),
+        Over::Full(_) => Some(Keyword::FullBuffer),
     }
 }
 

@@ -1,6 +1,7 @@
 //! The lines of a script, by which places in it are told.
 
 use acts::NoMemory;
+use acts::decimal::push_decimal;
 use memchr::memchr_iter;
 use std::alloc::Allocator;
 
@@ -47,7 +48,7 @@ impl<A: Allocator + Copy> Lines<A> {
         let line = self.before(at);
         if at < self.commands {
             out.extend_from_slice(b"-c:")?;
-            return push_count(out, line.saturating_add(1));
+            return push_decimal(out, line.saturating_add(1) as u64);
         }
         let first = if self.commands == 0 {
             0
@@ -56,12 +57,6 @@ impl<A: Allocator + Copy> Lines<A> {
         };
         out.extend_from_slice(&self.name)?;
         out.push(b':')?;
-        push_count(out, line.saturating_sub(first).saturating_add(1))
+        push_decimal(out, line.saturating_sub(first).saturating_add(1) as u64)
     }
-}
-
-/// Writes a count in decimal digits.
-pub(crate) fn push_count<A: Allocator>(out: &mut Vec<u8, A>, count: usize) -> Result<(), NoMemory> {
-    out.extend_from_slice(itoa::Buffer::new().format(count as u64).as_bytes())?;
-    Ok(())
 }

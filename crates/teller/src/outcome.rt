@@ -2,20 +2,19 @@
 
 use crate::blame::{Raised, raiser};
 use crate::bounds::faulty_start;
-use crate::lines::push_count;
 use crate::sources::{Raising, sources};
 use crate::spots::{Running, Spot};
 use crate::telling::Teller;
 use acts::NoMemory;
+use acts::decimal::push_decimal;
 use machine::frame::Frame;
-use records::Sink;
 use state::{Leave, Outcome, State};
 use std::alloc::Allocator;
 
 /// How many commands around that of an error are told at most.
 const MOST_AROUND: usize = 20;
 
-impl<A: Allocator + Copy, S: Sink> Teller<A, S> {
+impl<A: Allocator + Copy> Teller<A> {
     /// Takes note of an outcome of what began: of the commands that may raise an error before
     /// anything else begins.
     ///
@@ -59,7 +58,7 @@ impl<A: Allocator + Copy, S: Sink> Teller<A, S> {
     ///
     /// # Errors
     /// `NoMemory`.
-    pub(crate) fn tell_raised(&mut self) -> Result<(), NoMemory> {
+    pub(crate) fn tell_raised(&mut self, out: &mut Vec<u8, A>) -> Result<(), NoMemory> {
         let spots = match self.raised.take() {
             Some(raised) => self.spots_of(&raised)?,
             None if self.report.is_empty() => return Ok(()),
@@ -69,12 +68,12 @@ impl<A: Allocator + Copy, S: Sink> Teller<A, S> {
         detail.extend_from_slice(b"error: ")?;
         detail.extend_from_slice(&self.report)?;
         let Some((inner, outer)) = spots.split_last() else {
-            self.tell(None, b"", &detail)?;
-            return self.tell_refusal();
+            self.tell(out, None, b"", &detail)?;
+            return self.tell_refusal(out);
         };
-        self.tell_command(Some(*inner), &detail)?;
-        self.tell_refusal()?;
-        self.tell_around(outer)
+        self.tell_command(out, Some(*inner), &detail)?;
+        self.tell_refusal(out)?;
+        self.tell_around(out, outer)
     }
 
     /// Where the first command of the script stands, which is at fault where none has begun.
@@ -128,17 +127,17 @@ impl<A: Allocator + Copy, S: Sink> Teller<A, S> {
     }
 
     /// Tells the commands around that of an error, the innermost first.
-    fn tell_around(&mut self, outer: &[Spot]) -> Result<(), NoMemory> {
+    fn tell_around(&self, out: &mut Vec<u8, A>, outer: &[Spot]) -> Result<(), NoMemory> {
         for spot in outer.iter().rev().take(MOST_AROUND) {
-            self.tell_command(Some(*spot), b"was in progress")?;
+            self.tell_command(out, Some(*spot), b"was in progress")?;
         }
         if outer.len() <= MOST_AROUND {
             return Ok(());
         }
         let mut rest = Vec::new(self.alloc);
-        push_count(&mut rest, outer.len().saturating_sub(MOST_AROUND))?;
+        push_decimal(&mut rest, outer.len().saturating_sub(MOST_AROUND) as u64)?;
         rest.extend_from_slice(b" more around it")?;
-        self.tell(None, b"", &rest)
+        self.tell(out, None, b"", &rest)
     }
 }
 

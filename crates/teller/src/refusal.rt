@@ -3,7 +3,6 @@
 use crate::telling::Teller;
 use acts::{Answer, NoMemory};
 use machine::End;
-use records::Sink;
 use std::alloc::Allocator;
 use std::io;
 
@@ -16,7 +15,7 @@ pub struct Refusal {
     pub why: io::Error,
 }
 
-impl<A: Allocator + Copy, S: Sink> Teller<A, S> {
+impl<A: Allocator + Copy> Teller<A> {
     /// Takes note that the act of this number was answered.
     pub(crate) fn note_answer(&mut self, answer: &Answer<A>, number: u64) {
         self.answered = Some(number);
@@ -43,11 +42,11 @@ impl<A: Allocator + Copy, S: Sink> Teller<A, S> {
     ///
     /// # Errors
     /// `NoMemory`.
-    pub(crate) fn tell_refusal(&mut self) -> Result<(), NoMemory> {
+    pub(crate) fn tell_refusal(&self, out: &mut Vec<u8, A>) -> Result<(), NoMemory> {
         match self.refusal {
             Some(refusal) if Some(refusal.act) == self.failed_at => {
                 let words = format!(in self.alloc; "{}", refusal.why)?;
-                self.tell(None, b"the system says", words.as_bytes())
+                self.tell(out, None, b"the system says", words.as_bytes())
             }
             Some(_) | None => Ok(()),
         }

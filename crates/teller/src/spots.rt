@@ -4,7 +4,6 @@ use crate::telling::Teller;
 use acts::NoMemory;
 use kept::Kept;
 use machine::frame::{Frame, Script, WordsOf};
-use records::Sink;
 use std::alloc::Allocator;
 
 /// A part of a script's text, from one byte up to another.
@@ -73,7 +72,7 @@ pub(crate) struct Running {
     pub command: Option<Spot>,
 }
 
-impl<A: Allocator + Copy, S: Sink> Teller<A, S> {
+impl<A: Allocator + Copy> Teller<A> {
     /// Where the commands in progress stand in the script of the run, the outermost first. Left out
     /// is a command of a text that is no part of the script as it is written, such as one that was
     /// put together for `eval`.

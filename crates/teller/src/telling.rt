@@ -1,18 +1,26 @@
 //! The lines of a story, as they are told.
 
+ghost use Rattle.std.specs.Prelude.{◌≡◌, ◌++◌, ℕ, List, [], Some, IfOk, OnOk, codes, is_some};
+ghost use Rattle.acts.specs.Deed.{deed_of, reply_of};
+ghost use Rattle.acts.specs.Id.{id_text};
+ghost use Rattle.story.specs.Line.{line};
+ghost use Rattle.teller.specs.Told.{IsDone, IsHeard, IsTold, over_text, sized};
+ghost use Rattle.teller.specs.declared.telling.Detail.TheVariants.{Brief, Whole};
+
 use crate::blame::Raised;
 use crate::branches::Branches;
+use crate::choice::keyword_for;
 use crate::grounds::Grounds;
-use crate::lines::{Lines, push_count};
+use crate::lines::Lines;
 use crate::refusal::Refusal;
 use crate::shown::push_command;
 use crate::spots::Spot;
-use crate::told::{push_answer, push_bytes, push_id};
-use crate::vain::{Later, Vains};
+use crate::told::{is_wait, may_be_unasked, push_act, push_answer, push_bytes, push_id};
+use crate::vain::{Vains, push_over};
 use crate::wait::{Over, Wait};
-use acts::{Answer, Id, NoMemory};
+use acts::decimal::push_decimal;
+use acts::{Act, Answer, Id, NoMemory};
 use memchr::memchr;
-use records::{Sink, put_all};
 use std::alloc::Allocator;
 use story::{Heard, push_line};
 
@@ -28,12 +36,17 @@ pub enum Detail {
     Brief,
 }
 
-/// One who tells the story of a run to a sink, line by line as the run goes.
+/// A command whose act waits for its answer: where it stands, if that is known.
+#[derive(Clone, Copy)]
+pub(crate) struct Asker {
+    pub spot: Option<Spot>,
+}
+
+/// One who tells the story of a run line by line as the run goes: each call gives the lines of what
+/// happened, which may be none. After an `Err` the story has a gap.
 #[derive(Drop)]
-pub struct Teller<A: Allocator, S: Sink> {
+pub struct Teller<A: Allocator> {
     pub(crate) alloc: A,
-    pub(crate) sink: S,
-    pub(crate) detail: Detail,
     /// How many bytes of the script are the texts of `-c`.
     pub(crate) commands: usize,
     pub(crate) script: Vec<u8, A>,
@@ -44,8 +57,8 @@ pub struct Teller<A: Allocator, S: Sink> {
     /// Whether the words that were read last are those of branches that stand.
     pub(crate) stands: bool,
     pub(crate) wait: Option<Wait<A>>,
-    /// Where the command stands whose act waits for its answer, and what the act is about.
-    pub(crate) asked: Option<(Option<Spot>, Vec<u8, A>)>,
+    /// The command whose act waits for its answer, where the whole is told.
+    pub(crate) asked: Option<Asker>,
     pub(crate) vains: Vains<A>,
     pub(crate) raised: Option<Raised<A>>,
     /// What was written to standard error last: where an error ended the run, its text.
@@ -58,18 +71,14 @@ pub struct Teller<A: Allocator, S: Sink> {
     pub(crate) refusal: Option<Refusal>,
     /// Whether a write that failed ended the run.
     pub(crate) is_cut: bool,
-    /// Whether memory was refused, after which nothing is told.
-    pub(crate) is_lost: bool,
 }
 
-impl<A: Allocator + Copy, S: Sink> Teller<A, S> {
+impl<A: Allocator + Copy> Teller<A> {
     /// One who has told nothing yet. The first `commands` bytes of the script are the texts
     /// of `-c`. Takes no memory.
-    pub fn new(alloc: A, sink: S, detail: Detail, commands: usize) -> Teller<A, S> {
+    pub fn new(alloc: A, commands: usize) -> Teller<A> {
         Teller {
             alloc,
-            sink,
-            detail,
             commands,
             script: Vec::new(alloc),
             lines: None,
@@ -86,76 +95,100 @@ impl<A: Allocator + Copy, S: Sink> Teller<A, S> {
             failed_at: None,
             refusal: None,
             is_cut: false,
-            is_lost: false,
         }
     }
 
-    /// Whether the story could not be told to its end: its sink failed, or memory was refused.
-    pub fn failed(&self) -> bool {
-        self.is_lost || self.sink.failed()
+    /// Tells an act, the one of this number, with its answer, and remembers what came.
+    ///
+    /// # Errors
+    /// `NoMemory`.
+    pub fn answers(
+        &mut self,
+        act: &Act<A>,
+        answer: &Answer<A>,
+        number: u64,
+        detail: Detail,
+    ) -> Result<Vec<u8, A>, NoMemory>
+        // Where the whole is told, an act has one line: a wait that of its answer, and another act
+        // unless it is of a kind that is also done unasked, and no command asked for it.
+        ensures whole { detail ≡ Whole → IfOk result (λ told. IsTold (is_some self.old.asked)
+            (deed_of act.now) (reply_of answer.now) told.items) }
+        ensures brief { detail ≡ Brief → IfOk result (λ told. told.items ≡ []) }
+    {
+        let asked = self.asked.take();
+        if let Act::Err(text) = act {
+            self.see_report(text)?;
+        }
+        self.note_answer(answer, number);
+        self.hear(answer)?;
+        match detail {
+            Detail::Whole => self.line_of(asked, act, answer),
+            Detail::Brief => Ok(Vec::new(self.alloc)),
+        }
     }
 
     /// Tells the end of the story: what came after a wait was over, the error that ended the run,
     /// the wait that was open, and the status. Where no run began, there is nothing to tell.
-    pub fn end(&mut self, status: u8) {
-        if self.lines.is_none() {
-            return;
+    ///
+    /// # Errors
+    /// `NoMemory`.
+    pub fn end(&mut self, status: u8) -> Result<Vec<u8, A>, NoMemory> {
+        let mut out = Vec::new(self.alloc);
+        if self.lines.is_some() {
+            self.tell_end(&mut out, status)?;
         }
-        let told = self.tell_end(status);
-        self.note(told);
+        Ok(out)
     }
 
     /// Tells the end of the story.
-    fn tell_end(&mut self, status: u8) -> Result<(), NoMemory> {
+    fn tell_end(&mut self, out: &mut Vec<u8, A>, status: u8) -> Result<(), NoMemory> {
         if let Some(wait) = self.wait.take() {
-            self.tell_command(wait.spot, b"was waiting when the run was over")?;
+            self.tell_command(out, wait.spot, b"was waiting when the run was over")?;
         }
-        self.tell_later()?;
+        self.tell_later(out)?;
         if status == ERROR_STATUS {
-            self.tell_raised()?;
+            self.tell_raised(out)?;
         }
         if self.is_cut {
-            self.tell_refusal()?;
+            self.tell_refusal(out)?;
         }
         let mut detail = Vec::new(self.alloc);
         detail.extend_from_slice(b"status ")?;
-        push_count(&mut detail, usize::from(status))?;
-        self.tell(None, b"end", &detail)
-    }
-
-    /// Takes note of whether a part of the story was told.
-    pub(crate) fn note(&mut self, told: Result<(), NoMemory>) {
-        if told.is_err() {
-            self.is_lost = true;
-        }
+        push_decimal(&mut detail, u64::from(status))?;
+        push_line(out, b"", b"end", &detail)
     }
 
     /// Tells one line: where a command stands, and the command, or nothing of it; and what
     /// happened.
     pub(crate) fn tell(
-        &mut self,
+        &self,
+        out: &mut Vec<u8, A>,
         spot: Option<Spot>,
         what: &[u8],
         detail: &[u8],
-    ) -> Result<(), NoMemory> {
-        let mut line = Vec::new(self.alloc);
+    ) -> Result<(), NoMemory>
+        ensures { OnOk result ((place : List ℕ)
+            × (out.new.items ≡ out.old.items ++ line place what.now detail.now)) }
+    {
         let place = self.place(spot)?;
-        push_line(&mut line, &place, what, detail)?;
-        put_all(&mut self.sink, &line);
-        Ok(())
+        push_line(out, &place, what, detail)
     }
 
     /// Tells one line of a command: where it stands, its words, and what happened.
     pub(crate) fn tell_command(
-        &mut self,
+        &self,
+        out: &mut Vec<u8, A>,
         spot: Option<Spot>,
         detail: &[u8],
-    ) -> Result<(), NoMemory> {
+    ) -> Result<(), NoMemory>
+        ensures { OnOk result ((place command : List ℕ)
+            × (out.new.items ≡ out.old.items ++ line place command detail.now)) }
+    {
         let mut what = Vec::new(self.alloc);
         if let Some(spot) = spot {
             push_command(&mut what, spot.text(&self.script))?;
         }
-        self.tell(spot, &what, detail)
+        self.tell(out, spot, &what, detail)
     }
 
     /// How a place is written, or nothing where it is not known.
@@ -167,28 +200,23 @@ impl<A: Allocator + Copy, S: Sink> Teller<A, S> {
         Ok(place)
     }
 
-    /// Tells and remembers what an answer says.
-    pub(crate) fn answer(&mut self, answer: &Answer<A>) -> Result<(), NoMemory> {
+    /// Remembers what an answer says of a wait.
+    fn hear(&mut self, answer: &Answer<A>) -> Result<(), NoMemory> {
         match answer {
-            Answer::Arrive(id, bytes) => self.arrive(*id, bytes),
-            Answer::Ended(id) => {
-                self.end_wait(Over::End(*id));
-                Ok(())
-            }
-            Answer::TimedOut => {
-                self.end_wait(Over::Time);
-                Ok(())
-            }
+            Answer::Arrive(id, bytes) => return self.arrive(*id, bytes),
+            Answer::Ended(id) => self.end_wait(Over::End(*id)),
+            Answer::TimedOut => self.end_wait(Over::Time),
             Answer::Done
             | Answer::Failed(_)
             | Answer::Started(_)
             | Answer::Refused
             | Answer::Exited(_)
-            | Answer::NoMore => self.answer_act(answer),
+            | Answer::NoMore => {}
         }
+        Ok(())
     }
 
-    /// Remembers bytes that came, and tells them.
+    /// Remembers bytes that came.
     fn arrive(&mut self, id: Id, bytes: &[u8]) -> Result<(), NoMemory> {
         let Some(wait) = &self.wait else {
             return Ok(());
@@ -196,24 +224,14 @@ impl<A: Allocator + Copy, S: Sink> Teller<A, S> {
         let max = wait.max(id);
         let cause = wait.cause();
         let drops_nulls = wait.awaited(id).is_some_and(|one| one.drops_nulls);
-        if drops_nulls && memchr(0, bytes).is_some() {
-            let mut kept = Vec::new(self.alloc);
-            for part in bytes.split(|byte| *byte == 0) {
-                kept.extend_from_slice(part)?;
-            }
-            self.heard.arrive(id, &kept, max, cause)?;
-        } else {
-            self.heard.arrive(id, bytes, max, cause)?;
+        if !drops_nulls || memchr(0, bytes).is_none() {
+            return self.heard.arrive(id, bytes, max, cause);
         }
-        if self.detail == Detail::Brief {
-            return Ok(());
+        let mut kept = Vec::new(self.alloc);
+        for part in bytes.split(|byte| *byte == 0) {
+            kept.extend_from_slice(part)?;
         }
-        let mut what = Vec::new(self.alloc);
-        push_id(&mut what, id)?;
-        what.extend_from_slice(b" says")?;
-        let mut detail = Vec::new(self.alloc);
-        push_bytes(&mut detail, bytes)?;
-        self.tell(None, &what, &detail)
+        self.heard.arrive(id, &kept, max, cause)
     }
 
     /// Notes how the wait in progress is over.
@@ -223,12 +241,95 @@ impl<A: Allocator + Copy, S: Sink> Teller<A, S> {
         }
     }
 
-    /// Tells the act that waited for this answer, if it is one of a command.
-    fn answer_act(&mut self, answer: &Answer<A>) -> Result<(), NoMemory> {
-        let Some((spot, mut detail)) = self.asked.take() else {
-            return Ok(());
-        };
+    /// The line of an act with its answer, or nothing where no command asked for it and it may be
+    /// done unasked.
+    fn line_of(
+        &self,
+        asked: Option<Asker>,
+        act: &Act<A>,
+        answer: &Answer<A>,
+    ) -> Result<Vec<u8, A>, NoMemory>
+        ensures { IfOk result (λ told. IsTold (is_some asked) (deed_of act.now)
+            (reply_of answer.now) told.items) }
+    {
+        if may_be_unasked(act) && asked.is_none() {
+            return Ok(Vec::new(self.alloc));
+        }
+        if is_wait(act) {
+            return self.heard_line(answer);
+        }
+        self.done_line(asked, act, answer)
+    }
+
+    /// The line of an act that is no wait, with its answer.
+    fn done_line(
+        &self,
+        asked: Option<Asker>,
+        act: &Act<A>,
+        answer: &Answer<A>,
+    ) -> Result<Vec<u8, A>, NoMemory>
+        ensures { IfOk result (λ told. IsDone (deed_of act.now) (reply_of answer.now) told.items) }
+    {
+        let mut detail = Vec::new(self.alloc);
+        push_act(&mut detail, act)?;
         push_answer(&mut detail, answer)?;
-        self.tell_command(spot, &detail)
+        let mut out = Vec::new(self.alloc);
+        self.tell_command(&mut out, asked.and_then(|one| one.spot), &detail)?;
+        Ok(out)
+    }
+
+    /// The line of an answer to a wait.
+    fn heard_line(&self, answer: &Answer<A>) -> Result<Vec<u8, A>, NoMemory>
+        ensures { IfOk result (λ told. IsHeard (reply_of answer.now) told.items) }
+    {
+        match answer {
+            Answer::Arrive(id, bytes) => self.arrival_line(*id, bytes),
+            Answer::Ended(id) => self.over_line(Over::End(*id)),
+            Answer::TimedOut => self.over_line(Over::Time),
+            Answer::NoMore => self.plain_line(b"the world has no more answers"),
+            Answer::Done
+            | Answer::Failed(_)
+            | Answer::Started(_)
+            | Answer::Refused
+            | Answer::Exited(_) => self.plain_line(b"no answer to a wait"),
+        }
+    }
+
+    /// The line of bytes that came.
+    fn arrival_line(&self, id: Id, bytes: &[u8]) -> Result<Vec<u8, A>, NoMemory>
+        ensures { IfOk result (λ told.
+            told.items ≡ line [] (id_text id.0 ++ codes " says") (sized bytes.now)) }
+    {
+        let mut what = Vec::new(self.alloc);
+        push_id(&mut what, id)?;
+        what.extend_from_slice(b" says")?;
+        let mut detail = Vec::new(self.alloc);
+        push_bytes(&mut detail, bytes)?;
+        let mut out = Vec::new(self.alloc);
+        push_line(&mut out, b"", &what, &detail)?;
+        Ok(out)
+    }
+
+    /// The line of how the wait in progress is over, with the branch that is chosen for it.
+    fn over_line(&self, over: Over) -> Result<Vec<u8, A>, NoMemory>
+        ensures { IfOk result (λ told. (branch : List ℕ)
+            × (told.items ≡ line [] (over_text (Some over)) branch)) }
+    {
+        let chosen = match &self.wait {
+            Some(wait) => keyword_for(wait, over),
+            None => None,
+        };
+        let mut out = Vec::new(self.alloc);
+        push_over(&mut out, Some(over), chosen)?;
+        Ok(out)
+    }
+
+    /// A line that says only what happened.
+    fn plain_line(&self, event: &[u8]) -> Result<Vec<u8, A>, NoMemory>
+        ensures { IfOk result (λ told. told.items ≡ line [] event.now []) }
+    {
+        let mut out = Vec::new(self.alloc);
+        push_line(&mut out, b"", event, b"")?;
+        Ok(out)
     }
 }

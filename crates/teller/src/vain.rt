@@ -1,14 +1,17 @@
 //! Waits that are over without the pattern that a branch sought, and why.
 
+ghost use Rattle.std.specs.Prelude.{◌≡◌, ◌++◌, ℕ, List, [], IfOk, OnOk};
+ghost use Rattle.acts.specs.Id.{id_text};
+ghost use Rattle.story.specs.Line.{line};
+ghost use Rattle.teller.specs.Told.{over_text};
+
 use crate::branches::{Branch, Wanted};
-use crate::shown::push_command;
 use crate::spots::Spot;
 use crate::telling::{Detail, Teller};
 use crate::told::push_id;
 use crate::wait::{Over, Wait, cause_of};
 use acts::{Id, NoMemory};
 use dialog::Keyword;
-use records::{Sink, put_all};
 use std::alloc::Allocator;
 use std::rc::Rc;
 use story::{Cause, Sought, Vain, came_later, push_line, push_sought, push_why, why_in_vain};
@@ -45,29 +48,30 @@ impl<A: Allocator + Copy> Vains<A> {
     }
 }
 
-impl<A: Allocator + Copy, S: Sink> Teller<A, S> {
-    /// Tells that the wait in progress is over, and why each of its patterns was not found. Where a
-    /// keyword was chosen, it says so.
+impl<A: Allocator + Copy> Teller<A> {
+    /// Tells that the wait in progress is over, where its last answer has not told so, and why each
+    /// of its patterns was not found. Where a keyword was chosen, it says so. Where only what led
+    /// to the end is told, that is kept for then.
     ///
     /// # Errors
     /// `NoMemory`.
-    pub(crate) fn tell_vain(&mut self, chosen: Option<Keyword>) -> Result<(), NoMemory> {
+    pub(crate) fn tell_vain(
+        &mut self,
+        out: &mut Vec<u8, A>,
+        chosen: Option<Keyword>,
+        detail: Detail,
+    ) -> Result<(), NoMemory> {
         let Some(wait) = self.wait.take() else {
             return Ok(());
         };
-        let mut told = Vec::new(self.alloc);
-        if self.detail == Detail::Brief {
-            self.push_first(&mut told, &wait)?;
-        }
-        self.push_over(&mut told, &wait, chosen)?;
-        for branch in wait.branches.iter() {
-            if let Some(sought) = branch.sought() {
-                self.push_vain(&mut told, &wait, sought)?;
+        match detail {
+            Detail::Whole => {
+                if !wait.is_told() {
+                    push_over(out, wait.over, chosen)?;
+                }
+                self.push_vains(out, &wait)?;
             }
-        }
-        match self.detail {
-            Detail::Whole => put_all(&mut self.sink, &told),
-            Detail::Brief => self.vains.last = told,
+            Detail::Brief => self.vains.last = self.last_vain(&wait, chosen)?,
         }
         if let Some(Over::Time) = wait.over {
             self.look_later(wait)?;
@@ -75,43 +79,23 @@ impl<A: Allocator + Copy, S: Sink> Teller<A, S> {
         Ok(())
     }
 
-    /// Writes the line of the command that waits.
-    fn push_first(&self, out: &mut Vec<u8, A>, wait: &Wait<A>) -> Result<(), NoMemory> {
-        let mut what = Vec::new(self.alloc);
-        if let Some(spot) = wait.spot {
-            push_command(&mut what, spot.text(&self.script))?;
-        }
-        push_line(out, &self.place(wait.spot)?, &what, b"sought in vain")
+    /// The lines of a wait that sought in vain, as they are told at the end of the run.
+    fn last_vain(&self, wait: &Wait<A>, chosen: Option<Keyword>) -> Result<Vec<u8, A>, NoMemory> {
+        let mut lines = Vec::new(self.alloc);
+        self.tell_command(&mut lines, wait.spot, b"sought in vain")?;
+        push_over(&mut lines, wait.over, chosen)?;
+        self.push_vains(&mut lines, wait)?;
+        Ok(lines)
     }
 
-    /// Writes how a wait is over.
-    fn push_over(
-        &self,
-        out: &mut Vec<u8, A>,
-        wait: &Wait<A>,
-        chosen: Option<Keyword>,
-    ) -> Result<(), NoMemory> {
-        let mut what = Vec::new(self.alloc);
-        match wait.over {
-            Some(Over::Time) => what.extend_from_slice(b"time is over")?,
-            Some(Over::End(id)) => {
-                push_id(&mut what, id)?;
-                what.extend_from_slice(b" is at its end")?;
+    /// Writes that the patterns of a wait were not found, and why.
+    fn push_vains(&self, out: &mut Vec<u8, A>, wait: &Wait<A>) -> Result<(), NoMemory> {
+        for branch in wait.branches.iter() {
+            if let Some(sought) = branch.sought() {
+                self.push_vain(out, wait, sought)?;
             }
-            Some(Over::Full(id)) => {
-                push_id(&mut what, id)?;
-                what.extend_from_slice(b" fills its buffer")?;
-            }
-            None => what.extend_from_slice(b"it is over")?,
         }
-        let detail = match chosen {
-            Some(Keyword::Eof) => b"branch eof".as_slice(),
-            Some(Keyword::Timeout) => b"branch timeout".as_slice(),
-            Some(Keyword::Default) => b"branch default".as_slice(),
-            Some(Keyword::FullBuffer) => b"branch full_buffer".as_slice(),
-            None => b"no branch for it; expect gives \"\"".as_slice(),
-        };
-        push_line(out, b"", &what, detail)
+        Ok(())
     }
 
     /// Writes that a pattern was not found, and why.
@@ -176,15 +160,13 @@ impl<A: Allocator + Copy, S: Sink> Teller<A, S> {
     ///
     /// # Errors
     /// `NoMemory`.
-    pub(crate) fn tell_later(&mut self) -> Result<(), NoMemory> {
-        let mut told = Vec::new(self.alloc);
-        told.extend_from_slice(&self.vains.last)?;
+    pub(crate) fn tell_later(&self, out: &mut Vec<u8, A>) -> Result<(), NoMemory> {
+        out.extend_from_slice(&self.vains.last)?;
         for later in self.vains.later.iter() {
             if let Some(sought) = later.branch.sought() {
-                self.push_later(&mut told, later, sought)?;
+                self.push_later(out, later, sought)?;
             }
         }
-        put_all(&mut self.sink, &told);
         Ok(())
     }
 
@@ -210,5 +192,55 @@ impl<A: Allocator + Copy, S: Sink> Teller<A, S> {
         let mut detail = Vec::new(self.alloc);
         push_why(&mut detail, &found, &vain, &self.place_of(found.cause())?)?;
         push_line(out, &self.place(later.spot)?, &what, &detail)
+    }
+}
+
+/// Writes how a wait is over, and which keyword was chosen for it.
+///
+/// # Errors
+/// `NoMemory`; a beginning of it may then have been written.
+pub(crate) fn push_over<A: Allocator + Copy>(
+    out: &mut Vec<u8, A>,
+    over: Option<Over>,
+    chosen: Option<Keyword>,
+) -> Result<(), NoMemory>
+    ensures { OnOk result ((branch : List ℕ)
+        × (out.new.items ≡ out.old.items ++ line [] (over_text over) branch)) }
+{
+    let what = over_words(*out.allocator(), over)?;
+    push_line(out, b"", &what, branch_of(chosen))?;
+    Ok(())
+}
+
+/// How a wait is over, in words.
+fn over_words<A: Allocator>(alloc: A, over: Option<Over>) -> Result<Vec<u8, A>, NoMemory>
+    ensures { IfOk result (λ words. words.items ≡ over_text over) }
+{
+    match over {
+        Some(Over::Time) => Ok(Vec::from_slice(alloc, b"time is over")?),
+        Some(Over::End(id)) => id_with(alloc, id, b" is at its end"),
+        Some(Over::Full(id)) => id_with(alloc, id, b" fills its buffer"),
+        None => Ok(Vec::from_slice(alloc, b"it is over")?),
+    }
+}
+
+/// The name of an id, and words after it.
+fn id_with<A: Allocator>(alloc: A, id: Id, after: &[u8]) -> Result<Vec<u8, A>, NoMemory>
+    ensures { IfOk result (λ words. words.items ≡ id_text id.0 ++ after.now) }
+{
+    let mut words = Vec::new(alloc);
+    push_id(&mut words, id)?;
+    words.extend_from_slice(after)?;
+    Ok(words)
+}
+
+/// Which branch is chosen, in words.
+fn branch_of(chosen: Option<Keyword>) -> &'static [u8] {
+    match chosen {
+        Some(Keyword::Eof) => b"branch eof",
+        Some(Keyword::Timeout) => b"branch timeout",
+        Some(Keyword::Default) => b"branch default",
+        Some(Keyword::FullBuffer) => b"branch full_buffer",
+        None => b"no branch for it; expect gives \"\"",
     }
 }

@@ -28,6 +28,16 @@ pub(crate) enum Over {
     Full(Id),
 }
 
+impl Over {
+    /// The id of which all is consumed then, if there is one.
+    pub(crate) fn id(self) -> Option<Id> {
+        match self {
+            Over::End(id) | Over::Full(id) => Some(id),
+            Over::Time => None,
+        }
+    }
+}
+
 /// The wait of an `expect` that is in progress.
 #[derive(Drop)]
 pub(crate) struct Wait<A: Allocator> {
@@ -56,6 +66,11 @@ impl<A: Allocator> Wait<A> {
             Some(one) => one.max,
             None => 0,
         }
+    }
+
+    /// Whether the answer that ended it has told how it is over.
+    pub(crate) fn is_told(&self) -> bool {
+        matches!(self.over, Some(Over::End(_) | Over::Time))
     }
 
     /// How the wait is over for a branch of this id.

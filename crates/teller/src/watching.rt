@@ -1,79 +1,30 @@
 //! What of a run is told and remembered: what begins, and what follows.
 
+ghost use Rattle.std.specs.Prelude.{◌≡◌, true, None, IfOk, is_some};
+ghost use Rattle.teller.specs.Asked.{is_asked, is_of_command};
+ghost use Rattle.teller.specs.declared.telling.Detail.TheVariants.{Whole};
+
 use crate::lines::Lines;
-use crate::telling::{Detail, Teller};
+use crate::telling::{Asker, Detail, Teller};
 use crate::told::push_act;
-use acts::{Act, Answer, NoMemory};
+use acts::{Act, NoMemory};
 use dialog::Trigger;
 use expects::form::Form;
 use expects::turn::{Turn, Waits as TurnWaits};
 use machine::Waits;
 use machine::frame::Frame;
-use records::Sink;
 use state::{Leaf, Outcome, State};
 use std::alloc::Allocator;
 use tclparse::Words;
 use tcltext::Value;
 use words::{Gathered, begin};
 
-impl<A: Allocator + Copy, S: Sink> Teller<A, S> {
+impl<A: Allocator + Copy> Teller<A> {
     /// Takes note of the script of a run that begins.
-    pub fn starts(&mut self, script: &[u8], args: &[Vec<u8, A>]) {
-        let told = self.start(script, args);
-        self.note(told);
-    }
-
-    /// Takes note of the branches that a command says which begins with these words.
-    pub fn begins(&mut self, frames: &[Frame<A>], state: &State<A>, words: &[Value<A>]) {
-        let [name, args @ ..] = words else {
-            return;
-        };
-        let Some(form) = Form::read(name.as_slice()) else {
-            return;
-        };
-        if !has_turn(frames) {
-            self.branches.clear();
-        }
-        self.stands = matches!(form, Form::Stands(_));
-        match args {
-            [text] if is_braced(text.as_slice()) => {
-                let told = self.read_argument(state, text.as_slice());
-                self.note(told);
-            }
-            _ => self.says(args),
-        }
-    }
-
-    /// Takes note of words that say branches.
-    pub fn says(&mut self, words: &[Value<A>]) {
-        let told = self.branches.read(self.alloc, words, self.stands);
-        self.note(told);
-    }
-
-    /// Takes note of what has come of what began or was answered: an outcome, or an act.
-    pub fn leads(&mut self, frames: &[Frame<A>], state: &State<A>, leaf: &Leaf<A, Waits<A>>) {
-        self.note_lead(matches!(leaf, Leaf::Has(Err(_))));
-        let told = match leaf {
-            Leaf::Has(outcome) => self.has(frames, state, outcome),
-            Leaf::Asks(act, Waits::Command(_)) => self.ask(frames, state, act),
-            Leaf::Asks(act, Waits::Turn(waits)) => self.await_turn(frames, state, act, waits),
-        };
-        self.note(told);
-    }
-
-    /// Takes note of an act, the one of this number, and of its answer.
-    pub fn answers(&mut self, act: &Act<A>, answer: &Answer<A>, number: u64) {
-        if let Act::Err(text) = act {
-            let told = self.see_report(text);
-            self.note(told);
-        }
-        self.note_answer(answer, number);
-        let told = self.answer(answer);
-        self.note(told);
-    }
-
-    /// Takes note of the script.
-    fn start(&mut self, script: &[u8], args: &[Vec<u8, A>]) -> Result<(), NoMemory> {
+    ///
+    /// # Errors
+    /// `NoMemory`.
+    pub fn starts(&mut self, script: &[u8], args: &[Vec<u8, A>]) -> Result<(), NoMemory> {
         let name = match args.first() {
             Some(name) => name.as_slice(),
             None => b"-".as_slice(),
@@ -81,6 +32,62 @@ impl<A: Allocator + Copy, S: Sink> Teller<A, S> {
         self.lines = Some(Lines::of(self.alloc, name, script, self.commands)?);
         self.script = Vec::from_slice(self.alloc, script)?;
         Ok(())
+    }
+
+    /// Takes note of the branches that a command says which begins with these words.
+    ///
+    /// # Errors
+    /// `NoMemory`.
+    pub fn begins(
+        &mut self,
+        frames: &[Frame<A>],
+        state: &State<A>,
+        words: &[Value<A>],
+    ) -> Result<(), NoMemory> {
+        let [name, args @ ..] = words else {
+            return Ok(());
+        };
+        let Some(form) = Form::read(name.as_slice()) else {
+            return Ok(());
+        };
+        if !has_turn(frames) {
+            self.branches.clear();
+        }
+        self.stands = matches!(form, Form::Stands(_));
+        match args {
+            [text] if is_braced(text.as_slice()) => self.read_argument(state, text.as_slice()),
+            _ => self.says(args),
+        }
+    }
+
+    /// Takes note of words that say branches.
+    ///
+    /// # Errors
+    /// `NoMemory`.
+    pub fn says(&mut self, words: &[Value<A>]) -> Result<(), NoMemory> {
+        self.branches.read(self.alloc, words, self.stands)
+    }
+
+    /// Tells what has come of what began or was answered: an outcome, or an act.
+    ///
+    /// # Errors
+    /// `NoMemory`.
+    pub fn leads(
+        &mut self,
+        frames: &[Frame<A>],
+        state: &State<A>,
+        leaf: &Leaf<A, Waits<A>>,
+        detail: Detail,
+    ) -> Result<Vec<u8, A>, NoMemory>
+        // Where the whole is told, it keeps in mind whether a command asks for the next act.
+        ensures asked { detail ≡ Whole → IfOk result (λ _.
+            is_some self.new.asked ≡ is_asked leaf.now) }
+    {
+        self.note_lead(matches!(leaf, Leaf::Has(Err(_))));
+        match leaf {
+            Leaf::Has(outcome) => self.outcome_lines(frames, state, outcome, detail),
+            Leaf::Asks(act, waits) => self.act_lines(frames, state, act, waits, detail),
+        }
     }
 
     /// Reads the branches in an argument in braces. Where a script stands in one of its words, they
@@ -94,18 +101,85 @@ impl<A: Allocator + Copy, S: Sink> Teller<A, S> {
         self.branches.read(self.alloc, &values, self.stands)
     }
 
-    /// Takes note of an outcome of what began, or of a choice whose body stands on top.
-    fn has(
+    /// The lines of an outcome of what began, or of a choice whose body stands on top.
+    fn outcome_lines(
         &mut self,
         frames: &[Frame<A>],
         state: &State<A>,
         outcome: &Outcome<A>,
+        detail: Detail,
+    ) -> Result<Vec<u8, A>, NoMemory>
+        ensures { IfOk result (λ _. self.new.asked ≡ None) }
+    {
+        let mut out = Vec::new(self.alloc);
+        self.has(&mut out, frames, state, outcome, detail)?;
+        self.asked = None;
+        Ok(out)
+    }
+
+    /// The lines of an act that waits for its answer.
+    fn act_lines(
+        &mut self,
+        frames: &[Frame<A>],
+        state: &State<A>,
+        act: &Act<A>,
+        waits: &Waits<A>,
+        detail: Detail,
+    ) -> Result<Vec<u8, A>, NoMemory>
+        ensures { detail ≡ Whole → IfOk result (λ _.
+            is_some self.new.asked ≡ is_of_command waits.now) }
+    {
+        match waits {
+            Waits::Command(_) => self.ask(frames, state, detail),
+            Waits::Turn(waits) => self.turn_lines(frames, state, act, waits, detail),
+        }
+    }
+
+    /// The lines of an act of a turn.
+    fn turn_lines(
+        &mut self,
+        frames: &[Frame<A>],
+        state: &State<A>,
+        act: &Act<A>,
+        waits: &TurnWaits<A>,
+        detail: Detail,
+    ) -> Result<Vec<u8, A>, NoMemory>
+        ensures { IfOk result (λ _. self.new.asked ≡ None) }
+    {
+        let mut out = Vec::new(self.alloc);
+        self.await_turn(&mut out, frames, state, act, waits, detail)?;
+        self.asked = None;
+        Ok(out)
+    }
+
+    /// Keeps in mind the command that asks for an act, which has its line once it is answered.
+    fn ask(
+        &mut self,
+        frames: &[Frame<A>],
+        state: &State<A>,
+        detail: Detail,
+    ) -> Result<Vec<u8, A>, NoMemory>
+        ensures { detail ≡ Whole → IfOk result (λ _. is_some self.new.asked ≡ true) }
+    {
+        let asked = self.asker(frames, state, detail)?;
+        self.asked = asked;
+        Ok(Vec::new(self.alloc))
+    }
+
+    /// Tells an outcome of what began, or a choice whose body stands on top.
+    fn has(
+        &mut self,
+        out: &mut Vec<u8, A>,
+        frames: &[Frame<A>],
+        state: &State<A>,
+        outcome: &Outcome<A>,
+        detail: Detail,
     ) -> Result<(), NoMemory> {
         if let Some(turn) = chosen(frames) {
-            return self.choose(frames, state, turn);
+            return self.choose(out, frames, state, turn, detail);
         }
         if self.wait.is_some() {
-            self.tell_vain(None)?;
+            self.tell_vain(out, None, detail)?;
         }
         if self.stands {
             self.stands = false;
@@ -116,25 +190,33 @@ impl<A: Allocator + Copy, S: Sink> Teller<A, S> {
         self.see(frames, state, outcome)
     }
 
-    /// Takes note of the act of a command, which is told once it is answered.
-    fn ask(&mut self, frames: &[Frame<A>], state: &State<A>, act: &Act<A>) -> Result<(), NoMemory> {
-        if self.detail == Detail::Brief {
-            return Ok(());
+    /// The command that asks for an act; none where only what led to the end is told.
+    fn asker(
+        &mut self,
+        frames: &[Frame<A>],
+        state: &State<A>,
+        detail: Detail,
+    ) -> Result<Option<Asker>, NoMemory>
+        ensures { detail ≡ Whole → IfOk result (λ asked. is_some asked ≡ true) }
+    {
+        if detail == Detail::Brief {
+            return Ok(None);
         }
         let spots = self.in_progress(frames, &state.kept)?;
-        let mut about = Vec::new(self.alloc);
-        push_act(&mut about, act)?;
-        self.asked = Some((spots.last().copied(), about));
-        Ok(())
+        Ok(Some(Asker {
+            spot: spots.last().copied(),
+        }))
     }
 
     /// Tells the first wait of a turn.
     fn await_turn(
         &mut self,
+        out: &mut Vec<u8, A>,
         frames: &[Frame<A>],
         state: &State<A>,
         act: &Act<A>,
         waits: &TurnWaits<A>,
+        detail: Detail,
     ) -> Result<(), NoMemory> {
         let TurnWaits::Awaited(turn) = waits else {
             return Ok(());
@@ -146,10 +228,10 @@ impl<A: Allocator + Copy, S: Sink> Teller<A, S> {
         for one in wait.awaited.iter() {
             self.heard.resize(one.id, one.max)?;
         }
-        if self.detail == Detail::Whole {
+        if detail == Detail::Whole {
             let mut about = Vec::new(self.alloc);
             push_act(&mut about, act)?;
-            self.tell_command(wait.spot, &about)?;
+            self.tell_command(out, wait.spot, &about)?;
         }
         self.wait = Some(wait);
         Ok(())
