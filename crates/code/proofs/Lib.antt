@@ -10,3 +10,5 @@ pub mod Fronts
 pub mod Conditionals
 pub mod Turns
 pub mod Owns
+pub mod Sequences
+pub mod Foreach

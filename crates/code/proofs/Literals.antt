@@ -2,10 +2,12 @@
 use Rattle.std.proofs.Common.{◌≡◌, ◌∙◌, ℕ, ◌-◌, ◌<◌, ◌≤◌, false, List, [], ◌∷◌, length, drop, take, get_or, Option, Some, None, IfSome, refl, sym, ap, arith}
 use Rattle.std.proofs.Math.Seq.{take-length}
 use Rattle.std.specs.Borrow.{Bor}
+use Rattle.code.specs.Code.{literals}
 use Rattle.code.specs.Conditional.{Are, IsLiteral}
 use Rattle.tclparse.proofs.Trees.{view_Word}
 use Rattle.tclparse.specs.Tree.{Words, bytes_then, no_parts, no_words, word}
-use Rattle.tclparse.specs.View.{parts_of, word_view, words_then}
+use Rattle.tclparse.specs.View.{parts_of, parts_then, word_view, words_then}
+use Rattle.tclparse.specs.declared.tree.Part.{Part}
 use Rattle.tclparse.specs.declared.tree.Word.{Word}
 
 -- the rest of a list after one element, and after two
@@ -41,14 +43,35 @@ module _ {A : Type 0} where
   only_literal (x ∷ []) w a one two first is = literal_then x w a no_words first is
   only_literal (x ∷ y ∷ ws) w a one two first is = absurd (omega arith)
 
-  -- a word that is a literal, before other words
+  -- a word that is a literal, before any other words
+  pub first_word : (ws : List (Word A)) (w : Word A) (a : List ℕ) (rest : Words) →
+      1 ≤ length ws → w ≡ get_or ws 0 w → IsLiteral w a →
+      words_then (take (length ws - 1) (drop 1 ws)) no_words ≡ rest →
+      words_then ws no_words ≡ word false (bytes_then a no_parts) rest
+  first_word [] w a rest one first is last = absurd (omega arith)
+  first_word (x ∷ ws) w a rest one first is last =
+      literal_then x w a (words_then ws no_words) first is
+      ∙ ap (λ t. word false (bytes_then a no_parts) t)
+      (ap (λ vs. words_then vs no_words) (sym (behind_one x ws)) ∙ last)
+
+  -- a word that is a literal, before others
   pub first_literal : (ws : List (Word A)) (w : Word A) (a : List ℕ) (rest : List (List ℕ)) →
       1 ≤ length ws → w ≡ get_or ws 0 w → IsLiteral w a →
       Are (take (length ws - 1) (drop 1 ws)) rest → Are ws (a ∷ rest)
-  first_literal [] w a rest one first is last = absurd (omega arith)
-  first_literal (x ∷ ws) w a rest one first is last =
-      literal_then x w a (words_then ws no_words) first is
-      ∙ ap (λ t. word false (bytes_then a no_parts) t)
+  first_literal ws w a rest one first is last = first_word ws w a (literals rest) one first is last
+
+  -- a word that is no list of words, before any other words
+  pub plain_word : (ws : List (Word A)) (w : Word A) (ps : List (Part A)) (rest : Words) →
+      1 ≤ length ws → w ≡ get_or ws 0 w → w.expands ≡ false → ps ≡ w.parts.value.items →
+      words_then (take (length ws - 1) (drop 1 ws)) no_words ≡ rest →
+      words_then ws no_words ≡ word false (parts_then ps no_parts) rest
+  plain_word [] w ps rest one first plain is last = absurd (omega arith)
+  plain_word (x ∷ ws) w ps rest one first plain is last =
+      let more = words_then ws no_words in
+      ap (λ v. word_view v more) (sym first) ∙ view_Word w more
+      ∙ ap (λ e. word e (parts_of w.parts) more) plain
+      ∙ ap (λ qs. word false (parts_then qs no_parts) more) (sym is)
+      ∙ ap (λ t. word false (parts_then ps no_parts) t)
       (ap (λ vs. words_then vs no_words) (sym (behind_one x ws)) ∙ last)
 
   -- two words that are literals, before other words

@@ -1,6 +1,6 @@
 -- What a call puts after the code that stands there already.
 use Rattle.std.specs.Prelude.{⊤, ◌≡◌, ℕ, ◌+◌, Bool, true, false, List, Option, length}
-use Rattle.code.specs.Code.{At, JoinsAt, PartsAt, WordsAt, CommandAt, CommandsAt, ScriptAt, BranchesAt, BehindAt, BodyAt, OwnAt, TurnsAt, StepAt, FormulaAt, LinksAt, ArgumentsAt}
+use Rattle.code.specs.Code.{At, JoinsAt, PartsAt, WordsAt, CommandAt, CommandsAt, ScriptAt, BranchesAt, BehindAt, BodyAt, OwnAt, TurnsAt, StepAt, AssignsAt, NextAt, DealAt, FormulaAt, LinksAt, ArgumentsAt}
 use Rattle.code.specs.declared.instruction.Instruction.{Instruction}
 use Rattle.code.specs.declared.instruction.Instruction.TheVariants as i
 use Rattle.tclparse.specs.Fault.{Fault}
@@ -105,6 +105,24 @@ TurnsBlock old new test step body = Block old new (λ later.
 abbrev pub StepBlock : {A : Type 0} → List (Instruction A) → List (Instruction A) →
     Option (List ℕ) → Type 0
 StepBlock old new step = Block old new (λ later. StepAt later (length old) step (length new))
+
+-- variables that take an element each
+abbrev pub AssignsBlock : {A : Type 0} → List (Instruction A) → List (Instruction A) →
+    List (List ℕ) → Type 0
+AssignsBlock old new names = Block old new (λ later.
+    AssignsAt later (length old) names (length new))
+
+-- the next turn of foreach with these variables, whose body stands at this place and ends at that
+abbrev pub NextBlock : {A : Type 0} → List (Instruction A) → List (Instruction A) →
+    List (List ℕ) → ℕ → ℕ → Type 0
+NextBlock old new names body ends = Block old new (λ later.
+    NextAt later (length old) names body ends (length new))
+
+-- the turns of foreach with these variables and this body
+abbrev pub DealBlock : {A : Type 0} → List (Instruction A) → List (Instruction A) →
+    List (List ℕ) → List ℕ → Type 0
+DealBlock old new names body = Block old new (λ later.
+    DealAt later (length old) names body (length new))
 
 -- a formula
 abbrev pub FormulaBlock : {A : Type 0} → List (Instruction A) → List (Instruction A) → Formula →

@@ -1,5 +1,6 @@
 -- Where the code of a tree stands.
-use Rattle.std.specs.Prelude.{◌≡◌, ℕ, ◌+◌, Bool, true, false, List, [], ◌∷◌, codes, Option, Some, None, Ok, slice_get}
+use Rattle.std.specs.Prelude.{◌≡◌, ℕ, ◌+◌, ◌<◌, Bool, true, false, List, [], ◌∷◌, codes, length, Option, Some, None, Ok, is_some, slice_get}
+use Rattle.std.specs.List.{list_all}
 use Rattle.std.specs.Str.{bytes_eq}
 use Rattle.code.specs.declared.instruction.Instruction.{Instruction}
 use Rattle.code.specs.declared.instruction.Instruction.TheVariants as i
@@ -15,6 +16,8 @@ use Rattle.tclparse.specs.declared.operator.Binary.{Binary}
 use Rattle.tclparse.specs.declared.operator.Function.{Function}
 use Rattle.tclparse.specs.declared.operator.Infix.TheVariants.{Both, AndAlso, OrElse}
 use Rattle.tclparse.specs.declared.operator.Unary.{Unary}
+use Rattle.tclparse.specs.Variable.{named}
+use Rattle.tcltext.specs.Elements.{IsList}
 
 -- this instruction stands at this place
 abbrev pub At : {A : Type 0} → List (Instruction A) → ℕ → Instruction A → Type 0
@@ -49,6 +52,36 @@ pub data IsLast (body : List ℕ) : List (List ℕ) → Type 0 where
   with_else : IsLast body (codes "else" ∷ body ∷ [])
   without_else : bytes_eq body (codes "elseif") ≡ false → bytes_eq body (codes "else") ≡ false →
       IsLast body (body ∷ [])
+
+-- a word of variables is this list, of at least one, each of which names a variable (foreach(n);
+-- set(n))
+pub record AreNames (word : List ℕ) (names : List (List ℕ)) : Type 0 where
+  pub list : IsList names word
+  pub some : 0 < length names
+  pub each : list_all (λ w. is_some (named w)) names ≡ true
+
+-- the words of foreach with these variables, this word of their elements and this body (foreach(n))
+abbrev pub foreach_words : List ℕ → Parts → List ℕ → Words
+foreach_words variables list body =
+    word false (bytes_then (codes "foreach") no_parts)
+    (word false (bytes_then variables no_parts) (word false list (literals (body ∷ []))))
+
+-- each of these variables takes the next element (foreach(n))
+pub data AssignsAt {A : Type 0} (code : List (Instruction A)) :
+    ℕ → List (List ℕ) → ℕ → Type 0 where
+  all_set : {place : ℕ} → AssignsAt code place [] place
+  sets : {place end : ℕ} {name : List ℕ} {names : List (List ℕ)} →
+      At code place (i.Assign name) → AssignsAt code (place + 1) names end →
+      AssignsAt code place (name ∷ names) end
+
+-- the next turn of foreach, whose body stands at this place and ends at that one: where no element
+-- is left the loop is over, else each variable takes one, and the body is next (foreach(n))
+pub data NextAt {A : Type 0} (code : List (Instruction A)) :
+    ℕ → List (List ℕ) → ℕ → ℕ → ℕ → Type 0 where
+  next_turn : {place turn body ends : ℕ} {names : List (List ℕ)} →
+      At code place (i.More (turn + 1)) → AssignsAt code (place + 1) names turn →
+      At code turn (i.Begin body ends) → At code (turn + 1) i.Done →
+      NextAt code place names body ends (turn + 2)
 
 -- The code of the tree stands from the first place up to the second.
 mutual
@@ -92,7 +125,8 @@ mutual
         WordsAt code true count place (word true ps ws) end
 
   -- a command begins by its words; or it has code of its own, which stands after that of its words
-  -- and is done where no procedure hides the command (Tcl(n), rule 2; proc(n))
+  -- and is done where no procedure hides the command; or it is foreach, whose list is put on top
+  -- before (Tcl(n), rule 2; proc(n); foreach(n))
   pub data CommandAt {A : Type 0} (code : List (Instruction A)) : ℕ → Words → ℕ → Type 0 where
     by_words : {place end : ℕ} {ws : Words} → WordsAt code false 0 place ws end →
         CommandAt code place ws end
@@ -101,6 +135,9 @@ mutual
         WordsAt code false 0 (place + 1) (literals (name ∷ args)) mid →
         At code mid (i.Jump end) → OwnAt code name (mid + 1) args end →
         CommandAt code place (literals (name ∷ args)) end
+    foreach_loop : {place mid end : ℕ} {variables body : List ℕ} {list : Parts} →
+        PartsAt code false place list mid → ForeachAt code mid variables body end →
+        CommandAt code place (foreach_words variables list body) end
 
   -- commands one after the other, before which there is a value on top (Tcl(n), rule 1)
   pub data CommandsAt {A : Type 0} (code : List (Instruction A)) : ℕ → Commands → ℕ → Type 0 where
@@ -141,6 +178,23 @@ mutual
     steps : {place mid : ℕ} {text : List ℕ} → At code place i.Step →
         BodyAt code (place + 1) text mid → At code mid i.EndTurn →
         StepAt code place (Some text) (mid + 1)
+
+  -- foreach with these variables and this body, after the value of its list: where a procedure
+  -- hides it, it begins by its words, else its turns follow (foreach(n); proc(n))
+  pub data ForeachAt {A : Type 0} (code : List (Instruction A)) :
+      ℕ → List ℕ → List ℕ → ℕ → Type 0 where
+    with_names : {place end : ℕ} {variables body : List ℕ} {names : List (List ℕ)} →
+        AreNames variables names → At code place (i.Foreach variables body end) →
+        DealAt code (place + 1) names body end → ForeachAt code place variables body end
+
+  -- the turns of foreach with these variables and this body, after the value of its list: its
+  -- elements, with which it goes on at the next turn, and before that the body (foreach(n))
+  pub data DealAt {A : Type 0} (code : List (Instruction A)) :
+      ℕ → List (List ℕ) → List ℕ → ℕ → Type 0 where
+    deals : {place mid end : ℕ} {names : List (List ℕ)} {body : List ℕ} →
+        At code place (i.Deal (mid + 1)) → BodyAt code (place + 1) body mid →
+        At code mid i.EndTurn → NextAt code (mid + 1) names (place + 1) mid end →
+        DealAt code place names body end
 
   -- a test, a body that runs where it holds, and what is done where it does not; the test and the
   -- body are what their words are read as (if(n))

@@ -59,9 +59,9 @@ pub enum Instruction<A: Allocator> {
     /// of this name has of its own (proc(n)).
     Unhidden(Value<A>, usize),
     /// Drops the truth value of a loop's test. Where it is true, a tick is taken, and the first
-    /// place, where the body stands, is next: the only way back. Within the body `continue` goes to
-    /// the second place, where the body ends, with the empty text on top, and `break` to the place
-    /// after this one (while(n)).
+    /// place, where the body stands, is next: this and `Begin` are the only ways back. Within the
+    /// body `continue` goes to the second place, where the body ends, with the empty text on top,
+    /// and `break` to the place after this one (while(n)).
     Turn(usize, usize),
     /// The body of a turn is over: its value, which is on top, is dropped, and the script that runs
     /// after each turn begins. Within it `break` goes where it went within the body, and `continue`
@@ -71,6 +71,24 @@ pub enum Instruction<A: Allocator> {
     EndTurn,
     /// The value on top is dropped (for(n)).
     Discard,
+    /// A `foreach` with these variables and this body, whose list is on top. Where a procedure has
+    /// its name, the command begins by its words, and this place is next (foreach(n); proc(n)).
+    Foreach(Value<A>, Value<A>, usize),
+    /// Replaces the list on top by its elements, the first one on top, and marks how many operands
+    /// stand below them; this place is next (foreach(n)).
+    Deal(usize),
+    /// Where no element is left, this place is next (foreach(n)).
+    More(usize),
+    /// The variable of this name takes the next element, or the empty text where none is left
+    /// (foreach(n)).
+    Assign(Value<A>),
+    /// Takes a tick, and begins a turn: the first place, where the body stands, is next. Within the
+    /// body `continue` goes to the second place, where the body ends, with the empty text on top,
+    /// and `break` to the place after this one (foreach(n)).
+    Begin(usize, usize),
+    /// A `foreach` is over: the elements that are left are dropped, with their mark, and the empty
+    /// text is put on top (foreach(n)).
+    Done,
     /// Nothing yet: a jump will stand here. No code that is whole has it.
     Hole,
 }

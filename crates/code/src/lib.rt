@@ -4,6 +4,7 @@
 
 mod branches;
 mod conditional;
+mod each;
 mod emit;
 mod formula;
 mod instruction;

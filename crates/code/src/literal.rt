@@ -1,9 +1,9 @@
 //! Words that are texts as they stand.
 
-ghost use Rattle.std.specs.Prelude.{◌≡◌, ◌∷◌, ℕ, List, IfSome};
-ghost use Rattle.code.specs.Conditional.{Are, IsLiteral};
-ghost use Rattle.tclparse.specs.Tree.{bytes_then, no_parts};
-ghost use Rattle.tclparse.specs.View.{part_view, parts_then};
+ghost use Rattle.std.specs.Prelude.{◌≡◌, false, IfSome};
+ghost use Rattle.code.specs.Conditional.{IsLiteral};
+ghost use Rattle.tclparse.specs.Tree.{Words, bytes_then, no_parts, no_words, word as word_then};
+ghost use Rattle.tclparse.specs.View.{part_view, parts_then, words_then};
 
 use std::alloc::Allocator;
 use tclparse::{Part, Word};
@@ -12,6 +12,13 @@ use tclparse::{Part, Word};
 #[derive(Drop)]
 pub(crate) struct First<'a, A: Allocator> {
     pub text: &'a [u8],
+    pub rest: &'a [Word<A>],
+}
+
+/// The parts of a word, and the words after it.
+#[derive(Drop)]
+pub(crate) struct Plain<'a, A: Allocator> {
+    pub parts: &'a [Part<A>],
     pub rest: &'a [Word<A>],
 }
 
@@ -27,14 +34,32 @@ pub(crate) fn literal_of<A: Allocator>(word: &Word<A>) -> Option<&[u8]>
 
 /// The text of the first of some words, where it is a literal.
 pub(crate) fn first_of<A: Allocator>(words: &[Word<A>]) -> Option<First<'_, A>>
-    ensures { IfSome result (λ first. (texts : List (List ℕ)) → Are first.rest.now texts →
-        Are words.now (first.text.now ∷ texts)) }
+    ensures { IfSome result (λ first. (ws : Words) → words_then first.rest.now no_words ≡ ws →
+        words_then words.now no_words
+        ≡ word_then false (bytes_then first.text.now no_parts) ws) }
 {
     let [word, rest @ ..] = words else {
         return None;
     };
     let text = literal_of(word)?;
     Some(First { text, rest })
+}
+
+/// The parts of the first of some words, where it is no list of words.
+pub(crate) fn plain_of<A: Allocator>(words: &[Word<A>]) -> Option<Plain<'_, A>>
+    ensures { IfSome result (λ plain. (ws : Words) → words_then plain.rest.now no_words ≡ ws →
+        words_then words.now no_words ≡ word_then false (parts_then plain.parts.now no_parts) ws) }
+{
+    let [word, rest @ ..] = words else {
+        return None;
+    };
+    if !word.expands {
+        return Some(Plain {
+            parts: &word.parts,
+            rest,
+        });
+    }
+    None
 }
 
 /// The text of these parts, where they are one literal, or none.

@@ -1,5 +1,6 @@
 //! How deep the scripts that stand in the words of commands have code.
 
+use crate::each::put_each;
 use crate::instruction::Instruction;
 use crate::own::{Own, emit_own};
 use memory::NoMemory;
@@ -44,7 +45,7 @@ impl<A: Allocator + Copy, N: Nest<A>> Nest<A> for Deeper<N> {
                 emit_own(code, words, &own, &self.0)?;
                 Ok(true)
             }
-            None => Ok(false),
+            None => Ok(put_each(code, words, &self.0)?),
         }
     }
 }

@@ -7,11 +7,14 @@ pub mod Meanings
 pub mod Parts
 pub mod Formulas
 pub mod Loops
+pub mod Foreach
 pub mod Resumed
 pub mod Scripts
 pub mod Bodies
 pub mod Operators
 pub mod Words
+pub mod Literals
+pub mod Lists
 pub mod Conditionals
 pub mod Opened
 pub mod Each

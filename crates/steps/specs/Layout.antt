@@ -1,13 +1,14 @@
 -- Where the code of what is left to be done stands.
-use Rattle.std.specs.Prelude.{◌≡◌, ℕ, suc, ◌+◌, ◌≤◌, List, [], ◌∷◌, Bool, true, false, Option, Some, None, Ok, is_some, length, slice_get}
-use Rattle.code.specs.Code.{At, JoinsAt, PartsAt, WordsAt, CommandAt, ScriptAt, BodyAt, TurnsAt, FormulaAt, LinksAt, ArgumentsAt}
+use Rattle.std.specs.Prelude.{◌≡◌, ℕ, suc, ◌+◌, ◌<◌, ◌≤◌, List, [], ◌∷◌, Bool, true, false, Option, Some, None, Ok, is_some, length, slice_get}
+use Rattle.code.specs.Code.{At, JoinsAt, PartsAt, WordsAt, CommandAt, ScriptAt, BodyAt, TurnsAt, AssignsAt, ForeachAt, DealAt, FormulaAt, LinksAt, ArgumentsAt}
 use Rattle.code.specs.declared.instruction.Instruction.{Instruction}
 use Rattle.code.specs.declared.instruction.Instruction.TheVariants as i
 use Rattle.conditions.specs.Branches.{Branch}
 use Rattle.state.specs.Prelude.{LoopTree, ScriptTree}
+use Rattle.steps.specs.Each.{Each}
 use Rattle.steps.specs.Operand.{Outer, Prefixed, Row, Right, Holds, Argument, Test, Chosen, Condition, Turning}
-use Rattle.steps.specs.Places.{Head, Has, Part, Joins, Gathers, Evaluates, Values, Starts, Chooses, Enters, Repeats, Finishes, Frame, Rest, Bracket, Body, Skip, For, Turns}
-use Rattle.steps.specs.Word.{Around, Open, Word, Plain, Expands, Operand}
+use Rattle.steps.specs.Places.{Head, Has, Part, Joins, Gathers, Evaluates, Values, Starts, Chooses, Enters, Repeats, Finishes, Deals, Takes, Sets, Drops, Frame, Rest, Bracket, Body, Skip, For, Turns, Elements}
+use Rattle.steps.specs.Word.{Around, Open, Word, Plain, Expands, Operand, Listed}
 use Rattle.tclparse.specs.Formula.{Formula}
 use Rattle.tclparse.specs.FormulaGrammar.{IsFormula}
 
@@ -68,6 +69,18 @@ module _ {A : Type 0} (code : List (Instruction A)) where
   RepeatsAt place loop end =
       (turn : ℕ) × (at : LoopAt loop turn) × LeadsTo place at.test × (end ≡ turn + 2)
 
+  -- a foreach: its body, the end of a turn at this place, what begins the next turn, of which the
+  -- last instruction stands at that place, and the end of the loop
+  pub record EachAt (each : Each) (ends turn : ℕ) : Type 0 where
+    pub some : 0 < length each.names
+    pub body : ℕ
+    pub enters : EntersAt body each.body ends
+    pub ended : At code ends i.EndTurn
+    pub more : At code (ends + 1) (i.More (turn + 1))
+    pub assigns : AssignsAt code (ends + 1 + 1) each.names turn
+    pub begins : At code turn (i.Begin body ends)
+    pub done : At code (turn + 1) i.Done
+
   -- the branches of if that are left, each a test, its body, a jump behind all of them, and what is
   -- left after it; and then the last body, or the empty text
   abbrev pub ChoosesAt : ℕ → List Branch → Option (List ℕ) → ℕ → Type 0
@@ -119,6 +132,7 @@ module _ {A : Type 0} (code : List (Instruction A)) where
   WordAt place (Expands before rest) end =
       At code place i.Spread × ((count : ℕ) × WordsAt code true count (place + 1) rest end)
   WordAt place (Operand outer) end = OperandAt place outer end
+  WordAt place (Listed variables body) end = ForeachAt code place variables body end
 
   -- what is around the parts that are left of an open word
   pub record OuterAt (place : ℕ) (outer : List Around) (word : Word) (end : ℕ) : Type 0 where
@@ -156,6 +170,13 @@ module _ {A : Type 0} (code : List (Instruction A)) where
   HeadAt place (Enters tree) end = EntersAt place tree end
   HeadAt place (Repeats loop) end = RepeatsAt place loop end
   HeadAt place Finishes end = At code place (i.Text []) × (end ≡ place + 1)
+  HeadAt place (Deals list names body) end = (0 < length names) × DealAt code place names body end
+  HeadAt place (Takes each elements) end =
+      (ends : ℕ) × (turn : ℕ) × EachAt each ends turn × (place ≡ ends + 1) × (end ≡ turn + 2)
+  HeadAt place (Sets names each elements) end =
+      (ends : ℕ) × (turn : ℕ) × EachAt each ends turn × AssignsAt code place names turn ×
+      (end ≡ turn + 2)
+  HeadAt place (Drops elements) end = At code place i.Done × (end ≡ place + 1)
 
   -- from here on the code does what the frames do with the value on top
   abbrev pub FramesAt : ℕ → List Frame → Type 0
@@ -173,3 +194,5 @@ module _ {A : Type 0} (code : List (Instruction A)) where
       ((end : ℕ) × TurnsAt code (place + 1) test (Some step) body end × FramesAt end frames)
   FramesAt place (Turns loop ends turn ∷ frames) =
       (at : LoopAt loop turn) × PartAt place loop turn at ends × FramesAt (turn + 2) frames
+  FramesAt place (Elements each elements ends turn ∷ frames) =
+      EachAt each ends turn × (place ≡ ends) × FramesAt (turn + 2) frames

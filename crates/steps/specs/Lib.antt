@@ -2,11 +2,13 @@ pub mod Spot
 pub mod Moves
 pub mod Formulas
 pub mod Loops
+pub mod Foreach
 pub mod Machine
 pub mod Does
 pub mod View
 pub mod Operand
 pub mod Word
+pub mod Each
 pub mod Places
 pub mod Layout
 pub mod Goes

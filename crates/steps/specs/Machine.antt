@@ -1,5 +1,5 @@
 -- What one instruction does, on texts and numbers alone.
-use Rattle.std.specs.Prelude.{true, false, ℕ, zero, suc, ◌+◌, ◌-◌, List, [], ◌∷◌, ◌++◌, Option, Some, None, Result, Ok, Err, reverse, take, drop, length, nat_le, if◌then◌else◌}
+use Rattle.std.specs.Prelude.{true, false, codes, ℕ, zero, suc, ◌+◌, ◌-◌, List, [], ◌∷◌, ◌++◌, Option, Some, None, Result, Ok, Err, reverse, take, drop, length, nat_le, if◌then◌else◌}
 use Rattle.acts.specs.Flaw as flaw
 use Rattle.code.specs.declared.instruction.Instruction.{Instruction}
 use Rattle.code.specs.declared.instruction.Instruction.TheVariants as i
@@ -8,8 +8,9 @@ use Rattle.state.specs.Prelude.{Gives, Status}
 use Rattle.state.specs.Faults.{flaw_of_fault}
 use Rattle.state.specs.Piece.{ListText}
 use Rattle.state.specs.Variables.{flaw_of_trouble, spelled}
+use Rattle.steps.specs.Foreach.{assigning, dealing, finishing, hidden, looking}
 use Rattle.steps.specs.Formulas.{calling, choosing, joining_both, jumping, prefixing, putting, telling, unless}
-use Rattle.steps.specs.Loops.{ending, stepping, turning}
+use Rattle.steps.specs.Loops.{ending, stepping, turned, turning}
 use Rattle.steps.specs.Moves.{fails, on_top, ticked, with_operands}
 use Rattle.steps.specs.Spot.{Spot, Did, Went, Reads, Begins, Over, Stuck, with_top}
 use Rattle.tclparse.specs.Seen.{fault_of}
@@ -124,6 +125,13 @@ does (i.Turn body end) spot s = turning body end spot s
 does i.Step spot s = stepping spot s
 does i.EndTurn spot s = ending spot s
 does i.Discard spot s = discarding spot s
+does (i.Foreach variables body place) spot s =
+    hidden (found s.procedures (codes "foreach")) variables body place spot s
+does (i.Deal place) spot s = dealing place spot s
+does (i.More place) spot s = looking place spot s
+does (i.Assign name) spot s = assigning name spot s
+does (i.Begin body end) spot s = turned body end true spot s
+does i.Done spot s = finishing spot s
 does i.Hole spot s = Stuck
 
 -- the next place

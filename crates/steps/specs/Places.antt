@@ -9,6 +9,8 @@ use Rattle.plan.specs.Plan.{and_then, onward, after}
 use Rattle.runs.specs.Commands.{command}
 use Rattle.runs.specs.Scripts.{script}
 use Rattle.state.specs.Prelude.{Course, Dialogue, gives, inside, LoopTree, on_value, Outcome, ScriptTree, Status}
+use Rattle.state.specs.Turn.{on_turn}
+use Rattle.steps.specs.Each.{Each, listed, turn_left, turns_left}
 use Rattle.steps.specs.Operand.{Outer, operand_on, waiting}
 use Rattle.steps.specs.Spot.{Handler, Spot}
 use Rattle.steps.specs.Word.{Open, bytes_of, course_with, is_counted, operands_of}
@@ -22,7 +24,8 @@ use Rattle.words.specs.Words.{words}
 -- words, the last one first, which are counted or not; a formula is evaluated; the value of an
 -- operand is on top; a command begins with its first word, or with its own code; the branches of if
 -- that are left are looked through; a body begins; a loop goes on with its next turn; a loop is
--- over
+-- over; the list of a foreach is on top; a foreach goes on with its next turn; the variables of a
+-- turn that are left are set; a foreach is over
 pub data Head : Type 0 where
   Has : (value : List ℕ) → Head
   Part : (word : Open) → Head
@@ -35,14 +38,19 @@ pub data Head : Type 0 where
   Enters : (tree : ScriptTree) → Head
   Repeats : (loop : LoopTree) → Head
   Finishes : Head
+  Deals : (list : List ℕ) (names : List (List ℕ)) (body : List ℕ) → Head
+  Takes : (each : Each) (elements : List (List ℕ)) → Head
+  Sets : (names : List (List ℕ)) (each : Each) (elements : List (List ℕ)) → Head
+  Drops : (elements : List (List ℕ)) → Head
 
 -- what is done with a value once it is on top: the commands of a script that are left follow; or a
 -- script in brackets is over, and its value is put after the bytes of an open word; or a body is
 -- over, and its outcome is passed on; or the code goes on elsewhere; or the start of for is over,
 -- and turns with this test, this script after each turn and this body follow; or the body of a turn
 -- is over, at the place where it ends, or else, without a place, the script after it is, and then
--- the loop goes on, whose next turn begins at the other place (Tcl(n), rules 1 and 7; if(n);
--- while(n); for(n))
+-- the loop goes on, whose next turn begins at the other place; or the body of a turn of foreach is
+-- over, at the place where it ends, and it goes on with these elements, and begins its next turn at
+-- the other place (Tcl(n), rules 1 and 7; if(n); while(n); for(n); foreach(n))
 pub data Frame : Type 0 where
   Rest : (commands : Commands) (fault : Option Fault) → Frame
   Bracket : (word : Open) → Frame
@@ -50,6 +58,7 @@ pub data Frame : Type 0 where
   Skip : Frame
   For : (test step body : List ℕ) → Frame
   Turns : (loop : LoopTree) (ends : Option ℕ) (turn : ℕ) → Frame
+  Elements : (each : Each) (elements : List (List ℕ)) (ends turn : ℕ) → Frame
 
 -- what is being done, as a course
 abbrev pub course_of : ℕ → Head → Status → Course
@@ -65,6 +74,10 @@ course_of levels (Chooses more otherwise) s = chooses levels more otherwise s
 course_of levels (Enters tree) s = inside levels tree s passes
 course_of levels (Repeats loop) s = again loop levels s
 course_of levels Finishes s = gives [] s
+course_of levels (Deals list names body) s = listed levels list names body s
+course_of levels (Takes each elements) s = turns_left levels each elements s
+course_of levels (Sets names each elements) s = turn_left levels names each elements s
+course_of levels (Drops elements) s = gives [] s
 
 -- what follows the body of a turn, or else the script after it (while(n), for(n))
 abbrev pub behind_part : LoopTree → ℕ → Option ℕ → Status → Outcome → Course
@@ -84,6 +97,8 @@ nexts levels (Skip ∷ frames) = nexts levels frames
 nexts levels (For test step body ∷ frames) =
     on_value (started levels test step body) ∷ nexts levels frames
 nexts levels (Turns loop ends turn ∷ frames) = behind_part loop levels ends ∷ nexts levels frames
+nexts levels (Elements each elements ends turn ∷ frames) =
+    on_turn (turns_left levels each elements) ∷ nexts levels frames
 
 -- what is done with an outcome: the frames from the top down, and then what is done last
 abbrev pub onward_of : {X : Type 0} → (Status → Outcome → Dialogue X) → ℕ → List Frame →
@@ -105,6 +120,7 @@ beneath (Body ∷ frames) = beneath frames
 beneath (Skip ∷ frames) = beneath frames
 beneath (For test step body ∷ frames) = beneath frames
 beneath (Turns loop ends turn ∷ frames) = beneath frames
+beneath (Elements each elements ends turn ∷ frames) = elements ++ beneath frames
 
 -- where words are counted, one more mark
 abbrev pub marked : Bool → ℕ → List ℕ → List ℕ
@@ -121,6 +137,8 @@ marks_beneath (Body ∷ frames) = marks_beneath frames
 marks_beneath (Skip ∷ frames) = marks_beneath frames
 marks_beneath (For test step body ∷ frames) = marks_beneath frames
 marks_beneath (Turns loop ends turn ∷ frames) = marks_beneath frames
+marks_beneath (Elements each elements ends turn ∷ frames) =
+    length (beneath frames) ∷ marks_beneath frames
 
 -- the handlers that the frames have: one for each turn that is open
 abbrev pub handlers_beneath : ℕ → List Frame → List Handler
@@ -138,6 +156,14 @@ handlers_beneath levels (Turns loop ends turn ∷ frames) =
       marks = length (marks_beneath frames);
       levels = levels;
     } ∷ handlers_beneath levels frames
+handlers_beneath levels (Elements each elements ends turn ∷ frames) =
+    record {
+      ends = Some ends;
+      over = turn + 1;
+      operands = length (elements ++ beneath frames);
+      marks = length (length (beneath frames) ∷ marks_beneath frames);
+      levels = levels;
+    } ∷ handlers_beneath levels frames
 
 -- all operands
 abbrev pub operands_at : Head → List Frame → List (List ℕ)
@@ -152,6 +178,10 @@ operands_at (Chooses more otherwise) frames = beneath frames
 operands_at (Enters tree) frames = beneath frames
 operands_at (Repeats loop) frames = beneath frames
 operands_at Finishes frames = beneath frames
+operands_at (Deals list names body) frames = list ∷ beneath frames
+operands_at (Takes each elements) frames = elements ++ beneath frames
+operands_at (Sets names each elements) frames = elements ++ beneath frames
+operands_at (Drops elements) frames = elements ++ beneath frames
 
 -- all marks
 abbrev pub marks_at : Head → List Frame → List ℕ
@@ -167,6 +197,10 @@ marks_at (Chooses more otherwise) frames = marks_beneath frames
 marks_at (Enters tree) frames = marks_beneath frames
 marks_at (Repeats loop) frames = marks_beneath frames
 marks_at Finishes frames = marks_beneath frames
+marks_at (Deals list names body) frames = marks_beneath frames
+marks_at (Takes each elements) frames = length (beneath frames) ∷ marks_beneath frames
+marks_at (Sets names each elements) frames = length (beneath frames) ∷ marks_beneath frames
+marks_at (Drops elements) frames = length (beneath frames) ∷ marks_beneath frames
 
 -- where the run of the code stands
 abbrev pub spot_at : ℕ → ℕ → Head → List Frame → Spot
@@ -187,3 +221,4 @@ brackets (Body ∷ frames) = suc (brackets frames)
 brackets (Skip ∷ frames) = brackets frames
 brackets (For test step body ∷ frames) = brackets frames
 brackets (Turns loop ends turn ∷ frames) = brackets frames
+brackets (Elements each elements ends turn ∷ frames) = brackets frames

@@ -14,9 +14,9 @@ pub record Handler : Type 0 where
   pub levels : ℕ
 
 -- the place of the next instruction; the operands, the top one first; of each command whose words
--- are counted, how many operands stand below its words, the innermost first; the levels that may
--- still nest; and the handlers of the turns that are open, the innermost first (this project's own
--- rule)
+-- are counted, how many operands stand below its words, and of each foreach how many below its
+-- elements, the innermost first; the levels that may still nest; and the handlers of the turns that
+-- are open, the innermost first (this project's own rule)
 pub record Spot : Type 0 where
   pub place : ℕ
   pub operands : List (List ℕ)

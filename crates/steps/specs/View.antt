@@ -1,5 +1,5 @@
 -- What the values of the code stand for.
-use Rattle.std.specs.Prelude.{ℕ, Option, Some, None, map, reverse}
+use Rattle.std.specs.Prelude.{ℕ, List, Option, Some, None, map, reverse}
 use Rattle.state.specs.Prelude.{Scopes, Status, outcome_of}
 use Rattle.steps.specs.declared.handler.Handler as turns
 use Rattle.steps.specs.declared.spot.Spot as coded
@@ -34,6 +34,11 @@ did_of None spot s = Went spot s
 did_of (Some (stopped.Begins words)) spot s = Begins words.items spot s
 did_of (Some (stopped.Over outcome)) spot s = Over (outcome_of outcome) s
 did_of (Some stopped.Stuck) spot s = Stuck
+
+-- goes on with the value that was taken off a spot, if there is one
+abbrev pub given : Option (List ℕ) → Spot → (List ℕ → Spot → Did) → Did
+given None spot next = Stuck
+given (Some value) spot next = next value spot
 
 -- a state of the definition with these variables, these procedures and these ticks left
 abbrev pub with_parts : Scopes → Procs → ℕ → Status → Status

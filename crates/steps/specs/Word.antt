@@ -1,5 +1,6 @@
 -- A word of a command that is being put together, as the proof sees it.
-use Rattle.std.specs.Prelude.{ℕ, List, [], ◌∷◌, ◌++◌, Bool, true, false, Option, Some, None, reverse}
+use Rattle.std.specs.Prelude.{ℕ, List, [], ◌∷◌, ◌++◌, codes, Bool, true, false, Option, Some, None, reverse}
+use Rattle.code.specs.Code.{literals}
 use Rattle.runs.specs.Commands.{command}
 use Rattle.state.specs.Listed.{with_list}
 use Rattle.state.specs.Prelude.{Course, Status}
@@ -17,11 +18,12 @@ pub record Around : Type 0 where
 
 -- where a word stands: after these words of its command, the last one first, and before the rest;
 -- the words are counted or not, and after {*} they are (Tcl(n), rules 2 and 5); or it is an operand
--- of a formula (expr(n))
+-- of a formula (expr(n)); or the list of a foreach with these variables and this body (foreach(n))
 pub data Word : Type 0 where
   Plain : (counted : Bool) (before : List (List ℕ)) (rest : Words) → Word
   Expands : (before : List (List ℕ)) (rest : Words) → Word
   Operand : (outer : List Outer) → Word
+  Listed : (variables body : List ℕ) → Word
 
 -- a word that is open: its bytes so far, where there is something of it, its parts that are left,
 -- the indexes in which these stand, the innermost first, and where it stands (Tcl(n), rules 7, 8
@@ -53,6 +55,9 @@ word_on levels (Plain counted before rest) = λ s value.
 word_on levels (Expands before rest) = λ s value.
     with_list value s (λ more. words levels rest (reverse before ++ more) s (command levels))
 word_on levels (Operand outer) = operand_on levels outer
+word_on levels (Listed variables body) = λ s value.
+    words levels (literals (body ∷ [])) (codes "foreach" ∷ variables ∷ value ∷ []) s
+    (command levels)
 
 -- the course of an open word with these bytes so far
 abbrev pub course_with : ℕ → Open → List ℕ → Status → Course
@@ -74,12 +79,14 @@ abbrev pub before_of : Word → List (List ℕ) → List (List ℕ)
 before_of (Plain counted before rest) below = before ++ below
 before_of (Expands before rest) below = before ++ below
 before_of (Operand outer) below = waiting outer below
+before_of (Listed variables body) below = below
 
 -- whether the words are counted
 abbrev pub is_counted : Word → Bool
 is_counted (Plain counted before rest) = counted
 is_counted (Expands before rest) = true
 is_counted (Operand outer) = false
+is_counted (Listed variables body) = false
 
 -- the operands of an open word
 abbrev pub operands_of : Open → List (List ℕ) → List (List ℕ)

@@ -21,13 +21,13 @@ pub fn advance<A: Allocator + Copy>(
     alloc: A,
     code: &[Instruction<A>],
     spot: &mut Spot<A>,
-    scopes: &Scopes<A>,
+    scopes: &mut Scopes<A>,
     procs: &Procs<A>,
     left: &mut u64,
 ) -> Result<Stopped<A>, NoMemory>
     ensures { (s : Status) → IfOk result (λ stopped. Arrives code.now (spot_of spot.old)
-        (with_parts scopes.now procs.now left.old s)
-        (did_of (Some stopped) (spot_of spot.new) (with_parts scopes.now procs.now left.new s))) }
+        (with_parts scopes.old procs.now left.old s)
+        (did_of (Some stopped) (spot_of spot.new) (with_parts scopes.new procs.now left.new s))) }
 {
     'steps: loop {
         if let Some(stopped) = step(alloc, code, spot, scopes, procs, left)? {

@@ -2,6 +2,7 @@
 #![tactic(auto)]
 
 mod advancing;
+mod foreach;
 mod handler;
 pub mod laws;
 mod looping;

@@ -16,7 +16,7 @@ use std::alloc::Allocator;
 use tcltext::Value;
 
 /// A turn begins, where a tick is left: its body is next.
-fn begin_turn<A: Allocator + Copy>(
+pub fn begin_turn<A: Allocator + Copy>(
     spot: &mut Spot<A>,
     body: usize,
     end: usize,

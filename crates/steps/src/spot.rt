@@ -22,8 +22,8 @@ pub struct Spot<A: Allocator> {
     pub place: usize,
     /// The operands, the top one last.
     pub operands: Vec<Value<A>, A>,
-    /// Of each command whose words are counted, how many operands stand below its words, the
-    /// innermost last.
+    /// Of each command whose words are counted, how many operands stand below its words, and of
+    /// each `foreach` how many below its elements, the innermost last.
     pub marks: Vec<usize, A>,
     /// The levels that may still nest.
     pub levels: u8,

@@ -9,7 +9,8 @@ ghost use Rattle.steps.specs.Spot.{Reads as reads_text};
 ghost use Rattle.tclstate.specs.Pairs.{found};
 ghost use Rattle.steps.specs.View.{did_of, spot_of, with_parts};
 
-use crate::looping::{begin_step, end_turn, turn};
+use crate::foreach::{assign, begin_hidden, deal, finish, look};
+use crate::looping::{begin_step, begin_turn, end_turn, turn};
 use crate::operating::{apply, choose, join_both, jump, jump_unless, number, prefix, tell};
 use crate::spot::Spot;
 use crate::stopped::{Stopped, failed};
@@ -131,13 +132,13 @@ fn perform<A: Allocator + Copy>(
     alloc: A,
     instruction: &Instruction<A>,
     spot: &mut Spot<A>,
-    scopes: &Scopes<A>,
+    scopes: &mut Scopes<A>,
     procs: &Procs<A>,
     left: &mut u64,
 ) -> Result<Option<Stopped<A>>, NoMemory>
     ensures does { (s : Status) → IfOk result (λ stopped. Does
-        (said instruction.now (spot_of spot.old) (with_parts scopes.now procs.now left.old s))
-        (did_of stopped (spot_of spot.new) (with_parts scopes.now procs.now left.new s))) }
+        (said instruction.now (spot_of spot.old) (with_parts scopes.old procs.now left.old s))
+        (did_of stopped (spot_of spot.new) (with_parts scopes.new procs.now left.new s))) }
     ensures ticks { left.new ≤ left.old }
     ensures place { left.new ≡ left.old → spot.old.place ≤ spot.new.place }
 {
@@ -170,6 +171,14 @@ fn perform<A: Allocator + Copy>(
         Instruction::Step => Ok(begin_step(spot)?),
         Instruction::EndTurn => Ok(end_turn(spot)),
         Instruction::Discard => Ok(spot.discard()),
+        Instruction::Foreach(variables, body, place) => Ok(begin_hidden(
+            alloc, spot, procs, variables, body, *place,
+        )?),
+        Instruction::Deal(place) => Ok(deal(alloc, spot, *place)?),
+        Instruction::More(place) => Ok(look(spot, *place)?),
+        Instruction::Assign(name) => Ok(assign(alloc, spot, scopes, name.as_slice())?),
+        Instruction::Begin(body, end) => Ok(begin_turn(spot, *body, *end, left)?),
+        Instruction::Done => Ok(finish(spot)?),
         Instruction::Hole => Ok(Some(Stopped::Stuck)),
     }
 }
@@ -182,14 +191,14 @@ pub fn step<A: Allocator + Copy>(
     alloc: A,
     code: &[Instruction<A>],
     spot: &mut Spot<A>,
-    scopes: &Scopes<A>,
+    scopes: &mut Scopes<A>,
     procs: &Procs<A>,
     left: &mut u64,
 ) -> Result<Option<Stopped<A>>, NoMemory>
     ensures does { (s : Status) → IfOk result (λ stopped. Does
         (machine (slice_get code.now spot.old.place) (spot_of spot.old)
-        (with_parts scopes.now procs.now left.old s))
-        (did_of stopped (spot_of spot.new) (with_parts scopes.now procs.now left.new s))) }
+        (with_parts scopes.old procs.now left.old s))
+        (did_of stopped (spot_of spot.new) (with_parts scopes.new procs.now left.new s))) }
     ensures onward { IfOk result (λ stopped. IfNone stopped
         ((spot.old.place < length code.now) × (left.new ≤ left.old) ×
         (left.new ≡ left.old → spot.old.place < spot.new.place))) }

@@ -44,6 +44,12 @@ fn show<A: Allocator>(shown: &mut Vec<u8, A>, it: &Instruction<A>) -> Result<(),
         Instruction::Step => (b"step", b""),
         Instruction::Discard => (b"discard", b""),
         Instruction::Command(5) => (b"command 5", b""),
+        Instruction::Foreach(variables, _, 15) => (b"foreach 15 ", variables.as_slice()),
+        Instruction::Deal(10) => (b"deal 10", b""),
+        Instruction::More(14) => (b"more 14", b""),
+        Instruction::Assign(name) => (b"assign ", name.as_slice()),
+        Instruction::Begin(4, 9) => (b"begin 4 9", b""),
+        Instruction::Done => (b"done", b""),
         _ => (b"another", b""),
     };
     shown.extend_from_slice(name)?;
@@ -127,6 +133,20 @@ fn a_script_before_the_turns_and_one_after_each_stand_around_the_body(
         command 5\njump 31\nenter\nnext\ntext f\ncommand 1\nleave\ndiscard\njump 28\n\
         enter\nnext\ntext h\ncommand 1\nleave\nstep\nenter\nnext\ntext g\ncommand 1\nleave\n\
         end turn\nnumeral 1\nturn 16 21\ntext \n";
+    assert_eq!(&rt; shown.as_slice(), wanted);
+    Ok(())
+}
+
+#[test]
+fn the_variables_of_a_list_are_set_behind_its_body(rt: HostRuntime) -> Result<(), Fail> {
+    let script = Script::read(rt.alloc(), b"foreach {x y} $l f")?;
+    let code = code_of(rt.alloc(), &script)?;
+    let mut shown = Vec::new(rt.alloc());
+    for it in &code {
+        show(&mut shown, it)?;
+    }
+    let wanted: &[u8] = b"next\nvariable l\nforeach 15 x y\ndeal 10\nenter\nnext\ntext f\n\
+        command 1\nleave\nend turn\nmore 14\nassign x\nassign y\nbegin 4 9\ndone\n";
     assert_eq!(&rt; shown.as_slice(), wanted);
     Ok(())
 }

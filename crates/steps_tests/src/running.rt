@@ -85,12 +85,12 @@ fn commands_within(
     mut left: u64,
     levels: u8,
 ) -> Result<Vec<u8>, Fail> {
-    let scopes = variables(alloc)?;
+    let mut scopes = variables(alloc)?;
     let mut spot = Spot::new(alloc, levels)?;
     let mut counts = 0;
     let mut shown = Vec::new(alloc);
     for _ in 0..20 {
-        let stopped = advance(alloc, code, &mut spot, &scopes, procs, &mut left)?;
+        let stopped = advance(alloc, code, &mut spot, &mut scopes, procs, &mut left)?;
         show(&mut shown, &stopped)?;
         let Some(outcome) = outcome_of(alloc, &stopped, &mut counts)? else {
             return Ok(shown);
@@ -440,5 +440,147 @@ fn a_turn_takes_a_tick_and_a_level(rt: HostRuntime) -> Result<(), Fail> {
     for text in nested {
         repeat(&rt, rt.alloc(), text, b"too many nested evaluations\n")?;
     }
+    Ok(())
+}
+
+#[test]
+fn a_list_is_gone_through_as_tclsh_does(rt: HostRuntime) -> Result<(), Fail> {
+    // tclsh 8.6.13, as above
+    let scripts: [(&[u8], &[u8]); 10] = [
+        (
+            b"foreach x {a b c} {f $x}; g $x",
+            b"<f><a>\n<f><b>\n<f><c>\n<g><c>\nv\n",
+        ),
+        (
+            b"foreach {x y} {a b c} {f $x $y}; g $x $y",
+            b"<f><a><b>\n<f><c><>\n<g><c><>\nv\n",
+        ),
+        (b"foreach {x x} {a b c} {f $x}", b"<f><b>\n<f><>\n\n"),
+        (b"foreach x {} {f \"}; g", b"<g>\nv\n"),
+        (b"f [foreach x {a b} {g}]", b"<g>\n<g>\n<f><>\nv\n"),
+        (b"foreach x [l] {f $x}", b"<l>\n<f><v>\n\n"),
+        (b"foreach x \"$a $i\" {f $x}", b"<f><1>\n<f><2>\n\n"),
+        (b"foreach t(x2) {a b} {f $t(x2)}", b"<f><a>\n<f><b>\n\n"),
+        (
+            b"foreach {x y z} {a b c d e f g} {f $x $y $z}",
+            b"<f><a><b><c>\n<f><d><e><f>\n<f><g><><>\n\n",
+        ),
+        (
+            b"foreach x {a b} {foreach y {c d} {f $x $y}}",
+            b"<f><a><c>\n<f><a><d>\n<f><b><c>\n<f><b><d>\n\n",
+        ),
+    ];
+    for (text, wanted) in scripts {
+        repeat(&rt, rt.alloc(), text, wanted)?;
+    }
+    Ok(())
+}
+
+#[test]
+fn break_and_continue_end_a_list_or_an_element(rt: HostRuntime) -> Result<(), Fail> {
+    // tclsh 8.6.13, as above
+    let scripts: [(&[u8], &[u8]); 9] = [
+        (
+            b"foreach x {a b c} {f $x; break; g}; h $x",
+            b"<f><a>\n<break>\n<h><a>\nv\n",
+        ),
+        (
+            b"foreach x {a b} {f a[continue]b}; h",
+            b"<continue>\n<continue>\n<h>\nv\n",
+        ),
+        (
+            b"foreach {x y} {a b c d} {if {$y eq \"b\"} {continue}; f $x}; h",
+            b"<continue>\n<f><c>\n<h>\nv\n",
+        ),
+        (
+            b"foreach x {a b} {foreach y {c d} {f $x $y; break}; g}",
+            b"<f><a><c>\n<break>\n<g>\n<f><b><c>\n<break>\n<g>\n\n",
+        ),
+        (
+            b"foreach x {a b} {foreach y {c d} {f $y; continue}; g}",
+            b"<f><c>\n<continue>\n<f><d>\n<continue>\n<g>\n<f><c>\n<continue>\n<f><d>\n\
+                <continue>\n<g>\n\n",
+        ),
+        (
+            b"while {[count] < 3} {foreach x {a b} {break}; f $x}",
+            b"<count>\n<break>\n<f><a>\n<count>\n<break>\n<f><a>\n<count>\n\n",
+        ),
+        (
+            b"foreach x {a b} {while 1 {break}; f $x}",
+            b"<break>\n<f><a>\n<break>\n<f><b>\n\n",
+        ),
+        (
+            b"f {*}{a b} c[foreach x {p q} {g {*}{c d} [break]}] e",
+            b"<break>\n<f><a><b><c><e>\nv\n",
+        ),
+        (
+            b"while 1 {foreach x [break] {f}; g}; h",
+            b"<break>\n<h>\nv\n",
+        ),
+    ];
+    for (text, wanted) in scripts {
+        repeat(&rt, rt.alloc(), text, wanted)?;
+    }
+    Ok(())
+}
+
+#[test]
+fn a_list_ends_early_by_an_error_or_the_limit(rt: HostRuntime) -> Result<(), Fail> {
+    // tclsh 8.6.13, but for the text of the second and the third error; then this project's limits
+    let scripts: [(&[u8], &[u8]); 6] = [
+        (b"foreach x \\{ f", b"unmatched open brace in list\n"),
+        (b"foreach {x t} {a b} f", b"\"t\" is an array\n"),
+        (b"foreach a(b) c f", b"\"a(b)\" is not an array\n"),
+        (b"foreach x {a} {f \"}", b"missing \"\n"),
+        (
+            b"foreach x {a b} {f $x [g [h [i]]]}",
+            b"too many nested evaluations\n",
+        ),
+        (
+            b"foreach x {a b} {f $none}",
+            b"can't read \"none\": no such variable\n",
+        ),
+    ];
+    for (text, wanted) in scripts {
+        repeat(&rt, rt.alloc(), text, wanted)?;
+    }
+    // three ticks are there: one for the command, one for each turn
+    compare(&rt, rt.alloc(), b"foreach x {a b c} {}", b"stopped\n")?;
+    compare(&rt, rt.alloc(), b"foreach x {a b} {}", b"\n")?;
+    Ok(())
+}
+
+#[test]
+fn a_list_without_code_of_its_own_begins_by_its_words(rt: HostRuntime) -> Result<(), Fail> {
+    // its variables or its body are no literals, or are no list of variables, or there are other
+    // words
+    let scripts: [(&[u8], &[u8]); 8] = [
+        (b"foreach $a b f", b"<foreach><1><b><f>\nv\n"),
+        (b"foreach x b $a", b"<foreach><x><b><1>\nv\n"),
+        (b"foreach {} a f", b"<foreach><><a><f>\nv\n"),
+        (b"foreach \\{ a f", b"<foreach><{><a><f>\nv\n"),
+        (b"foreach {x ::} a f", b"<foreach><x ::><a><f>\nv\n"),
+        (b"foreach x {*}{b} f", b"<foreach><x><b><f>\nv\n"),
+        (b"foreach x a y b f", b"<foreach><x><a><y><b><f>\nv\n"),
+        (b"foreach x a", b"<foreach><x><a>\nv\n"),
+    ];
+    for (text, wanted) in scripts {
+        compare(&rt, rt.alloc(), text, wanted)?;
+    }
+    Ok(())
+}
+
+#[test]
+fn a_procedure_hides_a_foreach_once_its_list_has_a_value(rt: HostRuntime) -> Result<(), Fail> {
+    let alloc = rt.alloc();
+    let mut procs = Procs::new(alloc);
+    let formals = Formals::read(alloc, b"args").ok().ok_or("formals")?;
+    let body = Value::empty();
+    procs.define(alloc, b"foreach", Procedure { formals, body })?;
+    let script = Script::read(alloc, b"g [foreach x [l $i] {f $x}]; h")?;
+    let code = code_of(alloc, &script)?;
+    let shown = commands_within(alloc, &procs, &code, 40, 3)?;
+    let wanted: &[u8] = b"<l><2>\n<foreach><x><v><f $x>\n<g><v>\n<h>\nv\n";
+    assert_eq!(&rt; shown.as_slice(), wanted);
     Ok(())
 }

@@ -1,8 +1,7 @@
 -- A command that has code of its own.
-use Rattle.std.proofs.Common.{◌≡◌, ◌∙◌, ℕ, ◌+◌, ◌≤◌, List, [], ◌∷◌, ◌++◌, false, Option, Some, None, Ok, option_map, append_assoc, codes, refl, sym, ap, subst, arith, if◌then◌else◌}
+use Rattle.std.proofs.Common.{◌≡◌, ◌∙◌, ℕ, ◌+◌, ◌≤◌, List, [], ◌∷◌, false, Option, Some, None, Ok, option_map, codes, refl, ap, subst, arith, if◌then◌else◌}
 use Rattle.std.specs.Prelude.{slice_get}
-use Rattle.std.proofs.lemmas.List.{append-nil}
-use Rattle.code.specs.Code.{At, CommandAt, by_words, own, OwnAt, conditional, while_loop, for_loop, BranchesAt, branch, BehindAt, no_else, at_last, else_if, IsBranch, without_then, with_then, IsLast, with_else, without_else, WordsAt, literals}
+use Rattle.code.specs.Code.{At, CommandAt, by_words, own, foreach_loop, OwnAt, conditional, while_loop, for_loop, BranchesAt, branch, BehindAt, no_else, at_last, else_if, IsBranch, without_then, with_then, IsLast, with_else, without_else, WordsAt, literals}
 use Rattle.code.specs.declared.instruction.Instruction.{Instruction}
 use Rattle.code.specs.declared.instruction.Instruction.TheVariants as i
 use Rattle.conditions.specs.Branches as definition
@@ -11,7 +10,7 @@ use Rattle.conditions.specs.Conditional.{on_branches}
 use Rattle.plan.specs.Plan.{and_then, onward}
 use Rattle.runs.specs.Commands.{called, command}
 use Rattle.state.specs.Piece.{FormulaText, ScriptText}
-use Rattle.state.specs.Prelude.{Course, Dialogue, Outcome, Status}
+use Rattle.state.specs.Prelude.{Dialogue, Outcome, Status}
 use Rattle.steps.specs.Follows.{Comes, Follows}
 use Rattle.steps.specs.Goes.{here, reads}
 use Rattle.steps.specs.Layout.{ChoosesAt, FramesAt}
@@ -21,27 +20,19 @@ use Rattle.steps.specs.Places.{Has, Gathers, Starts, Chooses, Frame, Skip, brack
 use Rattle.steps.proofs.Leads.Bodies.{body_read, enters_leads}
 use Rattle.steps.proofs.Leads.Formulas.{formula_leads}
 use Rattle.steps.proofs.Leads.Grows.{behind_grows, own_grows, words_grow}
+use Rattle.steps.proofs.Leads.Literals.{literal_words}
 use Rattle.steps.proofs.Leads.Loops.{for_begins, while_begins}
 use Rattle.steps.proofs.Leads.Meanings.{jump_leads}
+use Rattle.steps.proofs.Leads.Parts.{start_leads}
 use Rattle.steps.proofs.Leads.Silent.{same_goes}
 use Rattle.steps.proofs.Leads.Standing.{by, silently, sooner, stands}
 use Rattle.steps.proofs.Leads.Words.{words_lead}
-use Rattle.tclparse.specs.Tree.{Words, no_parts}
+use Rattle.steps.specs.Word.{Listed}
+use Rattle.tclparse.specs.Tree.{Words, bytes_then, no_parts, word}
 use Rattle.tclstate.specs.Pairs.{found}
 use Rattle.tclstate.specs.Procs.{Procedure}
 use Rattle.words.proofs.Steps.{literal}
 use Rattle.words.specs.Words.{words}
-
--- words that are texts as they stand are these texts
-literal_words : (levels : ℕ) (texts before : List (List ℕ)) (s : Status)
-    (next : Status → List (List ℕ) → Course) →
-    words levels (literals texts) before s next ≡ next s (before ++ texts)
-literal_words levels [] before s next = ap (next s) (sym (append-nil before))
-literal_words levels (text ∷ texts) before s next =
-    literal levels text no_parts [] s
-    (λ t value. words levels (literals texts) (before ++ value ∷ []) t next)
-    ∙ literal_words levels texts (before ++ text ∷ []) s next
-    ∙ ap (next s) (append_assoc before (text ∷ []) texts)
 
 module _ {A X : Type 0} (code : List (Instruction A)) (last : Status → Outcome → Dialogue X) where
   -- the branches that words make, and where they stand
@@ -186,3 +177,16 @@ module _ {A X : Type 0} (code : List (Instruction A)) (last : Status → Outcome
       args))) fs) s _ hides
       (unhidden_leads (found s.procedures name) levels fs s name place mid args end refl words_at
       jump own_at behind fits)
+  starts_leads levels fs s place ws end (foreach_loop {mid = mid} {variables = variables}
+      {body = body} {list = list} list_at at) behind fits =
+      let last_word = literals (body ∷ []) in
+      silently code last _
+      (same_goes (ap (λ c. and_then c (onward (onward_of last levels fs)))
+      (literal levels (codes "foreach") no_parts [] s (λ t value.
+      words levels (word false (bytes_then variables no_parts) (word false list last_word))
+      (value ∷ []) t (command levels))
+      ∙ literal levels variables no_parts [] s (λ t value.
+      words levels (word false list last_word) (codes "foreach" ∷ value ∷ []) t
+      (command levels)))))
+      (start_leads code last levels end [] (Listed variables body) fs s place list mid list_at
+      (record { stop = mid; around = refl; word_at = at }) behind fits)

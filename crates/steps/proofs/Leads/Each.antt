@@ -15,11 +15,12 @@ use Rattle.steps.specs.Does.{Does, same, reads, Arrives, stays, then}
 use Rattle.steps.specs.Goes.{here}
 use Rattle.steps.specs.Layout.{FramesAt, HeadAt}
 use Rattle.steps.specs.Machine.{machine}
-use Rattle.steps.specs.Places.{Head, Has, Part, Joins, Gathers, Evaluates, Values, Starts, Chooses, Enters, Repeats, Finishes, Frame, Rest, brackets, left_of, spot_at}
+use Rattle.steps.specs.Places.{Head, Has, Part, Joins, Gathers, Evaluates, Values, Starts, Chooses, Enters, Repeats, Finishes, Deals, Takes, Sets, Drops, Frame, Rest, brackets, left_of, spot_at}
 use Rattle.steps.specs.Spot.{Spot, Did, beginning_at}
 use Rattle.steps.proofs.Leads.Bodies.{enters_leads}
 use Rattle.steps.proofs.Leads.Conditionals.{chooses_lead, starts_leads}
 use Rattle.steps.proofs.Leads.Opened.{joins_lead, open_leads}
+use Rattle.steps.proofs.Leads.Foreach.{deals_lead, drops_lead, sets_lead, takes_lead}
 use Rattle.steps.proofs.Leads.Formulas.{formula_leads}
 use Rattle.steps.proofs.Leads.Loops.{finishes_lead, repeats_lead}
 use Rattle.steps.proofs.Leads.Operators.{operand_leads}
@@ -57,6 +58,16 @@ module _ {A X : Type 0} (code : List (Instruction A)) (last : Status → Outcome
       repeats_lead code last levels end frames s loop place at behind fits
   head_leads place levels Finishes frames end s at behind fits =
       finishes_lead code last levels end frames s place at.0 at.1 behind fits
+  head_leads place levels (Deals list names body) frames end s at behind fits =
+      deals_lead code last levels end frames s list names body place at.0 at.1 behind fits
+  head_leads place levels (Takes each elements) frames end s at behind fits =
+      takes_lead code last levels end frames s each elements place at.0 at.1 at.2 at.3 at.4 behind
+      fits
+  head_leads place levels (Sets names each elements) frames end s at behind fits =
+      sets_lead code last levels end frames s each elements place at.0 at.1 names at.2 at.3 at.4
+      behind fits
+  head_leads place levels (Drops elements) frames end s at behind fits =
+      drops_lead code last levels end frames s elements place at.0 at.1 behind fits
 
   leads : (spot : Spot) (s : Status) (p : Dialogue X) → Here code last spot s p →
       Follows code last (machine (slice_get code spot.place) spot s) p

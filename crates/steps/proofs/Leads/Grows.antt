@@ -1,6 +1,6 @@
 -- Code ends at its beginning, or after it.
 use Rattle.std.proofs.Common.{ℕ, ◌≤◌, List, Bool, Option, arith}
-use Rattle.code.specs.Code.{JoinsAt, first, joined, PartsAt, over, empty, text, value, item, bracket, WordsAt, begins, begins_counted, one, counts, spread, CommandAt, by_words, own, CommandsAt, done, next, FaultAt, none, fault, OwnAt, conditional, while_loop, for_loop, TurnsAt, turns, StepAt, no_step, steps, BranchesAt, branch, BehindAt, no_else, at_last, else_if, BodyAt, deeper, FormulaAt, number, parts, called, prefixed, in_row, chosen, LinksAt, no_more, both, and_also, or_else, ArgumentsAt, no_argument, argument}
+use Rattle.code.specs.Code.{JoinsAt, first, joined, PartsAt, over, empty, text, value, item, bracket, WordsAt, begins, begins_counted, one, counts, spread, CommandAt, by_words, own, foreach_loop, CommandsAt, done, next, FaultAt, none, fault, OwnAt, conditional, while_loop, for_loop, TurnsAt, turns, StepAt, no_step, steps, AssignsAt, all_set, sets, NextAt, next_turn, ForeachAt, with_names, DealAt, deals, BranchesAt, branch, BehindAt, no_else, at_last, else_if, BodyAt, deeper, FormulaAt, number, parts, called, prefixed, in_row, chosen, LinksAt, no_more, both, and_also, or_else, ArgumentsAt, no_argument, argument}
 use Rattle.code.specs.declared.instruction.Instruction.{Instruction}
 use Rattle.tclparse.specs.Fault.{Fault}
 use Rattle.tclparse.specs.Formula.{Formula, Links, Formulas}
@@ -14,6 +14,15 @@ module _ {A : Type 0} (code : List (Instruction A)) where
   fault_grows : {f : Option Fault} {place end : ℕ} → FaultAt code f place end → place ≤ end
   fault_grows none = omega arith
   fault_grows (fault at) = omega arith
+
+  pub assigns_grow : {place : ℕ} {names : List (List ℕ)} {end : ℕ} →
+      AssignsAt code place names end → place ≤ end
+  assigns_grow all_set = omega arith
+  assigns_grow (sets at rest) = omega (arith, assigns_grow rest)
+
+  next_grows : {place : ℕ} {names : List (List ℕ)} {body ends end : ℕ} →
+      NextAt code place names body ends end → place ≤ end
+  next_grows (next_turn looks names back drops) = omega (arith, assigns_grow names)
 
   mutual
     parts_grow : {more : Bool} {place : ℕ} {ps : Parts} {end : ℕ} → PartsAt code more place ps end →
@@ -38,6 +47,7 @@ module _ {A : Type 0} (code : List (Instruction A)) where
     command_grows : {place : ℕ} {ws : Words} {end : ℕ} → CommandAt code place ws end → place ≤ end
     command_grows (by_words ws) = words_grow ws
     command_grows (own hides ws jump it) = omega (arith, words_grow ws, own_grows it)
+    command_grows (foreach_loop list it) = omega (arith, parts_grow list, foreach_grows it)
 
     commands_grow : {place : ℕ} {cs : Commands} {end : ℕ} → CommandsAt code place cs end →
         place ≤ end
@@ -59,6 +69,14 @@ module _ {A : Type 0} (code : List (Instruction A)) where
         place ≤ end
     step_grows (no_step ends) = omega arith
     step_grows (steps at body ends) = omega (arith, body_grows body)
+
+    foreach_grows : {place : ℕ} {variables body : List ℕ} {end : ℕ} →
+        ForeachAt code place variables body end → place ≤ end
+    foreach_grows (with_names are at it) = omega (arith, deal_grows it)
+
+    pub deal_grows : {place : ℕ} {names : List (List ℕ)} {body : List ℕ} {end : ℕ} →
+        DealAt code place names body end → place ≤ end
+    deal_grows (deals at body ended turn) = omega (arith, body_grows body, next_grows turn)
 
     branches_grow : {place : ℕ} {args : List (List ℕ)} {end : ℕ} → BranchesAt code place args end →
         place ≤ end

@@ -15,7 +15,8 @@ use Rattle.steps.specs.Layout.{FramesAt, JoinedAt, OpenAt, OuterAt, WordAt}
 use Rattle.steps.specs.Machine.{machine, spread}
 use Rattle.steps.specs.Places.{Part, Joins, Gathers, Frame, beneath, brackets, handlers_beneath, course_of, left_of, marks_beneath, onward_of, spot_at}
 use Rattle.steps.specs.Spot.{Went}
-use Rattle.steps.specs.Word.{Around, Open, Word, Plain, Expands, Operand, word_on}
+use Rattle.steps.specs.Word.{Around, Open, Word, Plain, Expands, Operand, Listed, word_on}
+use Rattle.steps.proofs.Leads.Lists.{listed_leads}
 use Rattle.steps.proofs.Leads.Operands.{elements_after, last_first}
 use Rattle.steps.proofs.Leads.Operators.{operand_leads}
 use Rattle.steps.proofs.Leads.Parts.{PartLeads, enter_leads, opened, start_leads, text_leads, variable_leads}
@@ -81,6 +82,8 @@ module _ {A X : Type 0} (code : List (Instruction A)) (last : Status → Outcome
         behind fits)
     word_leads bytes (Operand outer) place at behind fits =
         operand_leads code last levels end fs s place bytes outer at behind fits
+    word_leads bytes (Listed variables body) place at behind fits =
+        listed_leads code last levels end fs s bytes variables body place at behind fits
     word_leads bytes (Expands before rest) place at behind fits =
         by code last i.Spread (spot_at place levels (Part (opened (Some bytes) no_parts [] (Expands
         before rest))) fs) s _ at.0

@@ -11,8 +11,9 @@ use Rattle.steps.specs.Follows.{Follows}
 use Rattle.steps.specs.Goes.{here, calls}
 use Rattle.steps.specs.Layout.{FramesAt}
 use Rattle.steps.specs.Machine.{ahead, machine}
-use Rattle.steps.specs.Places.{Has, Joins, Starts, Frame, Rest, Bracket, Body, Skip, For, Turns, brackets, onward_of, spot_at}
+use Rattle.steps.specs.Places.{Has, Joins, Starts, Frame, Rest, Bracket, Body, Skip, For, Turns, Elements, brackets, onward_of, spot_at}
 use Rattle.steps.specs.Spot.{Went, Stuck}
+use Rattle.steps.proofs.Leads.Foreach.{round_over}
 use Rattle.steps.proofs.Leads.Loops.{for_turns, part_over}
 use Rattle.steps.proofs.Leads.Meanings.{jump_leads}
 use Rattle.steps.proofs.Leads.Silent.{same_goes}
@@ -109,3 +110,5 @@ module _ {A X : Type 0} (code : List (Instruction A)) (last : Status → Outcome
       start_leads place levels test step body fs v s at fits
   has_leads place levels (Turns loop ends turn ∷ fs) v s at fits =
       part_over code last levels fs s v loop place ends turn at.0 at.1 at.2 fits
+  has_leads place levels (Elements each elements ends turn ∷ fs) v s at fits =
+      round_over code last levels fs s v each elements place ends turn at.0 at.1 at.2 fits

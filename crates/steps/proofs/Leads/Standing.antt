@@ -10,12 +10,13 @@ use Rattle.state.specs.Outcome.{Stop}
 use Rattle.state.specs.Prelude.{Again, AgainRunning, Break, Code, Continue, Course, Dialogue, Error, leaves, Leaves, LoopTree, Outcome, Return, Status, Stops}
 use Rattle.state.specs.Turn.{on_turn}
 use Rattle.state.specs.Variables.{found}
+use Rattle.steps.specs.Each.{turns_left}
 use Rattle.steps.specs.Follows.{Here, Comes, Follows}
 use Rattle.steps.specs.Goes.{Goes, here}
 use Rattle.steps.specs.Layout.{HeadAt, FramesAt}
 use Rattle.steps.specs.Machine.{machine, with_value}
 use Rattle.steps.specs.Moves.{ticked}
-use Rattle.steps.specs.Places.{Head, Frame, Rest, Bracket, Body, Skip, For, Turns, behind_part, brackets, left_of, onward_of, spot_at}
+use Rattle.steps.specs.Places.{Head, Frame, Rest, Bracket, Body, Skip, For, Turns, Elements, behind_part, brackets, left_of, onward_of, spot_at}
 use Rattle.steps.specs.Spot.{Spot, Did, Went, Reads, Begins, Over, Stuck}
 use Rattle.steps.proofs.Leads.Silent.{same_goes, then_goes}
 use Rattle.tclstate.specs.Scopes.{Trouble}
@@ -71,6 +72,10 @@ module _ {A X : Type 0} (code : List (Instruction A)) (last : Status → Outcome
       ap (λ course. and_then course (onward (onward_of last levels frames)))
       (part_passes loop levels ends s c value passed)
       ∙ leaves_pass levels frames s c value passed
+  leaves_pass levels (Elements each elements ends turn ∷ frames) s c value passed =
+      ap (λ course. and_then course (onward (onward_of last levels frames)))
+      (turn_passes (turns_left levels each elements) s c value passed)
+      ∙ leaves_pass levels frames s c value passed
 
   -- so does an error
   pub errors_pass : (levels : ℕ) (frames : List Frame) (s : Status) (value : List ℕ) →
@@ -88,6 +93,8 @@ module _ {A X : Type 0} (code : List (Instruction A)) (last : Status → Outcome
   stops_pass levels (For test step body ∷ frames) s stop = stops_pass levels frames s stop
   stops_pass levels (Turns loop (Some end) turn ∷ frames) s stop = stops_pass levels frames s stop
   stops_pass levels (Turns loop None turn ∷ frames) s stop = stops_pass levels frames s stop
+  stops_pass levels (Elements each elements ends turn ∷ frames) s stop =
+      stops_pass levels frames s stop
 
   -- this is left to be done there
   pub stands_here : (place levels : ℕ) (head : Head) (frames : List Frame) (end : ℕ) (s : Status) →

@@ -2,6 +2,7 @@ use Rattle.std.proofs.Common.{◌≡◌, true, [], ◌∷◌, codes, length, rul
 use Rattle.std.proofs.lemmas.Slice.Eq.{bytes_eq-Decides}
 use Rattle.std.specs.Str.{bytes_eq}
 use Rattle.code.proofs.Literals.{no_literals}
+use Rattle.code.specs.Code.{literals}
 use Rattle.code.specs.Conditional.{Are}
 use Rattle.code.proofs.repeat.while_words.Goals as goal
 
@@ -14,6 +15,6 @@ returns-then-is_empty g c =
     let none : length body.rest.now ≡ 0 = search rules in
     subst (λ n. Are c.args.words.now (n ∷ test.text.now ∷ body.text.now ∷ []))
     ((bytes_eq-Decides name.text.now (codes "while")).0 same)
-    (c.in_ok-name.ensures (test.text.now ∷ body.text.now ∷ [])
-    (c.in_ok-test.ensures (body.text.now ∷ [])
-    (c.in_ok-body.ensures [] (no_literals body.rest.now none))))
+    (c.in_ok-name.ensures (literals (test.text.now ∷ body.text.now ∷ []))
+    (c.in_ok-test.ensures (literals (body.text.now ∷ []))
+    (c.in_ok-body.ensures (literals []) (no_literals body.rest.now none))))

@@ -10,13 +10,12 @@ steps-init g c = λ s. stays
 
 pub steps-preserved : goal.steps-preserved
 steps-preserved g c = λ s.
-    let scopes = c.args.scopes.now in
     let procs = c.args.procs.now in
     then (c.steps.invariant s)
     (subst (λ o. Does
     (machine (slice_get c.args.code.now c.steps.spot.place) (spot_of c.steps.spot)
-    (with_parts scopes procs c.steps.left s))
-    (did_of o (spot_of c.step.new.spot) (with_parts scopes procs c.step.new.left s)))
+    (with_parts c.steps.scopes procs c.steps.left s))
+    (did_of o (spot_of c.step.new.spot) (with_parts c.step.new.scopes procs c.step.new.left s)))
     c.in_default.is (c.in_ok-stopped.ensures.does s))
 
 pub steps-smaller : goal.steps-smaller
@@ -33,11 +32,10 @@ steps-smaller g c =
 
 pub returns-in-Some : goal.returns-in-Some
 returns-in-Some g c = λ s.
-    let scopes = c.args.scopes.now in
     let procs = c.args.procs.now in
     then (c.steps.invariant s)
     (subst (λ o. Does
     (machine (slice_get c.args.code.now c.steps.spot.place) (spot_of c.steps.spot)
-    (with_parts scopes procs c.steps.left s))
-    (did_of o (spot_of c.step.new.spot) (with_parts scopes procs c.step.new.left s)))
+    (with_parts c.steps.scopes procs c.steps.left s))
+    (did_of o (spot_of c.step.new.spot) (with_parts c.step.new.scopes procs c.step.new.left s)))
     c.in-Some.is (c.in_ok-stopped.ensures.does s))

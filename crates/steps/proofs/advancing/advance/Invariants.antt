@@ -9,7 +9,7 @@ use Rattle.steps.proofs.advancing.advance.Given as goal
 abbrev pub invariant-steps : goal.invariant-steps
 invariant-steps g l = (s : Status) →
     Arrives l.code (spot_of l.fn.spot) (with_parts l.fn.scopes l.fn.procs l.fn.left s)
-    (Went (spot_of l.spot) (with_parts l.fn.scopes l.fn.procs l.left s))
+    (Went (spot_of l.spot) (with_parts l.scopes l.fn.procs l.left s))
 
 abbrev pub decreases-steps : goal.decreases-steps
 decreases-steps g l =

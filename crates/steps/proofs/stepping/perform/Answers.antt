@@ -1,4 +1,5 @@
 use Rattle.std.proofs.Common.{◌∙◌, None, refl, ap}
+use Rattle.steps.specs.Foreach.{assigning}
 use Rattle.steps.specs.Machine.{indexing, reading, unhidden}
 use Rattle.steps.specs.Moves.{fails}
 use Rattle.steps.specs.Spot.{Went, with_top}
@@ -190,6 +191,55 @@ returns-in-Discard-clause-does g c = λ s.
     let t = with_parts c.args.scopes.now c.args.procs.now c.args.left.now s in
     does_so c.args.instruction.now _ spot t c.in-Discard.is
     (same_does (c.discard.ensures.does t))
+
+pub returns-in_ok-begin_hidden-in-Foreach-clause-does :
+    goal.returns-in_ok-begin_hidden-in-Foreach-clause-does
+returns-in_ok-begin_hidden-in-Foreach-clause-does g c = λ s.
+    let spot = spot_of c.args.spot.now in
+    let t = with_parts c.args.scopes.now c.args.procs.now c.args.left.now s in
+    does_so c.args.instruction.now _ spot t c.in-Foreach.is
+    (same_does (c.in_ok-begin_hidden-in-Foreach.ensures.does t refl))
+
+pub returns-in_ok-deal-in-Deal-clause-does :
+    goal.returns-in_ok-deal-in-Deal-clause-does
+returns-in_ok-deal-in-Deal-clause-does g c = λ s.
+    let spot = spot_of c.args.spot.now in
+    let t = with_parts c.args.scopes.now c.args.procs.now c.args.left.now s in
+    does_so c.args.instruction.now _ spot t c.in-Deal.is
+    (c.in_ok-deal-in-Deal.ensures.does t)
+
+pub returns-in_ok-look-in-More-clause-does :
+    goal.returns-in_ok-look-in-More-clause-does
+returns-in_ok-look-in-More-clause-does g c = λ s.
+    let spot = spot_of c.args.spot.now in
+    let t = with_parts c.args.scopes.now c.args.procs.now c.args.left.now s in
+    does_so c.args.instruction.now _ spot t c.in-More.is
+    (same_does (c.in_ok-look-in-More.ensures.does t))
+
+pub returns-in_ok-assign-in-Assign-clause-does :
+    goal.returns-in_ok-assign-in-Assign-clause-does
+returns-in_ok-assign-in-Assign-clause-does g c = λ s.
+    let spot = spot_of c.args.spot.now in
+    let t = with_parts c.args.scopes.now c.args.procs.now c.args.left.now s in
+    does_so c.args.instruction.now _ spot t c.in-Assign.is
+    (same_does (c.in_ok-assign-in-Assign.ensures.does t
+    ∙ ap (λ n. assigning n spot t) c.as_slice-in-Assign.ensures))
+
+pub returns-in_ok-begin_turn-in-Begin-clause-does :
+    goal.returns-in_ok-begin_turn-in-Begin-clause-does
+returns-in_ok-begin_turn-in-Begin-clause-does g c = λ s.
+    let spot = spot_of c.args.spot.now in
+    let t = with_parts c.args.scopes.now c.args.procs.now c.args.left.now s in
+    does_so c.args.instruction.now _ spot t c.in-Begin.is
+    (same_does (c.in_ok-begin_turn-in-Begin.ensures.does t))
+
+pub returns-in_ok-finish-in-Done-clause-does :
+    goal.returns-in_ok-finish-in-Done-clause-does
+returns-in_ok-finish-in-Done-clause-does g c = λ s.
+    let spot = spot_of c.args.spot.now in
+    let t = with_parts c.args.scopes.now c.args.procs.now c.args.left.now s in
+    does_so c.args.instruction.now _ spot t c.in-Done.is
+    (same_does (c.in_ok-finish-in-Done.ensures.does t))
 
 pub returns-in-Hole-clause-does : goal.returns-in-Hole-clause-does
 returns-in-Hole-clause-does g c = λ s.

@@ -26,5 +26,5 @@ returns-clause-does g c = λ s.
     ∙ ap Some (sym c.in-Some.ensures.lookup.1) in
     subst (λ o. Does (machine o spot t)
     (did_of c.in_ok-perform.field-0 (spot_of c.perform.new.spot)
-    (with_parts c.args.scopes.now c.args.procs.now c.perform.new.left s)))
+    (with_parts c.perform.new.scopes c.args.procs.now c.perform.new.left s)))
     (sym some) (c.in_ok-perform.ensures.does s)

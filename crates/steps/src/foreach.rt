@@ -1,0 +1,224 @@
+//! The instructions of `foreach` (foreach(n)).
+
+ghost use Rattle.std.specs.Prelude.{◌≡◌, ◌≤◌, [], ◌∷◌, ℕ, List, codes, Ok, IfOk};
+ghost use Rattle.state.specs.Piece.{ListText};
+ghost use Rattle.state.specs.Prelude.{Status};
+ghost use Rattle.steps.specs.Does.{Does};
+ghost use Rattle.steps.specs.Foreach.{assigning, by_words, dealing, dealt, finishing, hidden, looking, storing, taking};
+ghost use Rattle.steps.specs.Spot.{Did, Reads as reads_text, Spot as Standing};
+ghost use Rattle.steps.specs.View.{did_of, given, spot_of, with_parts};
+ghost use Rattle.tclparse.specs.Variable.{named};
+ghost use Rattle.tclstate.specs.Pairs.{found};
+
+use crate::operating::jump;
+use crate::spot::Spot;
+use crate::stopped::{Stopped, failed};
+use acts::{Fault, NoMemory, Raise};
+use meanings::elements;
+use state::variables::trouble;
+use std::alloc::Allocator;
+use tclparse::{Name, variable_name};
+use tclstate::{Procs, Scopes};
+use tcltext::Value;
+
+/// The words of a `foreach` with one list.
+fn words_of<A: Allocator + Copy>(
+    alloc: A,
+    variables: &Value<A>,
+    list: Value<A>,
+    body: &Value<A>,
+) -> Result<Vec<Value<A>, A>, NoMemory>
+    ensures { IfOk result (λ words.
+        words.items ≡ codes "foreach" ∷ variables.now ∷ list ∷ body.now ∷ []) }
+{
+    let name = Value::from_slice(alloc, b"foreach")?;
+    let variables = variables.share()?;
+    let body = body.share()?;
+    Ok(Vec::from_array(alloc, [name, variables, list, body])?)
+}
+
+/// A `foreach` begins by its words, of which the list is on top, and this place is next.
+fn begin_by_words<A: Allocator + Copy>(
+    alloc: A,
+    spot: &mut Spot<A>,
+    variables: &Value<A>,
+    body: &Value<A>,
+    place: usize,
+) -> Result<Option<Stopped<A>>, NoMemory>
+    ensures does { (s : Status) → IfOk result (λ stopped. did_of stopped (spot_of spot.new) s
+        ≡ by_words variables.now body.now place (spot_of spot.old) s) }
+    ensures place { spot.old.place ≤ spot.new.place }
+{
+    let Some(list) = spot.operands.pop() else {
+        return Ok(Some(Stopped::Stuck));
+    };
+    if place < spot.place {
+        return Ok(Some(Stopped::Stuck));
+    }
+    spot.place = place;
+    let words = words_of(alloc, variables, list, body)?;
+    Ok(Some(Stopped::Begins(words)))
+}
+
+/// Where a procedure hides a `foreach`, it begins by its words.
+pub fn begin_hidden<A: Allocator + Copy>(
+    alloc: A,
+    spot: &mut Spot<A>,
+    procs: &Procs<A>,
+    variables: &Value<A>,
+    body: &Value<A>,
+    place: usize,
+) -> Result<Option<Stopped<A>>, NoMemory>
+    ensures does { (s : Status) → s.procedures ≡ procs.now → IfOk result (λ stopped.
+        did_of stopped (spot_of spot.new) s
+        ≡ hidden (found s.procedures (codes "foreach")) variables.now body.now place
+        (spot_of spot.old) s) }
+    ensures place { spot.old.place ≤ spot.new.place }
+{
+    match procs.get(b"foreach") {
+        Some(_) => Ok(begin_by_words(alloc, spot, variables, body, place)?),
+        None => Ok(None),
+    }
+}
+
+/// Puts the elements of a list on top, the first one uppermost, marks them, and jumps.
+fn put_elements<A: Allocator + Copy>(
+    spot: &mut Spot<A>,
+    mut elements: Vec<Value<A>, A>,
+    place: usize,
+) -> Result<Option<Stopped<A>>, NoMemory>
+    ensures does { (s : Status) → IfOk result (λ stopped. did_of stopped (spot_of spot.new) s
+        ≡ dealt place (spot_of spot.old) s (Ok elements.items)) }
+    ensures place { spot.old.place ≤ spot.new.place }
+{
+    spot.marks.push(spot.operands.len())?;
+    elements.reverse();
+    spot.operands.append(&mut elements)?;
+    Ok(jump(spot, place))
+}
+
+/// Puts the elements of a text that is read as the list of a `foreach` on top, and jumps.
+fn deal_text<A: Allocator + Copy>(
+    alloc: A,
+    spot: &mut Spot<A>,
+    text: &[u8],
+    place: usize,
+) -> Result<Option<Stopped<A>>, NoMemory>
+    ensures does { (s : Status) → IfOk result (λ stopped.
+        Does (reads_text (ListText text.now) (dealt place (spot_of spot.old) s))
+        (did_of stopped (spot_of spot.new) s)) }
+    ensures place { spot.old.place ≤ spot.new.place }
+{
+    match elements(alloc, text) {
+        Ok(elements) => Ok(put_elements(spot, elements, place)?),
+        Err(Raise::Fault(fault)) => Ok(failed(alloc, fault)?),
+        Err(Raise::NoMemory(refusal)) => Err(refusal),
+    }
+}
+
+/// Puts the elements of the list on top in its place, the first one uppermost, and jumps.
+pub fn deal<A: Allocator + Copy>(
+    alloc: A,
+    spot: &mut Spot<A>,
+    place: usize,
+) -> Result<Option<Stopped<A>>, NoMemory>
+    ensures does { (s : Status) → IfOk result (λ stopped.
+        Does (dealing place (spot_of spot.old) s) (did_of stopped (spot_of spot.new) s)) }
+    ensures place { spot.old.place ≤ spot.new.place }
+{
+    let Some(text) = spot.operands.pop() else {
+        return Ok(Some(Stopped::Stuck));
+    };
+    Ok(deal_text(alloc, spot, text.as_slice(), place)?)
+}
+
+/// Where no element is left, this place is next.
+pub fn look<A: Allocator + Copy>(
+    spot: &mut Spot<A>,
+    place: usize,
+) -> Result<Option<Stopped<A>>, NoMemory>
+    ensures does { (s : Status) → IfOk result (λ stopped.
+        did_of stopped (spot_of spot.new) s ≡ looking place (spot_of spot.old) s) }
+    ensures place { spot.old.place ≤ spot.new.place }
+{
+    let Some(mark) = spot.marks.pop() else {
+        return Ok(Some(Stopped::Stuck));
+    };
+    spot.marks.push(mark)?;
+    if spot.operands.len() <= mark {
+        return Ok(jump(spot, place));
+    }
+    Ok(None)
+}
+
+/// Takes the next element off, or gives the empty text where none is left; `None` where there is
+/// no mark.
+fn take<A: Allocator + Copy>(spot: &mut Spot<A>) -> Result<Option<Value<A>>, NoMemory>
+    ensures taken { (next : List ℕ → Standing → Did) → IfOk result (λ taken.
+        given taken (spot_of spot.new) next ≡ taking (spot_of spot.old) next) }
+    ensures place { spot.new.place ≡ spot.old.place }
+{
+    let Some(mark) = spot.marks.pop() else {
+        return Ok(None);
+    };
+    spot.marks.push(mark)?;
+    if spot.operands.len() <= mark {
+        return Ok(Some(Value::empty()));
+    }
+    Ok(spot.operands.pop())
+}
+
+/// Writes a value to the variable that is named.
+fn store<A: Allocator + Copy>(
+    alloc: A,
+    scopes: &mut Scopes<A>,
+    word: &[u8],
+    value: Value<A>,
+) -> Result<Option<Stopped<A>>, NoMemory>
+    ensures { (spot : Standing) (s : Status) → IfOk result (λ stopped.
+        did_of stopped spot (with_parts scopes.new s.procedures s.left s)
+        ≡ storing (named word.now) value spot (with_parts scopes.old s.procedures s.left s)) }
+{
+    let Ok(Name { name, index }) = variable_name(word) else {
+        return Ok(failed(alloc, Fault::BadVariable)?);
+    };
+    match scopes.set(alloc, name, index, value) {
+        Ok(()) => Ok(None),
+        Err(error) => {
+            let fault = trouble(alloc, error, name, index)?;
+            Ok(failed(alloc, fault)?)
+        }
+    }
+}
+
+/// The variable of this name takes the next element.
+pub fn assign<A: Allocator + Copy>(
+    alloc: A,
+    spot: &mut Spot<A>,
+    scopes: &mut Scopes<A>,
+    word: &[u8],
+) -> Result<Option<Stopped<A>>, NoMemory>
+    ensures does { (s : Status) → IfOk result (λ stopped.
+        did_of stopped (spot_of spot.new) (with_parts scopes.new s.procedures s.left s)
+        ≡ assigning word.now (spot_of spot.old)
+        (with_parts scopes.old s.procedures s.left s)) }
+    ensures place { spot.new.place ≡ spot.old.place }
+{
+    let Some(value) = take(spot)? else {
+        return Ok(Some(Stopped::Stuck));
+    };
+    Ok(store(alloc, scopes, word, value)?)
+}
+
+/// Drops the elements that are left, and puts the empty text on top.
+pub fn finish<A: Allocator + Copy>(spot: &mut Spot<A>) -> Result<Option<Stopped<A>>, NoMemory>
+    ensures does { (s : Status) → IfOk result (λ stopped.
+        did_of stopped (spot_of spot.new) s ≡ finishing (spot_of spot.old) s) }
+    ensures place { spot.new.place ≡ spot.old.place }
+{
+    let Some(mark) = spot.marks.pop() else {
+        return Ok(Some(Stopped::Stuck));
+    };
+    spot.operands.truncate(mark);
+    Ok(spot.put(Value::empty())?)
+}
