@@ -12,3 +12,4 @@ pub mod Turns
 pub mod Owns
 pub mod Sequences
 pub mod Foreach
+pub mod Evals

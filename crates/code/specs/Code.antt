@@ -4,6 +4,7 @@ use Rattle.std.specs.List.{list_all}
 use Rattle.std.specs.Str.{bytes_eq}
 use Rattle.code.specs.declared.instruction.Instruction.{Instruction}
 use Rattle.code.specs.declared.instruction.Instruction.TheVariants as i
+use Rattle.pure.specs.Concat.{concatenated}
 use Rattle.tclparse.specs.Fault.{Fault}
 use Rattle.tclparse.specs.Formula.{Formula, Formulas, Links}
 use Rattle.tclparse.specs.Formula as tree
@@ -146,8 +147,9 @@ mutual
         CommandAt code (place + 1) ws mid → CommandsAt code mid cs end →
         CommandsAt code place (command ws cs) end
 
-  -- what the command of this name does with the words after it: if; while; or for, whose start
-  -- runs before its turns, and has its value dropped (if(n); while(n); for(n))
+  -- what the command of this name does with the words after it: if; while; for, whose start runs
+  -- before its turns, and has its value dropped; or eval, whose only word is a script once there is
+  -- no white space at its ends (if(n); while(n); for(n); eval(n); concat(n))
   pub data OwnAt {A : Type 0} (code : List (Instruction A)) :
       List ℕ → ℕ → List (List ℕ) → ℕ → Type 0 where
     conditional : {place end : ℕ} {args : List (List ℕ)} → BranchesAt code place args end →
@@ -158,6 +160,9 @@ mutual
         BodyAt code place start mid → At code mid i.Discard →
         TurnsAt code (mid + 1) test (Some step) body end →
         OwnAt code (codes "for") place (start ∷ test ∷ step ∷ body ∷ []) end
+    evaluated : {place end : ℕ} {text : List ℕ} →
+        BodyAt code place (concatenated (text ∷ [])) end →
+        OwnAt code (codes "eval") place (text ∷ []) end
 
   -- the turns of a loop with this test, this script after each turn, if there is one, and this
   -- body: the body stands before the test, with which the loop begins, and after both of them the

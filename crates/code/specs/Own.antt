@@ -1,17 +1,19 @@
 -- What the words of a command that has code of its own are read as.
 use Rattle.std.specs.Prelude.{◌≡◌, ℕ, List, [], ◌∷◌, codes, None}
-use Rattle.code.specs.Conditional.{IsConditional}
+use Rattle.code.specs.Conditional.{IsBody, IsConditional}
 use Rattle.code.specs.Repeat.{AreTurns, IsFor}
 use Rattle.code.specs.declared.own.Own.{Own}
 use Rattle.code.specs.declared.own.Own.TheVariants as own
+use Rattle.pure.specs.Concat.{concatenated}
 
 -- the name of the command
 abbrev pub name_of : {A : Type 0} → Own A → List ℕ
 name_of (own.If it) = codes "if"
 name_of (own.While it) = codes "while"
 name_of (own.For it) = codes "for"
+name_of (own.Eval it) = codes "eval"
 
--- it is what the words after the name are read as (if(n); while(n); for(n))
+-- it is what the words after the name are read as (if(n); while(n); for(n); eval(n))
 abbrev pub IsOwn : {A : Type 0} → Own A → List (List ℕ) → Type 0
 IsOwn (own.If it) args = IsConditional it args
 IsOwn (own.While it) args =
@@ -19,3 +21,5 @@ IsOwn (own.While it) args =
 IsOwn (own.For it) args =
     (start : List ℕ) × (test : List ℕ) × (step : List ℕ) × (body : List ℕ) ×
     (args ≡ start ∷ test ∷ step ∷ body ∷ []) × IsFor it start test step body
+IsOwn (own.Eval it) args =
+    (text : List ℕ) × (args ≡ text ∷ []) × IsBody it (concatenated (text ∷ []))

@@ -6,6 +6,7 @@ mod branches;
 mod conditional;
 mod each;
 mod emit;
+mod evaluate;
 mod formula;
 mod instruction;
 mod literal;

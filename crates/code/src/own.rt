@@ -7,15 +7,16 @@ ghost use Rattle.code.specs.Own.{IsOwn, name_of};
 ghost use Rattle.tclparse.specs.Tree.{no_words};
 ghost use Rattle.tclparse.specs.View.{words_then};
 
-use crate::conditional::{Conditional, emit_branches};
+use crate::conditional::{Conditional, emit_body, emit_branches};
 use crate::emit::emit_words;
+use crate::evaluate::read_eval;
 use crate::formula::fill;
 use crate::instruction::Instruction;
 use crate::nest::{Flat, Nest};
 use crate::repeat::{For, Turns, emit_for, emit_turns, read_for, read_while};
 use memory::NoMemory;
 use std::alloc::Allocator;
-use tclparse::Word;
+use tclparse::{Script, Word};
 use tcltext::Value;
 
 /// What the words of a command are read as.
@@ -27,6 +28,8 @@ pub(crate) enum Own<A: Allocator> {
     While(Turns<A>),
     /// `for`.
     For(For<A>),
+    /// `eval`, with its script.
+    Eval(Script<A>),
 }
 
 impl<A: Allocator + Copy> Own<A> {
@@ -41,8 +44,11 @@ impl<A: Allocator + Copy> Own<A> {
         if let Some(own) = read_while(alloc, words)? {
             return Ok(Some(Own::While(own)));
         }
-        match read_for(alloc, words)? {
-            Some(own) => Ok(Some(Own::For(own))),
+        if let Some(own) = read_for(alloc, words)? {
+            return Ok(Some(Own::For(own)));
+        }
+        match read_eval(alloc, words)? {
+            Some(own) => Ok(Some(Own::Eval(own))),
             None => Ok(None),
         }
     }
@@ -55,6 +61,7 @@ impl<A: Allocator + Copy> Own<A> {
             Own::If(_) => b"if",
             Own::While(_) => b"while",
             Own::For(_) => b"for",
+            Own::Eval(_) => b"eval",
         }
     }
 }
@@ -72,6 +79,7 @@ fn emit_its<A: Allocator + Copy, N: Nest<A>>(
         Own::If(own) => Ok(emit_branches(code, own, nest)?),
         Own::While(own) => Ok(emit_turns(code, own, nest)?),
         Own::For(own) => Ok(emit_for(code, own, nest)?),
+        Own::Eval(own) => Ok(emit_body(code, own, nest)?),
     }
 }
 

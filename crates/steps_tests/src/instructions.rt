@@ -50,6 +50,8 @@ fn show<A: Allocator>(shown: &mut Vec<u8, A>, it: &Instruction<A>) -> Result<(),
         Instruction::Assign(name) => (b"assign ", name.as_slice()),
         Instruction::Begin(4, 9) => (b"begin 4 9", b""),
         Instruction::Done => (b"done", b""),
+        Instruction::Unhidden(name, 6) => (b"unhidden 6 ", name.as_slice()),
+        Instruction::Jump(11) => (b"jump 11", b""),
         _ => (b"another", b""),
     };
     shown.extend_from_slice(name)?;
@@ -147,6 +149,20 @@ fn the_variables_of_a_list_are_set_behind_its_body(rt: HostRuntime) -> Result<()
     }
     let wanted: &[u8] = b"next\nvariable l\nforeach 15 x y\ndeal 10\nenter\nnext\ntext f\n\
         command 1\nleave\nend turn\nmore 14\nassign x\nassign y\nbegin 4 9\ndone\n";
+    assert_eq!(&rt; shown.as_slice(), wanted);
+    Ok(())
+}
+
+#[test]
+fn a_script_in_a_word_stands_without_white_space_around_it(rt: HostRuntime) -> Result<(), Fail> {
+    let script = Script::read(rt.alloc(), b"eval { f }")?;
+    let code = code_of(rt.alloc(), &script)?;
+    let mut shown = Vec::new(rt.alloc());
+    for it in &code {
+        show(&mut shown, it)?;
+    }
+    let wanted: &[u8] = b"next\nunhidden 6 eval\ntext eval\ntext  f \ncommand 2\njump 11\n\
+        enter\nnext\ntext f\ncommand 1\nleave\n";
     assert_eq!(&rt; shown.as_slice(), wanted);
     Ok(())
 }

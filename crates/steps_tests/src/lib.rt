@@ -5,3 +5,5 @@
 mod instructions;
 #[cfg(test)]
 mod running;
+#[cfg(test)]
+mod scripts;

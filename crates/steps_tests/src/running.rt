@@ -48,8 +48,22 @@ fn show<A: Allocator>(shown: &mut Vec<u8, A>, stopped: &Stopped<A>) -> Result<()
     Ok(())
 }
 
-/// The outcome of the command that begins, if one does, by its name: that of `break` and of
-/// `continue`, how often there was a `count`, or else the value `v`.
+/// A value that ends a script with a code: that of the word after the name.
+fn leaves(
+    alloc: Global,
+    code: Code,
+    words: &[Value<Global>],
+) -> Result<Option<Outcome<Global>>, Fail> {
+    let value = match words {
+        [_, value] => value.as_slice(),
+        _ => b"",
+    };
+    let value = Value::from_slice(alloc, value)?;
+    Ok(Some(Err(Leave::Coded(code, value))))
+}
+
+/// The outcome of the command that begins, if one does, by its name: that of `break`, of
+/// `continue`, of `error` and of `return`, how often there was a `count`, or else the value `v`.
 fn outcome_of(
     alloc: Global,
     stopped: &Stopped<Global>,
@@ -67,6 +81,12 @@ fn outcome_of(
     }
     if name == b"continue".as_slice() {
         return Ok(Some(Err(Leave::Coded(Code::Continue, Value::empty()))));
+    }
+    if name == b"error".as_slice() {
+        return Ok(leaves(alloc, Code::Error, words)?);
+    }
+    if name == b"return".as_slice() {
+        return Ok(leaves(alloc, Code::Return, words)?);
     }
     if name == b"count".as_slice() {
         *counts = counts.saturating_add(1);
@@ -118,7 +138,12 @@ fn commands_of(alloc: Global, code: &[Instruction<Global>]) -> Result<Vec<u8>, F
 }
 
 /// Holds the commands of a script against those that are wanted.
-fn compare(rt: &impl Abort, alloc: Global, text: &[u8], wanted: &[u8]) -> Result<(), Fail> {
+pub(crate) fn compare(
+    rt: &impl Abort,
+    alloc: Global,
+    text: &[u8],
+    wanted: &[u8],
+) -> Result<(), Fail> {
     let script = Script::read(alloc, text)?;
     let code = code_of(alloc, &script)?;
     let shown = commands_of(alloc, &code)?;
@@ -272,7 +297,12 @@ fn a_body_takes_a_level_and_gives_it_back(rt: HostRuntime) -> Result<(), Fail> {
 
 /// Holds the commands of a script against those that are wanted, where there are ticks enough and 3
 /// levels.
-fn repeat(rt: &impl Abort, alloc: Global, text: &[u8], wanted: &[u8]) -> Result<(), Fail> {
+pub(crate) fn repeat(
+    rt: &impl Abort,
+    alloc: Global,
+    text: &[u8],
+    wanted: &[u8],
+) -> Result<(), Fail> {
     let script = Script::read(alloc, text)?;
     let code = code_of(alloc, &script)?;
     let shown = commands_within(alloc, &Procs::new(alloc), &code, 40, 3)?;

@@ -1,6 +1,6 @@
 -- Code ends at its beginning, or after it.
 use Rattle.std.proofs.Common.{ℕ, ◌≤◌, List, Bool, Option, arith}
-use Rattle.code.specs.Code.{JoinsAt, first, joined, PartsAt, over, empty, text, value, item, bracket, WordsAt, begins, begins_counted, one, counts, spread, CommandAt, by_words, own, foreach_loop, CommandsAt, done, next, FaultAt, none, fault, OwnAt, conditional, while_loop, for_loop, TurnsAt, turns, StepAt, no_step, steps, AssignsAt, all_set, sets, NextAt, next_turn, ForeachAt, with_names, DealAt, deals, BranchesAt, branch, BehindAt, no_else, at_last, else_if, BodyAt, deeper, FormulaAt, number, parts, called, prefixed, in_row, chosen, LinksAt, no_more, both, and_also, or_else, ArgumentsAt, no_argument, argument}
+use Rattle.code.specs.Code.{JoinsAt, first, joined, PartsAt, over, empty, text, value, item, bracket, WordsAt, begins, begins_counted, one, counts, spread, CommandAt, by_words, own, foreach_loop, CommandsAt, done, next, FaultAt, none, fault, OwnAt, conditional, while_loop, for_loop, evaluated, TurnsAt, turns, StepAt, no_step, steps, AssignsAt, all_set, sets, NextAt, next_turn, ForeachAt, with_names, DealAt, deals, BranchesAt, branch, BehindAt, no_else, at_last, else_if, BodyAt, deeper, FormulaAt, number, parts, called, prefixed, in_row, chosen, LinksAt, no_more, both, and_also, or_else, ArgumentsAt, no_argument, argument}
 use Rattle.code.specs.declared.instruction.Instruction.{Instruction}
 use Rattle.tclparse.specs.Fault.{Fault}
 use Rattle.tclparse.specs.Formula.{Formula, Links, Formulas}
@@ -59,6 +59,7 @@ module _ {A : Type 0} (code : List (Instruction A)) where
     own_grows (conditional it) = branches_grow it
     own_grows (while_loop it) = turns_grow it
     own_grows (for_loop start drops it) = omega (arith, body_grows start, turns_grow it)
+    own_grows (evaluated body) = body_grows body
 
     turns_grow : {place : ℕ} {test : List ℕ} {step : Option (List ℕ)} {body : List ℕ} {end : ℕ} →
         TurnsAt code place test step body end → place ≤ end

@@ -1,3 +1,4 @@
+use Rattle.code.proofs.Evals.{eval_block}
 use Rattle.code.proofs.Owns.{for_block, if_block, while_block}
 use Rattle.code.proofs.own.emit_its.Goals as goal
 
@@ -15,3 +16,8 @@ pub returns-in_ok-emit_for-in-For : goal.returns-in_ok-emit_for-in-For
 returns-in_ok-emit_for-in-For g c = λ args is.
     for_block c.args.code.now.items c.emit_for.new.code.items c.args.own.now c.in-For.own
     c.in-For.is c.in_ok-emit_for-in-For.ensures args is
+
+pub returns-in_ok-emit_body-in-Eval : goal.returns-in_ok-emit_body-in-Eval
+returns-in_ok-emit_body-in-Eval g c = λ args is.
+    eval_block c.args.code.now.items c.emit_body.new.code.items c.args.own.now c.in-Eval.own
+    c.in-Eval.is c.in_ok-emit_body-in-Eval.ensures args is

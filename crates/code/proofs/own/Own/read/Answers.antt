@@ -1,6 +1,7 @@
 use Rattle.std.proofs.Common.{ℕ, List, [], ◌∷◌, IfSome, None, codes, refl, subst}
-use Rattle.code.specs.Conditional.{Are}
+use Rattle.code.specs.Conditional.{Are, IsBody}
 use Rattle.code.specs.Repeat.{AreTurns, IsFor}
+use Rattle.pure.specs.Concat.{concatenated}
 use Rattle.code.proofs.own.Own.read.Goals as goal
 
 pub returns-in-Some-2 : goal.returns-in-Some-2
@@ -27,3 +28,13 @@ returns-in-Some-3 g c =
       read.4,
       (read.0, read.1, read.2, read.3, refl, read.5),
     )
+
+pub returns-in-Some-4 : goal.returns-in-Some-4
+returns-in-Some-4 g c =
+    let words = c.args.words.now in
+    let own = c.in-Some-4.own in
+    let read : (text : List ℕ) × Are words (codes "eval" ∷ text ∷ []) ×
+    IsBody own (concatenated (text ∷ [])) =
+    subst (λ r. IfSome r (λ it. (text : List ℕ) × Are words (codes "eval" ∷ text ∷ []) ×
+    IsBody it (concatenated (text ∷ [])))) c.in-Some-4.is c.in_ok-own-4.ensures in
+    (read.0 ∷ [], read.1, (read.0, refl, read.2))
