@@ -1,6 +1,7 @@
 pub mod Changes
 pub mod Choices
 pub mod Chosen
+pub mod Elsewhere
 pub mod Finds
 pub mod Firsts
 pub mod Goes

@@ -1,8 +1,9 @@
 -- The first mentions of ids, one list after another.
-use Rattle.std.proofs.Common.{◌≡◌, Bool, true, false, List, [], ◌∷◌, ◌++◌, if◌then◌else◌, refl, sym, ap, ◌∙◌, append_assoc, append-nil}
+use Rattle.std.proofs.Common.{◌≡◌, ℕ, ◌==◌, ◌<◌, Bool, true, false, List, [], ◌∷◌, ◌++◌, if◌then◌else◌, refl, sym, ap, ◌∙◌, append_assoc, append-nil, arith, rules}
+use Rattle.std.proofs.lemmas.Bool.Decides.{nat_tests}
 use Rattle.acts.specs.declared.id.Id.{Id}
 use Rattle.dialog.specs.Branches.{Pair, Branches}
-use Rattle.dialog.specs.Standing.{Standing, is_among, first_mentions, ids_of, waited}
+use Rattle.dialog.specs.Standing.{Standing, RiseAfter, is_among, first_mentions, ids_of, waited}
 
 -- one id further
 pub mentioned : (seen new : List Id) (i : Id) (is : List Id) →
@@ -63,3 +64,41 @@ waited_is s b before after named v x y z none is_b is_n is_a ix iy iz =
     three (ids_of before) named (ids_of after) x y z
     (ix ∙ (λ k. none k ++ first_mentions (none k) (ids_of before))) iy iz
     ∙ (λ k. first_mentions [] (ids_of (is_b k) ++ (is_n k ++ ids_of (is_a k))))
+
+-- each of these ids has a lower number
+abbrev AreBelow : List Id → Id → Type 0
+AreBelow [] i = Unit {0}
+AreBelow (j ∷ js) i = (j.0 < i.0) × AreBelow js i
+
+below_more : (js : List Id) (i k : Id) → AreBelow js i → i.0 < k.0 → AreBelow (js ++ i ∷ []) k
+below_more [] i k below lt = (lt, tt)
+below_more (j ∷ js) i k below lt =
+    let first : j.0 < i.0 = below.0 in
+    let beyond : j.0 < k.0 = omega arith in
+    (beyond, below_more js i k below.1 lt)
+
+not_same : (n m : ℕ) → n < m → (n == m) ≡ false
+not_same n m lt = grind (arith, nat_tests)
+
+-- an id above all others is not among them
+not_among : (js : List Id) (i : Id) → AreBelow js i → is_among js i ≡ false
+not_among [] i below = refl
+not_among (j ∷ js) i below =
+    let first : (j.0 == i.0) ≡ false = not_same j.0 i.0 below.0 in
+    let rest : is_among js i ≡ false = not_among js i below.1 in
+    search (rules, first, rest)
+
+-- ids that rise, after lower ones, are all mentioned for the first time
+all_first : (seen : List Id) (i : Id) (is : List Id) → AreBelow seen i → RiseAfter i is →
+    first_mentions seen (i ∷ is) ≡ i ∷ is
+all_first seen i [] below rise =
+    ap (λ b. if b then first_mentions seen [] else i ∷ first_mentions (seen ++ i ∷ []) [])
+    (not_among seen i below)
+all_first seen i (j ∷ is) below rise =
+    ap (λ b. if b then first_mentions seen (j ∷ is)
+    else i ∷ first_mentions (seen ++ i ∷ []) (j ∷ is)) (not_among seen i below)
+    ∙ ap (λ js. i ∷ js)
+    (all_first (seen ++ i ∷ []) j is (below_more seen i j below rise.0) rise.1)
+
+pub rising : (i : Id) (is : List Id) → RiseAfter i is → first_mentions [] (i ∷ is) ≡ i ∷ is
+rising i is rise = all_first [] i is tt rise

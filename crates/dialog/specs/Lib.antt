@@ -2,6 +2,7 @@ pub mod Branches
 pub mod Channels
 pub mod Choice
 pub mod Drafts
+pub mod KeptBranches
 pub mod Kinds
 pub mod Lead
 pub mod Lines

@@ -1,5 +1,5 @@
 -- The pairs that stand before and after those of each expect, and what an expect chooses among.
-use Rattle.std.specs.Prelude.{◌==◌, not, Bool, List, [], ◌∷◌, ◌++◌, map, filter, is_some, if◌then◌else◌}
+use Rattle.std.specs.Prelude.{◌==◌, ◌<◌, not, Bool, List, [], ◌∷◌, ◌++◌, map, filter, is_some, if◌then◌else◌}
 use Rattle.std.specs.List.{list_any}
 use Rattle.acts.specs.declared.id.Id.{Id}
 use Rattle.dialog.specs.Branches.{Pair, Branches}
@@ -58,6 +58,11 @@ first_mentions before [] = []
 first_mentions before (i ∷ is) =
     if is_among before i then first_mentions before is
     else i ∷ first_mentions (before ++ i ∷ []) is
+
+-- the numbers of ids rise, the first of them above that of this id (this project's own rule)
+abbrev pub RiseAfter : Id → List Id → Type 0
+RiseAfter i [] = Unit {0}
+RiseAfter i (j ∷ js) = (i.0 < j.0) × RiseAfter j js
 
 -- the ids of pairs, in order
 abbrev pub ids_of : List Pair → List Id

@@ -261,9 +261,10 @@ fn push_for_each<A: Allocator>(
 }
 
 /// Appends more ids.
-fn push_ids<A: Allocator>(ids: &mut Vec<Id, A>, more: &[Id]) -> Result<(), NoMemory>
+pub(crate) fn push_ids<A: Allocator>(ids: &mut Vec<Id, A>, more: &[Id]) -> Result<(), NoMemory>
     ensures { OnOk result (ids.new.items ≡ ids.old.items ++ more.now) }
 {
+    ids.reserve(more.len())?;
     for id in more {
         ids.push(*id)?;
     }

@@ -1,9 +1,10 @@
 //! What an `expect` chooses among, and the ids that it waits for.
-ghost use Rattle.std.specs.Prelude.{◌≡◌, ◌++◌, ◌∷◌, [], filter, IfOk, OnOk};
-ghost use Rattle.dialog.specs.Standing.{effective_of, first_mentions, ids_of, waited, all_of, is_open_in, pruned};
+ghost use Rattle.std.specs.Prelude.{◌≡◌, ◌++◌, ◌∷◌, [], filter, IfOk, OnOk, IsTrue};
+ghost use Rattle.dialog.specs.Standing.{RiseAfter, effective_of, first_mentions, ids_of, waited, all_of, is_open_in, pruned};
 
 use crate::branch::Pair;
 use crate::branches::Branches;
+use crate::draft::push_ids;
 use crate::standing::{Standing, is_among, push_pairs};
 use crate::table::Table;
 use acts::{Id, NoMemory};
@@ -103,10 +104,37 @@ fn mention_ids<A: Allocator>(ids: &mut Vec<Id, A>, more: &[Id]) -> Result<(), No
     ensures { OnOk result (ids.new.items
         ≡ ids.old.items ++ first_mentions ids.old.items more.now) }
 {
+    if ids.is_empty() && rise(more) {
+        return push_ids(ids, more);
+    }
     for id in more {
         mention(ids, *id)?;
     }
     Ok(())
+}
+
+/// Whether the numbers of ids rise, so that none is mentioned a second time.
+fn rise(ids: &[Id]) -> bool
+    ensures { IsTrue result → first_mentions [] ids.now ≡ ids.now }
+{
+    match ids.split_first() {
+        Some((first, more)) => rise_after(*first, more),
+        None => true,
+    }
+}
+
+/// Whether the numbers of ids rise, the first of them above that of another one.
+fn rise_after(first: Id, ids: &[Id]) -> bool
+    ensures { IsTrue result → RiseAfter first ids.now }
+{
+    let mut last = first;
+    for id in ids {
+        if id.0 <= last.0 {
+            return false;
+        }
+        last = *id;
+    }
+    true
 }
 
 /// Appends an id, where it is not there yet.

@@ -85,7 +85,7 @@ fn push_id<A: Allocator>(ids: &mut Vec<Id, A>, id: Id) -> Result<(), NoMemory>
 }
 
 /// The first of some ids that is not open.
-fn first_shut<A: Allocator>(table: &Table<A>, ids: &[Id]) -> Option<Id>
+pub(crate) fn first_shut<A: Allocator>(table: &Table<A>, ids: &[Id]) -> Option<Id>
     ensures { result ≡ first_shut table.now.lines ids.now }
 {
     for id in ids {

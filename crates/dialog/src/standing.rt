@@ -135,6 +135,7 @@ pub(crate) fn push_pairs<A: Allocator>(
 ) -> Result<(), NoMemory>
     ensures { OnOk result (pairs.new.items ≡ pairs.old.items ++ more.now) }
 {
+    pairs.reserve(more.len())?;
     for pair in more {
         let same = pair.share()?;
         pairs.push(same)?;

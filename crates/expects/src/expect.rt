@@ -100,7 +100,11 @@ pub fn by_words<A: Allocator + Copy>(
     ensures plain { IfOk result (λ opening. IsPlainOpening opening) }
 {
     let current = id_in_force(state);
-    match Branches::read(alloc, words, current, form.stands(), &state.ids.table) {
+    let table = &state.ids.table;
+    match state
+        .branches
+        .read(alloc, words, current, form.stands(), table)
+    {
         Ok(branches) => on_branches(alloc, state, form, &branches, levels),
         Err(error) => Ok(Opening::Has(failed(alloc, told(alloc, state, error))?)),
     }

@@ -9,7 +9,7 @@ ghost use Rattle.tclstate.specs.Pairs.{found};
 ghost use Rattle.tclstate.specs.Scopes.{Text, scopes as scopes_of};
 
 use acts::{Limits, NoMemory};
-use dialog::LogState;
+use dialog::{KeptBranches, LogState};
 use formulas::KeptFormulas;
 use itoa::Buffer;
 use kept::{Arguments, Kept};
@@ -40,6 +40,7 @@ pub fn beginning<A: Allocator + Copy>(
         kept: Kept::new(alloc),
         formulas: KeptFormulas::new(alloc),
         arguments: Arguments::new(alloc),
+        branches: KeptBranches::new(alloc),
     })
 }
 

@@ -1,7 +1,7 @@
 //! What a run keeps between acts.
 
 use crate::ids::Ids;
-use dialog::LogState;
+use dialog::{KeptBranches, LogState};
 use formulas::KeptFormulas;
 use kept::{Arguments, Kept};
 use std::alloc::Allocator;
@@ -28,4 +28,6 @@ pub struct State<A: Allocator> {
     pub formulas: KeptFormulas<A>,
     /// The arguments in braces that were read last, with their texts, of which the same is true.
     pub arguments: Arguments<A>,
+    /// The branches that words said last, with the words, of which the same is true.
+    pub branches: KeptBranches<A>,
 }

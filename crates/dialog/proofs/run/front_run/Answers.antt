@@ -1,4 +1,4 @@
-use Rattle.std.proofs.Common.{refl, arith}
+use Rattle.std.proofs.Common.{refl}
 use Rattle.std.proofs.lemmas.List.{take_rest}
 use Rattle.dialog.proofs.Scans.{scan_goes, scan_ends}
 use Rattle.dialog.proofs.run.front_run.Goals as goal

@@ -1,5 +1,4 @@
 use Rattle.std.proofs.Common.{rules, ◌≡◌, ◌∷◌, subst}
-use Rattle.dialog.specs.Lines.{IsFirstOut}
 use Rattle.dialog.proofs.Changes.{fits_first_out}
 use Rattle.dialog.proofs.Rising.{IsSound, first_out}
 use Rattle.dialog.proofs.table.Table.close_oldest.Goals as goal

@@ -1,4 +1,4 @@
-use Rattle.std.proofs.Common.{◌≡◌, ◌∙◌, ◌++◌, ◌∷◌, [], Some, ap, subst, sym}
+use Rattle.std.proofs.Common.{◌≡◌, ◌∙◌, ◌++◌, ◌∷◌, [], ap, subst, sym}
 use Rattle.dialog.specs.Lines.{fresh_line, listing, number_after}
 use Rattle.dialog.specs.Views.{line_by, kind_of}
 use Rattle.dialog.proofs.Changes.{fits_opened}
