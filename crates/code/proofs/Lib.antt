@@ -13,3 +13,4 @@ pub mod Owns
 pub mod Sequences
 pub mod Foreach
 pub mod Evals
+pub mod Catches

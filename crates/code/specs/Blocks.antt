@@ -1,6 +1,6 @@
 -- What a call puts after the code that stands there already.
 use Rattle.std.specs.Prelude.{⊤, ◌≡◌, ℕ, ◌+◌, Bool, true, false, List, Option, length}
-use Rattle.code.specs.Code.{At, JoinsAt, PartsAt, WordsAt, CommandAt, CommandsAt, ScriptAt, BranchesAt, BehindAt, BodyAt, OwnAt, TurnsAt, StepAt, AssignsAt, NextAt, DealAt, FormulaAt, LinksAt, ArgumentsAt}
+use Rattle.code.specs.Code.{At, JoinsAt, PartsAt, WordsAt, CommandAt, CommandsAt, ScriptAt, BranchesAt, BehindAt, BodyAt, OwnAt, TurnsAt, StepAt, TakenAt, AssignsAt, NextAt, DealAt, FormulaAt, LinksAt, ArgumentsAt}
 use Rattle.code.specs.declared.instruction.Instruction.{Instruction}
 use Rattle.code.specs.declared.instruction.Instruction.TheVariants as i
 use Rattle.tclparse.specs.Fault.{Fault}
@@ -105,6 +105,12 @@ TurnsBlock old new test step body = Block old new (λ later.
 abbrev pub StepBlock : {A : Type 0} → List (Instruction A) → List (Instruction A) →
     Option (List ℕ) → Type 0
 StepBlock old new step = Block old new (λ later. StepAt later (length old) step (length new))
+
+-- what is done with the value that the script of a catch ended with
+abbrev pub TakenBlock : {A : Type 0} → List (Instruction A) → List (Instruction A) →
+    Option (List ℕ) → Type 0
+TakenBlock old new variable = Block old new (λ later.
+    TakenAt later (length old) variable (length new))
 
 -- variables that take an element each
 abbrev pub AssignsBlock : {A : Type 0} → List (Instruction A) → List (Instruction A) →

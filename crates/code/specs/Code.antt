@@ -67,6 +67,19 @@ foreach_words variables list body =
     word false (bytes_then (codes "foreach") no_parts)
     (word false (bytes_then variables no_parts) (word false list (literals (body ∷ []))))
 
+-- the words after the script of a catch: none, or a word that names the variable which takes the
+-- value that the script ends with (catch(n); set(n))
+pub data IsTaker : Option (List ℕ) → List (List ℕ) → Type 0 where
+  no_taker : IsTaker None []
+  taker : {word : List ℕ} → is_some (named word) ≡ true → IsTaker (Some word) (word ∷ [])
+
+-- the value that the script of a catch ended with is dropped, or a variable takes it (catch(n))
+pub data TakenAt {A : Type 0} (code : List (Instruction A)) :
+    ℕ → Option (List ℕ) → ℕ → Type 0 where
+  dropped : {place : ℕ} → At code place i.Discard → TakenAt code place None (place + 1)
+  taken : {place : ℕ} {word : List ℕ} → At code place (i.Store word) →
+      TakenAt code place (Some word) (place + 1)
+
 -- each of these variables takes the next element (foreach(n))
 pub data AssignsAt {A : Type 0} (code : List (Instruction A)) :
     ℕ → List (List ℕ) → ℕ → Type 0 where
@@ -148,8 +161,9 @@ mutual
         CommandsAt code place (command ws cs) end
 
   -- what the command of this name does with the words after it: if; while; for, whose start runs
-  -- before its turns, and has its value dropped; or eval, whose only word is a script once there is
-  -- no white space at its ends (if(n); while(n); for(n); eval(n); concat(n))
+  -- before its turns, and has its value dropped; eval, whose only word is a script once there is no
+  -- white space at its ends; or catch, whose script may have its value taken by a variable (if(n);
+  -- while(n); for(n); eval(n); concat(n); catch(n))
   pub data OwnAt {A : Type 0} (code : List (Instruction A)) :
       List ℕ → ℕ → List (List ℕ) → ℕ → Type 0 where
     conditional : {place end : ℕ} {args : List (List ℕ)} → BranchesAt code place args end →
@@ -163,6 +177,10 @@ mutual
     evaluated : {place end : ℕ} {text : List ℕ} →
         BodyAt code place (concatenated (text ∷ [])) end →
         OwnAt code (codes "eval") place (text ∷ []) end
+    caught : {place mid end : ℕ} {text : List ℕ} {variable : Option (List ℕ)}
+        {more : List (List ℕ)} → IsTaker variable more → At code place (i.Catch (mid + 1)) →
+        BodyAt code (place + 1) text mid → At code mid i.EndCatch →
+        TakenAt code (mid + 1) variable end → OwnAt code (codes "catch") place (text ∷ more) end
 
   -- the turns of a loop with this test, this script after each turn, if there is one, and this
   -- body: the body stands before the test, with which the loop begins, and after both of them the

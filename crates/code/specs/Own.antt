@@ -1,5 +1,6 @@
 -- What the words of a command that has code of its own are read as.
 use Rattle.std.specs.Prelude.{◌≡◌, ℕ, List, [], ◌∷◌, codes, None}
+use Rattle.code.specs.Catch.{IsCatch}
 use Rattle.code.specs.Conditional.{IsBody, IsConditional}
 use Rattle.code.specs.Repeat.{AreTurns, IsFor}
 use Rattle.code.specs.declared.own.Own.{Own}
@@ -12,8 +13,9 @@ name_of (own.If it) = codes "if"
 name_of (own.While it) = codes "while"
 name_of (own.For it) = codes "for"
 name_of (own.Eval it) = codes "eval"
+name_of (own.Catch it) = codes "catch"
 
--- it is what the words after the name are read as (if(n); while(n); for(n); eval(n))
+-- it is what the words after the name are read as (if(n); while(n); for(n); eval(n); catch(n))
 abbrev pub IsOwn : {A : Type 0} → Own A → List (List ℕ) → Type 0
 IsOwn (own.If it) args = IsConditional it args
 IsOwn (own.While it) args =
@@ -23,3 +25,5 @@ IsOwn (own.For it) args =
     (args ≡ start ∷ test ∷ step ∷ body ∷ []) × IsFor it start test step body
 IsOwn (own.Eval it) args =
     (text : List ℕ) × (args ≡ text ∷ []) × IsBody it (concatenated (text ∷ []))
+IsOwn (own.Catch it) args =
+    (text : List ℕ) × (more : List (List ℕ)) × (args ≡ text ∷ more) × IsCatch it text more

@@ -89,6 +89,15 @@ pub enum Instruction<A: Allocator> {
     /// A `foreach` is over: the elements that are left are dropped, with their mark, and the empty
     /// text is put on top (foreach(n)).
     Done,
+    /// The script of a `catch` begins, at the next place. Within it each outcome that is no value,
+    /// but for a stop of the run, goes to this place, with the number of its code on top, and above
+    /// that the value that came with it (catch(n)).
+    Catch(usize),
+    /// That script is over: the number of ok, 0, is put below its value, which is on top
+    /// (catch(n)).
+    EndCatch,
+    /// The variable of this name takes the value on top, which is dropped (catch(n)).
+    Store(Value<A>),
     /// Nothing yet: a jump will stand here. No code that is whole has it.
     Hole,
 }

@@ -3,6 +3,7 @@
 #![tactic(auto)]
 
 mod branches;
+mod catch;
 mod conditional;
 mod each;
 mod emit;

@@ -7,6 +7,7 @@ ghost use Rattle.code.specs.Own.{IsOwn, name_of};
 ghost use Rattle.tclparse.specs.Tree.{no_words};
 ghost use Rattle.tclparse.specs.View.{words_then};
 
+use crate::catch::{Catch, emit_catch, read_catch};
 use crate::conditional::{Conditional, emit_body, emit_branches};
 use crate::emit::emit_words;
 use crate::evaluate::read_eval;
@@ -30,6 +31,8 @@ pub(crate) enum Own<A: Allocator> {
     For(For<A>),
     /// `eval`, with its script.
     Eval(Script<A>),
+    /// `catch`.
+    Catch(Catch<A>),
 }
 
 impl<A: Allocator + Copy> Own<A> {
@@ -47,8 +50,11 @@ impl<A: Allocator + Copy> Own<A> {
         if let Some(own) = read_for(alloc, words)? {
             return Ok(Some(Own::For(own)));
         }
-        match read_eval(alloc, words)? {
-            Some(own) => Ok(Some(Own::Eval(own))),
+        if let Some(own) = read_eval(alloc, words)? {
+            return Ok(Some(Own::Eval(own)));
+        }
+        match read_catch(alloc, words)? {
+            Some(own) => Ok(Some(Own::Catch(own))),
             None => Ok(None),
         }
     }
@@ -62,6 +68,7 @@ impl<A: Allocator + Copy> Own<A> {
             Own::While(_) => b"while",
             Own::For(_) => b"for",
             Own::Eval(_) => b"eval",
+            Own::Catch(_) => b"catch",
         }
     }
 }
@@ -80,6 +87,7 @@ fn emit_its<A: Allocator + Copy, N: Nest<A>>(
         Own::While(own) => Ok(emit_turns(code, own, nest)?),
         Own::For(own) => Ok(emit_for(code, own, nest)?),
         Own::Eval(own) => Ok(emit_body(code, own, nest)?),
+        Own::Catch(own) => Ok(emit_catch(code, own, nest)?),
     }
 }
 

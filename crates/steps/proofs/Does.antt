@@ -13,7 +13,7 @@ use Rattle.state.specs.Stores.{IsTold}
 use Rattle.state.specs.Variables.{flaw_of_trouble, spelled}
 use Rattle.steps.specs.Does.{Does, same, reads}
 use Rattle.steps.specs.Machine.{does, reading, with_value}
-use Rattle.steps.specs.Moves.{fails}
+use Rattle.steps.specs.Handling.{fails}
 use Rattle.steps.specs.Spot.{Spot, Did, Reads, Went, with_top}
 use Rattle.tclstate.specs.Scopes.{Trouble, read}
 use Rattle.tclstate.specs.ScopeError.{HasTrouble}
@@ -39,17 +39,17 @@ one_on_top old new taken v is some =
 troubled : (s : Status) (scopes : Scopes) (name : List ℕ) (index : Option (List ℕ))
     (trouble : Trouble) (flaw : acts.Flaw) (spot : Spot) → s.scopes ≡ scopes →
     read scopes name index ≡ Err trouble → flaw ≡ flaw_of_trouble trouble (spelled name index) →
-    fails flaw s ≡ reading name index spot s
+    fails flaw spot s ≡ reading name index spot s
 troubled s scopes name index trouble flaw spot same_scopes is told =
-    ap (λ f. fails f s) told
-    ∙ sym (ap (λ r. with_value r (spelled name index) s (λ value. Went (with_top value spot) s))
+    ap (λ f. fails f spot s) told
+    ∙ sym (ap (λ r. with_value r (spelled name index) spot s (λ value. Went (with_top value spot) s))
     (ap (λ x. read x name index) same_scopes ∙ is))
 
 -- a variable that could not be read
 pub unread : {A : Type 0} (s : Status) (scopes : Scopes) (name : List ℕ) (index : Option (List ℕ))
     (why : ScopeError) (fault : Fault A) (spot : Spot) → s.scopes ≡ scopes →
     HasTrouble why (read scopes name index) → IsTold fault why name index →
-    fails (flaw_of fault) s ≡ reading name index spot s
+    fails (flaw_of fault) spot s ≡ reading name index spot s
 unread s scopes name index error.NoVariable fault spot same_scopes is told =
     troubled s scopes name index _ (flaw_of fault) spot same_scopes is told
 unread s scopes name index error.IsArray fault spot same_scopes is told =

@@ -1,15 +1,17 @@
--- The handlers of the turns that are open.
+-- The handlers of what is open.
 use Rattle.std.proofs.Common.{◌≡◌, ◌∙◌, List, [], ◌∷◌, ◌++◌, ℕ, Option, None, Some, length, map, option_to_list, refl, sym, ap}
 use Rattle.std.specs.Prelude.{reverse}
 use Rattle.std.proofs.lemmas.List.{map-append, nil_from_length, reverse-append}
-use Rattle.state.specs.Prelude.{Status}
-use Rattle.steps.specs.Loops.{body_over, caught, ending_body}
-use Rattle.steps.specs.Spot.{Did, Handler, Spot}
+use Rattle.state.specs.Prelude.{Code, Leaves, Status}
+use Rattle.steps.specs.Handling.{handled, led, way_of}
+use Rattle.steps.specs.Spot.{Did, Handler, Over, Spot, Stuck}
 use Rattle.steps.specs.View.{handler_of}
-use Rattle.steps.specs.declared.handler.Handler as turns
+use Rattle.steps.specs.declared.handler.Handler as opened
+use Rattle.steps.specs.declared.handler.Way.{Way}
+use Rattle.steps.specs.declared.handler.Way.TheVariants as way
 
 -- a handler was put on top
-pub one_put : (old new : List turns.Handler) (h : turns.Handler) → new ≡ old ++ h ∷ [] →
+pub one_put : (old new : List opened.Handler) (h : opened.Handler) → new ≡ old ++ h ∷ [] →
     reverse (map handler_of new) ≡ handler_of h ∷ reverse (map handler_of old)
 one_put old new h is =
     ap (λ hs. reverse (map handler_of hs)) is
@@ -17,47 +19,59 @@ one_put old new h is =
     ∙ reverse-append (map handler_of old) (handler_of h ∷ [])
 
 -- a handler was taken off
-pub one_taken : (old new : List turns.Handler) (taken : Option turns.Handler) (h : turns.Handler) →
-    old ≡ new ++ option_to_list taken → taken ≡ Some h →
+pub one_taken : (old new : List opened.Handler) (taken : Option opened.Handler)
+    (h : opened.Handler) → old ≡ new ++ option_to_list taken → taken ≡ Some h →
     reverse (map handler_of old) ≡ handler_of h ∷ reverse (map handler_of new)
 one_taken old new taken h is some =
     one_put new old h (is ∙ ap (λ o. new ++ option_to_list o) some)
 
-led_by : (ends : Option ℕ) (h : Handler) (handlers others : List Handler) (spot : Spot)
-    (s : Status) (one other : Did) → one ≡ other →
-    body_over ends (record spot { handlers = others }) s h handlers one
-    ≡ body_over ends spot s h handlers other
-led_by None h handlers others spot s one other same = same
-led_by (Some end) h handlers others spot s one other same = refl
+module _ (code : Code) (value : List ℕ) (s : Status) where
+  led_so : (w : Option Way) (h : Handler) (handlers others : List Handler) (spot : Spot)
+      (one other : Did) → one ≡ other →
+      led w code value (record spot { handlers = others }) s h handlers one
+      ≡ led w code value spot s h handlers other
+  led_so None h handlers others spot one other same = same
+  led_so (Some way.Out) h handlers others spot one other same = refl
+  led_so (Some (way.End end)) h handlers others spot one other same = refl
+  led_so (Some way.Caught) h handlers others spot one other same = refl
 
--- where handlers lead depends on the operands and the marks alone
-pub led_alike : (handlers others : List Handler) (spot : Spot) (s : Status) (last : Did) →
-    caught handlers (ending_body (record spot { handlers = others }) s) last
-    ≡ caught handlers (ending_body spot s) last
-led_alike [] others spot s last = refl
-led_alike (h ∷ handlers) others spot s last =
-    led_by h.ends h handlers others spot s _ _ (led_alike handlers others spot s last)
+  -- where handlers lead depends on the operands and the marks alone
+  pub handled_alike : (handlers others : List Handler) (spot : Spot) →
+      handled handlers code value (record spot { handlers = others }) s
+      ≡ handled handlers code value spot s
+  handled_alike [] others spot = refl
+  handled_alike (h ∷ handlers) others spot =
+      led_so (way_of h.covers code) h handlers others spot _ _ (handled_alike handlers others spot)
 
--- one whose body is over is passed by
-pub passed_by : (handlers rest : List Handler) (h : Handler) (spot : Spot) (s : Status)
-    (last : Did) → handlers ≡ h ∷ rest → h.ends ≡ None →
-    caught handlers (ending_body spot s) last ≡ caught rest (ending_body spot s) last
-passed_by handlers rest h spot s last is over =
-    ap (λ hs. caught hs (ending_body spot s) last) is
-    ∙ ap (λ e. body_over e spot s h rest (caught rest (ending_body spot s) last)) over
+  -- one that passes the outcome on
+  pub passed_by : (handlers rest : List Handler) (h : Handler) (spot : Spot) →
+      handlers ≡ h ∷ rest → way_of h.covers code ≡ None →
+      handled handlers code value spot s ≡ handled rest code value spot s
+  passed_by handlers rest h spot is passes =
+      ap (λ hs. handled hs code value spot s) is
+      ∙ ap (λ w. led w code value spot s h rest (handled rest code value spot s)) passes
 
--- one whose body is not over leads to the end of that
-pub ends_body : (handlers rest : List Handler) (h : Handler) (end : ℕ) (spot : Spot) (s : Status)
-    (last other : Did) → handlers ≡ h ∷ rest → h.ends ≡ Some end →
-    body_over (Some end) spot s h rest other ≡ caught handlers (ending_body spot s) last
-ends_body handlers rest h end spot s last other is ends =
-    sym (ap (λ hs. caught hs (ending_body spot s) last) is
-    ∙ ap (λ e. body_over e spot s h rest (caught rest (ending_body spot s) last)) ends)
+  -- what is around one that takes it does not matter
+  whatever : (w : Way) (h : Handler) (handlers : List Handler) (spot : Spot) (one other : Did) →
+      led (Some w) code value spot s h handlers one ≡ led (Some w) code value spot s h handlers other
+  whatever way.Out h handlers spot one other = refl
+  whatever (way.End end) h handlers spot one other = refl
+  whatever way.Caught h handlers spot one other = refl
 
--- none is left
-pub none_left : (handlers : List turns.Handler) (spot : Spot) (s : Status) (last : Did) →
-    length handlers ≡ 0 →
-    last ≡ caught (reverse (map handler_of handlers)) (ending_body spot s) last
-none_left handlers spot s last none =
-    sym (ap (λ hs. caught (reverse (map handler_of hs)) (ending_body spot s) last)
-    (nil_from_length handlers none))
+  -- one that takes it
+  pub taken_by : (handlers rest : List Handler) (h : Handler) (w : Way) (spot : Spot) →
+      handlers ≡ h ∷ rest → way_of h.covers code ≡ Some w →
+      led (Some w) code value (record spot { handlers = rest }) s h rest Stuck
+      ≡ handled handlers code value spot s
+  taken_by handlers rest h w spot is takes =
+      led_so (Some w) h rest rest spot Stuck Stuck refl
+      ∙ whatever w h rest spot Stuck (handled rest code value spot s)
+      ∙ sym (ap (λ hs. handled hs code value spot s) is
+      ∙ ap (λ o. led o code value spot s h rest (handled rest code value spot s)) takes)
+
+  -- none is left
+  pub none_left : (handlers : List opened.Handler) (spot : Spot) → length handlers ≡ 0 →
+      Over (Leaves code value) s ≡ handled (reverse (map handler_of handlers)) code value spot s
+  none_left handlers spot none =
+      sym (ap (λ hs. handled (reverse (map handler_of hs)) code value spot s)
+      (nil_from_length handlers none))

@@ -5,3 +5,4 @@ pub mod Leads
 pub mod Meanings
 pub mod Measure
 pub mod Rounds
+pub mod Stores

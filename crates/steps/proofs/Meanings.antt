@@ -9,38 +9,45 @@ use Rattle.operators.specs.View.{IsNoTruth}
 use Rattle.state.specs.Piece.{ListText, TestText}
 use Rattle.state.specs.Prelude.{Fault, flaw_of, Status}
 use Rattle.steps.specs.Does.{Does, reads}
-use Rattle.steps.specs.Formulas.{deciding, jumping, on_meaning, on_split, on_truth}
-use Rattle.steps.specs.Moves.{fails}
+use Rattle.steps.specs.Formulas.{deciding, on_meaning, on_split, on_truth}
+use Rattle.steps.specs.Handling.{fails}
+use Rattle.steps.specs.Moves.{jumping}
 use Rattle.steps.specs.Spot.{Spot, Did, with_top}
 use Rattle.steps.proofs.Does.{same_does}
 use Rattle.tcltext.specs.Flaw.{Flaw}
 
--- goes on with a value, or is over with an error
-abbrev pub on_answer : Answer → Status → (List ℕ → Did) → Did
-on_answer (Ok value) s next = next value
-on_answer (Err flaw) s next = fails flaw s
+-- goes on with a value, or fails with an error
+abbrev pub on_answer : Answer → Spot → Status → (List ℕ → Did) → Did
+on_answer (Ok value) spot s next = next value
+on_answer (Err flaw) spot s next = fails flaw spot s
 
-split_does : (more : List (List ℕ) → Meaning) (answer : Answer) (s : Status)
+split_does : (more : List (List ℕ) → Meaning) (answer : Answer) (spot : Spot) (s : Status)
     (next : List ℕ → Did) →
     ((es : List (List ℕ)) → Comes (more es) answer →
-    Does (on_meaning (more es) s next) (on_answer answer s next)) →
+    Does (on_meaning (more es) spot s next) (on_answer answer spot s next)) →
     (split : Result (List (List ℕ)) Flaw) →
     MatchResult split (λ es. Comes (more es) answer) (λ why. answer ≡ Err (flaw_of_list why)) →
-    Does (on_split s (λ es. on_meaning (more es) s next) split) (on_answer answer s next)
-split_does more answer s next each (Ok es) comes = each es comes
-split_does more answer s next each (Err why) is = same_does (ap (λ a. on_answer a s next) is)
+    Does (on_split spot s (λ es. on_meaning (more es) spot s next) split)
+    (on_answer answer spot s next)
+split_does more answer spot s next each (Ok es) comes = each es comes
+split_does more answer spot s next each (Err why) is =
+    same_does (ap (λ a. on_answer a spot s next) is)
 
 -- the result of a function of texts is its answer
-pub meaning_does : (meaning : Meaning) (answer : Answer) (s : Status) (next : List ℕ → Did) →
-    Comes meaning answer → Does (on_meaning meaning s next) (on_answer answer s next)
-meaning_does (Gives value) answer s next is = same_does (ap (λ a. on_answer a s next) is)
-meaning_does (Raises flaw) answer s next is = same_does (ap (λ a. on_answer a s next) is)
-meaning_does (Splits text more) answer s next comes =
+pub meaning_does : (meaning : Meaning) (answer : Answer) (spot : Spot) (s : Status)
+    (next : List ℕ → Did) → Comes meaning answer →
+    Does (on_meaning meaning spot s next) (on_answer answer spot s next)
+meaning_does (Gives value) answer spot s next is =
+    same_does (ap (λ a. on_answer a spot s next) is)
+meaning_does (Raises flaw) answer spot s next is =
+    same_does (ap (λ a. on_answer a spot s next) is)
+meaning_does (Splits text more) answer spot s next comes =
     reads {text = ListText text} comes.0 comes.1
-    (split_does more answer s next (λ es. meaning_does (more es) answer s next) comes.0 comes.2)
-meaning_does (Matches pattern text more) answer s next comes =
+    (split_does more answer spot s next (λ es. meaning_does (more es) answer spot s next) comes.0
+    comes.2)
+meaning_does (Matches pattern text more) answer spot s next comes =
     reads {text = TestText pattern text} comes.0 comes.1
-    (meaning_does (more comes.0) answer s next comes.2)
+    (meaning_does (more comes.0) answer spot s next comes.2)
 
 -- the truth value that decides
 pub decided : (known holds : Bool) (place : ℕ) (spot : Spot) (s : Status) → known ≡ holds →
@@ -52,9 +59,10 @@ decided false false place spot s same = refl
 
 -- there is no truth value
 pub no_truth : {A : Type 0} (test : Result Bool (Raise A)) (fault : Fault A) (text : List ℕ)
-    (s : Status) (next : Bool → Did) → test ≡ Err (raise.Fault fault) →
-    IfErr test (IsNoTruth text) → fails (flaw_of fault) s ≡ on_truth (truth_of text) s next
-no_truth test fault text s next is told =
+    (spot : Spot) (s : Status) (next : Bool → Did) → test ≡ Err (raise.Fault fault) →
+    IfErr test (IsNoTruth text) →
+    fails (flaw_of fault) spot s ≡ on_truth (truth_of text) spot s next
+no_truth test fault text spot s next is told =
     let none : truth_of text ≡ Err (flaw_of fault) =
     subst (λ t. IfErr t (IsNoTruth text)) is told in
-    sym (ap (λ r. on_truth r s next) none)
+    sym (ap (λ r. on_truth r spot s next) none)

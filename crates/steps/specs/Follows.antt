@@ -14,7 +14,7 @@ use Rattle.steps.specs.Goes.{Goes}
 use Rattle.steps.specs.Layout.{HeadAt, FramesAt}
 use Rattle.steps.specs.Machine.{machine}
 use Rattle.steps.specs.Places.{Head, Frame, brackets, left_of, spot_at}
-use Rattle.steps.specs.Loops.{resumed}
+use Rattle.steps.specs.Handling.{resumed}
 use Rattle.steps.specs.Spot.{Spot, Did, Went, Reads, Begins, Over, Stuck, beginning_at}
 
 module _ {A X : Type 0} (code : List (Instruction A)) (last : Status → Outcome → Dialogue X) where

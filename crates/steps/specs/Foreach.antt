@@ -1,17 +1,14 @@
 -- What the instructions of foreach do.
 use Rattle.std.specs.Prelude.{ℕ, List, [], ◌∷◌, ◌++◌, codes, length, nat_le, Option, Some, None, Result, Ok, Err, if◌then◌else◌}
-use Rattle.acts.specs.Flaw as flaw
 use Rattle.meanings.specs.Meaning.{flaw_of_list}
 use Rattle.state.specs.Piece.{ListText}
 use Rattle.state.specs.Prelude.{Status}
-use Rattle.state.specs.Variables.{flaw_of_trouble, spelled}
-use Rattle.steps.specs.Formulas.{jumping}
-use Rattle.steps.specs.Loops.{lowest}
-use Rattle.steps.specs.Moves.{fails, on_top, with_operands}
+use Rattle.steps.specs.Handling.{fails}
+use Rattle.steps.specs.Moves.{jumping, lowest, on_top, with_operands}
 use Rattle.steps.specs.Spot.{Spot, Did, Went, Reads, Begins, Stuck, with_top}
+use Rattle.steps.specs.Storing.{storing}
 use Rattle.tclparse.specs.Variable.{named}
 use Rattle.tclstate.specs.Procs.{Procedure}
-use Rattle.tclstate.specs.Scopes.{Scopes, Trouble, written}
 use Rattle.tcltext.specs.Flaw as list
 
 -- foreach with these variables, the list on top and this body begins by its words, and this place
@@ -37,7 +34,7 @@ dealt place spot s (Ok elements) =
       operands = elements ++ spot.operands;
       marks = length spot.operands ∷ spot.marks;
     }) s
-dealt place spot s (Err why) = fails (flaw_of_list why) s
+dealt place spot s (Err why) = fails (flaw_of_list why) spot s
 
 -- the text on top is read as the list of a foreach (foreach(n))
 abbrev pub dealing : ℕ → Spot → Status → Did
@@ -58,17 +55,6 @@ taking spot next =
     on_top spot.marks (λ mark marks.
     if nat_le (length spot.operands) mark then next [] spot
     else on_top spot.operands (λ value below. next value (with_operands below spot)))
-
--- goes on after a write, or is over with the error that the variable could not be written (set(n))
-abbrev pub on_written : Result Scopes Trouble → List ℕ → Status → (Status → Did) → Did
-on_written (Ok scopes) name s next = next (record s { scopes = scopes })
-on_written (Err trouble) name s next = fails (flaw_of_trouble trouble name) s
-
--- a value is written to the variable that is named, if there is one (set(n))
-abbrev pub storing : Option (List ℕ × Option (List ℕ)) → List ℕ → Spot → Status → Did
-storing None value spot s = fails flaw.BadVariable s
-storing (Some n) value spot s =
-    on_written (written s.scopes n.0 n.1 value) (spelled n.0 n.1) s (λ t. Went spot t)
 
 -- the variable of this name takes the next element (foreach(n))
 abbrev pub assigning : List ℕ → Spot → Status → Did

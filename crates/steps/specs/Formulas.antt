@@ -1,5 +1,5 @@
 -- What the instructions of formulas do.
-use Rattle.std.specs.Prelude.{ℕ, List, Bool, true, false, Result, Ok, Err, reverse, take, drop, nat_le, if◌then◌else◌}
+use Rattle.std.specs.Prelude.{ℕ, List, Bool, true, false, Result, Ok, Err, reverse, take, drop, if◌then◌else◌}
 use Rattle.evaluation.specs.Evaluated.{told}
 use Rattle.meanings.specs.Meaning.{Meaning, Gives, Raises, Splits, Matches, flaw_of_list, truth}
 use Rattle.operators.specs.Binary.{binary}
@@ -9,35 +9,37 @@ use Rattle.operators.specs.Unary.{unary}
 use Rattle.operators.specs.Value.{written}
 use Rattle.state.specs.Piece.{ListText, TestText}
 use Rattle.state.specs.Prelude.{Flaw, Status}
-use Rattle.steps.specs.Moves.{fails, on_top, with_operands}
-use Rattle.steps.specs.Spot.{Spot, Did, Went, Reads, Stuck, with_top}
+use Rattle.steps.specs.Handling.{fails}
+use Rattle.steps.specs.Moves.{jumping, on_top, with_operands}
+use Rattle.steps.specs.Spot.{Spot, Did, Went, Reads, with_top}
 use Rattle.tclparse.specs.declared.operator.Binary.{Binary}
 use Rattle.tclparse.specs.declared.operator.Function.{Function}
 use Rattle.tclparse.specs.declared.operator.Unary.{Unary}
 use Rattle.tcltext.specs.Flaw as list
 
--- goes on with the elements of a list, or is over with the error that it is none (Tcl_SplitList(3))
-abbrev pub on_split : Status → (List (List ℕ) → Did) → Result (List (List ℕ)) list.Flaw → Did
-on_split s next (Ok elements) = next elements
-on_split s next (Err why) = fails (flaw_of_list why) s
+-- goes on with the elements of a list, or fails with the error that it is none (Tcl_SplitList(3))
+abbrev pub on_split : Spot → Status → (List (List ℕ) → Did) → Result (List (List ℕ)) list.Flaw →
+    Did
+on_split spot s next (Ok elements) = next elements
+on_split spot s next (Err why) = fails (flaw_of_list why) spot s
 
--- goes on with the value of a function of texts, or is over with its error (expr(n))
-abbrev pub on_meaning : Meaning → Status → (List ℕ → Did) → Did
-on_meaning (Gives value) s next = next value
-on_meaning (Raises flaw) s next = fails flaw s
-on_meaning (Splits text more) s next =
-    Reads (ListText text) (on_split s (λ elements. on_meaning (more elements) s next))
-on_meaning (Matches pattern text more) s next =
-    Reads (TestText pattern text) (λ takes. on_meaning (more takes) s next)
+-- goes on with the value of a function of texts, or fails with its error (expr(n))
+abbrev pub on_meaning : Meaning → Spot → Status → (List ℕ → Did) → Did
+on_meaning (Gives value) spot s next = next value
+on_meaning (Raises flaw) spot s next = fails flaw spot s
+on_meaning (Splits text more) spot s next =
+    Reads (ListText text) (on_split spot s (λ elements. on_meaning (more elements) spot s next))
+on_meaning (Matches pattern text more) spot s next =
+    Reads (TestText pattern text) (λ takes. on_meaning (more takes) spot s next)
 
--- goes on with a truth value, or is over with the error that there is none (expr(n), operands)
-abbrev pub on_truth : Result Bool Flaw → Status → (Bool → Did) → Did
-on_truth (Ok holds) s next = next holds
-on_truth (Err flaw) s next = fails flaw s
+-- goes on with a truth value, or fails with the error that there is none (expr(n), operands)
+abbrev pub on_truth : Result Bool Flaw → Spot → Status → (Bool → Did) → Did
+on_truth (Ok holds) spot s next = next holds
+on_truth (Err flaw) spot s next = fails flaw spot s
 
 -- the value is put on top (expr(n))
 abbrev pub gives : Meaning → Spot → Status → Did
-gives meaning spot s = on_meaning meaning s (λ value. Went (with_top value spot) s)
+gives meaning spot s = on_meaning meaning spot s (λ value. Went (with_top value spot) s)
 
 -- the value of a numeral (expr(n), operands)
 abbrev pub putting : List ℕ → Spot → Status → Did
@@ -67,11 +69,6 @@ telling spot s =
     on_top spot.operands (λ value below.
     gives (told (truth_of value)) (with_operands below spot) s)
 
--- this place is next; there is no way back (this project's own rule)
-abbrev pub jumping : ℕ → Spot → Status → Did
-jumping place spot s =
-    if nat_le spot.place place then Went (record spot { place = place }) s else Stuck
-
 -- where the left operand has the truth value that decides, that is the operator's value and the
 -- place is next (expr(n), operators)
 abbrev pub deciding : Bool → Bool → ℕ → Spot → Status → Did
@@ -84,12 +81,14 @@ deciding false false place spot s = jumping place (with_top (truth false) spot) 
 -- evaluated (expr(n), operators)
 abbrev pub choosing : ℕ → Bool → Spot → Status → Did
 choosing place known spot s =
-    on_top spot.operands (λ value below. on_truth (truth_of value) s (λ holds.
+    on_top spot.operands (λ value below.
+    on_truth (truth_of value) (with_operands below spot) s (λ holds.
     deciding known holds place (with_operands below spot) s))
 
 -- where the truth value on top is false, this place is next (expr(n), operators)
 abbrev pub unless : ℕ → Spot → Status → Did
 unless place spot s =
-    on_top spot.operands (λ value below. on_truth (truth_of value) s (λ holds.
+    on_top spot.operands (λ value below.
+    on_truth (truth_of value) (with_operands below spot) s (λ holds.
     if holds then Went (with_operands below spot) s
     else jumping place (with_operands below spot) s))

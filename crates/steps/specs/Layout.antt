@@ -1,13 +1,13 @@
 -- Where the code of what is left to be done stands.
 use Rattle.std.specs.Prelude.{◌≡◌, ℕ, suc, ◌+◌, ◌<◌, ◌≤◌, List, [], ◌∷◌, Bool, true, false, Option, Some, None, Ok, is_some, length, slice_get}
-use Rattle.code.specs.Code.{At, JoinsAt, PartsAt, WordsAt, CommandAt, ScriptAt, BodyAt, TurnsAt, AssignsAt, ForeachAt, DealAt, FormulaAt, LinksAt, ArgumentsAt}
+use Rattle.code.specs.Code.{At, JoinsAt, PartsAt, WordsAt, CommandAt, ScriptAt, BodyAt, TurnsAt, TakenAt, AssignsAt, ForeachAt, DealAt, FormulaAt, LinksAt, ArgumentsAt}
 use Rattle.code.specs.declared.instruction.Instruction.{Instruction}
 use Rattle.code.specs.declared.instruction.Instruction.TheVariants as i
 use Rattle.conditions.specs.Branches.{Branch}
 use Rattle.state.specs.Prelude.{LoopTree, ScriptTree}
 use Rattle.steps.specs.Each.{Each}
 use Rattle.steps.specs.Operand.{Outer, Prefixed, Row, Right, Holds, Argument, Test, Chosen, Condition, Turning}
-use Rattle.steps.specs.Places.{Head, Has, Part, Joins, Gathers, Evaluates, Values, Starts, Chooses, Enters, Repeats, Finishes, Deals, Takes, Sets, Drops, Frame, Rest, Bracket, Body, Skip, For, Turns, Elements}
+use Rattle.steps.specs.Places.{Head, Has, Part, Joins, Gathers, Evaluates, Values, Starts, Chooses, Enters, Repeats, Finishes, Deals, Takes, Sets, Drops, Tries, Stores, Frame, Rest, Bracket, Body, Skip, For, Turns, Elements, Catches}
 use Rattle.steps.specs.Word.{Around, Open, Word, Plain, Expands, Operand, Listed}
 use Rattle.tclparse.specs.Formula.{Formula}
 use Rattle.tclparse.specs.FormulaGrammar.{IsFormula}
@@ -177,6 +177,10 @@ module _ {A : Type 0} (code : List (Instruction A)) where
       (ends : ℕ) × (turn : ℕ) × EachAt each ends turn × AssignsAt code place names turn ×
       (end ≡ turn + 2)
   HeadAt place (Drops elements) end = At code place i.Done × (end ≡ place + 1)
+  HeadAt place (Tries tree variable) end =
+      (ends : ℕ) × At code place (i.Catch (ends + 1)) × EntersAt (place + 1) tree ends ×
+      At code ends i.EndCatch × TakenAt code (ends + 1) variable end
+  HeadAt place (Stores variable number value) end = TakenAt code place variable end
 
   -- from here on the code does what the frames do with the value on top
   abbrev pub FramesAt : ℕ → List Frame → Type 0
@@ -196,3 +200,6 @@ module _ {A : Type 0} (code : List (Instruction A)) where
       (at : LoopAt loop turn) × PartAt place loop turn at ends × FramesAt (turn + 2) frames
   FramesAt place (Elements each elements ends turn ∷ frames) =
       EachAt each ends turn × (place ≡ ends) × FramesAt (turn + 2) frames
+  FramesAt place (Catches variable ends ∷ frames) =
+      (end : ℕ) × At code place i.EndCatch × (place ≡ ends) ×
+      TakenAt code (ends + 1) variable end × FramesAt end frames

@@ -1,8 +1,11 @@
 pub mod Spot
 pub mod Moves
+pub mod Handling
+pub mod Storing
 pub mod Formulas
 pub mod Loops
 pub mod Foreach
+pub mod Catch
 pub mod Machine
 pub mod Does
 pub mod View

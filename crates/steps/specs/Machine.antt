@@ -8,10 +8,12 @@ use Rattle.state.specs.Prelude.{Gives, Status}
 use Rattle.state.specs.Faults.{flaw_of_fault}
 use Rattle.state.specs.Piece.{ListText}
 use Rattle.state.specs.Variables.{flaw_of_trouble, spelled}
+use Rattle.steps.specs.Catch.{catching, ending_catch, keeping}
 use Rattle.steps.specs.Foreach.{assigning, dealing, finishing, hidden, looking}
-use Rattle.steps.specs.Formulas.{calling, choosing, joining_both, jumping, prefixing, putting, telling, unless}
+use Rattle.steps.specs.Formulas.{calling, choosing, joining_both, prefixing, putting, telling, unless}
+use Rattle.steps.specs.Handling.{fails}
 use Rattle.steps.specs.Loops.{ending, stepping, turned, turning}
-use Rattle.steps.specs.Moves.{fails, on_top, ticked, with_operands}
+use Rattle.steps.specs.Moves.{jumping, on_top, ticked, with_operands}
 use Rattle.steps.specs.Spot.{Spot, Did, Went, Reads, Begins, Over, Stuck, with_top}
 use Rattle.tclparse.specs.Seen.{fault_of}
 use Rattle.tclstate.specs.Pairs.{found}
@@ -19,11 +21,10 @@ use Rattle.tclstate.specs.Procs.{Procedure}
 use Rattle.tclstate.specs.Scopes.{Trouble, read}
 use Rattle.tcltext.specs.Flaw as list
 
--- goes on with the value of a variable, or is over with the error that it could not be read
--- (set(n))
-abbrev pub with_value : Result (List ℕ) Trouble → List ℕ → Status → (List ℕ → Did) → Did
-with_value (Ok value) name s next = next value
-with_value (Err trouble) name s next = fails (flaw_of_trouble trouble name) s
+-- goes on with the value of a variable, or fails with the error that it could not be read (set(n))
+abbrev pub with_value : Result (List ℕ) Trouble → List ℕ → Spot → Status → (List ℕ → Did) → Did
+with_value (Ok value) name spot s next = next value
+with_value (Err trouble) name spot s next = fails (flaw_of_trouble trouble name) spot s
 
 -- the value on top is dropped, and a tick is taken (Tcl(n), rule 1)
 abbrev pub ticking : Spot → Status → Did
@@ -34,7 +35,7 @@ ticking spot s =
 -- the value of a variable, or of an element, is put on top (Tcl(n), rule 8)
 abbrev pub reading : List ℕ → Option (List ℕ) → Spot → Status → Did
 reading name index spot s =
-    with_value (read s.scopes name index) (spelled name index) s
+    with_value (read s.scopes name index) (spelled name index) spot s
     (λ value. Went (with_top value spot) s)
 
 -- the value of the element at the index on top is put in its place (Tcl(n), rule 8)
@@ -50,7 +51,7 @@ joining spot s =
 
 -- a script in brackets begins, where a level is left (Tcl(n), rule 7; interp(n), recursionlimit)
 abbrev pub entering : ℕ → Spot → Status → Did
-entering zero spot s = fails flaw.TooManyNested s
+entering zero spot s = fails flaw.TooManyNested spot s
 entering (suc levels) spot s = Went (record (with_top [] spot) { levels = levels }) s
 
 -- a script in brackets is over; levels are counted up to 255 (this project's own rule)
@@ -67,7 +68,7 @@ counting n spot s =
 -- the elements of a list are put on top, or the text is no list (Tcl(n), rule 5)
 abbrev pub spread : Spot → Status → Result (List (List ℕ)) list.Flaw → Did
 spread spot s (Ok elements) = Went (with_operands (reverse elements ++ spot.operands) spot) s
-spread spot s (Err why) = fails (flaw_of_list why) s
+spread spot s (Err why) = fails (flaw_of_list why) spot s
 
 -- the text on top is read as a list (Tcl(n), rule 5)
 abbrev pub spreading : Spot → Status → Did
@@ -110,7 +111,7 @@ does (i.Count n) spot s = counting n spot s
 does i.Spread spot s = spreading spot s
 does (i.Command n) spot s = beginning (length spot.operands - n) spot s
 does i.Counted spot s = beginning_counted spot s
-does (i.Fault fault) spot s = fails (flaw_of_fault (fault_of fault)) s
+does (i.Fault fault) spot s = fails (flaw_of_fault (fault_of fault)) spot s
 does (i.Numeral digits) spot s = putting digits spot s
 does (i.Prefix operator) spot s = prefixing operator spot s
 does (i.Binary operator) spot s = joining_both operator spot s
@@ -132,6 +133,9 @@ does (i.More place) spot s = looking place spot s
 does (i.Assign name) spot s = assigning name spot s
 does (i.Begin body end) spot s = turned body end true spot s
 does i.Done spot s = finishing spot s
+does (i.Catch place) spot s = catching place spot s
+does i.EndCatch spot s = ending_catch spot s
+does (i.Store name) spot s = keeping name spot s
 does i.Hole spot s = Stuck
 
 -- the next place

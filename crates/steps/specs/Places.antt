@@ -1,5 +1,6 @@
 -- What is left to be done at a place of the code, as the proof sees it.
-use Rattle.std.specs.Prelude.{ℕ, suc, ◌+◌, List, [], ◌∷◌, ◌++◌, Bool, true, false, Option, Some, None, length, reverse}
+use Rattle.std.specs.Prelude.{ℕ, suc, ◌+◌, List, [], ◌∷◌, ◌++◌, Bool, true, false, Option, Some, None, decimal, length, reverse}
+use Rattle.bodies.specs.Catch.{caught, stores_in}
 use Rattle.conditions.specs.Branches.{Branch}
 use Rattle.conditions.specs.Conditional.{chooses, passes}
 use Rattle.conditions.specs.ForLoop.{started}
@@ -13,6 +14,8 @@ use Rattle.state.specs.Turn.{on_turn}
 use Rattle.steps.specs.Each.{Each, listed, turn_left, turns_left}
 use Rattle.steps.specs.Operand.{Outer, operand_on, waiting}
 use Rattle.steps.specs.Spot.{Handler, Spot}
+use Rattle.steps.specs.declared.handler.Covered.{Covered}
+use Rattle.steps.specs.declared.handler.Covered.TheVariants as covers
 use Rattle.steps.specs.Word.{Open, bytes_of, course_with, is_counted, operands_of}
 use Rattle.tclparse.specs.Fault.{Fault}
 use Rattle.tclparse.specs.Formula.{Formula}
@@ -25,7 +28,8 @@ use Rattle.words.specs.Words.{words}
 -- operand is on top; a command begins with its first word, or with its own code; the branches of if
 -- that are left are looked through; a body begins; a loop goes on with its next turn; a loop is
 -- over; the list of a foreach is on top; a foreach goes on with its next turn; the variables of a
--- turn that are left are set; a foreach is over
+-- turn that are left are set; a foreach is over; a catch begins its script; a catch has this
+-- number, and its variable takes this value
 pub data Head : Type 0 where
   Has : (value : List ℕ) → Head
   Part : (word : Open) → Head
@@ -42,6 +46,8 @@ pub data Head : Type 0 where
   Takes : (each : Each) (elements : List (List ℕ)) → Head
   Sets : (names : List (List ℕ)) (each : Each) (elements : List (List ℕ)) → Head
   Drops : (elements : List (List ℕ)) → Head
+  Tries : (tree : ScriptTree) (variable : Option (List ℕ)) → Head
+  Stores : (variable : Option (List ℕ)) (number : ℕ) (value : List ℕ) → Head
 
 -- what is done with a value once it is on top: the commands of a script that are left follow; or a
 -- script in brackets is over, and its value is put after the bytes of an open word; or a body is
@@ -50,7 +56,9 @@ pub data Head : Type 0 where
 -- is over, at the place where it ends, or else, without a place, the script after it is, and then
 -- the loop goes on, whose next turn begins at the other place; or the body of a turn of foreach is
 -- over, at the place where it ends, and it goes on with these elements, and begins its next turn at
--- the other place (Tcl(n), rules 1 and 7; if(n); while(n); for(n); foreach(n))
+-- the other place; or the script of a catch is over, at the place where it ends, and this variable
+-- takes its value, if there is one (Tcl(n), rules 1 and 7; if(n); while(n); for(n); foreach(n);
+-- catch(n))
 pub data Frame : Type 0 where
   Rest : (commands : Commands) (fault : Option Fault) → Frame
   Bracket : (word : Open) → Frame
@@ -59,6 +67,7 @@ pub data Frame : Type 0 where
   For : (test step body : List ℕ) → Frame
   Turns : (loop : LoopTree) (ends : Option ℕ) (turn : ℕ) → Frame
   Elements : (each : Each) (elements : List (List ℕ)) (ends turn : ℕ) → Frame
+  Catches : (variable : Option (List ℕ)) (ends : ℕ) → Frame
 
 -- what is being done, as a course
 abbrev pub course_of : ℕ → Head → Status → Course
@@ -78,6 +87,8 @@ course_of levels (Deals list names body) s = listed levels list names body s
 course_of levels (Takes each elements) s = turns_left levels each elements s
 course_of levels (Sets names each elements) s = turn_left levels names each elements s
 course_of levels (Drops elements) s = gives [] s
+course_of levels (Tries tree variable) s = inside levels tree s (caught variable)
+course_of levels (Stores variable number value) s = stores_in variable number value s
 
 -- what follows the body of a turn, or else the script after it (while(n), for(n))
 abbrev pub behind_part : LoopTree → ℕ → Option ℕ → Status → Outcome → Course
@@ -99,6 +110,7 @@ nexts levels (For test step body ∷ frames) =
 nexts levels (Turns loop ends turn ∷ frames) = behind_part loop levels ends ∷ nexts levels frames
 nexts levels (Elements each elements ends turn ∷ frames) =
     on_turn (turns_left levels each elements) ∷ nexts levels frames
+nexts levels (Catches variable ends ∷ frames) = caught variable ∷ nexts levels frames
 
 -- what is done with an outcome: the frames from the top down, and then what is done last
 abbrev pub onward_of : {X : Type 0} → (Status → Outcome → Dialogue X) → ℕ → List Frame →
@@ -121,6 +133,7 @@ beneath (Skip ∷ frames) = beneath frames
 beneath (For test step body ∷ frames) = beneath frames
 beneath (Turns loop ends turn ∷ frames) = beneath frames
 beneath (Elements each elements ends turn ∷ frames) = elements ++ beneath frames
+beneath (Catches variable ends ∷ frames) = beneath frames
 
 -- where words are counted, one more mark
 abbrev pub marked : Bool → ℕ → List ℕ → List ℕ
@@ -139,8 +152,14 @@ marks_beneath (For test step body ∷ frames) = marks_beneath frames
 marks_beneath (Turns loop ends turn ∷ frames) = marks_beneath frames
 marks_beneath (Elements each elements ends turn ∷ frames) =
     length (beneath frames) ∷ marks_beneath frames
+marks_beneath (Catches variable ends ∷ frames) = marks_beneath frames
 
--- the handlers that the frames have: one for each turn that is open
+-- a part of a turn: its body, which ends at this place, or else the script after it (for(n))
+abbrev pub part_of : Option ℕ → Covered
+part_of (Some end) = covers.Body end
+part_of None = covers.Step
+
+-- the handlers that the frames have: one for each turn and for each catch that is open
 abbrev pub handlers_beneath : ℕ → List Frame → List Handler
 handlers_beneath levels [] = []
 handlers_beneath levels (Rest cs f ∷ frames) = handlers_beneath levels frames
@@ -150,7 +169,7 @@ handlers_beneath levels (Skip ∷ frames) = handlers_beneath levels frames
 handlers_beneath levels (For test step body ∷ frames) = handlers_beneath levels frames
 handlers_beneath levels (Turns loop ends turn ∷ frames) =
     record {
-      ends = ends;
+      covers = part_of ends;
       over = turn + 1;
       operands = length (beneath frames);
       marks = length (marks_beneath frames);
@@ -158,10 +177,18 @@ handlers_beneath levels (Turns loop ends turn ∷ frames) =
     } ∷ handlers_beneath levels frames
 handlers_beneath levels (Elements each elements ends turn ∷ frames) =
     record {
-      ends = Some ends;
+      covers = covers.Body ends;
       over = turn + 1;
       operands = length (elements ++ beneath frames);
       marks = length (length (beneath frames) ∷ marks_beneath frames);
+      levels = levels;
+    } ∷ handlers_beneath levels frames
+handlers_beneath levels (Catches variable ends ∷ frames) =
+    record {
+      covers = covers.Catch;
+      over = ends + 1;
+      operands = length (beneath frames);
+      marks = length (marks_beneath frames);
       levels = levels;
     } ∷ handlers_beneath levels frames
 
@@ -182,6 +209,8 @@ operands_at (Deals list names body) frames = list ∷ beneath frames
 operands_at (Takes each elements) frames = elements ++ beneath frames
 operands_at (Sets names each elements) frames = elements ++ beneath frames
 operands_at (Drops elements) frames = elements ++ beneath frames
+operands_at (Tries tree variable) frames = beneath frames
+operands_at (Stores variable number value) frames = value ∷ decimal number ∷ beneath frames
 
 -- all marks
 abbrev pub marks_at : Head → List Frame → List ℕ
@@ -201,6 +230,8 @@ marks_at (Deals list names body) frames = marks_beneath frames
 marks_at (Takes each elements) frames = length (beneath frames) ∷ marks_beneath frames
 marks_at (Sets names each elements) frames = length (beneath frames) ∷ marks_beneath frames
 marks_at (Drops elements) frames = length (beneath frames) ∷ marks_beneath frames
+marks_at (Tries tree variable) frames = marks_beneath frames
+marks_at (Stores variable number value) frames = marks_beneath frames
 
 -- where the run of the code stands
 abbrev pub spot_at : ℕ → ℕ → Head → List Frame → Spot
@@ -222,3 +253,4 @@ brackets (Skip ∷ frames) = brackets frames
 brackets (For test step body ∷ frames) = brackets frames
 brackets (Turns loop ends turn ∷ frames) = brackets frames
 brackets (Elements each elements ends turn ∷ frames) = brackets frames
+brackets (Catches variable ends ∷ frames) = brackets frames

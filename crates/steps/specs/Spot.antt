@@ -1,13 +1,14 @@
 -- Where the run of a code stands, and the result of an instruction.
-use Rattle.std.specs.Prelude.{ℕ, List, [], ◌∷◌, Option}
+use Rattle.std.specs.Prelude.{ℕ, List, [], ◌∷◌}
 use Rattle.state.specs.Piece.{Text, Tree}
 use Rattle.state.specs.Prelude.{Outcome, Status}
+use Rattle.steps.specs.declared.handler.Covered.{Covered}
 
--- what a turn of a loop does with continue and with break: the place where its body ends, unless it
--- is over and the script after it runs; the place after the loop; and how many operands, marks and
--- levels there are outside of the turn (while(n), for(n))
+-- what is open that an outcome may lead out of: what that is; the place after the loop, or after
+-- the script of the catch; and how many operands, marks and levels there are outside of it
+-- (while(n), for(n), catch(n))
 pub record Handler : Type 0 where
-  pub ends : Option ℕ
+  pub covers : Covered
   pub over : ℕ
   pub operands : ℕ
   pub marks : ℕ
@@ -15,8 +16,8 @@ pub record Handler : Type 0 where
 
 -- the place of the next instruction; the operands, the top one first; of each command whose words
 -- are counted, how many operands stand below its words, and of each foreach how many below its
--- elements, the innermost first; the levels that may still nest; and the handlers of the turns that
--- are open, the innermost first (this project's own rule)
+-- elements, the innermost first; the levels that may still nest; and the handlers of what is open,
+-- the innermost first (this project's own rule)
 pub record Spot : Type 0 where
   pub place : ℕ
   pub operands : List (List ℕ)

@@ -1,17 +1,19 @@
 -- What the values of the code stand for.
 use Rattle.std.specs.Prelude.{ℕ, List, Option, Some, None, map, reverse}
-use Rattle.state.specs.Prelude.{Scopes, Status, outcome_of}
-use Rattle.steps.specs.declared.handler.Handler as turns
+use Rattle.state.specs.Prelude.{Code, Leaves, Scopes, Status, outcome_of}
+use Rattle.steps.specs.Handling.{led}
+use Rattle.steps.specs.declared.handler.Handler as opened
+use Rattle.steps.specs.declared.handling.Taker.{Taker}
 use Rattle.steps.specs.declared.spot.Spot as coded
 use Rattle.steps.specs.declared.stopped.Stopped.{Stopped}
 use Rattle.steps.specs.declared.stopped.Stopped.TheVariants as stopped
 use Rattle.steps.specs.Spot.{Handler, Spot, Did, Went, Begins, Over, Stuck}
 use Rattle.tclstate.specs.Procs.{Procs}
 
--- what a turn of a loop does with continue and with break
-abbrev pub handler_of : turns.Handler → Handler
+-- what is open that an outcome may lead out of
+abbrev pub handler_of : opened.Handler → Handler
 handler_of handler = record {
-  ends = handler.ends;
+  covers = handler.covers;
   over = handler.over;
   operands = handler.operands;
   marks = handler.marks;
@@ -44,3 +46,9 @@ given (Some value) spot next = next value spot
 abbrev pub with_parts : Scopes → Procs → ℕ → Status → Status
 with_parts scopes procedures left s =
     record s { scopes = scopes; procedures = procedures; left = left }
+
+-- what is done with an outcome with this code and this value, where this was found to take it
+abbrev pub led_by : Option Taker → Code → List ℕ → Spot → Status → Did
+led_by None code value spot s = Over (Leaves code value) s
+led_by (Some taker) code value spot s =
+    led (Some taker.way) code value spot s (handler_of taker.handler) spot.handlers Stuck

@@ -4,20 +4,19 @@ ghost use Rattle.std.specs.Prelude.{◌≡◌, ◌≤◌, [], ◌∷◌, ℕ, Li
 ghost use Rattle.state.specs.Piece.{ListText};
 ghost use Rattle.state.specs.Prelude.{Status};
 ghost use Rattle.steps.specs.Does.{Does};
-ghost use Rattle.steps.specs.Foreach.{assigning, by_words, dealing, dealt, finishing, hidden, looking, storing, taking};
+ghost use Rattle.steps.specs.Foreach.{assigning, by_words, dealing, dealt, finishing, hidden, looking, taking};
 ghost use Rattle.steps.specs.Spot.{Did, Reads as reads_text, Spot as Standing};
 ghost use Rattle.steps.specs.View.{did_of, given, spot_of, with_parts};
-ghost use Rattle.tclparse.specs.Variable.{named};
 ghost use Rattle.tclstate.specs.Pairs.{found};
 
+use crate::handling::failed;
 use crate::operating::jump;
 use crate::spot::Spot;
-use crate::stopped::{Stopped, failed};
-use acts::{Fault, NoMemory, Raise};
+use crate::stopped::Stopped;
+use crate::storing::store;
+use acts::{NoMemory, Raise};
 use meanings::elements;
-use state::variables::trouble;
 use std::alloc::Allocator;
-use tclparse::{Name, variable_name};
 use tclstate::{Procs, Scopes};
 use tcltext::Value;
 
@@ -111,7 +110,7 @@ fn deal_text<A: Allocator + Copy>(
 {
     match elements(alloc, text) {
         Ok(elements) => Ok(put_elements(spot, elements, place)?),
-        Err(Raise::Fault(fault)) => Ok(failed(alloc, fault)?),
+        Err(Raise::Fault(fault)) => Ok(failed(alloc, spot, fault)?),
         Err(Raise::NoMemory(refusal)) => Err(refusal),
     }
 }
@@ -168,29 +167,6 @@ fn take<A: Allocator + Copy>(spot: &mut Spot<A>) -> Result<Option<Value<A>>, NoM
     Ok(spot.operands.pop())
 }
 
-/// Writes a value to the variable that is named.
-fn store<A: Allocator + Copy>(
-    alloc: A,
-    scopes: &mut Scopes<A>,
-    word: &[u8],
-    value: Value<A>,
-) -> Result<Option<Stopped<A>>, NoMemory>
-    ensures { (spot : Standing) (s : Status) → IfOk result (λ stopped.
-        did_of stopped spot (with_parts scopes.new s.procedures s.left s)
-        ≡ storing (named word.now) value spot (with_parts scopes.old s.procedures s.left s)) }
-{
-    let Ok(Name { name, index }) = variable_name(word) else {
-        return Ok(failed(alloc, Fault::BadVariable)?);
-    };
-    match scopes.set(alloc, name, index, value) {
-        Ok(()) => Ok(None),
-        Err(error) => {
-            let fault = trouble(alloc, error, name, index)?;
-            Ok(failed(alloc, fault)?)
-        }
-    }
-}
-
 /// The variable of this name takes the next element.
 pub fn assign<A: Allocator + Copy>(
     alloc: A,
@@ -202,12 +178,12 @@ pub fn assign<A: Allocator + Copy>(
         did_of stopped (spot_of spot.new) (with_parts scopes.new s.procedures s.left s)
         ≡ assigning word.now (spot_of spot.old)
         (with_parts scopes.old s.procedures s.left s)) }
-    ensures place { spot.new.place ≡ spot.old.place }
+    ensures place { spot.old.place ≤ spot.new.place }
 {
     let Some(value) = take(spot)? else {
         return Ok(Some(Stopped::Stuck));
     };
-    Ok(store(alloc, scopes, word, value)?)
+    Ok(store(alloc, spot, scopes, word, value)?)
 }
 
 /// Drops the elements that are left, and puts the empty text on top.

@@ -2,18 +2,21 @@
 #![tactic(auto)]
 
 mod advancing;
+mod catching;
 mod foreach;
 mod handler;
+mod handling;
 pub mod laws;
 mod looping;
 mod operating;
 mod spot;
 mod stepping;
 mod stopped;
+mod storing;
 
 pub use advancing::advance;
-pub use handler::Handler;
-pub use looping::resume;
+pub use handler::{Covered, Handler};
+pub use handling::resume;
 pub use spot::Spot;
 pub use stepping::step;
 pub use stopped::Stopped;

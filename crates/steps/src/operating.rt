@@ -7,18 +7,20 @@ ghost use Rattle.meanings.specs.View.{Answers};
 ghost use Rattle.operators.specs.Truth.{truth_of};
 ghost use Rattle.state.specs.Prelude.{Status};
 ghost use Rattle.steps.specs.Does.{Does};
-ghost use Rattle.steps.specs.Formulas.{calling, choosing, deciding, gives, joining_both, jumping, prefixing, putting, telling, unless as unless_of};
+ghost use Rattle.steps.specs.Formulas.{calling, choosing, deciding, gives, joining_both, prefixing, putting, telling, unless as unless_of};
+ghost use Rattle.steps.specs.Moves.{jumping};
 ghost use Rattle.steps.specs.View.{did_of, spot_of};
 
+use crate::handling::failed;
 use crate::spot::Spot;
-use crate::stopped::{Stopped, failed};
+use crate::stopped::Stopped;
 use acts::{NoMemory, Raise};
 use operators::{Operand, binary, call, truth, unary, written};
 use std::alloc::Allocator;
 use tclparse::{Binary, Function, Unary};
 use tcltext::Value;
 
-/// Puts the value of a function of texts on top, or the code is over with its error.
+/// Puts the value of a function of texts on top, or fails with its error.
 fn settle<A: Allocator + Copy>(
     alloc: A,
     spot: &mut Spot<A>,
@@ -27,11 +29,11 @@ fn settle<A: Allocator + Copy>(
     ensures does { (meaning : Meaning) (s : Status) → Answers meaning value →
         IfOk result (λ stopped. Does (gives meaning (spot_of spot.old) s)
         (did_of stopped (spot_of spot.new) s)) }
-    ensures place { spot.new.place ≡ spot.old.place }
+    ensures place { spot.old.place ≤ spot.new.place }
 {
     match value {
         Ok(value) => Ok(spot.put(value.into_text(alloc)?)?),
-        Err(Raise::Fault(fault)) => Ok(failed(alloc, fault)?),
+        Err(Raise::Fault(fault)) => Ok(failed(alloc, spot, fault)?),
         Err(Raise::NoMemory(refusal)) => Err(refusal),
     }
 }
@@ -44,7 +46,7 @@ pub fn number<A: Allocator + Copy>(
 ) -> Result<Option<Stopped<A>>, NoMemory>
     ensures does { (s : Status) → IfOk result (λ stopped.
         Does (putting digits.now (spot_of spot.old) s) (did_of stopped (spot_of spot.new) s)) }
-    ensures place { spot.new.place ≡ spot.old.place }
+    ensures place { spot.old.place ≤ spot.new.place }
 {
     let digits = digits.share()?;
     let value = written(digits);
@@ -59,7 +61,7 @@ pub fn prefix<A: Allocator + Copy>(
 ) -> Result<Option<Stopped<A>>, NoMemory>
     ensures does { (s : Status) → IfOk result (λ stopped.
         Does (prefixing operator (spot_of spot.old) s) (did_of stopped (spot_of spot.new) s)) }
-    ensures place { spot.new.place ≡ spot.old.place }
+    ensures place { spot.old.place ≤ spot.new.place }
 {
     let Some(value) = spot.operands.pop() else {
         return Ok(Some(Stopped::Stuck));
@@ -76,7 +78,7 @@ pub fn join_both<A: Allocator + Copy>(
 ) -> Result<Option<Stopped<A>>, NoMemory>
     ensures does { (s : Status) → IfOk result (λ stopped.
         Does (joining_both operator (spot_of spot.old) s) (did_of stopped (spot_of spot.new) s)) }
-    ensures place { spot.new.place ≡ spot.old.place }
+    ensures place { spot.old.place ≤ spot.new.place }
 {
     let Some(right) = spot.operands.pop() else {
         return Ok(Some(Stopped::Stuck));
@@ -105,7 +107,7 @@ pub fn tell<A: Allocator + Copy>(
 ) -> Result<Option<Stopped<A>>, NoMemory>
     ensures does { (s : Status) → IfOk result (λ stopped.
         Does (telling (spot_of spot.old) s) (did_of stopped (spot_of spot.new) s)) }
-    ensures place { spot.new.place ≡ spot.old.place }
+    ensures place { spot.old.place ≤ spot.new.place }
 {
     let Some(value) = spot.operands.pop() else {
         return Ok(Some(Stopped::Stuck));
@@ -163,7 +165,7 @@ pub fn choose<A: Allocator + Copy>(
     };
     match truth(alloc, &Operand::text(value)) {
         Ok(holds) => Ok(decide(alloc, spot, place, known, holds)?),
-        Err(Raise::Fault(fault)) => Ok(failed(alloc, fault)?),
+        Err(Raise::Fault(fault)) => Ok(failed(alloc, spot, fault)?),
         Err(Raise::NoMemory(refusal)) => Err(refusal),
     }
 }
@@ -184,7 +186,7 @@ pub fn jump_unless<A: Allocator + Copy>(
     match truth(alloc, &Operand::text(value)) {
         Ok(true) => Ok(None),
         Ok(false) => Ok(jump(spot, place)),
-        Err(Raise::Fault(fault)) => Ok(failed(alloc, fault)?),
+        Err(Raise::Fault(fault)) => Ok(failed(alloc, spot, fault)?),
         Err(Raise::NoMemory(refusal)) => Err(refusal),
     }
 }
@@ -213,7 +215,7 @@ pub fn apply<A: Allocator + Copy>(
     ensures does { (s : Status) → IfOk result (λ stopped. Does
         (calling function (length (spot_of spot.old).operands - n) (spot_of spot.old) s)
         (did_of stopped (spot_of spot.new) s)) }
-    ensures place { spot.new.place ≡ spot.old.place }
+    ensures place { spot.old.place ≤ spot.new.place }
 {
     let below = spot.operands.len().saturating_sub(n);
     let texts = spot.operands.split_off(below)?;

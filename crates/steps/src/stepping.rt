@@ -9,11 +9,13 @@ ghost use Rattle.steps.specs.Spot.{Reads as reads_text};
 ghost use Rattle.tclstate.specs.Pairs.{found};
 ghost use Rattle.steps.specs.View.{did_of, spot_of, with_parts};
 
+use crate::catching::{begin_catch, end_catch, keep};
 use crate::foreach::{assign, begin_hidden, deal, finish, look};
+use crate::handling::failed;
 use crate::looping::{begin_step, begin_turn, end_turn, turn};
 use crate::operating::{apply, choose, join_both, jump, jump_unless, number, prefix, tell};
 use crate::spot::Spot;
-use crate::stopped::{Stopped, failed};
+use crate::stopped::Stopped;
 use acts::{Fault, NoMemory, Raise};
 use code::Instruction;
 use meanings::elements;
@@ -34,13 +36,13 @@ fn read<A: Allocator + Copy>(
     ensures does { (s : Status) → s.scopes ≡ scopes.now → IfOk result (λ stopped.
         did_of stopped (spot_of spot.new) s
         ≡ reading name.now (option_copied index.entry) (spot_of spot.old) s) }
-    ensures place { spot.new.place ≡ spot.old.place }
+    ensures place { spot.old.place ≤ spot.new.place }
 {
     match scopes.get(name, index) {
         Ok(value) => Ok(spot.put(value.share()?)?),
         Err(error) => {
             let fault = trouble(alloc, error, name, index)?;
-            Ok(failed(alloc, fault)?)
+            Ok(failed(alloc, spot, fault)?)
         }
     }
 }
@@ -54,7 +56,7 @@ fn read_element<A: Allocator + Copy>(
 ) -> Result<Option<Stopped<A>>, NoMemory>
     ensures does { (s : Status) → s.scopes ≡ scopes.now → IfOk result (λ stopped.
         did_of stopped (spot_of spot.new) s ≡ indexing name.now (spot_of spot.old) s) }
-    ensures place { spot.new.place ≡ spot.old.place }
+    ensures place { spot.old.place ≤ spot.new.place }
 {
     let Some(index) = spot.operands.pop() else {
         return Ok(Some(Stopped::Stuck));
@@ -67,10 +69,10 @@ fn enter<A: Allocator + Copy>(alloc: A, spot: &mut Spot<A>) -> Result<Option<Sto
     ensures does { (s : Status) → IfOk result (λ stopped.
         did_of stopped (spot_of spot.new) s
         ≡ entering spot.old.levels (spot_of spot.old) s) }
-    ensures place { spot.new.place ≡ spot.old.place }
+    ensures place { spot.old.place ≤ spot.new.place }
 {
     if spot.levels == 0 {
-        return Ok(failed(alloc, Fault::TooManyNested)?);
+        return Ok(failed(alloc, spot, Fault::TooManyNested)?);
     }
     spot.levels -= 1;
     Ok(spot.put(Value::empty())?)
@@ -85,14 +87,14 @@ fn spread_text<A: Allocator + Copy>(
     ensures does { (s : Status) → IfOk result (λ stopped.
         Does (reads_text (ListText text.now) (spread_of (spot_of spot.old) s))
         (did_of stopped (spot_of spot.new) s)) }
-    ensures place { spot.new.place ≡ spot.old.place }
+    ensures place { spot.old.place ≤ spot.new.place }
 {
     match elements(alloc, text) {
         Ok(mut elements) => {
             spot.operands.append(&mut elements)?;
             Ok(None)
         }
-        Err(Raise::Fault(fault)) => Ok(failed(alloc, fault)?),
+        Err(Raise::Fault(fault)) => Ok(failed(alloc, spot, fault)?),
         Err(Raise::NoMemory(refusal)) => Err(refusal),
     }
 }
@@ -101,7 +103,7 @@ fn spread_text<A: Allocator + Copy>(
 fn spread<A: Allocator + Copy>(alloc: A, spot: &mut Spot<A>) -> Result<Option<Stopped<A>>, NoMemory>
     ensures does { (s : Status) → IfOk result (λ stopped.
         Does (spreading (spot_of spot.old) s) (did_of stopped (spot_of spot.new) s)) }
-    ensures place { spot.new.place ≡ spot.old.place }
+    ensures place { spot.old.place ≤ spot.new.place }
 {
     let Some(text) = spot.operands.pop() else {
         return Ok(Some(Stopped::Stuck));
@@ -154,7 +156,7 @@ fn perform<A: Allocator + Copy>(
         Instruction::Spread => Ok(spread(alloc, spot)?),
         Instruction::Command(n) => Ok(spot.begin_last(*n)?),
         Instruction::Counted => Ok(spot.begin_counted()?),
-        Instruction::Fault(fault) => Ok(failed(alloc, no_script(*fault))?),
+        Instruction::Fault(fault) => Ok(failed(alloc, spot, no_script(*fault))?),
         Instruction::Numeral(digits) => Ok(number(alloc, spot, digits)?),
         Instruction::Prefix(operator) => Ok(prefix(alloc, spot, *operator)?),
         Instruction::Binary(operator) => Ok(join_both(alloc, spot, *operator)?),
@@ -179,6 +181,9 @@ fn perform<A: Allocator + Copy>(
         Instruction::Assign(name) => Ok(assign(alloc, spot, scopes, name.as_slice())?),
         Instruction::Begin(body, end) => Ok(begin_turn(spot, *body, *end, left)?),
         Instruction::Done => Ok(finish(spot)?),
+        Instruction::Catch(place) => Ok(begin_catch(spot, *place)?),
+        Instruction::EndCatch => Ok(end_catch(spot)?),
+        Instruction::Store(name) => Ok(keep(alloc, spot, scopes, name.as_slice())?),
         Instruction::Hole => Ok(Some(Stopped::Stuck)),
     }
 }

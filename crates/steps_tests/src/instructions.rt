@@ -52,6 +52,10 @@ fn show<A: Allocator>(shown: &mut Vec<u8, A>, it: &Instruction<A>) -> Result<(),
         Instruction::Done => (b"done", b""),
         Instruction::Unhidden(name, 6) => (b"unhidden 6 ", name.as_slice()),
         Instruction::Jump(11) => (b"jump 11", b""),
+        Instruction::Jump(15) => (b"jump 15", b""),
+        Instruction::Catch(14) => (b"catch 14", b""),
+        Instruction::EndCatch => (b"end catch", b""),
+        Instruction::Store(name) => (b"store ", name.as_slice()),
         _ => (b"another", b""),
     };
     shown.extend_from_slice(name)?;
@@ -163,6 +167,20 @@ fn a_script_in_a_word_stands_without_white_space_around_it(rt: HostRuntime) -> R
     }
     let wanted: &[u8] = b"next\nunhidden 6 eval\ntext eval\ntext  f \ncommand 2\njump 11\n\
         enter\nnext\ntext f\ncommand 1\nleave\n";
+    assert_eq!(&rt; shown.as_slice(), wanted);
+    Ok(())
+}
+
+#[test]
+fn what_is_caught_is_kept_behind_the_script(rt: HostRuntime) -> Result<(), Fail> {
+    let script = Script::read(rt.alloc(), b"catch f r")?;
+    let code = code_of(rt.alloc(), &script)?;
+    let mut shown = Vec::new(rt.alloc());
+    for it in &code {
+        show(&mut shown, it)?;
+    }
+    let wanted: &[u8] = b"next\nunhidden 7 catch\ntext catch\ntext f\ntext r\ncommand 3\n\
+        jump 15\ncatch 14\nenter\nnext\ntext f\ncommand 1\nleave\nend catch\nstore r\n";
     assert_eq!(&rt; shown.as_slice(), wanted);
     Ok(())
 }

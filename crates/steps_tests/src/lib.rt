@@ -2,6 +2,8 @@
 #![tactic(auto)]
 
 #[cfg(test)]
+mod catching;
+#[cfg(test)]
 mod instructions;
 #[cfg(test)]
 mod running;

@@ -98,7 +98,7 @@ fn outcome_of(
 
 /// The commands of a code, and how it ends, where these procedures are defined and so many ticks
 /// and levels are left.
-fn commands_within(
+pub(crate) fn commands_within(
     alloc: Global,
     procs: &Procs<Global>,
     code: &[Instruction<Global>],

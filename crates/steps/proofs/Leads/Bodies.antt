@@ -1,6 +1,7 @@
 -- A script that runs one level deeper.
 use Rattle.std.proofs.Common.{◌≡◌, ℕ, zero, suc, ◌+◌, ◌≤◌, List, [], ◌∷◌, refl, subst, arith}
 use Rattle.std.specs.Prelude.{slice_get}
+use Rattle.acts.specs.Flaw as flaw
 use Rattle.code.specs.Code.{BodyAt, deeper}
 use Rattle.code.specs.declared.instruction.Instruction.{Instruction}
 use Rattle.code.specs.declared.instruction.Instruction.TheVariants as i
@@ -13,8 +14,10 @@ use Rattle.steps.specs.Goes.{here, calls, reads}
 use Rattle.steps.specs.Layout.{EntersAt, FramesAt}
 use Rattle.steps.specs.Machine.{machine}
 use Rattle.steps.specs.Places.{Has, Enters, Frame, Rest, Body, beneath, brackets, handlers_beneath, left_of, marks_beneath, onward_of, spot_at}
-use Rattle.steps.proofs.Leads.Silent.{same_goes}
-use Rattle.steps.proofs.Leads.Standing.{by, errors_pass, sooner, stands}
+use Rattle.steps.proofs.Leads.Above.{those}
+use Rattle.steps.proofs.Leads.Forwards.{enters_grow}
+use Rattle.steps.proofs.Leads.Resumed.{amid_operands, failure_leads, spot_below}
+use Rattle.steps.proofs.Leads.Standing.{by, sooner, stands}
 
 -- what follows a script may be done once its outcome has passed
 pub inside_passes : {X : Type 0} (levels : ℕ) (tree : ScriptTree) (s : Status)
@@ -72,7 +75,9 @@ module _ {A X : Type 0} (code : List (Instruction A)) (last : Status → Outcome
       (left_of last levels (Enters tree) fs s)
   enters_leads zero tree fs s place end at behind fits =
       by code last i.Enter (spot_at place zero (Enters tree) fs) s _ at.enters
-      (same_goes (errors_pass code last zero fs s _))
+      (failure_leads code last flaw.TooManyNested (spot_below code last (place + 1) zero fs) zero fs s
+      (amid_operands code last (place + 1) zero end (beneath fs) fs (those [] (beneath fs))
+      (omega (arith, enters_grow code place tree end at)) behind fits))
   enters_leads (suc levels) tree fs s place end at behind fits =
       by code last i.Enter (spot_at place (suc levels) (Enters tree) fs) s _ at.enters
       (sooner code last _ s (calls here)

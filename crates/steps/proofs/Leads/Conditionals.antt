@@ -1,7 +1,7 @@
 -- A command that has code of its own.
 use Rattle.std.proofs.Common.{◌≡◌, ◌∙◌, ℕ, ◌+◌, ◌≤◌, List, [], ◌∷◌, false, Option, Some, None, Ok, option_map, codes, refl, ap, subst, arith, if◌then◌else◌}
 use Rattle.std.specs.Prelude.{slice_get}
-use Rattle.code.specs.Code.{At, CommandAt, by_words, own, foreach_loop, OwnAt, conditional, while_loop, for_loop, evaluated, BranchesAt, branch, BehindAt, no_else, at_last, else_if, IsBranch, without_then, with_then, IsLast, with_else, without_else, WordsAt, literals}
+use Rattle.code.specs.Code.{At, CommandAt, by_words, own, foreach_loop, OwnAt, conditional, while_loop, for_loop, evaluated, caught, BranchesAt, branch, BehindAt, no_else, at_last, else_if, IsBranch, without_then, with_then, IsLast, with_else, without_else, WordsAt, literals}
 use Rattle.code.specs.declared.instruction.Instruction.{Instruction}
 use Rattle.code.specs.declared.instruction.Instruction.TheVariants as i
 use Rattle.conditions.specs.Branches as definition
@@ -19,6 +19,7 @@ use Rattle.steps.specs.Machine.{machine, unhidden}
 use Rattle.steps.specs.Operand.{Condition}
 use Rattle.steps.specs.Places.{Has, Gathers, Starts, Chooses, Frame, Skip, brackets, left_of, onward_of, spot_at}
 use Rattle.steps.proofs.Leads.Bodies.{body_begins, body_read, enters_leads}
+use Rattle.steps.proofs.Leads.Catches.{catch_begins}
 use Rattle.steps.proofs.Leads.Formulas.{formula_leads}
 use Rattle.steps.proofs.Leads.Grows.{behind_grows, own_grows, words_grow}
 use Rattle.steps.proofs.Leads.Literals.{literal_words}
@@ -150,6 +151,14 @@ module _ {A X : Type 0} (code : List (Instruction A)) (last : Status → Outcome
       (literal_words levels (codes "eval" ∷ args) [] s (command levels)
       ∙ ap (λ procedure. called procedure levels (codes "eval") args s) none)))
       (body_begins code last place levels (concatenated (text ∷ [])) fs end s at behind fits)
+  own_begins levels fs s name place args end none (caught {mid = mid} {text = text}
+      {variable = variable} {more = more} words begins body_at ended takes) behind fits =
+      sooner code last _ s
+      (same_goes (ap (λ c. and_then c (onward (onward_of last levels fs)))
+      (literal_words levels (codes "catch" ∷ args) [] s (command levels)
+      ∙ ap (λ procedure. called procedure levels (codes "catch") args s) none)))
+      (catch_begins code last levels fs s place mid text variable more end words begins body_at ended
+      takes behind fits)
 
   -- a procedure hides it, or none does
   unhidden_leads : (procedure : Option Procedure) (levels : ℕ) (fs : List Frame) (s : Status)

@@ -15,9 +15,10 @@ use Rattle.steps.specs.Does.{Does, same, reads, Arrives, stays, then}
 use Rattle.steps.specs.Goes.{here}
 use Rattle.steps.specs.Layout.{FramesAt, HeadAt}
 use Rattle.steps.specs.Machine.{machine}
-use Rattle.steps.specs.Places.{Head, Has, Part, Joins, Gathers, Evaluates, Values, Starts, Chooses, Enters, Repeats, Finishes, Deals, Takes, Sets, Drops, Frame, Rest, brackets, left_of, spot_at}
+use Rattle.steps.specs.Places.{Head, Has, Part, Joins, Gathers, Evaluates, Values, Starts, Chooses, Enters, Repeats, Finishes, Deals, Takes, Sets, Drops, Tries, Stores, Frame, Rest, brackets, left_of, spot_at}
 use Rattle.steps.specs.Spot.{Spot, Did, beginning_at}
 use Rattle.steps.proofs.Leads.Bodies.{enters_leads}
+use Rattle.steps.proofs.Leads.Catches.{kept_leads, tries_lead}
 use Rattle.steps.proofs.Leads.Conditionals.{chooses_lead, starts_leads}
 use Rattle.steps.proofs.Leads.Opened.{joins_lead, open_leads}
 use Rattle.steps.proofs.Leads.Foreach.{deals_lead, drops_lead, sets_lead, takes_lead}
@@ -68,6 +69,10 @@ module _ {A X : Type 0} (code : List (Instruction A)) (last : Status → Outcome
       behind fits
   head_leads place levels (Drops elements) frames end s at behind fits =
       drops_lead code last levels end frames s elements place at.0 at.1 behind fits
+  head_leads place levels (Tries tree variable) frames end s at behind fits =
+      tries_lead code last levels frames s tree variable place at.0 end at.1 at.2 at.3 at.4 behind fits
+  head_leads place levels (Stores variable number value) frames end s at behind fits =
+      kept_leads code last levels frames s variable number value place end at behind fits
 
   leads : (spot : Spot) (s : Status) (p : Dialogue X) → Here code last spot s p →
       Follows code last (machine (slice_get code spot.place) spot s) p

@@ -1,6 +1,6 @@
 -- A foreach: its list is read, a turn begins, its variables are set, its body is over, and it is
 -- over.
-use Rattle.std.proofs.Common.{◌≡◌, ℕ, ◌+◌, ◌<◌, ◌≤◌, List, [], ◌∷◌, ◌++◌, length, Option, None, Some, Result, Ok, Err, refl, sym, ap, subst, arith, if◌then◌else◌, length-append}
+use Rattle.std.proofs.Common.{◌≡◌, ℕ, ◌+◌, ◌<◌, ◌≤◌, List, [], ◌∷◌, ◌++◌, length, Result, Ok, Err, refl, sym, ap, subst, arith, if◌then◌else◌, length-append}
 use Rattle.std.proofs.Math.Seq.{drop-nil}
 use Rattle.std.proofs.lemmas.Bool.{le-leb, lt-leb}
 use Rattle.std.specs.Prelude.{slice_get}
@@ -8,33 +8,33 @@ use Rattle.bodies.specs.Foreach.{assigns, dealt}
 use Rattle.code.specs.Code.{At, AssignsAt, BodyAt, DealAt, NextAt, all_set, deals, next_turn, sets}
 use Rattle.code.specs.declared.instruction.Instruction.{Instruction}
 use Rattle.code.specs.declared.instruction.Instruction.TheVariants as i
-use Rattle.meanings.specs.Meaning.{IsSplit}
+use Rattle.meanings.specs.Meaning.{IsSplit, flaw_of_list}
 use Rattle.plan.specs.Plan.{and_then, onward}
 use Rattle.state.specs.Piece.{ListText, ScriptText}
-use Rattle.state.specs.Prelude.{Course, Dialogue, inside, Outcome, Scopes, Status}
+use Rattle.state.specs.Prelude.{Dialogue, inside, Outcome, Status}
 use Rattle.state.specs.Turn.{on_turn}
-use Rattle.state.specs.Variables.{on_name, spelled, stored, writes}
 use Rattle.steps.specs.Each.{Each, body_left, turn_left, turns_left}
 use Rattle.steps.specs.Follows.{Comes, Follows}
 use Rattle.steps.specs.Foreach as machines
-use Rattle.steps.specs.Foreach.{on_written, storing}
-use Rattle.steps.specs.Formulas.{jumping}
 use Rattle.steps.specs.Goes.{here, reads}
 use Rattle.steps.specs.Layout.{EachAt, FramesAt}
 use Rattle.steps.specs.Loops.{begin_turn}
 use Rattle.steps.specs.Machine.{machine}
-use Rattle.steps.specs.Moves.{on_top, with_operands}
+use Rattle.steps.specs.Moves.{jumping, on_top, with_operands}
 use Rattle.steps.specs.Places.{Has, Enters, Deals, Takes, Sets, Drops, Frame, Elements, beneath, brackets, handlers_beneath, left_of, marks_beneath, onward_of, spot_at}
-use Rattle.steps.specs.Spot.{Spot, Did, Went}
+use Rattle.steps.specs.Spot.{Spot, Went}
+use Rattle.steps.specs.Storing.{storing}
+use Rattle.steps.proofs.Leads.Above.{those}
 use Rattle.steps.proofs.Leads.Bodies.{body_read, inside_passes}
-use Rattle.steps.proofs.Leads.Grows.{assigns_grow, body_grows}
-use Rattle.steps.proofs.Leads.Meanings.{below_at, jump_leads}
+use Rattle.steps.proofs.Leads.Grows.{assigns_grow, body_grows, next_grows}
+use Rattle.steps.proofs.Leads.Meanings.{amid_below, below_at, jump_leads}
 use Rattle.steps.proofs.Leads.Operands.{lowest_below}
+use Rattle.steps.proofs.Leads.Resumed.{Amid, failure_leads}
 use Rattle.steps.proofs.Leads.Silent.{same_goes}
-use Rattle.steps.proofs.Leads.Standing.{by, errors_pass, silently, sooner, stands, tick_leads}
+use Rattle.steps.proofs.Leads.Standing.{by, silently, sooner, stands, tick_leads}
+use Rattle.steps.proofs.Leads.Stores.{stores_lead}
 use Rattle.steps.proofs.Rounds.{next_turn as first_turn, no_turn}
 use Rattle.tclparse.specs.Variable.{named}
-use Rattle.tclstate.specs.Scopes.{Trouble, written}
 use Rattle.tcltext.specs.Flaw.{Flaw}
 
 module _ {A X : Type 0} (code : List (Instruction A)) (last : Status → Outcome → Dialogue X) where
@@ -46,6 +46,20 @@ module _ {A X : Type 0} (code : List (Instruction A)) (last : Status → Outcome
     marks = length (beneath fs) ∷ marks_beneath fs;
     levels = levels;
     handlers = handlers_beneath levels fs;
+  }
+
+  -- there it stands before the frames
+  amid_elements : (place levels : ℕ) (elements : List (List ℕ)) (fs : List Frame) (end : ℕ) →
+      place ≤ end → FramesAt code end fs → levels + brackets fs ≤ 255 →
+      Amid code last (elements_at place levels elements fs) levels fs
+  amid_elements place levels elements fs end before behind fits = record {
+    end = end;
+    behind = behind;
+    fits = fits;
+    before = before;
+    operands = those elements (beneath fs);
+    marks = those (length (beneath fs) ∷ []) (marks_beneath fs);
+    handlers = refl;
   }
 
   -- the elements of its list are put on top, or the text is no list
@@ -79,7 +93,10 @@ module _ {A X : Type 0} (code : List (Instruction A)) (last : Status → Outcome
       (mid, turn, at, refl, refl) behind fits))
   split_leads levels end fs s list names body place mid (Err why) is some body_at ended next behind
       fits =
-      reads {text = ListText list} (Err why) is (same_goes (errors_pass code last levels fs s _))
+      silently code last _ (reads {text = ListText list} (Err why) is here)
+      (failure_leads code last (flaw_of_list why) (below_at code last (place + 1) levels [] fs) levels fs s
+      (amid_below code last (place + 1) levels [] fs end
+      (omega (arith, body_grows code body_at, next_grows code next)) behind fits))
 
   -- its list is read
   pub deals_lead : (levels end : ℕ) (fs : List Frame) (s : Status) (list : List ℕ)
@@ -130,30 +147,6 @@ module _ {A X : Type 0} (code : List (Instruction A)) (last : Status → Outcome
       (ends, turn, at, subst (λ n. AssignsAt code (n + 1) each.names turn) (sym there) at.assigns, is)
       behind fits)))
 
-  -- a variable is written, or could not be
-  written_leads : (r : Result Scopes Trouble) (name : List ℕ) (levels : ℕ) (fs : List Frame)
-      (s : Status) (next : Status → Did) (course : Status → Course) →
-      ((t : Status) → Follows code last (next t)
-      (and_then (course t) (onward (onward_of last levels fs)))) →
-      Follows code last (on_written r name s next)
-      (and_then (stored r name s course) (onward (onward_of last levels fs)))
-  written_leads (Ok scopes) name levels fs s next course f = f (record s { scopes = scopes })
-  written_leads (Err trouble) name levels fs s next course f =
-      same_goes (errors_pass code last levels fs s _)
-
-  -- a value is written to the variable that is named
-  stores_lead : (n : Option (List ℕ × Option (List ℕ))) (value : List ℕ) (spot : Spot) (levels : ℕ)
-      (fs : List Frame) (s : Status) (course : Status → Course) →
-      ((t : Status) → Comes code last spot t
-      (and_then (course t) (onward (onward_of last levels fs)))) →
-      Follows code last (storing n value spot s)
-      (and_then (on_name n s (λ name index. writes name index value s course))
-      (onward (onward_of last levels fs)))
-  stores_lead None value spot levels fs s course f = same_goes (errors_pass code last levels fs s _)
-  stores_lead (Some n) value spot levels fs s course f =
-      written_leads (written s.scopes n.0 n.1 value) (spelled n.0 n.1) levels fs s
-      (λ t. Went spot t) course f
-
   -- a variable takes the next element
   set_leads : (levels end : ℕ) (fs : List Frame) (s : Status) (each : Each)
       (elements : List (List ℕ)) (place ends turn : ℕ) (name : List ℕ) (names : List (List ℕ)) →
@@ -173,7 +166,9 @@ module _ {A X : Type 0} (code : List (Instruction A)) (last : Status → Outcome
       else on_top (beneath fs) (λ value below.
       storing (named name) value (with_operands below spot) s)) p)
       (sym (le-leb count count (omega arith)))
-      (stores_lead (named name) [] spot levels fs s
+      (stores_lead code last (named name) [] spot levels fs s
+      (amid_elements (place + 1) levels [] fs end (omega (arith, assigns_grow code rest, is)) behind
+      fits)
       (λ t. assigns (dealt names []) t (body_left levels each []))
       (λ t. sooner code last spot t
       (same_goes (ap (λ es. and_then (assigns (dealt names []) t (body_left levels each es))
@@ -191,7 +186,9 @@ module _ {A X : Type 0} (code : List (Instruction A)) (last : Status → Outcome
       storing (named name) value (with_operands below spot) s)) p)
       (sym (lt-leb (length (e ∷ es ++ beneath fs)) (length (beneath fs))
       (omega (arith, length-append es (beneath fs)))))
-      (stores_lead (named name) e (elements_at (place + 1) levels es fs) levels fs s
+      (stores_lead code last (named name) e (elements_at (place + 1) levels es fs) levels fs s
+      (amid_elements (place + 1) levels es fs end (omega (arith, assigns_grow code rest, is)) behind
+      fits)
       (λ t. turn_left levels names each es t)
       (λ t. stands code last (place + 1) levels (Sets names each es) fs end t
       (ends, turn, at, rest, is) behind fits)))

@@ -1,17 +1,17 @@
 -- Code ends at its beginning, or after it.
 use Rattle.std.proofs.Common.{ℕ, ◌≤◌, List, Bool, Option, arith}
-use Rattle.code.specs.Code.{JoinsAt, first, joined, PartsAt, over, empty, text, value, item, bracket, WordsAt, begins, begins_counted, one, counts, spread, CommandAt, by_words, own, foreach_loop, CommandsAt, done, next, FaultAt, none, fault, OwnAt, conditional, while_loop, for_loop, evaluated, TurnsAt, turns, StepAt, no_step, steps, AssignsAt, all_set, sets, NextAt, next_turn, ForeachAt, with_names, DealAt, deals, BranchesAt, branch, BehindAt, no_else, at_last, else_if, BodyAt, deeper, FormulaAt, number, parts, called, prefixed, in_row, chosen, LinksAt, no_more, both, and_also, or_else, ArgumentsAt, no_argument, argument}
+use Rattle.code.specs.Code.{JoinsAt, first, joined, PartsAt, over, empty, text, value, item, bracket, WordsAt, begins, begins_counted, one, counts, spread, CommandAt, by_words, own, foreach_loop, CommandsAt, done, next, FaultAt, none, fault, OwnAt, conditional, while_loop, for_loop, evaluated, caught, TakenAt, dropped, taken, TurnsAt, turns, StepAt, no_step, steps, AssignsAt, all_set, sets, NextAt, next_turn, ForeachAt, with_names, DealAt, deals, BranchesAt, branch, BehindAt, no_else, at_last, else_if, BodyAt, deeper, FormulaAt, number, parts, called, prefixed, in_row, chosen, LinksAt, no_more, both, and_also, or_else, ArgumentsAt, no_argument, argument}
 use Rattle.code.specs.declared.instruction.Instruction.{Instruction}
 use Rattle.tclparse.specs.Fault.{Fault}
 use Rattle.tclparse.specs.Formula.{Formula, Links, Formulas}
 use Rattle.tclparse.specs.Tree.{Parts, Words, Commands}
 
 module _ {A : Type 0} (code : List (Instruction A)) where
-  joins_grow : {more : Bool} {place end : ℕ} → JoinsAt code more place end → place ≤ end
+  pub joins_grow : {more : Bool} {place end : ℕ} → JoinsAt code more place end → place ≤ end
   joins_grow first = omega arith
   joins_grow (joined at) = omega arith
 
-  fault_grows : {f : Option Fault} {place end : ℕ} → FaultAt code f place end → place ≤ end
+  pub fault_grows : {f : Option Fault} {place end : ℕ} → FaultAt code f place end → place ≤ end
   fault_grows none = omega arith
   fault_grows (fault at) = omega arith
 
@@ -20,12 +20,17 @@ module _ {A : Type 0} (code : List (Instruction A)) where
   assigns_grow all_set = omega arith
   assigns_grow (sets at rest) = omega (arith, assigns_grow rest)
 
-  next_grows : {place : ℕ} {names : List (List ℕ)} {body ends end : ℕ} →
+  pub taken_grows : {place : ℕ} {variable : Option (List ℕ)} {end : ℕ} →
+      TakenAt code place variable end → place ≤ end
+  taken_grows (dropped at) = omega arith
+  taken_grows (taken at) = omega arith
+
+  pub next_grows : {place : ℕ} {names : List (List ℕ)} {body ends end : ℕ} →
       NextAt code place names body ends end → place ≤ end
   next_grows (next_turn looks names back drops) = omega (arith, assigns_grow names)
 
   mutual
-    parts_grow : {more : Bool} {place : ℕ} {ps : Parts} {end : ℕ} → PartsAt code more place ps end →
+    pub parts_grow : {more : Bool} {place : ℕ} {ps : Parts} {end : ℕ} → PartsAt code more place ps end →
         place ≤ end
     parts_grow over = omega arith
     parts_grow (empty at) = omega arith
@@ -49,7 +54,7 @@ module _ {A : Type 0} (code : List (Instruction A)) where
     command_grows (own hides ws jump it) = omega (arith, words_grow ws, own_grows it)
     command_grows (foreach_loop list it) = omega (arith, parts_grow list, foreach_grows it)
 
-    commands_grow : {place : ℕ} {cs : Commands} {end : ℕ} → CommandsAt code place cs end →
+    pub commands_grow : {place : ℕ} {cs : Commands} {end : ℕ} → CommandsAt code place cs end →
         place ≤ end
     commands_grow done = omega arith
     commands_grow (next at ws rest) = omega (arith, command_grows ws, commands_grow rest)
@@ -60,8 +65,10 @@ module _ {A : Type 0} (code : List (Instruction A)) where
     own_grows (while_loop it) = turns_grow it
     own_grows (for_loop start drops it) = omega (arith, body_grows start, turns_grow it)
     own_grows (evaluated body) = body_grows body
+    own_grows (caught words starts body ends takes) =
+        omega (arith, body_grows body, taken_grows takes)
 
-    turns_grow : {place : ℕ} {test : List ℕ} {step : Option (List ℕ)} {body : List ℕ} {end : ℕ} →
+    pub turns_grow : {place : ℕ} {test : List ℕ} {step : Option (List ℕ)} {body : List ℕ} {end : ℕ} →
         TurnsAt code place test step body end → place ≤ end
     turns_grow (turns is jump body after test turn last) =
         omega (arith, body_grows body, step_grows after, formula_grows test)
@@ -71,7 +78,7 @@ module _ {A : Type 0} (code : List (Instruction A)) where
     step_grows (no_step ends) = omega arith
     step_grows (steps at body ends) = omega (arith, body_grows body)
 
-    foreach_grows : {place : ℕ} {variables body : List ℕ} {end : ℕ} →
+    pub foreach_grows : {place : ℕ} {variables body : List ℕ} {end : ℕ} →
         ForeachAt code place variables body end → place ≤ end
     foreach_grows (with_names are at it) = omega (arith, deal_grows it)
 
@@ -105,13 +112,13 @@ module _ {A : Type 0} (code : List (Instruction A)) where
     formula_grows (chosen test unless this jump other) =
         omega (arith, formula_grows test, formula_grows this, formula_grows other)
 
-    links_grow : {place : ℕ} {ls : Links} {end : ℕ} → LinksAt code place ls end → place ≤ end
+    pub links_grow : {place : ℕ} {ls : Links} {end : ℕ} → LinksAt code place ls end → place ≤ end
     links_grow no_more = omega arith
     links_grow (both f at ls) = omega (arith, formula_grows f, links_grow ls)
     links_grow (and_also at f truth ls) = omega (arith, formula_grows f, links_grow ls)
     links_grow (or_else at f truth ls) = omega (arith, formula_grows f, links_grow ls)
 
-    arguments_grow : {place : ℕ} {fs : Formulas} {count end : ℕ} → ArgumentsAt code place fs count
+    pub arguments_grow : {place : ℕ} {fs : Formulas} {count end : ℕ} → ArgumentsAt code place fs count
         end →
         place ≤ end
     arguments_grow no_argument = omega arith

@@ -1,27 +1,31 @@
 -- An open word of which there is something, and a value that is put after its bytes.
-use Rattle.std.proofs.Common.{ℕ, ◌+◌, ◌≤◌, List, [], ◌∷◌, ◌++◌, true, false, Option, None, Some, Result, Ok, Err, sym, ap, subst, length, append_assoc}
+use Rattle.std.proofs.Common.{ℕ, ◌+◌, ◌≤◌, List, [], ◌∷◌, ◌++◌, true, false, Option, None, Some, Result, Ok, Err, refl, sym, ap, subst, length, append_assoc, arith}
 use Rattle.std.specs.Prelude.{slice_get, reverse}
 use Rattle.code.specs.Code.{JoinsAt, first, joined, PartsAt, over, text, value, item, bracket, WordsAt}
 use Rattle.code.specs.declared.instruction.Instruction.{Instruction}
 use Rattle.code.specs.declared.instruction.Instruction.TheVariants as i
-use Rattle.meanings.specs.Meaning.{IsSplit}
+use Rattle.meanings.specs.Meaning.{IsSplit, flaw_of_list}
 use Rattle.plan.specs.Plan.{and_then, onward}
 use Rattle.runs.specs.Commands.{command}
 use Rattle.state.specs.Prelude.{Dialogue, Outcome, Status}
 use Rattle.state.specs.Variables.{spelled}
 use Rattle.steps.specs.Follows.{Follows}
-use Rattle.steps.specs.Goes.{reads}
+use Rattle.steps.specs.Goes.{here, reads}
 use Rattle.steps.specs.Layout.{FramesAt, JoinedAt, OpenAt, OuterAt, WordAt}
 use Rattle.steps.specs.Machine.{machine, spread}
 use Rattle.steps.specs.Places.{Part, Joins, Gathers, Frame, beneath, brackets, handlers_beneath, course_of, left_of, marks_beneath, onward_of, spot_at}
 use Rattle.steps.specs.Spot.{Went}
 use Rattle.steps.specs.Word.{Around, Open, Word, Plain, Expands, Operand, Listed, word_on}
+use Rattle.steps.proofs.Leads.Above.{those}
+use Rattle.steps.proofs.Leads.Forwards.{outer_grows}
+use Rattle.steps.proofs.Leads.Grows.{joins_grow, parts_grow, words_grow}
 use Rattle.steps.proofs.Leads.Lists.{listed_leads}
 use Rattle.steps.proofs.Leads.Operands.{elements_after, last_first}
 use Rattle.steps.proofs.Leads.Operators.{operand_leads}
-use Rattle.steps.proofs.Leads.Parts.{PartLeads, enter_leads, opened, start_leads, text_leads, variable_leads}
+use Rattle.steps.proofs.Leads.Parts.{PartLeads, enter_leads, opened, start_leads, text_leads, value_leads, variable_leads}
+use Rattle.steps.proofs.Leads.Resumed.{amid_word, failure_leads}
 use Rattle.steps.proofs.Leads.Silent.{same_goes}
-use Rattle.steps.proofs.Leads.Standing.{by, sooner, errors_pass, stands, value_leads}
+use Rattle.steps.proofs.Leads.Standing.{by, silently, sooner, stands}
 use Rattle.steps.proofs.Leads.Words.{words_lead}
 use Rattle.tclparse.specs.Tree.{Parts, no_parts, Words}
 use Rattle.tclstate.specs.Scopes.{read}
@@ -66,7 +70,23 @@ module _ {A X : Type 0} (code : List (Instruction A)) (last : Status → Outcome
         s
         (count, tt, words_at) behind fits))
     split_leads bytes before rest place count (Err why) is words_at behind fits =
-        reads (Err why) is (same_goes (errors_pass code last levels fs s _))
+        silently code last _ (reads (Err why) is here)
+        (failure_leads code last (flaw_of_list why) (record {
+          place = place + 1;
+          operands = before ++ beneath fs;
+          marks = length (beneath fs) ∷ marks_beneath fs;
+          levels = levels;
+          handlers = handlers_beneath levels fs;
+        }) levels fs s
+        (record {
+          end = end;
+          behind = behind;
+          fits = fits;
+          before = words_grow code words_at;
+          operands = those before (beneath fs);
+          marks = those (length (beneath fs) ∷ []) (marks_beneath fs);
+          handlers = refl;
+        }))
 
     -- the value of a word
     word_leads : (bytes : List ℕ) (word : Word) (place : ℕ) → WordAt code place word end →
@@ -100,7 +120,15 @@ module _ {A X : Type 0} (code : List (Instruction A)) (last : Status → Outcome
         by code last (i.Element o.array) (spot_at place levels (Part (opened (Some bytes) no_parts
         (o ∷ outer) word)) fs) s _ at.around.0
         (value_leads code last (read s.scopes o.array (Some bytes)) (spelled o.array (Some bytes))
-        levels fs s _
+        (spot_at (place + 1) levels (Part (opened o.so_far o.parts outer word)) fs) levels fs s
+        (amid_word code last (place + 1) levels end (opened o.so_far o.parts outer word) fs
+        (omega (
+          arith,
+          joins_grow code at.around.1.2,
+          parts_grow code at.around.1.3,
+          outer_grows code at.around.1.1 outer word end
+              (record { stop = at.stop; around = at.around.1.4; word_at = at.word_at }),
+        )) behind fits) _
         (λ v. course_of levels (Joins v (opened o.so_far o.parts outer word)) s)
         (λ v. stands code last (place + 1) levels (Joins v (opened o.so_far o.parts outer word)) fs
         end s

@@ -6,9 +6,8 @@ use Rattle.std.proofs.lemmas.Bool.{le-leb}
 use Rattle.std.proofs.lemmas.List.{reverse-append, reverse-reverse, length-reverse}
 use Rattle.std.proofs.Math.Seq.{take-append_seam, drop-append_seam}
 use Rattle.state.specs.Prelude.{Status}
-use Rattle.steps.specs.Loops.{lowest}
 use Rattle.steps.specs.Machine.{beginning}
-use Rattle.steps.specs.Moves.{with_operands}
+use Rattle.steps.specs.Moves.{lowest, with_operands}
 use Rattle.steps.specs.Spot.{Spot, Handler, Begins, Stuck}
 
 -- the words, of which the last one is on top

@@ -22,14 +22,16 @@ use Rattle.steps.specs.Operand.{Outer, Prefixed, Row, Right, Holds, Argument, Te
 use Rattle.steps.specs.Places.{Evaluates, Values, Chooses, Frame, Skip, beneath, brackets, handlers_beneath, left_of, marks_beneath, onward_of, spot_at}
 use Rattle.steps.proofs.Leads.Formulas.{formula_leads}
 use Rattle.steps.proofs.Leads.Bodies.{body_begins}
-use Rattle.steps.proofs.Leads.Grows.{body_grows, formula_grows}
+use Rattle.steps.proofs.Leads.Forwards.{operand_grows}
+use Rattle.steps.proofs.Leads.Grows.{body_grows, formula_grows, links_grow}
 use Rattle.steps.proofs.Leads.Loops.{loop_over, turn_begins}
-use Rattle.steps.proofs.Leads.Meanings.{below_at, call_leads, gives_leads, jump_leads, truth_leads}
+use Rattle.steps.proofs.Leads.Meanings.{amid_below, below_at, call_leads, gives_leads, jump_leads, truth_leads}
 use Rattle.steps.proofs.Leads.Operands.{last_first, words_left}
 use Rattle.steps.proofs.Leads.Scripts.{has_leads}
 use Rattle.steps.proofs.Leads.Standing.{by, comes_here, stands, tick_leads}
-use Rattle.steps.specs.Formulas.{calling, deciding, jumping}
+use Rattle.steps.specs.Formulas.{calling, deciding}
 use Rattle.steps.specs.Loops.{turned}
+use Rattle.steps.specs.Moves.{jumping}
 use Rattle.steps.specs.Spot.{Went}
 use Rattle.tclparse.specs.Formula.{Formulas, Links}
 use Rattle.tclparse.specs.declared.operator.Function.{Function}
@@ -57,7 +59,14 @@ module _ {A X : Type 0} (code : List (Instruction A)) (last : Status → Outcome
         tells rest) at behind fits =
         by code last (i.AndAlso (at_truth + 1)) (spot_at place levels (Values v (Row ls ∷ outer))
         fs) s _ also
-        (truth_leads code last (truth_of v) levels fs s
+        (truth_leads code last (truth_of v) (below_at code last (place + 1) levels outer fs) levels fs s
+        (amid_below code last (place + 1) levels outer fs end
+        (omega (
+          arith,
+          formula_grows code f_at,
+          links_grow code rest,
+          operand_grows code mid outer end at,
+        )) behind fits)
         (λ holds. deciding false holds (at_truth + 1) (below_at code last (place + 1) levels outer
         fs) s)
         (λ holds. if holds
@@ -76,7 +85,14 @@ module _ {A X : Type 0} (code : List (Instruction A)) (last : Status → Outcome
         tells rest) at behind fits =
         by code last (i.OrElse (at_truth + 1)) (spot_at place levels (Values v (Row ls ∷ outer)) fs)
         s _ also
-        (truth_leads code last (truth_of v) levels fs s
+        (truth_leads code last (truth_of v) (below_at code last (place + 1) levels outer fs) levels fs s
+        (amid_below code last (place + 1) levels outer fs end
+        (omega (
+          arith,
+          formula_grows code f_at,
+          links_grow code rest,
+          operand_grows code mid outer end at,
+        )) behind fits)
         (λ holds. deciding true holds (at_truth + 1) (below_at code last (place + 1) levels outer
         fs) s)
         (λ holds. if holds
@@ -179,7 +195,14 @@ module _ {A X : Type 0} (code : List (Instruction A)) (last : Status → Outcome
     operand_leads place v (Test this other ∷ outer) at behind fits =
         by code last (i.Unless (at.0 + 1)) (spot_at place levels (Values v (Test this other ∷
         outer)) fs) s _ at.2
-        (truth_leads code last (truth_of v) levels fs s
+        (truth_leads code last (truth_of v) (below_at code last (place + 1) levels outer fs) levels fs s
+        (amid_below code last (place + 1) levels outer fs end
+        (omega (
+          arith,
+          formula_grows code at.3,
+          formula_grows code at.5,
+          operand_grows code at.1 outer end at.6,
+        )) behind fits)
         (λ holds. if holds then Went (below_at code last (place + 1) levels outer fs) s
         else jumping (at.0 + 1) (below_at code last (place + 1) levels outer fs) s)
         (λ holds. if holds then evaluated levels this s (operand_on levels outer)
@@ -199,7 +222,9 @@ module _ {A X : Type 0} (code : List (Instruction A)) (last : Status → Outcome
     operand_leads place v (Condition body more otherwise ∷ outer) at behind fits =
         by code last (i.Unless (at.0 + 1)) (spot_at place levels (Values v (Condition body more
         otherwise ∷ outer)) fs) s _ at.1
-        (truth_leads code last (truth_of v) levels fs s
+        (truth_leads code last (truth_of v) (below_at code last (place + 1) levels [] fs) levels fs s
+        (amid_below code last (place + 1) levels [] fs end
+        (omega (arith, body_grows code at.2, at.4)) behind fits)
         (λ holds. if holds then Went (below_at code last (place + 1) levels [] fs) s
         else jumping (at.0 + 1) (below_at code last (place + 1) levels [] fs) s)
         (λ holds. definition.chosen levels body more otherwise s holds)
@@ -215,7 +240,8 @@ module _ {A X : Type 0} (code : List (Instruction A)) (last : Status → Outcome
         let over : FramesAt code (place + 2) fs = subst (λ n. FramesAt code n fs) at.1 behind in
         by code last (i.Turn loop_at.body loop_at.ends) (spot_at place levels (Values v (Turning
         loop ∷ outer)) fs) s _ loop_at.turns
-        (truth_leads code last (truth_of v) levels fs s
+        (truth_leads code last (truth_of v) (below_at code last (place + 1) levels [] fs) levels fs s
+        (amid_below code last (place + 1) levels [] fs end (omega (arith, at.1)) behind fits)
         (λ holds. turned loop_at.body loop_at.ends holds
         (below_at code last (place + 1) levels [] fs) s)
         (λ holds. loops.turned loop levels s holds)

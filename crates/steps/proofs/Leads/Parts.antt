@@ -1,22 +1,27 @@
 -- The parts of an open word of which there is nothing yet, and each kind of part.
-use Rattle.std.proofs.Common.{ℕ, zero, suc, ◌+◌, ◌≤◌, List, [], ◌∷◌, true, false, Option, None, Some, refl, ap, arith}
+use Rattle.std.proofs.Common.{ℕ, zero, suc, ◌+◌, ◌≤◌, List, [], ◌∷◌, true, false, Option, None, Some, Result, Ok, Err, refl, ap, arith}
 use Rattle.std.specs.Prelude.{is_some, slice_get}
+use Rattle.acts.specs.Flaw as flaw
 use Rattle.code.specs.Code.{At, JoinsAt, PartsAt, over, empty, text, value, item, bracket, CommandsAt, none}
 use Rattle.code.specs.declared.instruction.Instruction.{Instruction}
 use Rattle.code.specs.declared.instruction.Instruction.TheVariants as i
 use Rattle.plan.specs.Plan.{and_then, onward}
-use Rattle.state.specs.Prelude.{Dialogue, Outcome, Status}
-use Rattle.state.specs.Variables.{spelled}
+use Rattle.state.specs.Prelude.{Course, Dialogue, Outcome, Status}
+use Rattle.state.specs.Variables.{flaw_of_trouble, found, spelled}
 use Rattle.steps.specs.Follows.{Follows}
 use Rattle.steps.specs.Goes.{here, calls}
 use Rattle.steps.specs.Layout.{FramesAt, OuterAt, JoinedAt}
-use Rattle.steps.specs.Machine.{machine}
+use Rattle.steps.specs.Machine.{machine, with_value}
 use Rattle.steps.specs.Places.{Has, Part, Joins, Frame, Rest, Bracket, brackets, course_of, left_of, onward_of, spot_at}
+use Rattle.steps.specs.Spot.{Spot, Did}
 use Rattle.steps.specs.Word.{Around, Open, Word, bytes_of, index_on, word_on}
+use Rattle.steps.proofs.Leads.Forwards.{joined_grows, outer_grows}
+use Rattle.steps.proofs.Leads.Grows.{commands_grow, joins_grow, parts_grow}
+use Rattle.steps.proofs.Leads.Resumed.{Amid, amid_word, failure_leads}
 use Rattle.steps.proofs.Leads.Silent.{same_goes}
-use Rattle.steps.proofs.Leads.Standing.{by, sooner, errors_pass, stands, value_leads}
+use Rattle.steps.proofs.Leads.Standing.{by, sooner, stands}
 use Rattle.tclparse.specs.Tree.{Parts, no_parts, variable, script, Commands, bytes_then}
-use Rattle.tclstate.specs.Scopes.{read}
+use Rattle.tclstate.specs.Scopes.{Trouble, read}
 use Rattle.words.proofs.Steps.{literal}
 
 -- an open word by its parts
@@ -31,6 +36,18 @@ module _ {A X : Type 0} (code : List (Instruction A)) (last : Status → Outcome
       Follows code last
       (machine (slice_get code place) (spot_at place levels (Part word) frames) s)
       (left_of last levels (Part word) frames s)
+
+  -- the value of a variable, or its error
+  pub value_leads : (r : Result (List ℕ) Trouble) (name : List ℕ) (spot : Spot) (levels : ℕ)
+      (fs : List Frame) (s : Status) → Amid code last spot levels fs → (next : List ℕ → Did)
+      (course : List ℕ → Course) →
+      ((v : List ℕ) → Follows code last (next v)
+      (and_then (course v) (onward (onward_of last levels fs)))) →
+      Follows code last (with_value r name spot s next)
+      (and_then (found r name s course) (onward (onward_of last levels fs)))
+  value_leads (Ok v) name spot levels fs s amid next course f = f v
+  value_leads (Err trouble) name spot levels fs s amid next course f =
+      failure_leads code last (flaw_of_trouble trouble name) spot levels fs s amid
 
   module _ (levels : ℕ) (outer : List Around) (word : Word) (fs : List Frame) (s : Status) where
     -- a literal text
@@ -59,7 +76,15 @@ module _ {A X : Type 0} (code : List (Instruction A)) (last : Status → Outcome
     variable_leads so_far name ps place mid stop end at joins parts_at outer_at behind fits =
         by code last (i.Variable name) (spot_at place levels (Part (opened so_far (variable name ps)
         outer word)) fs) s _ at
-        (value_leads code last (read s.scopes name None) (spelled name None) levels fs s _
+        (value_leads (read s.scopes name None) (spelled name None) (spot_at (place + 1) levels (Part
+        (opened so_far (variable name ps) outer word)) fs) levels fs s
+        (amid_word code last (place + 1) levels end (opened so_far (variable name ps) outer word) fs
+        (omega (
+          arith,
+          joins_grow code joins,
+          parts_grow code parts_at,
+          outer_grows code stop outer word end outer_at,
+        )) behind fits) _
         (λ v. course_of levels (Joins v (opened so_far ps outer word)) s)
         (λ v. stands code last (place + 1) levels (Joins v (opened so_far ps outer word)) fs end s
         (record { mid = mid; joins = joins; stop = stop; parts_at = parts_at; outer_at = outer_at })
@@ -76,7 +101,14 @@ module _ {A X : Type 0} (code : List (Instruction A)) (last : Status → Outcome
       fits =
       by code last i.Enter (spot_at place zero (Part (opened so_far (script cs ps) outer word)) fs)
       s _ enter
-      (same_goes (errors_pass code last zero fs s _))
+      (failure_leads code last flaw.TooManyNested (spot_at (place + 1) zero (Part (opened so_far (script cs ps) outer
+      word)) fs) zero fs s
+      (amid_word code last (place + 1) zero end (opened so_far (script cs ps) outer word) fs
+      (omega (
+        arith,
+        commands_grow code commands,
+        joined_grows code (at + 1) (opened so_far ps outer word) end joined,
+      )) behind fits))
   enter_leads (suc levels) outer word fs s so_far cs ps place at end enter commands leave joined
       behind fits =
       by code last i.Enter (spot_at place (suc levels) (Part (opened so_far (script cs ps) outer

@@ -6,19 +6,23 @@ use Rattle.code.specs.Code.{CommandsAt, done, next, FaultAt, none, fault}
 use Rattle.code.specs.declared.instruction.Instruction.{Instruction}
 use Rattle.code.specs.declared.instruction.Instruction.TheVariants as i
 use Rattle.runs.specs.Commands.{command}
+use Rattle.state.specs.Faults.{flaw_of_fault}
 use Rattle.state.specs.Prelude.{Dialogue, Gives, Outcome, Status}
 use Rattle.steps.specs.Follows.{Follows}
 use Rattle.steps.specs.Goes.{here, calls}
 use Rattle.steps.specs.Layout.{FramesAt}
 use Rattle.steps.specs.Machine.{ahead, machine}
-use Rattle.steps.specs.Places.{Has, Joins, Starts, Frame, Rest, Bracket, Body, Skip, For, Turns, Elements, brackets, onward_of, spot_at}
+use Rattle.steps.specs.Places.{Has, Joins, Starts, Frame, Rest, Bracket, Body, Skip, For, Turns, Elements, Catches, beneath, brackets, onward_of, spot_at}
 use Rattle.steps.specs.Spot.{Went, Stuck}
+use Rattle.steps.proofs.Leads.Above.{those}
+use Rattle.steps.proofs.Leads.Catches.{caught_over}
 use Rattle.steps.proofs.Leads.Foreach.{round_over}
 use Rattle.steps.proofs.Leads.Loops.{for_turns, part_over}
 use Rattle.steps.proofs.Leads.Meanings.{jump_leads}
-use Rattle.steps.proofs.Leads.Silent.{same_goes}
-use Rattle.steps.proofs.Leads.Standing.{by, silently, errors_pass, stands, tick_leads}
+use Rattle.steps.proofs.Leads.Resumed.{amid_operands, failure_leads}
+use Rattle.steps.proofs.Leads.Standing.{by, silently, stands, tick_leads}
 use Rattle.tclparse.specs.Fault.{Fault}
+use Rattle.tclparse.specs.Seen.{fault_of}
 use Rattle.tclparse.specs.Tree.{Commands}
 use Rattle.words.specs.Words.{words}
 use Rattle.steps.specs.Word.{Open}
@@ -38,7 +42,9 @@ module _ {A X : Type 0} (code : List (Instruction A)) (last : Status → Outcome
   rest_leads place mid end levels cs f fs v s over done none behind fits = over behind
   rest_leads place mid end levels cs f fs v s over done (fault {fault = why} at) behind fits =
       by code last (i.Fault why) (spot_at place levels (Has v) (Rest cs f ∷ fs)) s _ at
-      (same_goes (errors_pass code last levels fs s _))
+      (failure_leads code last (flaw_of_fault (fault_of why)) (spot_at (place + 1) levels (Has v) (Rest cs f ∷ fs)) levels fs s
+      (amid_operands code last (place + 1) levels (place + 1) (v ∷ beneath fs) fs
+      (those (v ∷ []) (beneath fs)) (omega arith) behind fits))
   rest_leads place mid end levels cs f fs v s over (next {mid = behind_words} {ws = ws} {cs = more}
       at words_at rest) ends behind fits =
       by code last i.Next (spot_at place levels (Has v) (Rest cs f ∷ fs)) s _ at
@@ -112,3 +118,5 @@ module _ {A X : Type 0} (code : List (Instruction A)) (last : Status → Outcome
       part_over code last levels fs s v loop place ends turn at.0 at.1 at.2 fits
   has_leads place levels (Elements each elements ends turn ∷ fs) v s at fits =
       round_over code last levels fs s v each elements place ends turn at.0 at.1 at.2 fits
+  has_leads place levels (Catches variable ends ∷ fs) v s at fits =
+      caught_over code last levels fs s v variable place ends at.0 at.1 at.2 at.3 at.4 fits

@@ -1,88 +1,23 @@
 -- How a place is shown: by the instruction that stands there, and by the place that comes next.
-use Rattle.std.proofs.Common.{◌≡◌, ◌∙◌, ℕ, zero, suc, ◌+◌, ◌≤◌, List, [], ◌∷◌, Option, Some, None, Result, Ok, Err, refl, sym, ap, subst}
+use Rattle.std.proofs.Common.{◌≡◌, ℕ, zero, suc, ◌+◌, ◌≤◌, List, [], ◌∷◌, Some, None, refl, sym, subst}
 use Rattle.std.specs.Prelude.{slice_get}
 use Rattle.code.specs.Code.{At}
 use Rattle.code.specs.declared.instruction.Instruction.{Instruction}
-use Rattle.conditions.specs.Loop.{again, on_step, steps}
 use Rattle.plan.specs.Plan.{and_then, onward}
 use Rattle.state.specs.Dialogue.{tick_of}
 use Rattle.state.specs.Outcome.{Stop}
-use Rattle.state.specs.Prelude.{Again, AgainRunning, Break, Code, Continue, Course, Dialogue, Error, leaves, Leaves, LoopTree, Outcome, Return, Status, Stops}
-use Rattle.state.specs.Turn.{on_turn}
-use Rattle.state.specs.Variables.{found}
-use Rattle.steps.specs.Each.{turns_left}
+use Rattle.state.specs.Prelude.{Course, Dialogue, Outcome, Status, Stops}
 use Rattle.steps.specs.Follows.{Here, Comes, Follows}
 use Rattle.steps.specs.Goes.{Goes, here}
 use Rattle.steps.specs.Layout.{HeadAt, FramesAt}
-use Rattle.steps.specs.Machine.{machine, with_value}
+use Rattle.steps.specs.Machine.{machine}
 use Rattle.steps.specs.Moves.{ticked}
-use Rattle.steps.specs.Places.{Head, Frame, Rest, Bracket, Body, Skip, For, Turns, Elements, behind_part, brackets, left_of, onward_of, spot_at}
+use Rattle.steps.specs.Places.{Head, Frame, Rest, Bracket, Body, Skip, For, Turns, Elements, Catches, brackets, left_of, onward_of, spot_at}
 use Rattle.steps.specs.Spot.{Spot, Did, Went, Reads, Begins, Over, Stuck}
 use Rattle.steps.proofs.Leads.Silent.{same_goes, then_goes}
-use Rattle.tclstate.specs.Scopes.{Trouble}
-
--- a code that a turn of a loop passes on
-abbrev pub IsPassed : Code → Type 0
-IsPassed Break = ⊥
-IsPassed Continue = ⊥
-IsPassed code = Unit {0}
-
-turn_passes : (next : Status → Course) (s : Status) (c : Code) (value : List ℕ) → IsPassed c →
-    on_turn next s (Leaves c value) ≡ leaves c value s
-turn_passes next s Error value passed = refl
-turn_passes next s Return value passed = refl
-turn_passes next s Break value passed = absurd passed
-turn_passes next s Continue value passed = absurd passed
-turn_passes next s Again value passed = refl
-turn_passes next s AgainRunning value passed = refl
-
-step_passes : (next : Status → Course) (s : Status) (c : Code) (value : List ℕ) → IsPassed c →
-    on_step next s (Leaves c value) ≡ leaves c value s
-step_passes next s Error value passed = refl
-step_passes next s Return value passed = refl
-step_passes next s Break value passed = absurd passed
-step_passes next s Continue value passed = absurd passed
-step_passes next s Again value passed = refl
-step_passes next s AgainRunning value passed = refl
-
-part_passes : (loop : LoopTree) (levels : ℕ) (ends : Option ℕ) (s : Status) (c : Code)
-    (value : List ℕ) → IsPassed c →
-    behind_part loop levels ends s (Leaves c value) ≡ leaves c value s
-part_passes loop levels (Some end) s c value passed =
-    turn_passes (steps loop.step levels (again loop levels)) s c value passed
-part_passes loop levels None s c value passed =
-    step_passes (again loop levels) s c value passed
 
 module _ {A X : Type 0} (code : List (Instruction A)) (last : Status → Outcome → Dialogue X) where
-  -- another code than ok, break and continue goes past all frames
-  pub leaves_pass : (levels : ℕ) (frames : List Frame) (s : Status) (c : Code) (value : List ℕ) →
-      IsPassed c → onward_of last levels frames s (Leaves c value) ≡ last s (Leaves c value)
-  leaves_pass levels [] s c value passed = refl
-  leaves_pass levels (Rest cs f ∷ frames) s c value passed =
-      leaves_pass levels frames s c value passed
-  leaves_pass levels (Bracket word ∷ frames) s c value passed =
-      leaves_pass (suc levels) frames s c value passed
-  leaves_pass levels (Body ∷ frames) s c value passed =
-      leaves_pass (suc levels) frames s c value passed
-  leaves_pass levels (Skip ∷ frames) s c value passed =
-      leaves_pass levels frames s c value passed
-  leaves_pass levels (For test step body ∷ frames) s c value passed =
-      leaves_pass levels frames s c value passed
-  leaves_pass levels (Turns loop ends turn ∷ frames) s c value passed =
-      ap (λ course. and_then course (onward (onward_of last levels frames)))
-      (part_passes loop levels ends s c value passed)
-      ∙ leaves_pass levels frames s c value passed
-  leaves_pass levels (Elements each elements ends turn ∷ frames) s c value passed =
-      ap (λ course. and_then course (onward (onward_of last levels frames)))
-      (turn_passes (turns_left levels each elements) s c value passed)
-      ∙ leaves_pass levels frames s c value passed
-
-  -- so does an error
-  pub errors_pass : (levels : ℕ) (frames : List Frame) (s : Status) (value : List ℕ) →
-      onward_of last levels frames s (Leaves Error value) ≡ last s (Leaves Error value)
-  errors_pass levels frames s value = leaves_pass levels frames s Error value tt
-
-  -- and so does a stop
+  -- a stop goes past all frames
   pub stops_pass : (levels : ℕ) (frames : List Frame) (s : Status) (stop : Stop) →
       onward_of last levels frames s (Stops stop) ≡ last s (Stops stop)
   stops_pass levels [] s stop = refl
@@ -95,6 +30,7 @@ module _ {A X : Type 0} (code : List (Instruction A)) (last : Status → Outcome
   stops_pass levels (Turns loop None turn ∷ frames) s stop = stops_pass levels frames s stop
   stops_pass levels (Elements each elements ends turn ∷ frames) s stop =
       stops_pass levels frames s stop
+  stops_pass levels (Catches variable ends ∷ frames) s stop = stops_pass levels frames s stop
 
   -- this is left to be done there
   pub stands_here : (place levels : ℕ) (head : Head) (frames : List Frame) (end : ℕ) (s : Status) →
@@ -161,14 +97,3 @@ module _ {A X : Type 0} (code : List (Instruction A)) (last : Status → Outcome
       (and_then (tick_of left s course) (onward (onward_of last levels frames)))
   tick_leads zero levels frames s next course f = same_goes (stops_pass levels frames s _)
   tick_leads (suc left) levels frames s next course f = f (record s { left = left })
-
-  -- the value of a variable, or its error
-  pub value_leads : (r : Result (List ℕ) Trouble) (name : List ℕ) (levels : ℕ) (frames : List Frame)
-      (s : Status) (next : List ℕ → Did) (course : List ℕ → Course) →
-      ((value : List ℕ) → Follows code last (next value)
-      (and_then (course value) (onward (onward_of last levels frames)))) →
-      Follows code last (with_value r name s next)
-      (and_then (found r name s course) (onward (onward_of last levels frames)))
-  value_leads (Ok value) name levels frames s next course f = f value
-  value_leads (Err trouble) name levels frames s next course f =
-      same_goes (errors_pass levels frames s _)

@@ -1,3 +1,4 @@
+use Rattle.code.proofs.Catches.{catch_own_block}
 use Rattle.code.proofs.Evals.{eval_block}
 use Rattle.code.proofs.Owns.{for_block, if_block, while_block}
 use Rattle.code.proofs.own.emit_its.Goals as goal
@@ -21,3 +22,8 @@ pub returns-in_ok-emit_body-in-Eval : goal.returns-in_ok-emit_body-in-Eval
 returns-in_ok-emit_body-in-Eval g c = λ args is.
     eval_block c.args.code.now.items c.emit_body.new.code.items c.args.own.now c.in-Eval.own
     c.in-Eval.is c.in_ok-emit_body-in-Eval.ensures args is
+
+pub returns-in_ok-emit_catch-in-Catch : goal.returns-in_ok-emit_catch-in-Catch
+returns-in_ok-emit_catch-in-Catch g c = λ args is.
+    catch_own_block c.args.code.now.items c.emit_catch.new.code.items c.args.own.now c.in-Catch.own
+    c.in-Catch.is c.in_ok-emit_catch-in-Catch.ensures args is

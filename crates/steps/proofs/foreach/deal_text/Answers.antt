@@ -4,7 +4,7 @@ use Rattle.meanings.specs.View.{IsNoList}
 use Rattle.state.specs.Piece.{ListText}
 use Rattle.steps.specs.Does.{reads}
 use Rattle.steps.specs.Foreach.{dealt}
-use Rattle.steps.specs.Moves.{fails}
+use Rattle.steps.specs.Handling.{fails}
 use Rattle.steps.specs.View.{did_of, spot_of}
 use Rattle.steps.proofs.Does.{no_list_does, same_does}
 use Rattle.steps.proofs.foreach.deal_text.Goals as goal
@@ -24,5 +24,5 @@ returns-in_ok-failed-in-Err-Fault-clause-does g c = λ s.
     subst (λ why. IsNoList c.args.text.now why) c.in-Err-Fault.field-0-is
     c.in-Err-Fault.ensures.fault in
     no_list_does c.args.text.now fault (dealt c.args.place spot s)
-    (did_of c.in_ok-failed-in-Err-Fault.field-0 spot s) none
-    (λ why told. c.in_ok-failed-in-Err-Fault.ensures spot s ∙ ap (λ f. fails f s) told)
+    (did_of c.in_ok-failed-in-Err-Fault.field-0 (spot_of c.failed.new.spot) s) none
+    (λ why told. c.in_ok-failed-in-Err-Fault.ensures.does s ∙ ap (λ f. fails f spot s) told)

@@ -1,7 +1,7 @@
 use Rattle.std.proofs.Common.{◌≡◌, ◌∙◌, ◌++◌, [], ◌∷◌, length, sym, ap, rules}
 use Rattle.std.specs.Prelude.{reverse}
 use Rattle.std.proofs.lemmas.List.{length-reverse, reverse-append, reverse-reverse}
-use Rattle.steps.specs.Formulas.{jumping}
+use Rattle.steps.specs.Moves.{jumping}
 use Rattle.steps.specs.View.{spot_of}
 use Rattle.steps.proofs.foreach.put_elements.Goals as goal
 

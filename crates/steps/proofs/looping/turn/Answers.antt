@@ -22,9 +22,9 @@ returns-in-Err-Fault-clause-does g c = λ s.
     let told = subst (λ text. IfErr c.truth-2.result (IsNoTruth text)) c.text.ensures
     c.truth-2.ensures.fault in
     let is = c.in-Err-Fault.is ∙ ap (λ why. Err why) c.in-Err-Fault.field-0-is in
-    c.in_ok-failed-in-Err-Fault.ensures (with_operands (reverse new) spot) t
-    ∙ no_truth c.truth-2.result c.in-Err-Fault.fault v t
+    c.in_ok-failed-in-Err-Fault.ensures.does t
+    ∙ no_truth c.truth-2.result c.in-Err-Fault.fault v (with_operands (reverse new) spot) t
     (λ holds. turned body end holds (with_operands (reverse new) spot) t) is told
-    ∙ sym (ap (λ os. on_top os (λ value below. on_truth (truth_of value) t
+    ∙ sym (ap (λ os. on_top os (λ value below. on_truth (truth_of value) (with_operands below spot) t
     (λ holds. turned body end holds (with_operands below spot) t)))
     (one_on_top old new c.pop.result v c.pop.ensures.items c.in-Some.is))

@@ -20,9 +20,9 @@ returns-in-Err-Fault-clause-does g c = λ s.
     c.truth-2.ensures.fault in
     let is = c.in-Err-Fault.is ∙ ap (λ why. Err why) c.in-Err-Fault.field-0-is in
     let known = c.args.known in
-    c.in_ok-failed-in-Err-Fault.ensures (with_operands (reverse new) spot) s
-    ∙ no_truth c.truth-2.result c.in-Err-Fault.fault v s
+    c.in_ok-failed-in-Err-Fault.ensures.does s
+    ∙ no_truth c.truth-2.result c.in-Err-Fault.fault v (with_operands (reverse new) spot) s
     (λ holds. deciding known holds place (with_operands (reverse new) spot) s) is told
-    ∙ sym (ap (λ os. on_top os (λ value below. on_truth (truth_of value) s
+    ∙ sym (ap (λ os. on_top os (λ value below. on_truth (truth_of value) (with_operands below spot) s
     (λ holds. deciding known holds place (with_operands below spot) s)))
     (one_on_top old new c.pop.result v c.pop.ensures.items c.in-Some.is))

@@ -2,8 +2,7 @@ use Rattle.std.proofs.Common.{◌≡◌, ◌∙◌, ◌++◌, [], ◌∷◌, ap,
 use Rattle.std.specs.Prelude.{reverse}
 use Rattle.std.proofs.lemmas.List.{reverse-append}
 use Rattle.meanings.specs.Meaning.{truth}
-use Rattle.steps.specs.Formulas.{jumping}
-use Rattle.steps.specs.Moves.{with_operands}
+use Rattle.steps.specs.Moves.{jumping, with_operands}
 use Rattle.steps.specs.Spot.{with_top}
 use Rattle.steps.specs.View.{spot_of}
 use Rattle.steps.proofs.Meanings.{decided}

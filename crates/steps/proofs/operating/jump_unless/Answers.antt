@@ -2,8 +2,8 @@ use Rattle.std.proofs.Common.{◌∙◌, Err, sym, ap, subst, if◌then◌else�
 use Rattle.std.specs.Prelude.{reverse, IfErr}
 use Rattle.operators.specs.Truth.{truth_of}
 use Rattle.operators.specs.View.{IsNoTruth}
-use Rattle.steps.specs.Formulas.{jumping, on_truth}
-use Rattle.steps.specs.Moves.{on_top, with_operands}
+use Rattle.steps.specs.Formulas.{on_truth}
+use Rattle.steps.specs.Moves.{jumping, on_top, with_operands}
 use Rattle.steps.specs.Spot.{Went}
 use Rattle.steps.specs.View.{spot_of}
 use Rattle.steps.proofs.Does.{one_on_top}
@@ -20,11 +20,11 @@ returns-in-Err-Fault-clause-does g c = λ s.
     let told = subst (λ t. IfErr c.truth-2.result (IsNoTruth t)) c.text.ensures
     c.truth-2.ensures.fault in
     let is = c.in-Err-Fault.is ∙ ap (λ why. Err why) c.in-Err-Fault.field-0-is in
-    c.in_ok-failed-in-Err-Fault.ensures (with_operands (reverse new) spot) s
-    ∙ no_truth c.truth-2.result c.in-Err-Fault.fault v s
+    c.in_ok-failed-in-Err-Fault.ensures.does s
+    ∙ no_truth c.truth-2.result c.in-Err-Fault.fault v (with_operands (reverse new) spot) s
     (λ holds. if holds then Went (with_operands (reverse new) spot) s
     else jumping place (with_operands (reverse new) spot) s) is told
-    ∙ sym (ap (λ os. on_top os (λ value below. on_truth (truth_of value) s
+    ∙ sym (ap (λ os. on_top os (λ value below. on_truth (truth_of value) (with_operands below spot) s
     (λ holds. if holds then Went (with_operands below spot) s
     else jumping place (with_operands below spot) s)))
     (one_on_top old new c.pop.result v c.pop.ensures.items c.in-Some.is))

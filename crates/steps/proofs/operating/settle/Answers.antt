@@ -17,7 +17,7 @@ returns-in_ok-put-in-Ok-clause-does g c = λ meaning s answers.
     subst (λ d. Does (gives meaning spot s) d)
     (sym (c.in_ok-put-in-Ok.ensures.does s
     ∙ ap (λ v. Went (with_top v spot) s) c.in_ok-into_text-in-Ok.ensures))
-    (meaning_does meaning (Ok value) s (λ v. Went (with_top v spot) s) comes)
+    (meaning_does meaning (Ok value) spot s (λ v. Went (with_top v spot) s) comes)
 
 pub returns-in_ok-failed-in-Err-Fault-clause-does :
     goal.returns-in_ok-failed-in-Err-Fault-clause-does
@@ -28,5 +28,5 @@ returns-in_ok-failed-in-Err-Fault-clause-does g c = λ meaning s answers.
     subst (λ r. Answers meaning r)
     (c.in-Err-Fault.is ∙ ap (λ why. Err why) c.in-Err-Fault.field-0-is) answers in
     subst (λ d. Does (gives meaning spot s) d)
-    (sym (c.in_ok-failed-in-Err-Fault.ensures spot s))
-    (meaning_does meaning (Err (flaw_of fault)) s (λ v. Went (with_top v spot) s) comes)
+    (sym (c.in_ok-failed-in-Err-Fault.ensures.does s))
+    (meaning_does meaning (Err (flaw_of fault)) spot s (λ v. Went (with_top v spot) s) comes)

@@ -1,7 +1,8 @@
 use Rattle.std.proofs.Common.{◌∙◌, None, refl, ap}
+use Rattle.steps.specs.Catch.{keeping}
 use Rattle.steps.specs.Foreach.{assigning}
+use Rattle.steps.specs.Handling.{fails}
 use Rattle.steps.specs.Machine.{indexing, reading, unhidden}
-use Rattle.steps.specs.Moves.{fails}
 use Rattle.steps.specs.Spot.{Went, with_top}
 use Rattle.steps.specs.View.{spot_of, with_parts}
 use Rattle.tclstate.specs.Pairs.{found}
@@ -89,8 +90,8 @@ returns-in_ok-failed-in-Fault-clause-does g c = λ s.
     let spot = spot_of c.args.spot.now in
     let t = with_parts c.args.scopes.now c.args.procs.now c.args.left.now s in
     does_so c.args.instruction.now _ spot t c.in-Fault.is
-    (same_does (c.in_ok-failed-in-Fault.ensures spot t
-    ∙ ap (λ f. fails f t) c.no_script.ensures))
+    (same_does (c.in_ok-failed-in-Fault.ensures.does t
+    ∙ ap (λ f. fails f spot t) c.no_script.ensures))
 
 pub returns-in_ok-number-in-Numeral-clause-does : goal.returns-in_ok-number-in-Numeral-clause-does
 returns-in_ok-number-in-Numeral-clause-does g c = λ s.
@@ -240,6 +241,30 @@ returns-in_ok-finish-in-Done-clause-does g c = λ s.
     let t = with_parts c.args.scopes.now c.args.procs.now c.args.left.now s in
     does_so c.args.instruction.now _ spot t c.in-Done.is
     (same_does (c.in_ok-finish-in-Done.ensures.does t))
+
+pub returns-in_ok-begin_catch-in-Catch-clause-does :
+    goal.returns-in_ok-begin_catch-in-Catch-clause-does
+returns-in_ok-begin_catch-in-Catch-clause-does g c = λ s.
+    let spot = spot_of c.args.spot.now in
+    let t = with_parts c.args.scopes.now c.args.procs.now c.args.left.now s in
+    does_so c.args.instruction.now _ spot t c.in-Catch.is
+    (same_does (c.in_ok-begin_catch-in-Catch.ensures.does t))
+
+pub returns-in_ok-end_catch-in-EndCatch-clause-does :
+    goal.returns-in_ok-end_catch-in-EndCatch-clause-does
+returns-in_ok-end_catch-in-EndCatch-clause-does g c = λ s.
+    let spot = spot_of c.args.spot.now in
+    let t = with_parts c.args.scopes.now c.args.procs.now c.args.left.now s in
+    does_so c.args.instruction.now _ spot t c.in-EndCatch.is
+    (same_does (c.in_ok-end_catch-in-EndCatch.ensures.does t))
+
+pub returns-in_ok-keep-in-Store-clause-does : goal.returns-in_ok-keep-in-Store-clause-does
+returns-in_ok-keep-in-Store-clause-does g c = λ s.
+    let spot = spot_of c.args.spot.now in
+    let t = with_parts c.args.scopes.now c.args.procs.now c.args.left.now s in
+    does_so c.args.instruction.now _ spot t c.in-Store.is
+    (same_does (c.in_ok-keep-in-Store.ensures.does t
+    ∙ ap (λ n. keeping n spot t) c.as_slice-in-Store.ensures))
 
 pub returns-in-Hole-clause-does : goal.returns-in-Hole-clause-does
 returns-in-Hole-clause-does g c = λ s.

@@ -6,6 +6,6 @@ use Rattle.steps.proofs.stepping.read.Goals as goal
 pub returns-in_ok-failed-in-Err-clause-does : goal.returns-in_ok-failed-in-Err-clause-does
 returns-in_ok-failed-in-Err-clause-does g c = λ s same.
     let spot = spot_of c.args.spot.now in
-    c.in_ok-failed-in-Err.ensures spot s
+    c.in_ok-failed-in-Err.ensures.does s
     ∙ unread s c.args.scopes.now c.args.name.now (option_copied c.args.index) c.in-Err.error
     c.in_ok-fault-in-Err.fault spot same c.in-Err.ensures.trouble c.in_ok-fault-in-Err.ensures

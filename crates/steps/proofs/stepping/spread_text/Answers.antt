@@ -7,7 +7,8 @@ use Rattle.std.proofs.Common.{subst}
 use Rattle.state.specs.Piece.{ListText}
 use Rattle.steps.specs.Does.{reads}
 use Rattle.steps.specs.Machine.{spread}
-use Rattle.steps.specs.Moves.{fails, with_operands}
+use Rattle.steps.specs.Handling.{fails}
+use Rattle.steps.specs.Moves.{with_operands}
 use Rattle.steps.specs.Spot.{Went}
 use Rattle.steps.specs.View.{did_of, spot_of}
 use Rattle.steps.proofs.Does.{no_list_does, same_does}
@@ -32,5 +33,5 @@ returns-in_ok-failed-in-Err-Fault-clause-does g c = λ s.
     subst (λ why. IsNoList c.args.text.now why) c.in-Err-Fault.field-0-is
     c.in-Err-Fault.ensures.fault in
     no_list_does c.args.text.now fault (spread spot s)
-    (did_of c.in_ok-failed-in-Err-Fault.field-0 spot s) none
-    (λ why told. c.in_ok-failed-in-Err-Fault.ensures spot s ∙ ap (λ f. fails f s) told)
+    (did_of c.in_ok-failed-in-Err-Fault.field-0 (spot_of c.failed.new.spot) s) none
+    (λ why told. c.in_ok-failed-in-Err-Fault.ensures.does s ∙ ap (λ f. fails f spot s) told)

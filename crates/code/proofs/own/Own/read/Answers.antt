@@ -1,4 +1,5 @@
 use Rattle.std.proofs.Common.{ℕ, List, [], ◌∷◌, IfSome, None, codes, refl, subst}
+use Rattle.code.specs.Catch.{IsCatch}
 use Rattle.code.specs.Conditional.{Are, IsBody}
 use Rattle.code.specs.Repeat.{AreTurns, IsFor}
 use Rattle.pure.specs.Concat.{concatenated}
@@ -38,3 +39,14 @@ returns-in-Some-4 g c =
     subst (λ r. IfSome r (λ it. (text : List ℕ) × Are words (codes "eval" ∷ text ∷ []) ×
     IsBody it (concatenated (text ∷ [])))) c.in-Some-4.is c.in_ok-own-4.ensures in
     (read.0 ∷ [], read.1, (read.0, refl, read.2))
+
+pub returns-in-Some-5 : goal.returns-in-Some-5
+returns-in-Some-5 g c =
+    let words = c.args.words.now in
+    let own = c.in-Some-5.own in
+    let read : (text : List ℕ) × (more : List (List ℕ)) ×
+    Are words (codes "catch" ∷ text ∷ more) × IsCatch own text more =
+    subst (λ r. IfSome r (λ it. (text : List ℕ) × (more : List (List ℕ)) ×
+    Are words (codes "catch" ∷ text ∷ more) × IsCatch it text more)) c.in-Some-5.is
+    c.in_ok-own-5.ensures in
+    (read.0 ∷ read.1, read.2, (read.0, read.1, refl, read.3))
