@@ -13,4 +13,6 @@ pub mod Owns
 pub mod Sequences
 pub mod Foreach
 pub mod Evals
+pub mod Choices
+pub mod Texts
 pub mod Catches

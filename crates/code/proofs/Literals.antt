@@ -16,7 +16,7 @@ behind_one : {X : Type 0} (x : X) (more : List X) →
 behind_one x more =
     let n : length (x ∷ more) - 1 ≡ length more = omega arith in rw n (take-length more)
 
-behind_two : {X : Type 0} (x y : X) (more : List X) →
+pub behind_two : {X : Type 0} (x y : X) (more : List X) →
     take (length (x ∷ y ∷ more) - 2) (drop 2 (x ∷ y ∷ more)) ≡ more
 behind_two x y more =
     let n : length (x ∷ y ∷ more) - 2 ≡ length more = omega arith in rw n (take-length more)

@@ -1,6 +1,6 @@
 -- What a call puts after the code that stands there already.
 use Rattle.std.specs.Prelude.{⊤, ◌≡◌, ℕ, ◌+◌, Bool, true, false, List, Option, length}
-use Rattle.code.specs.Code.{At, JoinsAt, PartsAt, WordsAt, CommandAt, CommandsAt, ScriptAt, BranchesAt, BehindAt, BodyAt, OwnAt, TurnsAt, StepAt, TakenAt, AssignsAt, NextAt, DealAt, FormulaAt, LinksAt, ArgumentsAt}
+use Rattle.code.specs.Code.{At, JoinsAt, PartsAt, WordsAt, CommandAt, CommandsAt, ScriptAt, BranchesAt, BehindAt, BodyAt, OwnAt, TurnsAt, StepAt, AssignsAt, NextAt, DealAt, RestAt, ArmsAt, FormulaAt, LinksAt, ArgumentsAt, TakenAt}
 use Rattle.code.specs.declared.instruction.Instruction.{Instruction}
 use Rattle.code.specs.declared.instruction.Instruction.TheVariants as i
 use Rattle.tclparse.specs.Fault.{Fault}
@@ -129,6 +129,24 @@ abbrev pub DealBlock : {A : Type 0} → List (Instruction A) → List (Instructi
     List (List ℕ) → List ℕ → Type 0
 DealBlock old new names body = Block old new (λ later.
     DealAt later (length old) names body (length new))
+
+-- a body that runs once the string of a switch is dropped
+abbrev pub ChosenBlock : {A : Type 0} → List (Instruction A) → List (Instruction A) → List ℕ →
+    Type 0
+ChosenBlock old new body = Block old new (λ later.
+    At later (length old) i.Discard × BodyAt later (length old + 1) body (length new))
+
+-- patterns of a switch with their bodies, of which the first one stands at this place
+abbrev pub ArmsBlock : {A : Type 0} → Bool → ℕ → List (Instruction A) → List (Instruction A) →
+    List (List ℕ) → Type 0
+ArmsBlock globs taken old new arms = Block old new (λ later.
+    ArmsAt later globs (length old) taken arms (length new))
+
+-- the patterns of a switch that are left, with their bodies
+abbrev pub RestBlock : {A : Type 0} → Bool → List (Instruction A) → List (Instruction A) →
+    List (List ℕ) → Type 0
+RestBlock globs old new arms = Block old new (λ later.
+    RestAt later globs (length old) arms (length new))
 
 -- a formula
 abbrev pub FormulaBlock : {A : Type 0} → List (Instruction A) → List (Instruction A) → Formula →

@@ -1,9 +1,11 @@
 -- Where the code of a tree stands.
-use Rattle.std.specs.Prelude.{◌≡◌, ℕ, ◌+◌, ◌<◌, Bool, true, false, List, [], ◌∷◌, codes, length, Option, Some, None, Ok, is_some, slice_get}
+use Rattle.std.specs.Prelude.{◌≡◌, ℕ, ◌+◌, ◌<◌, Bool, true, false, List, [], ◌∷◌, codes, length, Option, Some, None, Ok, Vec, is_some, slice_get}
 use Rattle.std.specs.List.{list_all}
 use Rattle.std.specs.Str.{bytes_eq}
 use Rattle.code.specs.declared.instruction.Instruction.{Instruction}
 use Rattle.code.specs.declared.instruction.Instruction.TheVariants as i
+use Rattle.code.specs.declared.options.Options.{Options}
+use Rattle.code.specs.Switch.{AreArms, IsShort, are_globs, is_default, texts_then, words_before}
 use Rattle.pure.specs.Concat.{concatenated}
 use Rattle.tclparse.specs.Fault.{Fault}
 use Rattle.tclparse.specs.Formula.{Formula, Formulas, Links}
@@ -19,6 +21,7 @@ use Rattle.tclparse.specs.declared.operator.Infix.TheVariants.{Both, AndAlso, Or
 use Rattle.tclparse.specs.declared.operator.Unary.{Unary}
 use Rattle.tclparse.specs.Variable.{named}
 use Rattle.tcltext.specs.Elements.{IsList}
+use Rattle.tcltext.specs.Pattern.Glob.{plain}
 
 -- this instruction stands at this place
 abbrev pub At : {A : Type 0} → List (Instruction A) → ℕ → Instruction A → Type 0
@@ -67,6 +70,12 @@ foreach_words variables list body =
     word false (bytes_then (codes "foreach") no_parts)
     (word false (bytes_then variables no_parts) (word false list (literals (body ∷ []))))
 
+-- the words of switch with these options, this word of its string, and these words after it
+-- (switch(n))
+abbrev pub switch_words : Options → Parts → List (List ℕ) → Words
+switch_words options string after =
+    texts_then (words_before options) (word false string (literals after))
+
 -- the words after the script of a catch: none, or a word that names the variable which takes the
 -- value that the script ends with (catch(n); set(n))
 pub data IsTaker : Option (List ℕ) → List (List ℕ) → Type 0 where
@@ -96,6 +105,18 @@ pub data NextAt {A : Type 0} (code : List (Instruction A)) :
       At code place (i.More (turn + 1)) → AssignsAt code (place + 1) names turn →
       At code turn (i.Begin body ends) → At code (turn + 1) i.Done →
       NextAt code place names body ends (turn + 2)
+
+-- what compares the string with a pattern, as a glob or byte by byte: where that takes it, the
+-- first place is next, else the second (switch(n))
+abbrev pub test_of : {A : Type 0} → Bool → List ℕ → ℕ → ℕ → Instruction A
+test_of false pattern here other = i.Equals pattern here other
+test_of true pattern here other = i.Matches (plain pattern) here other
+
+-- a pattern, which is not too long, is compared here (switch(n))
+pub record TestAt {A : Type 0} (code : List (Instruction A)) (globs : Bool) (place : ℕ)
+    (pattern : List ℕ) (here other : ℕ) : Type 0 where
+  pub short : IsShort globs pattern
+  pub test : At code place (test_of globs pattern here other)
 
 -- The code of the tree stands from the first place up to the second.
 mutual
@@ -140,7 +161,7 @@ mutual
 
   -- a command begins by its words; or it has code of its own, which stands after that of its words
   -- and is done where no procedure hides the command; or it is foreach, whose list is put on top
-  -- before (Tcl(n), rule 2; proc(n); foreach(n))
+  -- before; or it is switch, whose string is (Tcl(n), rule 2; proc(n); foreach(n); switch(n))
   pub data CommandAt {A : Type 0} (code : List (Instruction A)) : ℕ → Words → ℕ → Type 0 where
     by_words : {place end : ℕ} {ws : Words} → WordsAt code false 0 place ws end →
         CommandAt code place ws end
@@ -152,6 +173,9 @@ mutual
     foreach_loop : {place mid end : ℕ} {variables body : List ℕ} {list : Parts} →
         PartsAt code false place list mid → ForeachAt code mid variables body end →
         CommandAt code place (foreach_words variables list body) end
+    switched : {place mid end : ℕ} {options : Options} {string : Parts} {after : List (List ℕ)} →
+        PartsAt code false place string mid → SwitchAt code mid options after end →
+        CommandAt code place (switch_words options string after) end
 
   -- commands one after the other, before which there is a value on top (Tcl(n), rule 1)
   pub data CommandsAt {A : Type 0} (code : List (Instruction A)) : ℕ → Commands → ℕ → Type 0 where
@@ -218,6 +242,45 @@ mutual
         At code place (i.Deal (mid + 1)) → BodyAt code (place + 1) body mid →
         At code mid i.EndTurn → NextAt code (mid + 1) names (place + 1) mid end →
         DealAt code place names body end
+
+  -- switch with these options and these words after its string, once that is on top: where a
+  -- procedure hides it, it begins by its words, else its patterns follow (switch(n); proc(n))
+  pub data SwitchAt {A : Type 0} (code : List (Instruction A)) :
+      ℕ → Options → List (List ℕ) → ℕ → Type 0 where
+    with_arms : {place end : ℕ} {options : Options} {after arms : List (List ℕ)}
+        (held : Vec (List ℕ) A) → held.items ≡ after → AreArms arms after →
+        At code place (i.Switch options held end) →
+        RestAt code (are_globs options.flag) (place + 1) arms end →
+        SwitchAt code place options after end
+
+  -- the patterns that are left, globs or not, with their bodies; where none is left the string is
+  -- dropped, and the value is empty (switch(n))
+  pub data RestAt {A : Type 0} (code : List (Instruction A)) :
+      Bool → ℕ → List (List ℕ) → ℕ → Type 0 where
+    no_match : {globs : Bool} {place : ℕ} → At code place i.Discard →
+        At code (place + 1) (i.Text []) → RestAt code globs place [] (place + 1 + 1)
+    some_arms : {globs : Bool} {place taken end : ℕ} {arms : List (List ℕ)} →
+        ArmsAt code globs place taken arms end → RestAt code globs place arms end
+
+  -- patterns, globs or not, with their bodies, of which the one of the first pattern stands at the
+  -- second place, where the string is dropped first: a last `default`; or a pattern that shares the
+  -- body of the next one; or one with its own body, and a jump behind those that are left
+  -- (switch(n))
+  pub data ArmsAt {A : Type 0} (code : List (Instruction A)) :
+      Bool → ℕ → ℕ → List (List ℕ) → ℕ → Type 0 where
+    otherwise : {globs : Bool} {place end : ℕ} {body : List ℕ} → At code place i.Discard →
+        bytes_eq body (codes "-") ≡ false → BodyAt code (place + 1) body end →
+        ArmsAt code globs place place (codes "default" ∷ body ∷ []) end
+    shares : {globs : Bool} {place taken end : ℕ} {pattern : List ℕ} {more : List (List ℕ)} →
+        is_default pattern more ≡ false → TestAt code globs place pattern taken (place + 1) →
+        ArmsAt code globs (place + 1) taken more end →
+        ArmsAt code globs place taken (pattern ∷ codes "-" ∷ more) end
+    takes : {globs : Bool} {place jump end : ℕ} {pattern body : List ℕ} {more : List (List ℕ)} →
+        is_default pattern more ≡ false → bytes_eq body (codes "-") ≡ false →
+        TestAt code globs place pattern (place + 1) (jump + 1) → At code (place + 1) i.Discard →
+        BodyAt code (place + 1 + 1) body jump → At code jump (i.Jump end) →
+        RestAt code globs (jump + 1) more end →
+        ArmsAt code globs place (place + 1) (pattern ∷ body ∷ more) end
 
   -- a test, a body that runs where it holds, and what is done where it does not; the test and the
   -- body are what their words are read as (if(n))

@@ -1,3 +1,4 @@
+pub mod Switch
 pub mod Code
 pub mod Blocks
 pub mod Conditional

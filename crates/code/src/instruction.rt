@@ -1,8 +1,9 @@
 //! What is done at one place of the code.
 
+use crate::options::Options;
 use std::alloc::Allocator;
 use tclparse::{Binary, Fault, Function, Unary};
-use tcltext::Value;
+use tcltext::{Pattern, Value};
 
 /// What is done at one place of the code. The operands are a stack of texts.
 #[derive(Drop)]
@@ -89,6 +90,15 @@ pub enum Instruction<A: Allocator> {
     /// A `foreach` is over: the elements that are left are dropped, with their mark, and the empty
     /// text is put on top (foreach(n)).
     Done,
+    /// A `switch` with these options and with these words after its string, which is on top. Where
+    /// a procedure has its name, or where the string would be taken for an option, the command
+    /// begins by its words, and this place is next (switch(n); proc(n)).
+    Switch(Options, Vec<Value<A>, A>, usize),
+    /// Where the string on top is this text, the first place is next, else the second (switch(n)).
+    Equals(Value<A>, usize, usize),
+    /// Where this glob takes the string on top, the first place is next, else the second
+    /// (switch(n); string(n), match).
+    Matches(Pattern<A>, usize, usize),
     /// The script of a `catch` begins, at the next place. Within it each outcome that is no value,
     /// but for a stop of the run, goes to this place, with the number of its code on top, and above
     /// that the value that came with it (catch(n)).

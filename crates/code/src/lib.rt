@@ -2,6 +2,7 @@
 //! tree.
 #![tactic(auto)]
 
+mod arms;
 mod branches;
 mod catch;
 mod conditional;
@@ -12,9 +13,12 @@ mod formula;
 mod instruction;
 mod literal;
 mod nest;
+mod options;
 mod own;
 mod repeat;
+mod switch;
 mod whole;
 
 pub use instruction::Instruction;
+pub use options::{Flag, Options};
 pub use whole::{code_of, formula_code};

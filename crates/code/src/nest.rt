@@ -3,6 +3,7 @@
 use crate::each::put_each;
 use crate::instruction::Instruction;
 use crate::own::{Own, emit_own};
+use crate::switch::put_switch;
 use memory::NoMemory;
 use std::alloc::Allocator;
 use tclparse::Word;
@@ -40,12 +41,13 @@ impl<A: Allocator + Copy> Nest<A> for Flat {
 
 impl<A: Allocator + Copy, N: Nest<A>> Nest<A> for Deeper<N> {
     fn put(&self, code: &mut Vec<Instruction<A>, A>, words: &[Word<A>]) -> Result<bool, NoMemory> {
-        match Own::read(*code.allocator(), words)? {
-            Some(own) => {
-                emit_own(code, words, &own, &self.0)?;
-                Ok(true)
-            }
-            None => Ok(put_each(code, words, &self.0)?),
+        if let Some(own) = Own::read(*code.allocator(), words)? {
+            emit_own(code, words, &own, &self.0)?;
+            return Ok(true);
         }
+        if put_each(code, words, &self.0)? {
+            return Ok(true);
+        }
+        Ok(put_switch(code, words, &self.0)?)
     }
 }

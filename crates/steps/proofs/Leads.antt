@@ -19,6 +19,8 @@ pub mod Operators
 pub mod Words
 pub mod Literals
 pub mod Lists
+pub mod Switch
+pub mod Strings
 pub mod Conditionals
 pub mod Opened
 pub mod Each

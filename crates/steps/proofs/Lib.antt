@@ -5,4 +5,5 @@ pub mod Leads
 pub mod Meanings
 pub mod Measure
 pub mod Rounds
+pub mod Strings
 pub mod Stores

@@ -1,14 +1,14 @@
 -- Where the code of what is left to be done stands.
 use Rattle.std.specs.Prelude.{◌≡◌, ℕ, suc, ◌+◌, ◌<◌, ◌≤◌, List, [], ◌∷◌, Bool, true, false, Option, Some, None, Ok, is_some, length, slice_get}
-use Rattle.code.specs.Code.{At, JoinsAt, PartsAt, WordsAt, CommandAt, ScriptAt, BodyAt, TurnsAt, TakenAt, AssignsAt, ForeachAt, DealAt, FormulaAt, LinksAt, ArgumentsAt}
+use Rattle.code.specs.Code.{At, JoinsAt, PartsAt, WordsAt, CommandAt, ScriptAt, BodyAt, TurnsAt, AssignsAt, ForeachAt, DealAt, SwitchAt, RestAt, FormulaAt, LinksAt, ArgumentsAt, TakenAt}
 use Rattle.code.specs.declared.instruction.Instruction.{Instruction}
 use Rattle.code.specs.declared.instruction.Instruction.TheVariants as i
 use Rattle.conditions.specs.Branches.{Branch}
 use Rattle.state.specs.Prelude.{LoopTree, ScriptTree}
 use Rattle.steps.specs.Each.{Each}
 use Rattle.steps.specs.Operand.{Outer, Prefixed, Row, Right, Holds, Argument, Test, Chosen, Condition, Turning}
-use Rattle.steps.specs.Places.{Head, Has, Part, Joins, Gathers, Evaluates, Values, Starts, Chooses, Enters, Repeats, Finishes, Deals, Takes, Sets, Drops, Tries, Stores, Frame, Rest, Bracket, Body, Skip, For, Turns, Elements, Catches}
-use Rattle.steps.specs.Word.{Around, Open, Word, Plain, Expands, Operand, Listed}
+use Rattle.steps.specs.Places.{Head, Has, Part, Joins, Gathers, Evaluates, Values, Starts, Chooses, Enters, Repeats, Finishes, Deals, Takes, Sets, Drops, Compares, Runs, Frame, Rest, Bracket, Body, Skip, For, Turns, Elements, Tries, Stores, Catches}
+use Rattle.steps.specs.Word.{Around, Open, Word, Plain, Expands, Operand, Listed, Switched}
 use Rattle.tclparse.specs.Formula.{Formula}
 use Rattle.tclparse.specs.FormulaGrammar.{IsFormula}
 
@@ -133,6 +133,7 @@ module _ {A : Type 0} (code : List (Instruction A)) where
       At code place i.Spread × ((count : ℕ) × WordsAt code true count (place + 1) rest end)
   WordAt place (Operand outer) end = OperandAt place outer end
   WordAt place (Listed variables body) end = ForeachAt code place variables body end
+  WordAt place (Switched options after) end = SwitchAt code place options after end
 
   -- what is around the parts that are left of an open word
   pub record OuterAt (place : ℕ) (outer : List Around) (word : Word) (end : ℕ) : Type 0 where
@@ -177,6 +178,8 @@ module _ {A : Type 0} (code : List (Instruction A)) where
       (ends : ℕ) × (turn : ℕ) × EachAt each ends turn × AssignsAt code place names turn ×
       (end ≡ turn + 2)
   HeadAt place (Drops elements) end = At code place i.Done × (end ≡ place + 1)
+  HeadAt place (Compares globs text arms) end = RestAt code globs place arms end
+  HeadAt place (Runs text body) end = At code place i.Discard × BodyAt code (place + 1) body end
   HeadAt place (Tries tree variable) end =
       (ends : ℕ) × At code place (i.Catch (ends + 1)) × EntersAt (place + 1) tree ends ×
       At code ends i.EndCatch × TakenAt code (ends + 1) variable end

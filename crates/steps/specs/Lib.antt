@@ -5,6 +5,7 @@ pub mod Storing
 pub mod Formulas
 pub mod Loops
 pub mod Foreach
+pub mod Switch
 pub mod Catch
 pub mod Machine
 pub mod Does
@@ -12,6 +13,7 @@ pub mod View
 pub mod Operand
 pub mod Word
 pub mod Each
+pub mod Tries
 pub mod Places
 pub mod Layout
 pub mod Goes

@@ -14,6 +14,7 @@ use Rattle.steps.specs.Formulas.{calling, choosing, joining_both, prefixing, put
 use Rattle.steps.specs.Handling.{fails}
 use Rattle.steps.specs.Loops.{ending, stepping, turned, turning}
 use Rattle.steps.specs.Moves.{jumping, on_top, ticked, with_operands}
+use Rattle.steps.specs.Switch as switch
 use Rattle.steps.specs.Spot.{Spot, Did, Went, Reads, Begins, Over, Stuck, with_top}
 use Rattle.tclparse.specs.Seen.{fault_of}
 use Rattle.tclstate.specs.Pairs.{found}
@@ -133,6 +134,10 @@ does (i.More place) spot s = looking place spot s
 does (i.Assign name) spot s = assigning name spot s
 does (i.Begin body end) spot s = turned body end true spot s
 does i.Done spot s = finishing spot s
+does (i.Switch options after place) spot s =
+    switch.hidden (found s.procedures (codes "switch")) options after.items place spot s
+does (i.Equals pattern taken other) spot s = switch.comparing pattern taken other spot s
+does (i.Matches pattern taken other) spot s = switch.matching pattern taken other spot s
 does (i.Catch place) spot s = catching place spot s
 does i.EndCatch spot s = ending_catch spot s
 does (i.Store name) spot s = keeping name spot s

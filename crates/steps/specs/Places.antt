@@ -9,11 +9,12 @@ use Rattle.evaluation.specs.Evaluated.{evaluated}
 use Rattle.plan.specs.Plan.{and_then, onward, after}
 use Rattle.runs.specs.Commands.{command}
 use Rattle.runs.specs.Scripts.{script}
-use Rattle.state.specs.Prelude.{Course, Dialogue, gives, inside, LoopTree, on_value, Outcome, ScriptTree, Status}
+use Rattle.state.specs.Prelude.{Course, Dialogue, gives, inside, LoopTree, on_value, Outcome, ScriptTree, Status, within}
 use Rattle.state.specs.Turn.{on_turn}
 use Rattle.steps.specs.Each.{Each, listed, turn_left, turns_left}
 use Rattle.steps.specs.Operand.{Outer, operand_on, waiting}
 use Rattle.steps.specs.Spot.{Handler, Spot}
+use Rattle.steps.specs.Tries.{tries}
 use Rattle.steps.specs.declared.handler.Covered.{Covered}
 use Rattle.steps.specs.declared.handler.Covered.TheVariants as covers
 use Rattle.steps.specs.Word.{Open, bytes_of, course_with, is_counted, operands_of}
@@ -28,6 +29,9 @@ use Rattle.words.specs.Words.{words}
 -- operand is on top; a command begins with its first word, or with its own code; the branches of if
 -- that are left are looked through; a body begins; a loop goes on with its next turn; a loop is
 -- over; the list of a foreach is on top; a foreach goes on with its next turn; the variables of a
+-- turn that are left are set; a foreach is over; the patterns of a switch that are left, globs or
+-- not, are held against its string, which is on top; the body that was chosen by the string runs,
+-- once that is dropped
 -- turn that are left are set; a foreach is over; a catch begins its script; a catch has this
 -- number, and its variable takes this value
 pub data Head : Type 0 where
@@ -46,6 +50,8 @@ pub data Head : Type 0 where
   Takes : (each : Each) (elements : List (List ℕ)) → Head
   Sets : (names : List (List ℕ)) (each : Each) (elements : List (List ℕ)) → Head
   Drops : (elements : List (List ℕ)) → Head
+  Compares : (globs : Bool) (text : List ℕ) (arms : List (List ℕ)) → Head
+  Runs : (text body : List ℕ) → Head
   Tries : (tree : ScriptTree) (variable : Option (List ℕ)) → Head
   Stores : (variable : Option (List ℕ)) (number : ℕ) (value : List ℕ) → Head
 
@@ -87,6 +93,8 @@ course_of levels (Deals list names body) s = listed levels list names body s
 course_of levels (Takes each elements) s = turns_left levels each elements s
 course_of levels (Sets names each elements) s = turn_left levels names each elements s
 course_of levels (Drops elements) s = gives [] s
+course_of levels (Compares globs text arms) s = tries levels globs text arms s
+course_of levels (Runs text body) s = within levels body s passes
 course_of levels (Tries tree variable) s = inside levels tree s (caught variable)
 course_of levels (Stores variable number value) s = stores_in variable number value s
 
@@ -209,6 +217,8 @@ operands_at (Deals list names body) frames = list ∷ beneath frames
 operands_at (Takes each elements) frames = elements ++ beneath frames
 operands_at (Sets names each elements) frames = elements ++ beneath frames
 operands_at (Drops elements) frames = elements ++ beneath frames
+operands_at (Compares globs text arms) frames = text ∷ beneath frames
+operands_at (Runs text body) frames = text ∷ beneath frames
 operands_at (Tries tree variable) frames = beneath frames
 operands_at (Stores variable number value) frames = value ∷ decimal number ∷ beneath frames
 
@@ -230,6 +240,8 @@ marks_at (Deals list names body) frames = marks_beneath frames
 marks_at (Takes each elements) frames = length (beneath frames) ∷ marks_beneath frames
 marks_at (Sets names each elements) frames = length (beneath frames) ∷ marks_beneath frames
 marks_at (Drops elements) frames = length (beneath frames) ∷ marks_beneath frames
+marks_at (Compares globs text arms) frames = marks_beneath frames
+marks_at (Runs text body) frames = marks_beneath frames
 marks_at (Tries tree variable) frames = marks_beneath frames
 marks_at (Stores variable number value) frames = marks_beneath frames
 

@@ -1,6 +1,8 @@
 -- A word of a command that is being put together, as the proof sees it.
 use Rattle.std.specs.Prelude.{ℕ, List, [], ◌∷◌, ◌++◌, codes, Bool, true, false, Option, Some, None, reverse}
 use Rattle.code.specs.Code.{literals}
+use Rattle.code.specs.Switch.{words_before}
+use Rattle.code.specs.declared.options.Options.{Options}
 use Rattle.runs.specs.Commands.{command}
 use Rattle.state.specs.Listed.{with_list}
 use Rattle.state.specs.Prelude.{Course, Status}
@@ -18,12 +20,14 @@ pub record Around : Type 0 where
 
 -- where a word stands: after these words of its command, the last one first, and before the rest;
 -- the words are counted or not, and after {*} they are (Tcl(n), rules 2 and 5); or it is an operand
--- of a formula (expr(n)); or the list of a foreach with these variables and this body (foreach(n))
+-- of a formula (expr(n)); or the list of a foreach with these variables and this body (foreach(n));
+-- or the string of a switch with these options and these words after it (switch(n))
 pub data Word : Type 0 where
   Plain : (counted : Bool) (before : List (List ℕ)) (rest : Words) → Word
   Expands : (before : List (List ℕ)) (rest : Words) → Word
   Operand : (outer : List Outer) → Word
   Listed : (variables body : List ℕ) → Word
+  Switched : (options : Options) (after : List (List ℕ)) → Word
 
 -- a word that is open: its bytes so far, where there is something of it, its parts that are left,
 -- the indexes in which these stand, the innermost first, and where it stands (Tcl(n), rules 7, 8
@@ -58,6 +62,8 @@ word_on levels (Operand outer) = operand_on levels outer
 word_on levels (Listed variables body) = λ s value.
     words levels (literals (body ∷ [])) (codes "foreach" ∷ variables ∷ value ∷ []) s
     (command levels)
+word_on levels (Switched options after) = λ s value.
+    words levels (literals after) (words_before options ++ value ∷ []) s (command levels)
 
 -- the course of an open word with these bytes so far
 abbrev pub course_with : ℕ → Open → List ℕ → Status → Course
@@ -80,6 +86,7 @@ before_of (Plain counted before rest) below = before ++ below
 before_of (Expands before rest) below = before ++ below
 before_of (Operand outer) below = waiting outer below
 before_of (Listed variables body) below = below
+before_of (Switched options after) below = below
 
 -- whether the words are counted
 abbrev pub is_counted : Word → Bool
@@ -87,6 +94,7 @@ is_counted (Plain counted before rest) = counted
 is_counted (Expands before rest) = true
 is_counted (Operand outer) = false
 is_counted (Listed variables body) = false
+is_counted (Switched options after) = false
 
 -- the operands of an open word
 abbrev pub operands_of : Open → List (List ℕ) → List (List ℕ)

@@ -12,6 +12,7 @@ mod operating;
 mod spot;
 mod stepping;
 mod stopped;
+mod switch;
 mod storing;
 
 pub use advancing::advance;

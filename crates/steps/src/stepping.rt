@@ -16,6 +16,7 @@ use crate::looping::{begin_step, begin_turn, end_turn, turn};
 use crate::operating::{apply, choose, join_both, jump, jump_unless, number, prefix, tell};
 use crate::spot::Spot;
 use crate::stopped::Stopped;
+use crate::switch::{begin_switch, compare, match_glob};
 use acts::{Fault, NoMemory, Raise};
 use code::Instruction;
 use meanings::elements;
@@ -181,6 +182,15 @@ fn perform<A: Allocator + Copy>(
         Instruction::Assign(name) => Ok(assign(alloc, spot, scopes, name.as_slice())?),
         Instruction::Begin(body, end) => Ok(begin_turn(spot, *body, *end, left)?),
         Instruction::Done => Ok(finish(spot)?),
+        Instruction::Switch(options, after, place) => Ok(begin_switch(
+            alloc, spot, procs, *options, after, *place,
+        )?),
+        Instruction::Equals(pattern, taken, other) => {
+            Ok(compare(spot, pattern.as_slice(), *taken, *other))
+        }
+        Instruction::Matches(pattern, taken, other) => {
+            Ok(match_glob(spot, pattern, *taken, *other))
+        }
         Instruction::Catch(place) => Ok(begin_catch(spot, *place)?),
         Instruction::EndCatch => Ok(end_catch(spot)?),
         Instruction::Store(name) => Ok(keep(alloc, spot, scopes, name.as_slice())?),

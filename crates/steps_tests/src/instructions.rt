@@ -52,6 +52,9 @@ fn show<A: Allocator>(shown: &mut Vec<u8, A>, it: &Instruction<A>) -> Result<(),
         Instruction::Done => (b"done", b""),
         Instruction::Unhidden(name, 6) => (b"unhidden 6 ", name.as_slice()),
         Instruction::Jump(11) => (b"jump 11", b""),
+        Instruction::Switch(_, _, 14) => (b"switch 14", b""),
+        Instruction::Equals(text, 5, 4) => (b"equals 5 4 ", text.as_slice()),
+        Instruction::Equals(text, 5, 12) => (b"equals 5 12 ", text.as_slice()),
         Instruction::Jump(15) => (b"jump 15", b""),
         Instruction::Catch(14) => (b"catch 14", b""),
         Instruction::EndCatch => (b"end catch", b""),
@@ -167,6 +170,20 @@ fn a_script_in_a_word_stands_without_white_space_around_it(rt: HostRuntime) -> R
     }
     let wanted: &[u8] = b"next\nunhidden 6 eval\ntext eval\ntext  f \ncommand 2\njump 11\n\
         enter\nnext\ntext f\ncommand 1\nleave\n";
+    assert_eq!(&rt; shown.as_slice(), wanted);
+    Ok(())
+}
+
+#[test]
+fn the_body_of_a_pattern_stands_behind_what_compares_it(rt: HostRuntime) -> Result<(), Fail> {
+    let script = Script::read(rt.alloc(), b"switch $l {a - b f}")?;
+    let code = code_of(rt.alloc(), &script)?;
+    let mut shown = Vec::new(rt.alloc());
+    for it in &code {
+        show(&mut shown, it)?;
+    }
+    let wanted: &[u8] = b"next\nvariable l\nswitch 14\nequals 5 4 a\nequals 5 12 b\ndiscard\n\
+        enter\nnext\ntext f\ncommand 1\nleave\njump 14\ndiscard\ntext \n";
     assert_eq!(&rt; shown.as_slice(), wanted);
     Ok(())
 }

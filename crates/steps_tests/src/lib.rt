@@ -4,6 +4,8 @@
 #[cfg(test)]
 mod catching;
 #[cfg(test)]
+mod choices;
+#[cfg(test)]
 mod instructions;
 #[cfg(test)]
 mod running;

@@ -1,7 +1,8 @@
 -- A command that has code of its own.
 use Rattle.std.proofs.Common.{◌≡◌, ◌∙◌, ℕ, ◌+◌, ◌≤◌, List, [], ◌∷◌, false, Option, Some, None, Ok, option_map, codes, refl, ap, subst, arith, if◌then◌else◌}
 use Rattle.std.specs.Prelude.{slice_get}
-use Rattle.code.specs.Code.{At, CommandAt, by_words, own, foreach_loop, OwnAt, conditional, while_loop, for_loop, evaluated, caught, BranchesAt, branch, BehindAt, no_else, at_last, else_if, IsBranch, without_then, with_then, IsLast, with_else, without_else, WordsAt, literals}
+use Rattle.code.specs.Code.{At, CommandAt, by_words, own, foreach_loop, switched, OwnAt, conditional, while_loop, for_loop, evaluated, BranchesAt, branch, BehindAt, no_else, at_last, else_if, IsBranch, without_then, with_then, IsLast, with_else, without_else, WordsAt, literals, caught}
+use Rattle.code.specs.Switch.{words_before}
 use Rattle.code.specs.declared.instruction.Instruction.{Instruction}
 use Rattle.code.specs.declared.instruction.Instruction.TheVariants as i
 use Rattle.conditions.specs.Branches as definition
@@ -22,14 +23,14 @@ use Rattle.steps.proofs.Leads.Bodies.{body_begins, body_read, enters_leads}
 use Rattle.steps.proofs.Leads.Catches.{catch_begins}
 use Rattle.steps.proofs.Leads.Formulas.{formula_leads}
 use Rattle.steps.proofs.Leads.Grows.{behind_grows, own_grows, words_grow}
-use Rattle.steps.proofs.Leads.Literals.{literal_words}
+use Rattle.steps.proofs.Leads.Literals.{literal_words, text_words}
 use Rattle.steps.proofs.Leads.Loops.{for_begins, while_begins}
 use Rattle.steps.proofs.Leads.Meanings.{jump_leads}
 use Rattle.steps.proofs.Leads.Parts.{start_leads}
 use Rattle.steps.proofs.Leads.Silent.{same_goes}
 use Rattle.steps.proofs.Leads.Standing.{by, silently, sooner, stands}
 use Rattle.steps.proofs.Leads.Words.{words_lead}
-use Rattle.steps.specs.Word.{Listed}
+use Rattle.steps.specs.Word.{Listed, Switched}
 use Rattle.tclparse.specs.Tree.{Words, bytes_then, no_parts, word}
 use Rattle.tclstate.specs.Pairs.{found}
 use Rattle.tclstate.specs.Procs.{Procedure}
@@ -205,4 +206,12 @@ module _ {A X : Type 0} (code : List (Instruction A)) (last : Status → Outcome
       words levels (word false list last_word) (codes "foreach" ∷ value ∷ []) t
       (command levels)))))
       (start_leads code last levels end [] (Listed variables body) fs s place list mid list_at
+      (record { stop = mid; around = refl; word_at = at }) behind fits)
+  starts_leads levels fs s place ws end (switched {mid = mid} {options = options} {string = string}
+      {after = after} string_at at) behind fits =
+      silently code last _
+      (same_goes (ap (λ c. and_then c (onward (onward_of last levels fs)))
+      (text_words levels (words_before options) [] (word false string (literals after)) s
+      (command levels))))
+      (start_leads code last levels end [] (Switched options after) fs s place string mid string_at
       (record { stop = mid; around = refl; word_at = at }) behind fits)

@@ -15,7 +15,7 @@ use Rattle.steps.specs.Does.{Does, same, reads, Arrives, stays, then}
 use Rattle.steps.specs.Goes.{here}
 use Rattle.steps.specs.Layout.{FramesAt, HeadAt}
 use Rattle.steps.specs.Machine.{machine}
-use Rattle.steps.specs.Places.{Head, Has, Part, Joins, Gathers, Evaluates, Values, Starts, Chooses, Enters, Repeats, Finishes, Deals, Takes, Sets, Drops, Tries, Stores, Frame, Rest, brackets, left_of, spot_at}
+use Rattle.steps.specs.Places.{Head, Has, Part, Joins, Gathers, Evaluates, Values, Starts, Chooses, Enters, Repeats, Finishes, Deals, Takes, Sets, Drops, Compares, Runs, Frame, Rest, brackets, left_of, spot_at, Tries, Stores}
 use Rattle.steps.specs.Spot.{Spot, Did, beginning_at}
 use Rattle.steps.proofs.Leads.Bodies.{enters_leads}
 use Rattle.steps.proofs.Leads.Catches.{kept_leads, tries_lead}
@@ -27,6 +27,7 @@ use Rattle.steps.proofs.Leads.Loops.{finishes_lead, repeats_lead}
 use Rattle.steps.proofs.Leads.Operators.{operand_leads}
 use Rattle.steps.proofs.Leads.Scripts.{has_leads}
 use Rattle.steps.proofs.Leads.Standing.{silently, stands_here}
+use Rattle.steps.proofs.Leads.Switch.{runs_lead, compares_lead}
 use Rattle.steps.proofs.Leads.Words.{words_lead}
 
 module _ {A X : Type 0} (code : List (Instruction A)) (last : Status → Outcome → Dialogue X) where
@@ -69,6 +70,10 @@ module _ {A X : Type 0} (code : List (Instruction A)) (last : Status → Outcome
       behind fits
   head_leads place levels (Drops elements) frames end s at behind fits =
       drops_lead code last levels end frames s elements place at.0 at.1 behind fits
+  head_leads place levels (Compares globs text arms) frames end s at behind fits =
+      compares_lead code last globs levels place arms end frames s text at behind fits
+  head_leads place levels (Runs text body) frames end s at behind fits =
+      runs_lead code last levels end frames s text body place at.0 at.1 behind fits
   head_leads place levels (Tries tree variable) frames end s at behind fits =
       tries_lead code last levels frames s tree variable place at.0 end at.1 at.2 at.3 at.4 behind fits
   head_leads place levels (Stores variable number value) frames end s at behind fits =

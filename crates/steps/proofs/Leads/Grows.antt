@@ -1,7 +1,8 @@
 -- Code ends at its beginning, or after it.
 use Rattle.std.proofs.Common.{ℕ, ◌≤◌, List, Bool, Option, arith}
-use Rattle.code.specs.Code.{JoinsAt, first, joined, PartsAt, over, empty, text, value, item, bracket, WordsAt, begins, begins_counted, one, counts, spread, CommandAt, by_words, own, foreach_loop, CommandsAt, done, next, FaultAt, none, fault, OwnAt, conditional, while_loop, for_loop, evaluated, caught, TakenAt, dropped, taken, TurnsAt, turns, StepAt, no_step, steps, AssignsAt, all_set, sets, NextAt, next_turn, ForeachAt, with_names, DealAt, deals, BranchesAt, branch, BehindAt, no_else, at_last, else_if, BodyAt, deeper, FormulaAt, number, parts, called, prefixed, in_row, chosen, LinksAt, no_more, both, and_also, or_else, ArgumentsAt, no_argument, argument}
+use Rattle.code.specs.Code.{JoinsAt, first, joined, PartsAt, over, empty, text, value, item, bracket, WordsAt, begins, begins_counted, one, counts, spread, CommandAt, by_words, own, foreach_loop, CommandsAt, done, next, FaultAt, none, fault, OwnAt, conditional, while_loop, for_loop, evaluated, TurnsAt, turns, StepAt, no_step, steps, AssignsAt, all_set, sets, NextAt, next_turn, ForeachAt, with_names, DealAt, deals, switched, SwitchAt, with_arms, RestAt, no_match, some_arms, ArmsAt, otherwise, shares, takes, BranchesAt, branch, BehindAt, no_else, at_last, else_if, BodyAt, deeper, FormulaAt, number, parts, called, prefixed, in_row, chosen, LinksAt, no_more, both, and_also, or_else, ArgumentsAt, no_argument, argument, caught, TakenAt, dropped, taken}
 use Rattle.code.specs.declared.instruction.Instruction.{Instruction}
+use Rattle.code.specs.declared.options.Options.{Options}
 use Rattle.tclparse.specs.Fault.{Fault}
 use Rattle.tclparse.specs.Formula.{Formula, Links, Formulas}
 use Rattle.tclparse.specs.Tree.{Parts, Words, Commands}
@@ -53,6 +54,7 @@ module _ {A : Type 0} (code : List (Instruction A)) where
     command_grows (by_words ws) = words_grow ws
     command_grows (own hides ws jump it) = omega (arith, words_grow ws, own_grows it)
     command_grows (foreach_loop list it) = omega (arith, parts_grow list, foreach_grows it)
+    command_grows (switched string it) = omega (arith, parts_grow string, switch_grows it)
 
     pub commands_grow : {place : ℕ} {cs : Commands} {end : ℕ} → CommandsAt code place cs end →
         place ≤ end
@@ -65,8 +67,8 @@ module _ {A : Type 0} (code : List (Instruction A)) where
     own_grows (while_loop it) = turns_grow it
     own_grows (for_loop start drops it) = omega (arith, body_grows start, turns_grow it)
     own_grows (evaluated body) = body_grows body
-    own_grows (caught words starts body ends takes) =
-        omega (arith, body_grows body, taken_grows takes)
+    own_grows (caught words starts body ends stands) =
+        omega (arith, body_grows body, taken_grows stands)
 
     pub turns_grow : {place : ℕ} {test : List ℕ} {step : Option (List ℕ)} {body : List ℕ} {end : ℕ} →
         TurnsAt code place test step body end → place ≤ end
@@ -85,6 +87,22 @@ module _ {A : Type 0} (code : List (Instruction A)) where
     pub deal_grows : {place : ℕ} {names : List (List ℕ)} {body : List ℕ} {end : ℕ} →
         DealAt code place names body end → place ≤ end
     deal_grows (deals at body ended turn) = omega (arith, body_grows body, next_grows turn)
+
+    pub switch_grows : {place : ℕ} {options : Options} {after : List (List ℕ)} {end : ℕ} →
+        SwitchAt code place options after end → place ≤ end
+    switch_grows (with_arms held holds are at rest) = omega (arith, rest_grows rest)
+
+    pub rest_grows : {globs : Bool} {place : ℕ} {arms : List (List ℕ)} {end : ℕ} →
+        RestAt code globs place arms end → place ≤ end
+    rest_grows (no_match drops empty_at) = omega arith
+    rest_grows (some_arms arms) = arms_grow arms
+
+    arms_grow : {globs : Bool} {place taken : ℕ} {arms : List (List ℕ)} {end : ℕ} →
+        ArmsAt code globs place taken arms end → place ≤ end
+    arms_grow (otherwise drops unshared body) = omega (arith, body_grows body)
+    arms_grow (shares other test rest) = omega (arith, arms_grow rest)
+    arms_grow (takes other unshared test drops body jump rest) =
+        omega (arith, body_grows body, rest_grows rest)
 
     branches_grow : {place : ℕ} {args : List (List ℕ)} {end : ℕ} → BranchesAt code place args end →
         place ≤ end
@@ -123,3 +141,10 @@ module _ {A : Type 0} (code : List (Instruction A)) where
         place ≤ end
     arguments_grow no_argument = omega arith
     arguments_grow (argument f fs) = omega (arith, formula_grows f, arguments_grow fs)
+
+  -- the body of the first pattern of a switch stands at its beginning, or after it
+  pub taken_ahead : {globs : Bool} {place taken : ℕ} {arms : List (List ℕ)} {end : ℕ} →
+      ArmsAt code globs place taken arms end → place ≤ taken
+  taken_ahead (otherwise drops unshared body) = omega arith
+  taken_ahead (shares other test rest) = omega (arith, taken_ahead rest)
+  taken_ahead (takes other unshared test drops body jump rest) = omega arith

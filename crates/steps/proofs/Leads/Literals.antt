@@ -2,8 +2,9 @@
 use Rattle.std.proofs.Common.{◌≡◌, ◌∙◌, ℕ, List, [], ◌∷◌, ◌++◌, append_assoc, sym, ap}
 use Rattle.std.proofs.lemmas.List.{append-nil}
 use Rattle.code.specs.Code.{literals}
+use Rattle.code.specs.Switch.{texts_then}
 use Rattle.state.specs.Prelude.{Course, Status}
-use Rattle.tclparse.specs.Tree.{no_parts}
+use Rattle.tclparse.specs.Tree.{Words, no_parts}
 use Rattle.words.proofs.Steps.{literal}
 use Rattle.words.specs.Words.{words}
 
@@ -17,3 +18,15 @@ literal_words levels (text ∷ texts) before s next =
     (λ t value. words levels (literals texts) (before ++ value ∷ []) t next)
     ∙ literal_words levels texts (before ++ text ∷ []) s next
     ∙ ap (next s) (append_assoc before (text ∷ []) texts)
+
+-- words that are texts as they stand are these texts, before other words
+pub text_words : (levels : ℕ) (texts before : List (List ℕ)) (ws : Words) (s : Status)
+    (next : Status → List (List ℕ) → Course) →
+    words levels (texts_then texts ws) before s next ≡ words levels ws (before ++ texts) s next
+text_words levels [] before ws s next =
+    ap (λ vs. words levels ws vs s next) (sym (append-nil before))
+text_words levels (text ∷ texts) before ws s next =
+    literal levels text no_parts [] s
+    (λ t value. words levels (texts_then texts ws) (before ++ value ∷ []) t next)
+    ∙ text_words levels texts (before ++ text ∷ []) ws s next
+    ∙ ap (λ vs. words levels ws vs s next) (append_assoc before (text ∷ []) texts)

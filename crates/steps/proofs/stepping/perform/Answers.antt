@@ -1,9 +1,10 @@
-use Rattle.std.proofs.Common.{◌∙◌, None, refl, ap}
+use Rattle.std.proofs.Common.{◌∙◌, None, codes, refl, ap}
 use Rattle.steps.specs.Catch.{keeping}
 use Rattle.steps.specs.Foreach.{assigning}
 use Rattle.steps.specs.Handling.{fails}
 use Rattle.steps.specs.Machine.{indexing, reading, unhidden}
 use Rattle.steps.specs.Spot.{Went, with_top}
+use Rattle.steps.specs.Switch.{comparing, hidden}
 use Rattle.steps.specs.View.{spot_of, with_parts}
 use Rattle.tclstate.specs.Pairs.{found}
 use Rattle.steps.proofs.Does.{does_so, same_does}
@@ -241,6 +242,31 @@ returns-in_ok-finish-in-Done-clause-does g c = λ s.
     let t = with_parts c.args.scopes.now c.args.procs.now c.args.left.now s in
     does_so c.args.instruction.now _ spot t c.in-Done.is
     (same_does (c.in_ok-finish-in-Done.ensures.does t))
+
+pub returns-in_ok-begin_switch-in-Switch-clause-does :
+    goal.returns-in_ok-begin_switch-in-Switch-clause-does
+returns-in_ok-begin_switch-in-Switch-clause-does g c = λ s.
+    let spot = spot_of c.args.spot.now in
+    let t = with_parts c.args.scopes.now c.args.procs.now c.args.left.now s in
+    does_so c.args.instruction.now _ spot t c.in-Switch.is
+    (same_does (c.in_ok-begin_switch-in-Switch.ensures.does t refl
+    ∙ ap (λ ws. hidden (found t.procedures (codes "switch")) c.in-Switch.options ws
+    c.in-Switch.place spot t) c.deref.ensures.value))
+
+pub returns-in-Equals-clause-does : goal.returns-in-Equals-clause-does
+returns-in-Equals-clause-does g c = λ s.
+    let spot = spot_of c.args.spot.now in
+    let t = with_parts c.args.scopes.now c.args.procs.now c.args.left.now s in
+    does_so c.args.instruction.now _ spot t c.in-Equals.is
+    (same_does (c.compare.ensures.does t
+    ∙ ap (λ p. comparing p c.in-Equals.taken c.in-Equals.other spot t)
+    c.as_slice-in-Equals.ensures))
+
+pub returns-in-Matches-clause-does : goal.returns-in-Matches-clause-does
+returns-in-Matches-clause-does g c = λ s.
+    let spot = spot_of c.args.spot.now in
+    let t = with_parts c.args.scopes.now c.args.procs.now c.args.left.now s in
+    does_so c.args.instruction.now _ spot t c.in-Matches.is (c.match_glob.ensures.does t)
 
 pub returns-in_ok-begin_catch-in-Catch-clause-does :
     goal.returns-in_ok-begin_catch-in-Catch-clause-does

@@ -1,4 +1,4 @@
-use Rattle.std.proofs.Common.{◌≡◌, ◌∙◌, None, Some, slice_get, subst, sym, ap}
+use Rattle.std.proofs.Common.{◌≡◌, ◌∙◌, IfNone, None, Option, Some, arith, slice_get, subst, sym, ap}
 use Rattle.std.proofs.lemmas.Option.{slice_get_past, slice_get-get_or}
 use Rattle.steps.specs.Does.{Does}
 use Rattle.steps.specs.Machine.{machine}
@@ -28,3 +28,16 @@ returns-clause-does g c = λ s.
     (did_of c.in_ok-perform.field-0 (spot_of c.perform.new.spot)
     (with_parts c.perform.new.scopes c.args.procs.now c.perform.new.left s)))
     (sym some) (c.in_ok-perform.ensures.does s)
+
+-- what holds anyway holds where there is none
+where_none : {X : Type 0} (o : Option X) (P : Type 0) → P → IfNone o P
+where_none None P holds = holds
+where_none (Some x) P holds = tt
+
+pub returns-clause-onward : goal.returns-clause-onward
+returns-clause-onward g c =
+    where_none c.in_ok-perform.field-0 _ (
+      c.in-Some.ensures.lookup.3.0,
+      c.perform.ensures.ticks,
+      λ same. omega (arith, c.perform.ensures.place same),
+    )
