@@ -5,5 +5,6 @@ pub mod Leads
 pub mod Meanings
 pub mod Measure
 pub mod Rounds
+pub mod Runs
 pub mod Strings
 pub mod Stores

@@ -18,3 +18,4 @@ pub mod Places
 pub mod Layout
 pub mod Goes
 pub mod Follows
+pub mod Run

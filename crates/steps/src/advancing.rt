@@ -1,6 +1,6 @@
 //! Instructions one after the other, up to the next command or to the end.
 
-ghost use Rattle.std.specs.Prelude.{Some, IfOk};
+ghost use Rattle.std.specs.Prelude.{◌≤◌, Some, IfOk};
 ghost use Rattle.state.specs.Prelude.{Status};
 ghost use Rattle.steps.specs.Does.{Arrives};
 ghost use Rattle.steps.specs.View.{did_of, spot_of, with_parts};
@@ -25,9 +25,10 @@ pub fn advance<A: Allocator + Copy>(
     procs: &Procs<A>,
     left: &mut u64,
 ) -> Result<Stopped<A>, NoMemory>
-    ensures { (s : Status) → IfOk result (λ stopped. Arrives code.now (spot_of spot.old)
+    ensures arrives { (s : Status) → IfOk result (λ stopped. Arrives code.now (spot_of spot.old)
         (with_parts scopes.old procs.now left.old s)
         (did_of (Some stopped) (spot_of spot.new) (with_parts scopes.new procs.now left.new s))) }
+    ensures ticks { left.new ≤ left.old }
 {
     'steps: loop {
         if let Some(stopped) = step(alloc, code, spot, scopes, procs, left)? {

@@ -9,15 +9,17 @@ mod handling;
 pub mod laws;
 mod looping;
 mod operating;
+mod run;
 mod spot;
 mod stepping;
 mod stopped;
-mod switch;
 mod storing;
+mod switch;
 
 pub use advancing::advance;
 pub use handler::{Covered, Handler};
 pub use handling::resume;
+pub use run::Run;
 pub use spot::Spot;
 pub use stepping::step;
 pub use stopped::Stopped;

@@ -217,6 +217,7 @@ pub fn step<A: Allocator + Copy>(
     ensures onward { IfOk result (λ stopped. IfNone stopped
         ((spot.old.place < length code.now) × (left.new ≤ left.old) ×
         (left.new ≡ left.old → spot.old.place < spot.new.place))) }
+    ensures ticks { left.new ≤ left.old }
 {
     let Some(instruction) = code.get(spot.place) else {
         return Ok(Some(spot.finish()));

@@ -276,7 +276,8 @@ module _ {A X : Type 0} (code : List (Instruction A)) (last : Status → Outcome
     handlers = refl;
   }
 
-  resumes_so : (did : Did) (p : Dialogue X) → Resumes code last did p → Follows code last did p
+  -- what is left where an outcome leads is what was left to be done
+  pub resumes_so : (did : Did) (p : Dialogue X) → Resumes code last did p → Follows code last did p
   resumes_so (Went spot s) p at = comes_here code last spot s at
   resumes_so (Reads text next) p at = absurd at
   resumes_so (Begins words spot s) p at = absurd at

@@ -1,4 +1,4 @@
-use Rattle.std.proofs.Common.{◌+◌, ◌-◌, ◌*◌, length}
+use Rattle.std.proofs.Common.{◌+◌, ◌-◌, ◌*◌, ◌≤◌, length}
 use Rattle.state.specs.Prelude.{Status}
 use Rattle.steps.specs.Does.{Arrives}
 use Rattle.steps.specs.Spot.{Went}
@@ -7,9 +7,11 @@ use Rattle.steps.proofs.advancing.advance.Given as goal
 
 -- some instructions came to where the run is
 abbrev pub invariant-steps : goal.invariant-steps
-invariant-steps g l = (s : Status) →
+invariant-steps g l =
+    ((s : Status) →
     Arrives l.code (spot_of l.fn.spot) (with_parts l.fn.scopes l.fn.procs l.fn.left s)
-    (Went (spot_of l.spot) (with_parts l.scopes l.fn.procs l.left s))
+    (Went (spot_of l.spot) (with_parts l.scopes l.fn.procs l.left s))) ×
+    (l.left ≤ l.fn.left)
 
 abbrev pub decreases-steps : goal.decreases-steps
 decreases-steps g l =

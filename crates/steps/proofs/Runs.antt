@@ -1,0 +1,49 @@
+-- The run of a code as one value: how it begins, and what it does with an outcome.
+use Rattle.std.proofs.Common.{◌≡◌, ℕ, ◌≤◌, List, [], ◌∷◌, length, refl, sym, subst, arith}
+use Rattle.std.proofs.lemmas.Option.{slice_get_past}
+use Rattle.code.specs.Code.{ScriptAt}
+use Rattle.code.specs.declared.instruction.Instruction.{Instruction}
+use Rattle.plan.specs.Plan.{and_then, onward}
+use Rattle.runs.specs.Scripts.{script}
+use Rattle.state.specs.Piece.{ScriptTree}
+use Rattle.state.specs.Prelude.{Dialogue, on_value, Outcome, Scopes, Status}
+use Rattle.steps.specs.Does.{Arrives}
+use Rattle.steps.specs.Follows.{Follows, Resumes}
+use Rattle.steps.specs.Handling.{resumed}
+use Rattle.steps.specs.Places.{Rest}
+use Rattle.steps.specs.Spot.{Spot, Did, Went}
+use Rattle.steps.specs.View.{with_parts}
+use Rattle.steps.proofs.Leads.Each.{code_leads}
+use Rattle.steps.proofs.Leads.Resumed.{outcome_leads}
+use Rattle.tclstate.specs.Procs.{Procs}
+
+-- a state of the definition that has these parts already
+pub same_parts : (s : Status) (scopes : Scopes) (procs : Procs) (left : ℕ) → s.scopes ≡ scopes →
+    s.procedures ≡ procs → s.left ≡ left → with_parts scopes procs left s ≡ s
+same_parts s scopes procs left one two three =
+    subst (λ x. with_parts x procs left s ≡ s) one
+    (subst (λ x. with_parts s.scopes x left s ≡ s) two
+    (subst (λ x. with_parts s.scopes s.procedures x s ≡ s) three refl))
+
+module _ {A X : Type 0} (code : List (Instruction A)) (last : Status → Outcome → Dialogue X) where
+  -- a script of which nothing is done yet waits for the empty text
+  pub script_awaits : (tree : ScriptTree) (levels : ℕ) (spot : Spot) → levels ≤ 255 →
+      ScriptAt code 0 tree.commands tree.fault (length code) →
+      spot ≡ record { place = 0; operands = []; marks = []; levels = levels; handlers = [] } →
+      (s : Status) (outcome : Outcome) →
+      Resumes code last (resumed spot outcome s)
+      (and_then (on_value (script levels tree.commands tree.fault) s outcome) (onward last))
+  script_awaits tree levels spot fits at is s outcome =
+      subst (λ there. Resumes code last (resumed there outcome s)
+      (and_then (on_value (script levels tree.commands tree.fault) s outcome) (onward last)))
+      (sym is)
+      (outcome_leads code last 0 levels (Rest tree.commands tree.fault ∷ []) s
+      (length code, at, slice_get_past code (length code) (omega arith)) (omega (arith, fits))
+      outcome)
+
+  -- the outcome leads on, and several instructions after it
+  pub arrives_follow : (spot : Spot) (s t : Status) (did : Did) (p : Dialogue X) → t ≡ s →
+      Resumes code last (Went spot s) p → Arrives code spot t did → Follows code last did p
+  arrives_follow spot s t did p same here arrives =
+      code_leads code last spot s did p here
+      (subst (λ at. Arrives code spot at did) same arrives)

@@ -1,0 +1,80 @@
+//! The run of a code as one value: the code, which is shared, and where the run stands in it.
+
+ghost use Rattle.std.specs.Prelude.{◌≡◌, ◌≤◌, length, IfOk};
+ghost use Rattle.code.specs.Code.{ScriptAt};
+ghost use Rattle.plan.specs.Plan.{and_then, onward};
+ghost use Rattle.runs.specs.Ending.{Over};
+ghost use Rattle.runs.specs.Scripts.{script};
+ghost use Rattle.state.specs.Piece.{ScriptTree};
+ghost use Rattle.state.specs.Prelude.{Dialogue, FitsState, Outcome as Ending, Status, on_value, outcome_of};
+
+use crate::advancing::advance;
+use crate::handling::resume;
+use crate::spot::Spot;
+use crate::stopped::Stopped;
+use acts::NoMemory;
+use code::Instruction;
+use state::{Outcome, State};
+use std::alloc::Allocator;
+use std::rc::Rc;
+
+/// The run of a code, which waits for an outcome: at its beginning for the empty text, and then for
+/// that of the command that began last.
+#[derive(Drop)]
+pub struct Run<A: Allocator> {
+    pub code: Rc<Vec<Instruction<A>, A>, A>,
+    pub spot: Spot<A>,
+}
+
+impl<A: Allocator + Copy> Run<A> {
+    ghost use Rattle.steps.specs.Run.{Awaits, HasStopped};
+
+    /// The run of a script's code of which nothing is done yet, in which this many levels may nest.
+    pub fn begin(alloc: A, code: Rc<Vec<Instruction<A>, A>, A>, levels: u8) -> Run<A>
+        ensures { (last : Status → Ending → Dialogue Over) (tree : ScriptTree) →
+            ScriptAt code.value.items 0 tree.commands tree.fault (length code.value.items) →
+            Awaits last result (λ s outcome.
+            and_then (on_value (script levels tree.commands tree.fault) s outcome) (onward last)) }
+    {
+        Run {
+            code,
+            spot: Spot {
+                place: 0,
+                operands: Vec::new(alloc),
+                marks: Vec::new(alloc),
+                levels,
+                handlers: Vec::new(alloc),
+            },
+        }
+    }
+
+    /// Hands in the outcome that the run waits for, and runs the code up to the next command, whose
+    /// outcome it waits for then, or to the end.
+    ///
+    /// # Errors
+    /// `NoMemory` where memory is refused.
+    pub fn go_on(
+        &mut self,
+        alloc: A,
+        state: &mut State<A>,
+        outcome: Outcome<A>,
+    ) -> Result<Stopped<A>, NoMemory>
+        ensures stops { (last next : Status → Ending → Dialogue Over) (s : Status) →
+            FitsState state.old s → Awaits last self.old next →
+            IfOk result (λ stopped.
+            HasStopped last stopped self.new state.new (next s (outcome_of outcome))) }
+        ensures left { IfOk result (λ _. state.new.left ≤ state.old.left) }
+    {
+        if let Some(stopped) = resume(&mut self.spot, outcome)? {
+            return Ok(stopped);
+        }
+        Ok(advance(
+            alloc,
+            &self.code,
+            &mut self.spot,
+            &mut state.scopes,
+            &state.procs,
+            &mut state.left,
+        )?)
+    }
+}
