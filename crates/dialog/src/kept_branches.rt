@@ -1,7 +1,7 @@
 //! The branches that words said last, kept with the words, so that words that come again are not
 //! read again.
 
-ghost use Rattle.std.specs.Prelude.{◌≡◌, ◌<◌, ◌++◌, ◌∷◌, [], length, Ok, IfOk, OnOk, IfErr, IfSome, IsTrue};
+ghost use Rattle.std.specs.Prelude.{◌≡◌, ◌+◌, ◌<◌, ◌≤◌, ◌++◌, ◌∷◌, [], length, Ok, IfOk, OnOk, IfErr, IfSome, IsTrue};
 ghost use Rattle.dialog.specs.KeptBranches.{AreKept, IsKept, SaysAlways};
 ghost use Rattle.dialog.specs.Misreads.{flaw_of};
 ghost use Rattle.dialog.specs.Reads.{IsRead, place};
@@ -72,13 +72,15 @@ pub struct KeptBranches<A: Allocator> {
 }
 
 impl<A: Allocator> Model for KeptBranches<A> {
+    ghost use Rattle.std.specs.Prelude.{◌≤◌, length};
     ghost use Rattle.dialog.specs.KeptBranches.{AreKept};
 
     ghost Value = { Unit {0} };
 
     ghost view = { λ kept. tt };
 
-    ghost invariant = { λ kept. AreKept kept.readings.items };
+    ghost invariant = { λ kept.
+        AreKept kept.readings.items × (length kept.readings.items ≤ 8) };
 }
 
 impl<A: Allocator> KeptBranches<A> {
@@ -166,8 +168,10 @@ impl<A: Allocator + Copy> KeptBranches<A> {
 /// Appends a reading; where as many are there as may be, the first is dropped for it.
 fn put<A: Allocator>(readings: &mut Vec<Reading<A>, A>, reading: Reading<A>) -> Result<(), NoMemory>
     requires kept { AreKept readings.old.items }
+    requires most { length readings.old.items ≤ 8 }
     requires reading { IsKept reading }
-    ensures { AreKept readings.new.items }
+    ensures kept { AreKept readings.new.items }
+    ensures most { length readings.new.items ≤ 8 }
 {
     if MOST_KEPT <= readings.len() {
         drop_oldest(readings);
@@ -179,7 +183,8 @@ fn put<A: Allocator>(readings: &mut Vec<Reading<A>, A>, reading: Reading<A>) -> 
 fn drop_oldest<A: Allocator>(readings: &mut Vec<Reading<A>, A>)
     requires some { 0 < length readings.old.items }
     requires kept { AreKept readings.old.items }
-    ensures { AreKept readings.new.items }
+    ensures kept { AreKept readings.new.items }
+    ensures fewer { length readings.new.items + 1 ≡ length readings.old.items }
 {
     let _ = readings.remove(0);
 }
@@ -191,7 +196,8 @@ fn push_reading<A: Allocator>(
 ) -> Result<(), NoMemory>
     requires kept { AreKept readings.old.items }
     requires reading { IsKept reading }
-    ensures { AreKept readings.new.items }
+    ensures kept { AreKept readings.new.items }
+    ensures longer { length readings.new.items ≤ length readings.old.items + 1 }
 {
     readings.push(reading)?;
     Ok(())
