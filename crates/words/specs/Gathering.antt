@@ -34,7 +34,7 @@ abbrev pub course_of_gathered : {A : Type 0} → ℕ → Gathered A →
     (Status → List (List ℕ) → Course) → Status → Course
 course_of_gathered levels (gathered.Values values) call s = call s values.items
 course_of_gathered levels (gathered.Script commands gathering) call s =
-    nested levels (commands_of commands) s (gathering_on levels gathering call)
+    nested levels (commands_of commands) s (gathering_on levels gathering.value call)
 course_of_gathered levels (gathered.Fault fault) call s = raises (flaw_of fault) s
 
 -- the words that a word's value stands for are put after the values, or the script has this error

@@ -47,5 +47,5 @@ MeetsFewer (met.Fault fault) n = Unit {0}
 -- (this project's own rule)
 abbrev pub HasFewer : {A : Type 0} → Gathered A → ℕ → Type 0
 HasFewer (gathered.Values values) n = Unit {0}
-HasFewer (gathered.Script _ gathering) n = scripts_left gathering < n
+HasFewer (gathered.Script _ gathering) n = scripts_left gathering.value < n
 HasFewer (gathered.Fault fault) n = Unit {0}

@@ -1,7 +1,7 @@
 //! The words of a command: each is substituted, in order, up to a script in one of them (Tcl(n),
 //! rules 2 and 5).
 
-ghost use Rattle.std.specs.Prelude.{◌≡◌, ℕ, List, [], ◌∷◌, ◌++◌, IfOk, drop};
+ghost use Rattle.std.specs.Prelude.{◌≡◌, ◌≤◌, ℕ, List, [], ◌∷◌, ◌++◌, IfOk, drop};
 ghost use Rattle.state.specs.Prelude.{Course, Status, Reaches};
 ghost use Rattle.tclparse.specs.Tree.{no_words};
 ghost use Rattle.tclparse.specs.View.{words_of, words_then};
@@ -10,7 +10,7 @@ ghost use Rattle.words.specs.Gathering.{Adds, course_of_gathered, gathering_on, 
 ghost use Rattle.words.specs.Scripts.{HasFewer, scripts_left, scripts_of};
 ghost use Rattle.words.specs.View.{course_of_met};
 
-use crate::word::{Met, OpenWord, begin as begin_word};
+use crate::word::{Met, OpenWord, begin as begin_word, plain};
 use acts::{Fault, NoMemory, Raise};
 use meanings::elements;
 use std::alloc::Allocator;
@@ -36,7 +36,7 @@ pub enum Gathered<A: Allocator> {
     /// The values of all words.
     Values(Vec<Value<A>, A>),
     /// A script, whose value goes into a word.
-    Script(Rc<Vec<Command<A>, A>, A>, Gathering<A>),
+    Script(Rc<Vec<Command<A>, A>, A>, Box<Gathering<A>, A>),
     /// The error that a variable cannot be read, or that the value after `{*}` is no list.
     Fault(Fault<A>),
 }
@@ -65,7 +65,39 @@ fn add_words<A: Allocator + Copy>(
     }
 }
 
+/// Adds the values of the words from the next one on, up to one that stands for a list or is not
+/// plain, and says which that is.
+fn take_plain<A: Allocator + Copy>(
+    alloc: A,
+    words: &[Word<A>],
+    mut next: usize,
+    values: &mut Vec<Value<A>, A>,
+    scopes: &Scopes<A>,
+) -> Result<usize, NoMemory>
+    ensures takes { (levels : ℕ) (s : Status) (call : Status → List (List ℕ) → Course) →
+        s.scopes ≡ scopes.now → IfOk result (λ behind.
+        meant levels (words_then (drop next words.now) no_words) values.old.items s call
+        ≡ meant levels (words_then (drop behind words.now) no_words) values.new.items s call) }
+    ensures fewer { IfOk result (λ behind.
+        scripts_of (words_then (drop behind words.now) no_words)
+        ≤ scripts_of (words_then (drop next words.now) no_words)) }
+{
+    'words: while next < words.len() {
+        let word = &words[next];
+        if word.expands {
+            return Ok(next);
+        }
+        let Some(value) = plain(&word.parts, alloc, scopes)? else {
+            return Ok(next);
+        };
+        values.push(value)?;
+        next += 1;
+    }
+    Ok(next)
+}
+
 /// Substitutes the words from the next one on, up to a script.
+#[inline(never)]
 fn gather<A: Allocator + Copy>(
     words: Rc<Vec<Word<A>, A>, A>,
     mut next: usize,
@@ -98,12 +130,35 @@ fn gather<A: Allocator + Copy>(
                     expands,
                     word,
                 };
-                return Ok(Gathered::Script(commands, gathering));
+                return Ok(Gathered::Script(commands, Box::new(alloc, gathering)?));
             }
             Met::Fault(fault) => return Ok(Gathered::Fault(fault)),
         }
     }
     Ok(Gathered::Values(values))
+}
+
+/// Substitutes the words from the next one on, up to a script. Where all of them are plain, no word
+/// in progress is made.
+fn go_on<A: Allocator + Copy>(
+    words: Rc<Vec<Word<A>, A>, A>,
+    next: usize,
+    mut values: Vec<Value<A>, A>,
+    alloc: A,
+    scopes: &Scopes<A>,
+) -> Result<Gathered<A>, NoMemory>
+    ensures reaches { (levels : ℕ) (s : Status) (call : Status → List (List ℕ) → Course) →
+        s.scopes ≡ scopes.now → IfOk result (λ gathered. Reaches
+        (meant levels (words_then (drop next words.value.items) no_words) values.items s call)
+        (course_of_gathered levels gathered call s)) }
+    ensures fewer { IfOk result (λ found. HasFewer found (scripts_of (words_from words next))) }
+{
+    let list: &Vec<Word<A>, A> = &words;
+    let behind = take_plain(alloc, list, next, &mut values, scopes)?;
+    if list.len() <= behind {
+        return Ok(Gathered::Values(values));
+    }
+    gather(words, behind, values, alloc, scopes)
 }
 
 /// Substitutes the words of a command, up to a script in one of them. Where no word has a script,
@@ -121,7 +176,7 @@ pub fn begin<A: Allocator + Copy>(
         (meant levels (words_of words) [] s call) (course_of_gathered levels gathered call s)) }
 {
     let values = Vec::with_capacity(alloc, words.len())?;
-    gather(words, 0, values, alloc, scopes)
+    go_on(words, 0, values, alloc, scopes)
 }
 
 /// Continues with the value of the script that was met, up to the next script.
@@ -152,7 +207,7 @@ pub fn resume<A: Allocator + Copy>(
             if let Some(fault) = add_words(alloc, expands, value, &mut values)? {
                 return Ok(Gathered::Fault(fault));
             }
-            gather(words, next, values, alloc, scopes)
+            go_on(words, next, values, alloc, scopes)
         }
         Met::Script(commands, word) => {
             let gathering = Gathering {
@@ -162,7 +217,7 @@ pub fn resume<A: Allocator + Copy>(
                 expands,
                 word,
             };
-            Ok(Gathered::Script(commands, gathering))
+            Ok(Gathered::Script(commands, Box::new(alloc, gathering)?))
         }
         Met::Fault(fault) => Ok(Gathered::Fault(fault)),
     }

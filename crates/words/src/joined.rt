@@ -7,19 +7,22 @@ use std::alloc::Allocator;
 use std::marker::Model;
 use tcltext::Value;
 
-/// The bytes of a word so far. The first value is shared: a word of one value copies nothing.
+/// The bytes of a word so far. The first value is shared, so that a word of one value copies nothing;
+/// with the second one all bytes lie in one vector.
 #[derive(Drop)]
 pub struct Joined<A: Allocator> {
-    shared: Value<A>,
-    more: Vec<u8, A>,
+    first: Value<A>,
+    all: Vec<u8, A>,
 }
 
 impl<A: Allocator> Model for Joined<A> {
-    ghost use Rattle.std.specs.Prelude.{List, ℕ, ◌++◌};
+    ghost use Rattle.std.specs.Prelude.{List, ℕ, [], ◌≡◌, ◌++◌, ◌⊎◌};
 
     ghost Value = { List ℕ };
 
-    ghost view = { λ j. j.shared ++ j.more.items };
+    ghost view = { λ j. j.first ++ j.all.items };
+
+    ghost invariant = { λ j. (j.first ≡ []) ⊎ (j.all.items ≡ []) };
 }
 
 impl<A: Allocator + Copy> Joined<A> {
@@ -28,33 +31,41 @@ impl<A: Allocator + Copy> Joined<A> {
         ensures { result ≡ [] }
     {
         Joined {
-            shared: Value::empty(),
-            more: Vec::new(alloc),
+            first: Value::empty(),
+            all: Vec::new(alloc),
         }
     }
 
     /// Adds a value at the end.
+    ///
+    /// # Errors
+    /// `NoMemory` where memory is refused.
     pub fn push(&mut self, value: &Value<A>) -> Result<(), NoMemory>
         ensures { OnOk result (self.new ≡ self.old ++ value.now) }
     {
-        if self.shared.as_slice().is_empty() && self.more.is_empty() {
-            self.shared = value.share()?;
-        } else {
-            self.more.extend_from_slice(value.as_slice())?;
+        if self.all.is_empty() {
+            if self.first.as_slice().is_empty() {
+                self.first = value.share()?;
+                return Ok(());
+            }
+            self.all.extend_from_slice(self.first.as_slice())?;
+            self.first = Value::empty();
         }
+        self.all.extend_from_slice(value.as_slice())?;
         Ok(())
     }
 
     /// The bytes as a value.
+    ///
+    /// # Errors
+    /// `NoMemory` where memory is refused.
     pub fn finish(self, alloc: A) -> Result<Value<A>, NoMemory>
         ensures { IfOk result (λ value. value ≡ self) }
     {
-        let Joined { shared, more } = self;
-        if more.is_empty() {
-            return Ok(shared);
+        let Joined { first, all } = self;
+        if all.is_empty() {
+            return Ok(first);
         }
-        let mut bytes = Vec::from_slice(alloc, shared.as_slice())?;
-        bytes.extend_from_slice(&more)?;
-        Value::new(alloc, bytes)
+        Value::new(alloc, all)
     }
 }

@@ -3,7 +3,7 @@
 ghost use Rattle.std.specs.Prelude.{◌≡◌, ◌≤◌, ◌+◌, ℕ, List, [], ◌∷◌, ◌++◌, Some, IfOk, IfSome, MatchOption, option_copied, drop};
 ghost use Rattle.state.specs.Prelude.{Course, Status};
 ghost use Rattle.state.specs.Variables.{reads};
-ghost use Rattle.tclparse.specs.Tree.{no_parts};
+ghost use Rattle.tclparse.specs.Tree.{Parts, no_parts};
 ghost use Rattle.tclparse.specs.View.{part_view, parts_of, parts_then};
 ghost use Rattle.words.specs.Words.{parts as substituted};
 ghost use Rattle.words.specs.Scripts.{MeetsFewer, scripts_around, scripts_behind, scripts_in};
@@ -185,6 +185,7 @@ fn append_part<A: Allocator + Copy>(
 
 /// Substitutes the parts from the next one on, up to a script.
 #[cycle(substitute)]
+#[inline(never)]
 fn run<A: Allocator + Copy>(
     parts: &Rc<Vec<Part<A>, A>, A>,
     mut next: usize,
@@ -209,21 +210,85 @@ fn run<A: Allocator + Copy>(
     Ok(Met::Value(bytes.finish(alloc)?))
 }
 
-/// The value of a word whose one part is a literal, or a variable that can be read, as in most
-/// words; `None` for every other word. This makes and moves no word in progress.
+/// The text of a literal, or of a variable that can be read; `None` for every other part.
+fn text_of<'a, A: Allocator>(part: &'a Part<A>, scopes: &'a Scopes<A>) -> Option<&'a Value<A>>
+    ensures { (levels : ℕ) (rest : Parts) (bytes : List ℕ) (s : Status)
+        (k : Status → List ℕ → Course) → s.scopes ≡ scopes.now → IfSome result (λ value.
+        substituted levels (part_view part.now rest) bytes s k
+        ≡ substituted levels rest (bytes ++ value.now) s k) }
+{
+    match part {
+        Part::Literal(value) => Some(value),
+        Part::Variable(name) => match scopes.get(name.as_slice(), None) {
+            Ok(value) => Some(value),
+            Err(_) => None,
+        },
+        _ => None,
+    }
+}
+
+/// The value of a word of one part, a literal or a variable that can be read; `None` for every
+/// other word.
 fn alone<A: Allocator>(part: &Part<A>, scopes: &Scopes<A>) -> Result<Option<Value<A>>, NoMemory>
     ensures { (levels : ℕ) (s : Status) (k : Status → List ℕ → Course) →
         s.scopes ≡ scopes.now → IfOk result (λ found. IfSome found (λ value.
         substituted levels (part_view part.now no_parts) [] s k ≡ k s value)) }
 {
-    match part {
-        Part::Literal(value) => Ok(Some(value.share()?)),
-        Part::Variable(name) => match scopes.get(name.as_slice(), None) {
-            Ok(value) => Ok(Some(value.share()?)),
-            Err(_) => Ok(None),
-        },
-        _ => Ok(None),
+    match text_of(part, scopes) {
+        Some(value) => Ok(Some(value.share()?)),
+        None => Ok(None),
     }
+}
+
+/// Whether a part may be a literal or a variable that can be read.
+fn is_simple<A: Allocator>(part: &Part<A>) -> bool {
+    match part {
+        Part::Literal(_) | Part::Variable(_) => true,
+        Part::Element(_, _) | Part::Bracket(_) => false,
+    }
+}
+
+/// The value of a word of literals and of variables that can be read; `None` for every other word.
+fn joined<A: Allocator + Copy>(
+    parts: &[Part<A>],
+    alloc: A,
+    scopes: &Scopes<A>,
+) -> Result<Option<Value<A>>, NoMemory>
+    ensures { (levels : ℕ) (s : Status) (k : Status → List ℕ → Course) →
+        s.scopes ≡ scopes.now → IfOk result (λ found. IfSome found (λ value.
+        substituted levels (parts_then parts.now no_parts) [] s k ≡ k s value)) }
+{
+    let mut bytes = Joined::new(alloc);
+    let mut next = 0;
+    'parts: while next < parts.len() {
+        let Some(value) = text_of(&parts[next], scopes) else {
+            return Ok(None);
+        };
+        bytes.push(value)?;
+        next += 1;
+    }
+    Ok(Some(bytes.finish(alloc)?))
+}
+
+/// The value of a word of literals and of variables that can be read, as most words are; `None` for
+/// every other word. No word in progress is made.
+pub(crate) fn plain<A: Allocator + Copy>(
+    parts: &Rc<Vec<Part<A>, A>, A>,
+    alloc: A,
+    scopes: &Scopes<A>,
+) -> Result<Option<Value<A>>, NoMemory>
+    ensures { (levels : ℕ) (s : Status) (k : Status → List ℕ → Course) →
+        s.scopes ≡ scopes.now → IfOk result (λ found. IfSome found (λ value.
+        substituted levels (parts_of parts.now) [] s k ≡ k s value)) }
+{
+    let list: &Vec<Part<A>, A> = parts;
+    if list.len() == 1 {
+        return alone(&list[0], scopes);
+    }
+    if !list.iter().all(is_simple) {
+        return Ok(None);
+    }
+    joined(list, alloc, scopes)
 }
 
 /// Substitutes the parts of a word, up to a script in it.
@@ -240,11 +305,8 @@ pub fn begin<A: Allocator + Copy>(
         substituted levels (parts_of parts.now) [] s k ≡ course_of_met levels met k s) }
     ensures fewer { IfOk result (λ met. MeetsFewer met (scripts_in (parts_of parts.now))) }
 {
-    let list: &Vec<Part<A>, A> = parts;
-    if list.len() == 1 {
-        if let Some(value) = alone(&list[0], scopes)? {
-            return Ok(Met::Value(value));
-        }
+    if let Some(value) = plain(parts, alloc, scopes)? {
+        return Ok(Met::Value(value));
     }
     run(parts, 0, Joined::new(alloc), alloc, scopes)
 }

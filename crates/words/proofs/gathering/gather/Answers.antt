@@ -1,7 +1,7 @@
-use Rattle.std.proofs.Common.{◌≡◌, ◌∙◌, ◌+◌, ◌<◌, ◌++◌, length, ap, subst, arith, rules}
+use Rattle.std.proofs.Common.{◌≡◌, ◌∙◌, ◌+◌, ◌<◌, ◌++◌, length, sym, ap, subst, arith, rules}
 use Rattle.tclparse.specs.View.{commands_of, parts_of}
-use Rattle.words.specs.Gathering.{taken}
-use Rattle.words.specs.Scripts.{MeetsFewer, scripts_in, scripts_of}
+use Rattle.words.specs.Gathering.{gathering_on, taken}
+use Rattle.words.specs.Scripts.{MeetsFewer, scripts_in, scripts_left, scripts_of}
 use Rattle.words.specs.View.{course_of_met, resumed}
 use Rattle.words.specs.Words.{nested, words}
 use Rattle.words.proofs.Command.{left, next_word, at_word, added, not_added}
@@ -75,7 +75,9 @@ returns-in-Script-clause-reaches g c = λ levels s call same.
     ∙ ap
     (λ vs. nested levels (commands_of c.in-Script.commands) s
     (resumed levels c.in-Script.word (taken levels w.expands (left vs (i + 1)) old call)))
-    e))
+    e
+    ∙ ap (λ it. nested levels (commands_of c.in-Script.commands) s (gathering_on levels it call))
+    (sym c.in_ok-new-in-Script.ensures.ok)))
 
 pub returns-in-Fault-clause-reaches : goal.returns-in-Fault-clause-reaches
 returns-in-Fault-clause-reaches g c = λ levels s call same.
@@ -104,4 +106,5 @@ returns-in-Script-clause-fewer g c =
       ap (λ vs. scripts_of (left vs (i + 1))) e,
       subst (λ it. MeetsFewer it (scripts_in (parts_of w.parts))) c.in-Script.is
           c.in_ok-value.ensures.fewer,
+      ap scripts_left c.in_ok-new-in-Script.ensures.ok,
     )
