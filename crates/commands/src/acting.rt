@@ -17,7 +17,7 @@ use tcltext::Value;
 
 /// The commands that ask for acts.
 #[derive(Clone, Copy, Debug, PartialEq, Eq)]
-pub(crate) enum Acting {
+pub enum Acting {
     Puts,
     Spawn,
     Send,

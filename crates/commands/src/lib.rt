@@ -10,5 +10,6 @@ mod settings;
 mod table;
 mod waits;
 
-pub use table::{answered, begin};
+pub use acting::Acting;
+pub use table::{Began, answered, ask, begin};
 pub use waits::Waits;

@@ -16,8 +16,8 @@ use Rattle.state.specs.Meant.{meant}
 use Rattle.state.specs.declared.leaf.Leaf.TheVariants as leaf
 use Rattle.commands.proofs.table.call.Goals as goal
 
-pub returns-in_ok-call-in-Local-clause-shows : goal.returns-in_ok-call-in-Local-clause-shows
-returns-in_ok-call-in-Local-clause-shows g c = λ s fits.
+pub returns-in_ok-call-in-Local-clause-comes : goal.returns-in_ok-call-in-Local-clause-comes
+returns-in_ok-call-in-Local-clause-comes g c = λ s fits.
     let own = c.in-Local.own in
     let new = c.call.new.scopes in
     let value = c.in_ok-call-in-Local.field-0 in
@@ -31,8 +31,8 @@ returns-in_ok-call-in-Local-clause-shows g c = λ s fits.
     (sym fits.scopes) c.in_ok-call-in-Local.ensures) in
     search rules
 
-pub returns-in_err-call-in-Local-clause-shows : goal.returns-in_err-call-in-Local-clause-shows
-returns-in_err-call-in-Local-clause-shows g c = λ s fits.
+pub returns-in_err-call-in-Local-clause-comes : goal.returns-in_err-call-in-Local-clause-comes
+returns-in_err-call-in-Local-clause-comes g c = λ s fits.
     let own = c.in-Local.own in
     let new = c.call.new.scopes in
     let why = c.in_err-call-in-Local.field-0.0 in
@@ -46,8 +46,8 @@ returns-in_err-call-in-Local-clause-shows g c = λ s fits.
     (sym fits.scopes) c.in_err-call-in-Local.ensures) in
     search rules
 
-pub returns-in_ok-begin-in-Proc-clause-shows : goal.returns-in_ok-begin-in-Proc-clause-shows
-returns-in_ok-begin-in-Proc-clause-shows g c = λ s fits.
+pub returns-in_ok-begin-in-Proc-clause-comes : goal.returns-in_ok-begin-in-Proc-clause-comes
+returns-in_ok-begin-in-Proc-clause-comes g c = λ s fits.
     let new = c.begin.new.procs in
     let value = c.in_ok-begin-in-Proc.field-0 in
     let args = c.args.args.now in
@@ -60,8 +60,8 @@ returns-in_ok-begin-in-Proc-clause-shows g c = λ s fits.
     (sym fits.procedures) c.in_ok-begin-in-Proc.ensures.leaves) in
     search rules
 
-pub returns-in_err-begin-in-Proc-clause-shows : goal.returns-in_err-begin-in-Proc-clause-shows
-returns-in_err-begin-in-Proc-clause-shows g c = λ s fits.
+pub returns-in_err-begin-in-Proc-clause-comes : goal.returns-in_err-begin-in-Proc-clause-comes
+returns-in_err-begin-in-Proc-clause-comes g c = λ s fits.
     let new = c.begin.new.procs in
     let why = c.in_err-begin-in-Proc.field-0.0 in
     let args = c.args.args.now in
@@ -74,8 +74,8 @@ returns-in_err-begin-in-Proc-clause-shows g c = λ s fits.
     (sym fits.procedures) c.in_err-begin-in-Proc.ensures.leaves) in
     search rules
 
-pub returns-in_ok-call-in-Setting-clause-shows : goal.returns-in_ok-call-in-Setting-clause-shows
-returns-in_ok-call-in-Setting-clause-shows g c = λ s fits.
+pub returns-in_ok-call-in-Setting-clause-comes : goal.returns-in_ok-call-in-Setting-clause-comes
+returns-in_ok-call-in-Setting-clause-comes g c = λ s fits.
     let meant = setting.does c.in-Setting.own c.args.args.now s in
     let value = c.in_ok-call-in-Setting.field-0 in
     let shown : Shows (next_of {A = g.row.A.Denot}) (leaf.Has (Ok value))
@@ -84,8 +84,8 @@ returns-in_ok-call-in-Setting-clause-shows g c = λ s fits.
     (c.in_ok-call-in-Setting.ensures.shows s fits) in
     search rules
 
-pub returns-in_ok-apply-in-Text-clause-shows : goal.returns-in_ok-apply-in-Text-clause-shows
-returns-in_ok-apply-in-Text-clause-shows g c = λ s fits.
+pub returns-in_ok-apply-in-Text-clause-comes : goal.returns-in_ok-apply-in-Text-clause-comes
+returns-in_ok-apply-in-Text-clause-comes g c = λ s fits.
     let m = says c.in-Text.own c.args.args.now in
     let value = c.in_ok-apply-in-Text.field-0 in
     let shown : Shows (next_of {A = g.row.A.Denot}) (leaf.Has (Ok value)) c.args.state.now
@@ -93,8 +93,8 @@ returns-in_ok-apply-in-Text-clause-shows g c = λ s fits.
     meant_shows next_of c.args.state.now m s value c.in_ok-apply-in-Text.ensures fits in
     search rules
 
-pub returns-in_err-apply-in-Text-clause-shows : goal.returns-in_err-apply-in-Text-clause-shows
-returns-in_err-apply-in-Text-clause-shows g c = λ s fits.
+pub returns-in_err-apply-in-Text-clause-comes : goal.returns-in_err-apply-in-Text-clause-comes
+returns-in_err-apply-in-Text-clause-comes g c = λ s fits.
     let m = says c.in-Text.own c.args.args.now in
     let why = c.in_err-apply-in-Text.field-0.0 in
     let fails : Comes (next_of {A = g.row.A.Denot}) (meant m s) (Err why) c.args.state.now =
