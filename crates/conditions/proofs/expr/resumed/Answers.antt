@@ -1,7 +1,8 @@
-use Rattle.std.proofs.Common.{◌∙◌, Err, refl, sym, ap}
+use Rattle.std.proofs.Common.{◌∙◌, Err, refl, sym, ap, subst}
 use Rattle.std.proofs.lemmas.Result.{IfOk-weaker}
 use Rattle.conditions.proofs.Passing.{value_passes}
 use Rattle.conditions.specs.Expr.{next_of, told}
+use Rattle.evaluation.specs.Scripts.{MeetsFewer, scripts_behind}
 use Rattle.evaluation.specs.View.{resumed}
 use Rattle.state.proofs.Nestings.{over}
 use Rattle.state.proofs.Reaches.{same_reaches, then_reaches}
@@ -34,3 +35,10 @@ returns-in-Err-clause-nests g c = λ s fits.
     over next_of c.args.state.now (Err c.in-Err.leave) (outcome_of (Err c.in-Err.leave)) s _ fits
     refl
     (ap (λ o. next s (outcome_of o)) c.in-Err.is ∙ value_passes after s c.in-Err.leave)
+
+pub returns-in_ok-evaluated-in-Ok-clause-advances :
+    goal.returns-in_ok-evaluated-in-Ok-clause-advances
+returns-in_ok-evaluated-in-Ok-clause-advances g c =
+    c.give.ensures.advances _ _ _
+    (subst (λ place. MeetsFewer c.in_ok-evaluated-in-Ok.evaluated (scripts_behind place))
+    c.into_inner-formula.ensures c.in_ok-evaluated-in-Ok.ensures.fewer)
