@@ -1,11 +1,11 @@
 -- The acts that close a run, one by one.
-use Rattle.std.proofs.Common.{◌≡◌, ℕ, List, [], ◌∷◌, map, true, false, refl}
+use Rattle.std.proofs.Common.{◌≡◌, List, [], ◌∷◌, map, true, false, refl}
 use Rattle.state.specs.Prelude.{Id, Deed, Reply, Peer, Ends, Dialogue, Status, lines, shut}
 use Rattle.acts.specs.Deed as said
 use Rattle.acts.specs.Fits.{fits}
 use Rattle.dialog.specs.Peers.{opened, line}
-use Rattle.runs.specs.Closing.{does, closes, ends_with}
-use Rattle.runs.specs.Ending.{Ending, Over, With, stopped}
+use Rattle.runs.specs.Closing.{does, ends_with}
+use Rattle.runs.specs.Ending.{Ending, With}
 use Rattle.state.specs.Dialogue.{judged, is_no_more}
 use Rattle.state.specs.Outcome.{Stop}
 use Rattle.state.specs.Outcome as stop

@@ -1,6 +1,6 @@
 -- Commands that run scripts, and what they hold meanwhile.
-use Rattle.std.proofs.Common.{◌≡◌, ◌-◌, ℕ, ◌≤◌, List, [], ◌∷◌, drop, get_or, length, take, Some, None, Result, Ok, refl, sym, ap, arith}
-use Rattle.std.proofs.lemmas.List.{length-drop, take_all}
+use Rattle.std.proofs.Common.{◌≡◌, ◌∙◌, ◌-◌, ℕ, ◌≤◌, List, [], ◌∷◌, drop, get_or, length, take, Some, None, Result, Ok, refl, sym, ap}
+use Rattle.commands.proofs.Words.{first_word, rest_words}
 use Rattle.commands.specs.Commands as leaf
 use Rattle.conditions.specs.GoesOn.{Comes}
 use Rattle.bodies.specs.Calls.{call}
@@ -19,7 +19,6 @@ use Rattle.expects.specs.Expect.{expect}
 use Rattle.expects.specs.Words.{Form, named as form_of}
 use Rattle.runs.specs.Commands.{command, other_command}
 use Rattle.state.specs.Prelude.{Course, gives, Gives, Status}
-use Rattle.state.specs.Leaf.{course_of}
 use Rattle.state.specs.Nesting as nests
 use Rattle.state.specs.declared.leaf.Leaf.TheVariants as at_hand
 use Rattle.state.specs.declared.nesting.Nesting.TheVariants as nesting
@@ -103,19 +102,12 @@ module _ (levels : ℕ) (words : List (List ℕ)) (s : Status) where
   pub other_none : words ≡ [] → other_command levels s words ≡ gives [] s
   other_none is = rw is refl
 
--- words of which the first is known
-pub first_word : (words : List (List ℕ)) (first : List ℕ) → 1 ≤ length words →
-    first ≡ get_or words 0 first → words ≡ first ∷ drop 1 words
-first_word [] first some is = absurd (omega arith)
-first_word (x ∷ xs) first some is = ap (λ (w : List ℕ). w ∷ xs) (sym is)
-
--- the words after the first, as the code cuts them out
-pub rest_words : (words : List (List ℕ)) → drop 1 words ≡ take (length words - 1) (drop 1 words)
-rest_words words =
-    let len : length (drop 1 words) ≡ length words - 1 = length-drop 1 words in
-    sym (take_all (length words - 1) (drop 1 words) (omega (arith, len)))
-
--- no words at all
-pub no_word : (words : List (List ℕ)) → length words ≡ 0 → words ≡ []
-no_word [] none = refl
-no_word (x ∷ xs) none = absurd (omega (arith, none))
+-- words as their first one, by the name that is read of it, and those after it, as the code takes
+-- them apart
+pub taken_apart : (words : List (List ℕ)) (first name : List ℕ) → 1 ≤ length words →
+    first ≡ get_or words 0 first → name ≡ first →
+    words ≡ name ∷ take (length words - 1) (drop 1 words)
+taken_apart words first name some is named_so =
+    first_word words first some is
+    ∙ ap (λ it. it ∷ drop 1 words) (sym named_so)
+    ∙ ap (λ rest. name ∷ rest) (rest_words words)

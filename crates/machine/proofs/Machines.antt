@@ -1,19 +1,22 @@
 -- What the parts of the machine do.
-use Rattle.std.proofs.Common.{◌≡◌, ◌∙◌, ℕ, zero, suc, ◌+◌, ◌<◌, ◌≤◌, List, [], ◌∷◌, length, drop, Box, Option, None, option_map, Result, Ok, Err, IfOk, refl, sym, ap, subst, arith}
+use Rattle.std.proofs.Common.{◌≡◌, ℕ, suc, ◌+◌, ◌<◌, ◌≤◌, List, [], ◌∷◌, Box, None, Result, Ok, Err, IfOk, refl, sym, ap, arith}
 use Rattle.std.specs.declared.rc.Rc.{Rc}
 use Rattle.std.specs.declared.vec.Vec.{Vec}
 use Rattle.tclparse.specs.declared.tree.Command.{Command}
 use Rattle.acts.specs.Flaw as flaw
+use Rattle.machine.specs.Began.{HasBegun}
 use Rattle.machine.specs.Waiting as waiting
 use Rattle.machine.specs.declared.waits.Waits.{Waits}
 use Rattle.control.specs.declared.held.Held.{Held}
 use Rattle.machine.specs.Frames.{IsWhole, call_of, next_of, onward_of, left_of, weight, weight_of, words_in, words_of_frame}
 use Rattle.machine.specs.Goes.{Goes, here, calls, reads}
-use Rattle.machine.specs.Phases.{Leads, Begins, Unwinds, Stands}
+use Rattle.machine.specs.Phases.{Leads, Unwinds, Stands}
 use Rattle.machine.specs.declared.frame.Frame.{Frame}
 use Rattle.machine.specs.declared.frame.Frame.TheVariants as frame
 use Rattle.machine.specs.declared.frame.Script.{Script}
 use Rattle.machine.specs.declared.frame.WordsOf.{WordsOf}
+use Rattle.machine.specs.declared.starting.Begun.{Begun}
+use Rattle.machine.specs.declared.starting.Begun.TheVariants as begun
 use Rattle.machine.specs.declared.unwinding.Unwound.{Unwound}
 use Rattle.machine.specs.declared.unwinding.Unwound.TheVariants as unwound
 use Rattle.machine.specs.declared.phase.Phase.{Phase}
@@ -68,6 +71,14 @@ module _ {A : Type 0} (fs : List (Frame A)) (state : State A) {p q : Dialogue Ov
     goes = then_goes goes begins.goes;
   }
 
+  pub begun_from : (b : Begun A) → HasBegun b fs state q → HasBegun b fs state p
+  begun_from (begun.Has outcome) leads = leads_from leads
+  begun_from (begun.Asks what) begins = record {
+    status = begins.status;
+    fits = begins.fits;
+    goes = then_goes goes begins.goes;
+  }
+
   pub stands_from : {at : Phase A} {answers : ℕ} → Stands at fs state answers q →
       Stands at fs state answers p
   stands_from stands = record {
@@ -99,6 +110,12 @@ module _ {A : Type 0} (fs : List (Frame A)) where
       FitsState state s → HasOutcome l o → Leads l fs state (left_of (Ends (s, o)) fs)
   over_leads l o s state fits is =
       record { status = s; fits = fits; goes = over_goes l o s is }
+
+  -- where nothing is done, the empty value goes to the frames
+  pub nothing_leads : (value : List ℕ) (s : Status) (state : State A) → value ≡ [] →
+      FitsState state s → Leads (leaf.Has (Ok value)) fs state (left_of (gives [] s) fs)
+  nothing_leads value s state is fits =
+      record { status = s; fits = fits; goes = same_left fs (ap (λ v. gives v s) (sym is)) }
 
   -- what gathering words leads to, where its result is known
   pub gathered_goes : (levels : ℕ) (call : Status → List (List ℕ) → Course) (s : Status)

@@ -1,16 +1,14 @@
 -- The commands of a script, one after the other.
-use Rattle.std.proofs.Common.{◌≡◌, ◌∙◌, ℕ, zero, suc, ◌+◌, ◌<◌, ◌≤◌, List, [], ◌∷◌, length, drop, get_or, Option, None, option_map, refl, sym, ap, subst, arith, add-one, drop-cons}
+use Rattle.std.proofs.Common.{◌≡◌, ◌∙◌, ℕ, zero, suc, ◌+◌, ◌<◌, ◌≤◌, List, [], ◌∷◌, length, drop, get_or, Option, option_map, refl, sym, ap, arith, add-one, drop-cons}
 use Rattle.std.proofs.lemmas.List.{drop_all}
 use Rattle.machine.specs.Frames.{next_of, left_of, onward_of}
-use Rattle.machine.specs.Goes.{Goes, here, calls}
+use Rattle.machine.specs.Goes.{Goes, calls}
 use Rattle.machine.specs.declared.frame.Frame.{Frame}
 use Rattle.machine.specs.declared.frame.Frame.TheVariants as frame
 use Rattle.machine.specs.declared.frame.Script.{Script}
-use Rattle.runs.specs.Commands.{command}
-use Rattle.state.specs.Prelude.{Ends, Course, Dialogue, stops, on_value, Outcome, Gives, Status}
+use Rattle.state.specs.Prelude.{stops, on_value, Gives, Status}
 use Rattle.plan.specs.Plan.{and_then, onward}
-use Rattle.runs.specs.Ending.{Over}
-use Rattle.runs.specs.Scripts.{behind, script, one}
+use Rattle.runs.specs.Scripts.{script, one}
 use Rattle.machine.proofs.Silent.{same_goes, then_goes}
 use Rattle.state.proofs.Ticks.{tick_refused}
 use Rattle.state.specs.Outcome as stop
@@ -18,10 +16,9 @@ use Rattle.tclparse.specs.Fault.{Fault}
 use Rattle.tclparse.specs.Seen.{fault_of}
 use Rattle.tclparse.specs.Tree.{Words, Commands, no_commands}
 use Rattle.tclparse.specs.Tree as tree
-use Rattle.tclparse.specs.View.{command_view, commands_then, words_then, words_of}
+use Rattle.tclparse.specs.View.{command_view, commands_then, words_of}
 use Rattle.tclparse.specs.declared.tree.Command.{Command, out-Command}
 use Rattle.tclparse.proofs.Trees.{view_Command}
-use Rattle.words.specs.Words.{words}
 
 module _ {A : Type 0} where
   -- the commands from a place on

@@ -1,26 +1,25 @@
 -- What is taken from the top frame when the part within it has ended with a value.
-use Rattle.std.proofs.Common.{◌≡◌, ◌∙◌, ℕ, suc, ◌+◌, ◌<◌, ◌≤◌, ◌⊎◌, inl, inr, List, [], ◌∷◌, length, Box, MatchOption, Option, Some, None, option_map, refl, sym, ap, subst, arith}
+use Rattle.std.proofs.Common.{◌≡◌, ◌∙◌, ℕ, suc, ◌+◌, ◌<◌, ◌≤◌, inl, inr, List, [], ◌∷◌, length, Box, MatchOption, Option, Some, None, option_map, refl, sym, ap, subst, arith}
 use Rattle.std.specs.declared.rc.Rc.{Rc}
 use Rattle.std.specs.declared.vec.Vec.{Vec}
 use Rattle.machine.specs.Frames.{left_of, next_of, onward_of, weight, weight_of, words_in, words_of_frame}
 use Rattle.control.specs.declared.held.Held.{Held}
 use Rattle.machine.specs.Goes.{Goes, here}
-use Rattle.machine.specs.Taken.{CannotMove, HandsOut, HasNoCommand, HasNone, IsTaken, MovesOn, course_of_taken, weight_taken, words_taken, tick_of}
+use Rattle.machine.specs.Taken.{CannotMove, HasNoCommand, HasNone, IsTaken, MovesOn, course_of_taken, weight_taken, words_taken, tick_of}
 use Rattle.machine.specs.declared.frame.Frame.{Frame}
 use Rattle.machine.specs.declared.frame.Frame.TheVariants as frame
 use Rattle.machine.specs.declared.frame.Script.{Script}
 use Rattle.machine.specs.declared.frame.WordsOf.{WordsOf}
 use Rattle.machine.specs.declared.taken.Taken.{Taken}
 use Rattle.machine.specs.declared.taken.Taken.TheVariants as it
-use Rattle.machine.proofs.Scripted.{commands_from, commands_over, limit_goes, script_goes, some_at}
+use Rattle.machine.proofs.Scripted.{commands_over, limit_goes, script_goes, some_at}
 use Rattle.machine.proofs.Silent.{same_goes, same_left, then_goes}
 use Rattle.expects.specs.declared.turn.Turn.{Turn}
 use Rattle.runs.specs.Commands.{command}
 use Rattle.runs.specs.Scripts.{script}
 use Rattle.state.proofs.Ticks.{tick_taken}
-use Rattle.state.specs.Prelude.{Course, Gives, Status}
+use Rattle.state.specs.Prelude.{Gives, Status}
 use Rattle.tclparse.specs.Seen.{fault_of}
-use Rattle.tclparse.specs.Tree.{no_commands}
 use Rattle.tclparse.specs.View.{words_of}
 use Rattle.tclparse.specs.declared.tree.Word.{Word}
 use Rattle.words.specs.Words.{words}

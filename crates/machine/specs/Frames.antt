@@ -1,6 +1,6 @@
 -- What is done next: the frames of a session.
 use Rattle.std.specs.Prelude.{◌≡◌, ℕ, ◌+◌, ◌*◌, List, [], ◌∷◌, map, Option, option_map, reverse, drop}
-use Rattle.state.specs.Prelude.{Plan, Course, Dialogue, on_value, Outcome, Gives, Status}
+use Rattle.state.specs.Prelude.{Course, Dialogue, on_value, Outcome, Gives, Status}
 use Rattle.std.specs.declared.vec.Vec.{Vec}
 use Rattle.control.specs.View as control
 use Rattle.machine.specs.declared.frame.Frame.{Frame}

@@ -1,5 +1,5 @@
 -- What beginning to substitute words leads to.
-use Rattle.std.specs.Prelude.{◌≡◌, ℕ, List, Result, Ok, Err, Vec}
+use Rattle.std.specs.Prelude.{ℕ, List, Result, Ok, Err, Vec}
 use Rattle.state.specs.Prelude.{Course, Dialogue, Status, outcome_of}
 use Rattle.machine.specs.Frames.{left_of, onward_of}
 use Rattle.machine.specs.Goes.{Goes}

@@ -5,3 +5,4 @@ pub mod Gathers
 pub mod Goes
 pub mod Taken
 pub mod Phases
+pub mod Began

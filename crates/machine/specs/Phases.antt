@@ -1,18 +1,15 @@
 -- Where a session stands.
-use Rattle.std.specs.Prelude.{◌≡◌, ℕ, ◌+◌, ◌*◌, ◌<◌, ◌≤◌, List, [], ◌∷◌, ◌++◌, Option, Some, None, Result, Ok, Err, IsOkAnd}
-use Rattle.state.specs.Prelude.{Deed, Reply, deed_of, reply_of, NoMemory, Ends, Asks, Dialogue, Course, gives, Outcome, Status, FitsState, outcome_of}
-use Rattle.std.specs.declared.rc.Rc.{Rc}
+use Rattle.std.specs.Prelude.{◌≡◌, ℕ, ◌+◌, ◌*◌, ◌<◌, ◌≤◌, List, [], ◌∷◌, Option, Some, None, Result, Err, IsOkAnd}
+use Rattle.state.specs.Prelude.{Deed, Reply, deed_of, reply_of, NoMemory, Ends, Asks, Dialogue, Course, gives, Status, FitsState, outcome_of}
 use Rattle.acts.specs.History.{History}
-use Rattle.acts.specs.declared.act.Act.{Act}
 use Rattle.acts.specs.declared.answer.Answer.{Answer}
-use Rattle.machine.specs.Waiting.{again_in, next_of}
+use Rattle.machine.specs.Waiting.{next_of}
 use Rattle.machine.specs.declared.waits.Waits.{Waits}
 use Rattle.machine.specs.Frames.{call_of, load, onward_of, left_of, weight, words_in}
 use Rattle.machine.specs.Goes.{Goes}
 use Rattle.machine.specs.View.{ending_of}
 use Rattle.machine.specs.declared.closing.Closing.{Closing}
 use Rattle.machine.specs.declared.closing.Closing.TheVariants as closing
-use Rattle.machine.specs.declared.end.End.{End}
 use Rattle.machine.specs.declared.frame.Frame.{Frame}
 use Rattle.machine.specs.declared.frame.WordsOf.{WordsOf}
 use Rattle.machine.specs.declared.frame.WordsOf.TheVariants as whose
@@ -24,7 +21,7 @@ use Rattle.machine.specs.declared.phase.Phase.{Phase}
 use Rattle.machine.specs.declared.phase.Phase.TheVariants as phase
 use Rattle.runs.specs.Commands.{command}
 use Rattle.runs.specs.Closing.{does, ends_with, reported}
-use Rattle.runs.specs.Ending.{Ending, Over, numbered}
+use Rattle.runs.specs.Ending.{Over, numbered}
 use Rattle.expects.specs.Turn.{turns}
 use Rattle.expects.specs.View.{turn_of}
 use Rattle.state.specs.Budget.{again_of}

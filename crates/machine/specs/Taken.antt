@@ -1,5 +1,5 @@
 -- What is taken from the top frame when the part within it has ended with a value.
-use Rattle.std.specs.Prelude.{◌≡◌, ℕ, ◌+◌, ◌*◌, List, [], ◌∷◌, Option, option_map, ◌⊎◌}
+use Rattle.std.specs.Prelude.{◌≡◌, ℕ, ◌+◌, ◌*◌, List, [], ◌∷◌, option_map, ◌⊎◌}
 use Rattle.state.specs.Prelude.{Course, stops, Gives, Status}
 use Rattle.std.specs.declared.rc.Rc.{Rc}
 use Rattle.std.specs.declared.vec.Vec.{Vec}

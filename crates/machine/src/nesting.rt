@@ -52,21 +52,22 @@ pub(crate) fn gather<A: Allocator + Copy>(
 }
 
 /// Begins a script in a word, one level deeper; the words continue after it.
+#[inline(never)]
 pub(crate) fn nest<A: Allocator + Copy>(
     alloc: A,
     frames: &mut Vec<Frame<A>, A>,
     commands: Rc<Vec<Command<A>, A>, A>,
-    gathering: Gathering<A>,
+    gathering: Box<Gathering<A>, A>,
     levels: u8,
     whose: WordsOf,
 ) -> Result<Outcome<A>, NoMemory>
     ensures goes { (s : Status) → IfOk result (λ outcome.
         Goes (left_of (nested levels (commands_of commands) s
-        (gathering_on levels gathering (call_of whose levels))) (stack frames.old))
+        (gathering_on levels gathering.value (call_of whose levels))) (stack frames.old))
         (onward_of (stack frames.new) s (outcome_of outcome))) }
     ensures weighs { IfOk result (λ outcome.
         weight (stack frames.new)
-        ≤ 4 + 2 * scripts_left gathering + weight (stack frames.old)) }
+        ≤ 4 + 2 * scripts_left gathering.value + weight (stack frames.old)) }
     ensures words { IfOk result (λ outcome.
         again_of (outcome_of outcome) + words_in (stack frames.new)
         ≤ words_load whose + words_in (stack frames.old)) }
@@ -74,7 +75,7 @@ pub(crate) fn nest<A: Allocator + Copy>(
     let Some(inner) = levels.checked_sub(1) else {
         return raised(alloc, &Fault::TooManyNested);
     };
-    Frame::Words(Box::new(alloc, gathering)?, levels, whose).push(frames)?;
+    Frame::Words(gathering, levels, whose).push(frames)?;
     let script = Frame::Script(Script {
         commands,
         next: 0,

@@ -1,18 +1,27 @@
 //! What begins on top of the frames: a command, by its tree or by its substituted words, or a turn
 //! of `expect`.
+//!
+//! What waits for the answer to an act is wide. So what asks for no act is done up to its outcome,
+//! and what may ask for acts is begun apart from it.
 
-ghost use Rattle.std.specs.Prelude.{◌+◌, ◌≤◌, [], IfOk};
-ghost use Rattle.state.specs.Prelude.{Status, FitsState};
+ghost use Rattle.std.specs.Prelude.{◌≡◌, ◌+◌, ◌≤◌, [], ◌∷◌, List, None, IfNone, IfOk, MatchOption, drop};
+ghost use Rattle.state.specs.Prelude.{Status, FitsState, outcome_of};
+ghost use Rattle.commands.specs.Commands as plain;
+ghost use Rattle.control.specs.Commands as controls;
 ghost use Rattle.control.specs.View as control;
-ghost use Rattle.machine.specs.Frames.{call_of, left_of, load, stack, words_in};
-ghost use Rattle.machine.specs.Waiting as waiting;
-ghost use Rattle.machine.specs.Waiting.{again_in};
+ghost use Rattle.control.specs.View.{control_of};
+ghost use Rattle.machine.specs.Began.{HasBegun, asking_load, begun_load, course_of_asking};
+ghost use Rattle.machine.specs.Frames.{call_of, left_of, load, onward_of, stack, words_in};
 ghost use Rattle.machine.specs.Goes.{Goes};
-ghost use Rattle.machine.specs.Phases.{call_load, Leads, course_of_next, more_of};
+ghost use Rattle.machine.specs.Phases.{Leads, call_load, course_of_next, more_of};
+ghost use Rattle.machine.specs.Waiting.{again_in};
+ghost use Rattle.machine.specs.declared.frame.Frame as framed;
 ghost use Rattle.runs.specs.Commands.{command, other_command};
-ghost use Rattle.state.specs.Leaf.{course_of};
+ghost use Rattle.state.specs.Budget.{again_of};
 ghost use Rattle.state.specs.Nesting.{course_of as course_of_nesting};
+ghost use Rattle.state.specs.declared.leaf.Leaf.TheVariants as leaf;
 ghost use Rattle.tclparse.specs.View.{words_of};
+ghost use Rattle.tclstate.specs.Pairs.{found};
 ghost use Rattle.words.specs.Words.{words as meant_words};
 
 use crate::frame::{Frame, WordsOf};
@@ -21,11 +30,11 @@ use crate::turns::{say, take_turn, wait};
 use crate::waits::{Waits, plainly};
 use crate::watch::Watch;
 use acts::NoMemory;
+use commands::{Acting, Began};
 use control::{Control, Held};
 use expects::form::Form;
 use expects::turn::Turn;
-use state::leaf::empty;
-use state::{Leaf, Nesting, State};
+use state::{Leaf, Nesting, Outcome, State};
 use std::alloc::Allocator;
 use std::rc::Rc;
 use tclparse::Word;
@@ -45,7 +54,30 @@ pub enum Next<A: Allocator> {
     Again,
 }
 
+/// What may ask for acts, once all else about it is done.
+#[derive(Drop)]
+pub enum Asking<A: Allocator> {
+    /// A command that asks for acts, by its words.
+    Command(Acting, Vec<Value<A>, A>),
+    /// A command that takes branches, by its words, and how many levels may still nest in it.
+    Branching(Form, Vec<Value<A>, A>, u8),
+    /// Words that give the branches of such a command, and how many levels may still nest in it.
+    Branches(Form, Vec<Value<A>, A>, u8),
+    /// A turn of `expect`.
+    Turn(Box<Turn<A>, A>),
+}
+
+/// How far something has come that began.
+#[derive(Drop)]
+pub enum Begun<A: Allocator> {
+    /// To an outcome, which the top frame takes.
+    Has(Outcome<A>),
+    /// To what may ask for acts.
+    Asks(Asking<A>),
+}
+
 /// Begins what comes next, up to its first act or a script in it.
+#[inline(always)]
 pub(crate) fn start<A: Allocator + Copy, T: Watch<A, Frame<A>, State<A>, Leaf<A, Waits<A>>>>(
     alloc: A,
     frames: &mut Vec<Frame<A>, A>,
@@ -60,38 +92,60 @@ pub(crate) fn start<A: Allocator + Copy, T: Watch<A, Frame<A>, State<A>, Leaf<A,
         ≤ more_of next + load (stack frames.old) state.old) }
     ensures watched { T.told watch.old [] watch.new }
 {
+    match begin_next(alloc, frames, state, next, watch)? {
+        Begun::Has(outcome) => Ok(Leaf::Has(outcome)),
+        Begun::Asks(asking) => ask(alloc, frames, state, asking),
+    }
+}
+
+/// Begins what comes next, up to an outcome or to what may ask for acts.
+fn begin_next<A: Allocator + Copy, T: Watch<A, Frame<A>, State<A>, Leaf<A, Waits<A>>>>(
+    alloc: A,
+    frames: &mut Vec<Frame<A>, A>,
+    state: &mut State<A>,
+    next: Next<A>,
+    watch: &mut T,
+) -> Result<Begun<A>, NoMemory>
+    ensures begins { (s : Status) → FitsState state.old s →
+        IfOk result (λ begun. HasBegun begun (stack frames.new) state.new
+        (left_of (course_of_next next s) (stack frames.old))) }
+    ensures load { IfOk result (λ begun. begun_load begun + load (stack frames.new) state.new
+        ≤ more_of next + load (stack frames.old) state.old) }
+    ensures watched { T.told watch.old [] watch.new }
+{
     match next {
         Next::Command(words, levels) => begin(alloc, frames, state, words, levels, watch),
         Next::Call(values, levels, whose) => {
-            go_on(alloc, frames, state, &values, levels, whose, watch)
+            go_on(alloc, frames, state, values, levels, whose, watch)
         }
-        Next::Turn(turn) => take_turn(alloc, frames, state, turn),
-        Next::Again => Ok(empty()),
+        Next::Turn(turn) => Ok(Begun::Asks(Asking::Turn(turn))),
+        Next::Again => Ok(Begun::Has(Ok(Value::empty()))),
     }
 }
 
 /// Continues with words that are all substituted: they begin a command, or give its branches.
+#[inline(never)]
 fn go_on<A: Allocator + Copy, T: Watch<A, Frame<A>, State<A>, Leaf<A, Waits<A>>>>(
     alloc: A,
     frames: &mut Vec<Frame<A>, A>,
     state: &mut State<A>,
-    words: &[Value<A>],
+    words: Vec<Value<A>, A>,
     levels: u8,
     whose: WordsOf,
     watch: &mut T,
-) -> Result<Leaf<A, Waits<A>>, NoMemory>
-    ensures leads { (s : Status) → FitsState state.old s →
-        IfOk result (λ leaf. Leads leaf (stack frames.new) state.new
-        (left_of (call_of whose levels s words.now) (stack frames.old))) }
-    ensures load { IfOk result (λ leaf. again_in leaf + load (stack frames.new) state.new
+) -> Result<Begun<A>, NoMemory>
+    ensures begins { (s : Status) → FitsState state.old s →
+        IfOk result (λ begun. HasBegun begun (stack frames.new) state.new
+        (left_of (call_of whose levels s words.items) (stack frames.old))) }
+    ensures load { IfOk result (λ begun. begun_load begun + load (stack frames.new) state.new
         ≤ call_load whose + load (stack frames.old) state.old) }
     ensures watched { T.told watch.old [] watch.new }
 {
     match whose {
         WordsOf::Command => call(alloc, frames, state, words, levels, watch),
         WordsOf::Argument(form) => {
-            watch.says(words);
-            say(alloc, frames, state, form, words, levels)
+            watch.says(&words);
+            Ok(Begun::Asks(Asking::Branches(form, words, levels)))
         }
     }
 }
@@ -104,18 +158,18 @@ fn begin<A: Allocator + Copy, T: Watch<A, Frame<A>, State<A>, Leaf<A, Waits<A>>>
     words: Rc<Vec<Word<A>, A>, A>,
     levels: u8,
     watch: &mut T,
-) -> Result<Leaf<A, Waits<A>>, NoMemory>
-    ensures leads { (s : Status) → FitsState state.old s →
-        IfOk result (λ leaf. Leads leaf (stack frames.new) state.new
+) -> Result<Begun<A>, NoMemory>
+    ensures begins { (s : Status) → FitsState state.old s →
+        IfOk result (λ begun. HasBegun begun (stack frames.new) state.new
         (left_of (meant_words levels (words_of words) [] s (command levels))
         (stack frames.old))) }
-    ensures load { IfOk result (λ leaf. again_in leaf + load (stack frames.new) state.new
+    ensures load { IfOk result (λ begun. begun_load begun + load (stack frames.new) state.new
         ≤ 2 + load (stack frames.old) state.old) }
     ensures watched { T.told watch.old [] watch.new }
 {
     match gather(alloc, frames, state, words, levels, WordsOf::Command)? {
-        Ok(values) => call(alloc, frames, state, &values, levels, watch),
-        Err(outcome) => Ok(Leaf::Has(outcome)),
+        Ok(values) => call(alloc, frames, state, values, levels, watch),
+        Err(outcome) => Ok(Begun::Has(outcome)),
     }
 }
 
@@ -124,56 +178,211 @@ fn call<A: Allocator + Copy, T: Watch<A, Frame<A>, State<A>, Leaf<A, Waits<A>>>>
     alloc: A,
     frames: &mut Vec<Frame<A>, A>,
     state: &mut State<A>,
-    words: &[Value<A>],
+    words: Vec<Value<A>, A>,
     levels: u8,
     watch: &mut T,
-) -> Result<Leaf<A, Waits<A>>, NoMemory>
-    ensures leads { (s : Status) → FitsState state.old s →
-        IfOk result (λ leaf. Leads leaf (stack frames.new) state.new
-        (left_of (command levels s words.now) (stack frames.old))) }
-    ensures load { IfOk result (λ leaf. again_in leaf + load (stack frames.new) state.new
+) -> Result<Begun<A>, NoMemory>
+    ensures begins { (s : Status) → FitsState state.old s →
+        IfOk result (λ begun. HasBegun begun (stack frames.new) state.new
+        (left_of (command levels s words.items) (stack frames.old))) }
+    ensures load { IfOk result (λ begun. begun_load begun + load (stack frames.new) state.new
         ≤ 1 + load (stack frames.old) state.old) }
     ensures watched { T.told watch.old [] watch.new }
 {
-    let [name, args @ ..] = words else {
-        return Ok(empty());
-    };
-    watch.begins(frames, state, words);
-    if let Some(nesting) = control::call(alloc, state, name.as_slice(), args, levels)? {
-        return hold(frames, nesting);
+    if words.is_empty() {
+        return Ok(Begun::Has(Ok(Value::empty())));
     }
-    match Control::read(name.as_slice()) {
-        Some(control) => {
-            let nesting = control::begin(alloc, state, control, args, levels)?;
-            hold(frames, nesting)
-        }
-        None => call_other(alloc, frames, state, words, levels),
+    watch.begins(frames, state, words.as_slice());
+    match call_control(alloc, frames, state, words.as_slice(), levels)? {
+        Some(outcome) => Ok(Begun::Has(outcome)),
+        None => call_other(alloc, state, words, levels),
     }
 }
 
-/// Begins a command that takes branches, or one that runs no script.
-fn call_other<A: Allocator + Copy>(
+/// Begins a procedure, or a command that runs scripts, by its words, up to a script in it; `None`
+/// where they name neither, and nothing is done.
+fn call_control<A: Allocator + Copy>(
     alloc: A,
     frames: &mut Vec<Frame<A>, A>,
     state: &mut State<A>,
     words: &[Value<A>],
     levels: u8,
+) -> Result<Option<Outcome<A>>, NoMemory>
+    ensures leads { (s : Status) → FitsState state.old s → IfOk result (λ ran. MatchOption ran
+        ((command levels s words.now ≡ other_command levels s words.now)
+        × FitsState state.new s × (stack frames.new ≡ stack frames.old))
+        (λ outcome. Leads (leaf.Has outcome) (stack frames.new) state.new
+        (left_of (command levels s words.now) (stack frames.old)))) }
+    ensures load { IfOk result (λ ran. MatchOption ran (state.new.left ≤ state.old.left)
+        (λ outcome. again_of (outcome_of outcome) + load (stack frames.new) state.new
+        ≤ 1 + load (stack frames.old) state.old)) }
+    ensures kept { IfOk result (λ ran. IfNone ran (stack frames.new ≡ stack frames.old)) }
+{
+    let [name, args @ ..] = words else {
+        return Ok(None);
+    };
+    let name = name.as_slice();
+    if let Some(outcome) = call_procedure(alloc, frames, state, name, args, levels)? {
+        return Ok(Some(outcome));
+    }
+    match Control::read(name) {
+        Some(control) => Ok(Some(begin_control(alloc, frames, state, control, args, levels)?)),
+        None => Ok(None),
+    }
+}
+
+/// Calls the procedure of a name, up to its body; `None` where no procedure has the name, and
+/// nothing is done.
+fn call_procedure<A: Allocator + Copy>(
+    alloc: A,
+    frames: &mut Vec<Frame<A>, A>,
+    state: &mut State<A>,
+    name: &[u8],
+    args: &[Value<A>],
+    levels: u8,
+) -> Result<Option<Outcome<A>>, NoMemory>
+    ensures leads { (s : Status) → FitsState state.old s → IfOk result (λ called. MatchOption called
+        ((found s.procedures name.now ≡ None) × FitsState state.new s
+        × (stack frames.new ≡ stack frames.old))
+        (λ outcome. Leads (leaf.Has outcome) (stack frames.new) state.new
+        (left_of (command levels s (name.now ∷ args.now)) (stack frames.old)))) }
+    ensures load { IfOk result (λ called. MatchOption called (state.new.left ≤ state.old.left)
+        (λ outcome. again_of (outcome_of outcome) + load (stack frames.new) state.new
+        ≤ 1 + load (stack frames.old) state.old)) }
+    ensures kept { IfOk result (λ called. IfNone called (stack frames.new ≡ stack frames.old)) }
+{
+    match state.procs.get(name) {
+        Some(_) => enter_procedure(alloc, frames, state, name, args, levels),
+        None => Ok(None),
+    }
+}
+
+/// The same, without a look beforehand whether a procedure has the name.
+#[inline(never)]
+fn enter_procedure<A: Allocator + Copy>(
+    alloc: A,
+    frames: &mut Vec<Frame<A>, A>,
+    state: &mut State<A>,
+    name: &[u8],
+    args: &[Value<A>],
+    levels: u8,
+) -> Result<Option<Outcome<A>>, NoMemory>
+    ensures leads { (s : Status) → FitsState state.old s → IfOk result (λ called. MatchOption called
+        ((found s.procedures name.now ≡ None) × FitsState state.new s
+        × (stack frames.new ≡ stack frames.old))
+        (λ outcome. Leads (leaf.Has outcome) (stack frames.new) state.new
+        (left_of (command levels s (name.now ∷ args.now)) (stack frames.old)))) }
+    ensures load { IfOk result (λ called. MatchOption called (state.new.left ≤ state.old.left)
+        (λ outcome. again_of (outcome_of outcome) + load (stack frames.new) state.new
+        ≤ 1 + load (stack frames.old) state.old)) }
+    ensures kept { IfOk result (λ called. IfNone called (stack frames.new ≡ stack frames.old)) }
+{
+    match control::call(alloc, state, name, args, levels)? {
+        Some(nesting) => Ok(Some(hold(frames, nesting)?)),
+        None => Ok(None),
+    }
+}
+
+/// Begins a command that runs scripts, up to a script in it.
+#[inline(never)]
+fn begin_control<A: Allocator + Copy>(
+    alloc: A,
+    frames: &mut Vec<Frame<A>, A>,
+    state: &mut State<A>,
+    control: Control,
+    args: &[Value<A>],
+    levels: u8,
+) -> Result<Outcome<A>, NoMemory>
+    ensures leads { (s : Status) → FitsState state.old s → IfOk result (λ outcome.
+        Leads (leaf.Has outcome) (stack frames.new) state.new
+        (left_of (controls.does (control_of control) levels args.now s)
+        (stack frames.old))) }
+    ensures load { IfOk result (λ outcome.
+        again_of (outcome_of outcome) + load (stack frames.new) state.new
+        ≤ 1 + load (stack frames.old) state.old) }
+{
+    let nesting = control::begin(alloc, state, control, args, levels)?;
+    hold(frames, nesting)
+}
+
+/// Begins a command that takes branches, or one that runs no script, up to an outcome or to what
+/// may ask for acts.
+fn call_other<A: Allocator + Copy>(
+    alloc: A,
+    state: &mut State<A>,
+    words: Vec<Value<A>, A>,
+    levels: u8,
+) -> Result<Begun<A>, NoMemory>
+    ensures begins { (frames : List (framed.Frame A)) (s : Status) → FitsState state.old s →
+        IfOk result (λ begun. HasBegun begun frames state.new
+        (left_of (other_command levels s words.items) frames)) }
+    ensures again { IfOk result (λ begun. begun_load begun ≤ 1) }
+    ensures left { state.new.left ≤ state.old.left }
+{
+    let [name, ..] = words.as_slice() else {
+        return Ok(Begun::Has(Ok(Value::empty())));
+    };
+    match Form::read(name.as_slice()) {
+        Some(form) => Ok(Begun::Asks(Asking::Branching(form, words, levels))),
+        None => call_plain(alloc, state, words),
+    }
+}
+
+/// Begins a command that runs no script and takes no branches, up to an outcome or to what may ask
+/// for acts.
+fn call_plain<A: Allocator + Copy>(
+    alloc: A,
+    state: &mut State<A>,
+    words: Vec<Value<A>, A>,
+) -> Result<Begun<A>, NoMemory>
+    ensures begins { (frames : List (framed.Frame A)) (s : Status) → FitsState state.old s →
+        IfOk result (λ begun. HasBegun begun frames state.new
+        (left_of (plain.command s words.items) frames)) }
+    ensures again { IfOk result (λ begun. begun_load begun ≤ 1) }
+    ensures left { state.new.left ≤ state.old.left }
+{
+    match commands::begin(alloc, state, words.as_slice())? {
+        Began::Has(outcome) => Ok(Begun::Has(outcome)),
+        Began::Asks(acting) => Ok(Begun::Asks(Asking::Command(acting, words))),
+    }
+}
+
+/// Goes on with what may ask for acts, up to its first act or to a script in it.
+#[inline(never)]
+fn ask<A: Allocator + Copy>(
+    alloc: A,
+    frames: &mut Vec<Frame<A>, A>,
+    state: &mut State<A>,
+    asking: Asking<A>,
 ) -> Result<Leaf<A, Waits<A>>, NoMemory>
     ensures leads { (s : Status) → FitsState state.old s →
         IfOk result (λ leaf. Leads leaf (stack frames.new) state.new
-        (left_of (other_command levels s words.now) (stack frames.old))) }
+        (left_of (course_of_asking asking s) (stack frames.old))) }
     ensures load { IfOk result (λ leaf. again_in leaf + load (stack frames.new) state.new
-        ≤ 1 + load (stack frames.old) state.old) }
+        ≤ asking_load asking + load (stack frames.old) state.old) }
 {
-    let [name, args @ ..] = words else {
-        return Ok(empty());
-    };
-    match Form::read(name.as_slice()) {
-        Some(form) => wait(alloc, frames, state, form, args, levels),
-        None => {
-            let leaf = commands::begin(alloc, state, words)?;
+    match asking {
+        Asking::Command(acting, words) => {
+            let leaf = commands::ask(alloc, state, acting, behind(words.as_slice()))?;
             Ok(plainly(leaf))
         }
+        Asking::Branching(form, words, levels) => {
+            wait(alloc, frames, state, form, behind(words.as_slice()), levels)
+        }
+        Asking::Branches(form, words, levels) => {
+            say(alloc, frames, state, form, words.as_slice(), levels)
+        }
+        Asking::Turn(turn) => take_turn(alloc, frames, state, turn),
+    }
+}
+
+/// The words after the first one.
+fn behind<A: Allocator>(words: &[Value<A>]) -> &[Value<A>]
+    ensures { result.now ≡ drop 1 words.now }
+{
+    match words {
+        [_, behind @ ..] => behind,
+        [] => words,
     }
 }
 
@@ -181,18 +390,19 @@ fn call_other<A: Allocator + Copy>(
 fn hold<A: Allocator>(
     frames: &mut Vec<Frame<A>, A>,
     nesting: Nesting<A, Held<A>>,
-) -> Result<Leaf<A, Waits<A>>, NoMemory>
-    ensures leads { (s : Status) → IfOk result (λ leaf.
+) -> Result<Outcome<A>, NoMemory>
+    ensures goes { (s : Status) → IfOk result (λ outcome.
         Goes (left_of (course_of_nesting control.next_of nesting s) (stack frames.old))
-        (left_of (course_of waiting.next_of leaf s) (stack frames.new))) }
-    ensures words { IfOk result (λ leaf.
-        again_in leaf + words_in (stack frames.new) ≤ 1 + words_in (stack frames.old)) }
+        (onward_of (stack frames.new) s (outcome_of outcome))) }
+    ensures words { IfOk result (λ outcome.
+        again_of (outcome_of outcome) + words_in (stack frames.new)
+        ≤ 1 + words_in (stack frames.old)) }
 {
     match nesting {
-        Nesting::Has(outcome) => Ok(Leaf::Has(outcome)),
+        Nesting::Has(outcome) => Ok(outcome),
         Nesting::Runs(script, levels, held) => {
             put_script(frames, script, levels, Frame::Held(held))?;
-            Ok(empty())
+            Ok(Ok(Value::empty()))
         }
     }
 }

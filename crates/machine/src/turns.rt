@@ -25,6 +25,7 @@ use std::alloc::Allocator;
 use tcltext::Value;
 
 /// Begins `expect` or a command that lets branches stand, up to its first act or a script in it.
+#[inline(never)]
 pub fn wait<A: Allocator + Copy>(
     alloc: A,
     frames: &mut Vec<Frame<A>, A>,
@@ -90,6 +91,7 @@ fn open<A: Allocator + Copy>(
 }
 
 /// Takes a turn up to its wait or the body that it chooses.
+#[inline(never)]
 pub fn take_turn<A: Allocator + Copy>(
     alloc: A,
     frames: &mut Vec<Frame<A>, A>,

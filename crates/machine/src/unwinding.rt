@@ -122,6 +122,7 @@ fn value_on<A: Allocator + Copy>(
 }
 
 /// Hands an outcome other than a value to the frame that was on top: scripts and words pass it on.
+#[inline(never)]
 fn leave_on<A: Allocator + Copy>(
     alloc: A,
     frames: &mut Vec<Frame<A>, A>,
@@ -162,6 +163,7 @@ fn behind<A: Allocator + Copy>(
 }
 
 /// Continues words after a script in one of them.
+#[inline(never)]
 fn words_on<A: Allocator + Copy>(
     alloc: A,
     frames: &mut Vec<Frame<A>, A>,
@@ -195,6 +197,7 @@ fn words_on<A: Allocator + Copy>(
 }
 
 /// Hands a turn of `expect` the outcome of the body that it chose.
+#[inline(never)]
 fn turn_on<A: Allocator + Copy>(
     alloc: A,
     frames: &mut Vec<Frame<A>, A>,
@@ -217,6 +220,7 @@ fn turn_on<A: Allocator + Copy>(
 }
 
 /// Continues a command after a script that it ran.
+#[inline(never)]
 fn held_on<A: Allocator + Copy>(
     alloc: A,
     frames: &mut Vec<Frame<A>, A>,

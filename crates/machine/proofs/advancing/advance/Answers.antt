@@ -1,4 +1,4 @@
-use Rattle.std.proofs.Common.{◌+◌, ◌*◌, ◌≤◌, [], subst, ap, arith}
+use Rattle.std.proofs.Common.{◌+◌, ◌≤◌, [], subst, ap, arith}
 use Rattle.machine.specs.Frames.{left_of, load, onward_of, stack, weight, words_in}
 use Rattle.machine.specs.Goes.{here}
 use Rattle.machine.specs.Phases.{IsEmptied, Leads, Lightens, Unwinds, course_of_next, more_of}

@@ -1,4 +1,4 @@
-use Rattle.std.proofs.Common.{◌+◌, ◌≤◌, []}
+use Rattle.std.proofs.Common.{◌+◌, []}
 use Rattle.machine.specs.Frames.{load, onward_of, stack}
 use Rattle.state.specs.Budget.{again_of}
 use Rattle.state.specs.Prelude.{Status, FitsState, outcome_of}

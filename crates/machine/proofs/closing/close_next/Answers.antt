@@ -1,5 +1,4 @@
-use Rattle.std.proofs.Common.{◌≡◌, [], refl, ap}
-use Rattle.dialog.specs.Peers.{opened, line}
+use Rattle.std.proofs.Common.{refl}
 use Rattle.machine.specs.View.{ending_of}
 use Rattle.machine.proofs.Closings.{closes_first, none_open}
 use Rattle.machine.proofs.Silent.{same_goes}

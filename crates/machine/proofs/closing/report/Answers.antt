@@ -1,4 +1,4 @@
-use Rattle.std.proofs.Common.{◌≡◌, ◌++◌, ◌∷◌, [], refl, sym, ap, rules}
+use Rattle.std.proofs.Common.{◌≡◌, ◌++◌, ◌∷◌, [], refl, ap, rules}
 use Rattle.acts.specs.Deed as said
 use Rattle.runs.specs.Closing.{does, ends_with, reported}
 use Rattle.machine.proofs.Silent.{same_goes}

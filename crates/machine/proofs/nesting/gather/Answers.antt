@@ -1,6 +1,5 @@
 use Rattle.std.proofs.Common.{sym, ap}
 use Rattle.machine.specs.Frames.{call_of, onward_of, stack}
-use Rattle.state.specs.View.{outcome_of, raised}
 use Rattle.machine.proofs.Machines.{gathered_goes}
 use Rattle.machine.proofs.Silent.{same_goes, then_goes}
 use Rattle.machine.proofs.nesting.gather.Goals as goal

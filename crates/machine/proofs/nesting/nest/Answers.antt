@@ -4,7 +4,6 @@ use Rattle.machine.specs.declared.frame.Frame.TheVariants as frame
 use Rattle.state.specs.Prelude.{Ends, Course, Gives}
 use Rattle.tclparse.specs.View.{commands_of}
 use Rattle.words.specs.Gathering.{gathering_on}
-use Rattle.words.specs.Words.{nested}
 use Rattle.machine.proofs.Machines.{on_ok, nest_goes, nested_over}
 use Rattle.machine.proofs.Silent.{same_goes, same_left, then_goes}
 use Rattle.machine.proofs.nesting.nest.Goals as goal
@@ -16,7 +15,7 @@ returns-in_default-clause-goes g c = λ s.
     on_ok c.raised.result (λ outcome is.
     then_goes
     (same_left frames (nested_over c.args.levels (commands_of c.args.commands) s
-    (gathering_on c.args.levels c.args.gathering (call_of c.args.whose c.args.levels)) zero))
+    (gathering_on c.args.levels c.args.gathering.value (call_of c.args.whose c.args.levels)) zero))
     (same_goes (ap (λ o. onward_of frames s o) (sym is))))
     c.raised.ensures
 
@@ -24,20 +23,15 @@ pub returns-clause-goes : goal.returns-clause-goes
 returns-clause-goes g c = λ s.
     let frames = stack c.args.frames.now in
     let is : c.args.levels ≡ suc c.in-Some.inner = search (rules, arith) in
-    let own : c.args.gathering ≡ c.in_ok-new.field-0.value = search rules in
     let script = frame.Script
     (record { commands = c.args.commands; next = 0; levels = c.in-Some.inner; fault = None }) in
     let on : stack c.push-2.new.frames
-    ≡ script ∷ frame.Words c.in_ok-new.field-0 c.args.levels c.args.whose ∷ frames =
+    ≡ script ∷ frame.Words c.args.gathering c.args.levels c.args.whose ∷ frames =
     c.in_ok-push-2.ensures ∙ ap (λ fs. script ∷ fs) c.in_ok-push.ensures in
     let over : Course = Ends (s, Gives []) in
     then_goes
-    (same_left frames (ap (λ gathering.
-    nested c.args.levels (commands_of c.args.commands) s
-    (gathering_on c.args.levels gathering (call_of c.args.whose c.args.levels))) own))
-    (then_goes
-    (nest_goes frames c.args.levels c.in-Some.inner c.args.commands c.in_ok-new.field-0
+    (nest_goes frames c.args.levels c.in-Some.inner c.args.commands c.args.gathering
     c.args.whose s is)
     (then_goes
     (same_goes (ap (λ fs. left_of over fs) (sym on)))
-    (same_goes (ap (λ v. onward_of (stack c.push-2.new.frames) s (Gives v)) (sym c.empty.ensures)))))
+    (same_goes (ap (λ v. onward_of (stack c.push-2.new.frames) s (Gives v)) (sym c.empty.ensures))))

@@ -1,36 +1,52 @@
-use Rattle.std.proofs.Common.{◌≡◌, ◌∷◌, [], drop, length, None, sym, rules, arith}
-use Rattle.machine.specs.Frames.{stack}
-use Rattle.machine.proofs.Held.{first_word, no_word, other_none, other_plain}
-use Rattle.machine.proofs.Machines.{leads_from, over_leads}
-use Rattle.machine.proofs.Silent.{reaches_goes, same_left, then_goes}
+use Rattle.std.proofs.Common.{◌≡◌, ◌∙◌, drop, length, None, Some, sym, ap, rules, arith}
+use Rattle.commands.proofs.Words.{first_word, no_word}
+use Rattle.commands.specs.Commands as plain
 use Rattle.expects.specs.Words.{named as form_of}
-use Rattle.state.specs.Outcome.{Gives}
+use Rattle.expects.specs.View as expects
+use Rattle.machine.proofs.Held.{other_none, other_plain, other_waits}
+use Rattle.machine.proofs.Machines.{begun_from, leads_from, nothing_leads, on_ok}
+use Rattle.machine.proofs.Silent.{same_left}
+use Rattle.runs.specs.Commands.{other_command}
+use Rattle.expects.specs.Expect.{expect}
 use Rattle.machine.proofs.starting.call_other.Goals as goal
 
-pub returns-in_default-clause-leads : goal.returns-in_default-clause-leads
-returns-in_default-clause-leads g c = λ s fits.
-    let frames = stack c.args.frames.now in
-    let words = c.args.words.now in
+pub returns-in_default-clause-begins : goal.returns-in_default-clause-begins
+returns-in_default-clause-begins g c = λ frames s fits.
+    let words = c.as_slice.result.now in
     let zero : length words ≡ 0 = search (rules, arith) in
     leads_from frames c.args.state.now
-    (same_left frames (other_none c.args.levels words s (no_word words zero)))
-    (over_leads frames c.empty.result (Gives []) s c.args.state.now fits c.empty.ensures)
+    (same_left frames (ap (λ ws. other_command c.args.levels s ws) (sym c.as_slice.ensures.value)
+    ∙ other_none c.args.levels words s (no_word words zero)))
+    (nothing_leads frames c.empty.result s c.args.state.now c.empty.ensures fits)
 
-pub returns-in_ok-leaf-in-None-clause-leads : goal.returns-in_ok-leaf-in-None-clause-leads
-returns-in_ok-leaf-in-None-clause-leads g c = λ s fits.
-    let frames = stack c.args.frames.now in
-    let words = c.args.words.now in
+pub returns-in-Some-clause-begins : goal.returns-in-Some-clause-begins
+returns-in-Some-clause-begins g c = λ frames s fits.
+    let words = c.as_slice.result.now in
+    let levels = c.args.levels in
     let first = c.name-item.result in
-    let split : words ≡ first ∷ drop 1 words =
-    first_word words first c.in-len1-up.len_at_least c.name-item.is in
-    let none : form_of first ≡ None = rw c.as_slice.ensures at (sym c.in-None.ensures) in
-    let shown = c.in_ok-leaf-in-None.ensures.shows s fits in
+    let form = expects.form_of c.in-Some.form in
+    let split = first_word words first c.in-len1-up.len_at_least c.name-item.is in
+    let formed : form_of first ≡ Some form = rw c.as_slice-2.ensures at (sym c.in-Some.ensures) in
     record {
-      status = shown.status;
-      fits = shown.fits;
-      goes = then_goes
-          (same_left frames
-          (other_plain c.args.levels words s first (drop 1 words) split none))
-          (then_goes (reaches_goes frames shown.reaches)
-          (same_left frames (sym (c.plainly.ensures.course shown.status))));
+      status = s;
+      fits = fits;
+      goes = same_left frames
+          (ap (λ ws. other_command levels s ws) (sym c.as_slice.ensures.value)
+          ∙ other_waits levels words s first (drop 1 words) split form formed
+          ∙ ap (λ ws. expect form levels (drop 1 ws) s) c.as_slice.ensures.value);
     }
+
+pub returns-in-None-clause-begins : goal.returns-in-None-clause-begins
+returns-in-None-clause-begins g c = λ frames s fits.
+    let words = c.as_slice.result.now in
+    let levels = c.args.levels in
+    let first = c.name-item.result in
+    let split = first_word words first c.in-len1-up.len_at_least c.name-item.is in
+    let none : form_of first ≡ None = rw c.as_slice-2.ensures at (sym c.in-None.ensures) in
+    on_ok c.call_plain.result (λ begun has. begun_from frames c.call_plain.new.state
+    (same_left frames
+    (ap (λ ws. other_command levels s ws) (sym c.as_slice.ensures.value)
+    ∙ other_plain levels words s first (drop 1 words) split none
+    ∙ ap (λ ws. plain.command s ws) c.as_slice.ensures.value))
+    begun has)
+    (c.call_plain.ensures.begins frames s fits)

@@ -1,4 +1,4 @@
-use Rattle.std.proofs.Common.{◌≡◌, MatchOption, suc, sym, subst, rules, arith}
+use Rattle.std.proofs.Common.{◌≡◌, MatchOption, suc, subst, rules, arith}
 use Rattle.machine.specs.Frames.{stack}
 use Rattle.machine.specs.Taken.{HasNone, MovesOn}
 use Rattle.machine.proofs.Taking.{moves_taken}

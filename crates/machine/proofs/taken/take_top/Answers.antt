@@ -1,7 +1,5 @@
-use Rattle.std.proofs.Common.{◌≡◌, MatchOption, rules, sym, subst}
 use Rattle.machine.specs.Frames.{stack}
-use Rattle.machine.specs.Taken.{CannotMove, IsTaken}
-use Rattle.machine.specs.declared.taken.Taken.TheVariants as it
+use Rattle.machine.specs.Taken.{CannotMove}
 use Rattle.machine.proofs.Taking.{none_moved, top_taken}
 use Rattle.machine.proofs.taken.take_top.Goals as goal
 

@@ -1,5 +1,5 @@
 use Rattle.std.proofs.Common.{[], ap}
-use Rattle.machine.specs.Frames.{left_of, stack}
+use Rattle.machine.specs.Frames.{stack}
 use Rattle.machine.proofs.Machines.{over_goes}
 use Rattle.machine.proofs.Silent.{same_left, then_goes}
 use Rattle.machine.proofs.Waiting.{body_goes}

@@ -1,9 +1,8 @@
-use Rattle.std.proofs.Common.{◌∙◌, ap}
+use Rattle.std.proofs.Common.{ap}
 use Rattle.machine.specs.Frames.{stack}
 use Rattle.machine.proofs.Silent.{reaches_goes, same_left, then_goes}
 use Rattle.machine.proofs.Waiting.{turn_goes}
 use Rattle.expects.specs.View.{course_of_opening, turn_of}
-use Rattle.state.specs.View.{outcome_of}
 use Rattle.machine.proofs.unwinding.turn_on.Goals as goal
 
 pub returns-in-Has-clause-unwinds : goal.returns-in-Has-clause-unwinds

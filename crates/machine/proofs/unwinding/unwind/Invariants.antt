@@ -1,6 +1,5 @@
 use Rattle.std.proofs.Common.{◌≤◌, ◌+◌}
 use Rattle.machine.specs.Frames.{onward_of, stack, weight, words_in}
-use Rattle.machine.specs.Goes.{Goes}
 use Rattle.state.specs.Budget.{again_of}
 use Rattle.state.specs.Prelude.{Status, FitsState, outcome_of}
 use Rattle.machine.proofs.Machines.{Comes}

@@ -1,4 +1,4 @@
-use Rattle.std.proofs.Common.{◌≡◌, ◌∙◌, ◌<◌, ◌∷◌, MatchOption, ap, sym, subst, refl, rules, arith}
+use Rattle.std.proofs.Common.{◌≡◌, ◌∙◌, ◌<◌, ◌∷◌, MatchOption, ap, sym, subst, refl, rules}
 use Rattle.machine.specs.Frames.{commands_left}
 use Rattle.machine.specs.Taken.{HandsOut, HasNone}
 use Rattle.machine.specs.declared.frame.Frame.TheVariants as frame
