@@ -1,5 +1,5 @@
 -- Texts that lack a byte, and where they are cut.
-use Rattle.std.proofs.Common.{◌≡◌, ◌+◌, ◌-◌, ◌<◌, ℕ, zero, suc, true, false, List, [], ◌∷◌, ◌++◌, length, take, drop, slice_index, Option, Some, None, IfSome, refl, sym, ap, ◌∙◌, arith, take-append-drop}
+use Rattle.std.proofs.Common.{◌≡◌, ◌+◌, ◌-◌, ◌<◌, ℕ, zero, suc, true, false, List, [], ◌∷◌, ◌++◌, length, take, drop, slice_index, Option, Some, None, IfSome, MatchOption, refl, sym, ap, ◌∙◌, arith, take-append-drop}
 use Rattle.std.specs.Str.{bytes_eq}
 use Rattle.std.proofs.Math.Seq.{take-append_seam}
 use Rattle.std.proofs.lemmas.Slice.Eq.{bytes_eq-Decides}
@@ -73,6 +73,11 @@ pub some_weaker : {T : Type 0} {P Q : T → Type 0} (o : Option T) → IfSome o 
     → ((x : T) → P x → Q x) → IfSome o Q
 some_weaker None p more = tt
 some_weaker (Some x) p more = more x p
+
+pub match_weaker : {T : Type 0} {P P' : Type 0} {Q Q' : T → Type 0} (o : Option T) → (P → P')
+    → ((x : T) → Q x → Q' x) → MatchOption o P Q → MatchOption o P' Q'
+match_weaker None none some h = none h
+match_weaker (Some x) none some h = some x h
 
 -- a text whose front is found to be a word is that word and the rest
 pub prefix_split : (text word rest : List ℕ) → bytes_eq (take (length word) text) word ≡ true → rest

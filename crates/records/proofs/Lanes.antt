@@ -1,11 +1,11 @@
 -- What the lanes of one step hold: the digits of bytes, and the bytes and values of digits.
-use Rattle.std.proofs.Common.{◌≡◌, ℕ, ◌+◌, ◌-◌, ◌*◌, ◌/◌, ◌%◌, ◌^◌, ◌<◌, ◌≤◌, ◌&&◌, ◌||◌, zero, suc, Bool, true, false, not, cond, ltb, leb, List, [], ◌∷◌, ◌++◌, length, map, get_or, take, drop, slice_index, nat_eq, replicate, bit_or, Fits, w8, refl, sym, ap, ap₂, ◌∙◌, arith}
-use Rattle.std.proofs.lemmas.Bool.{agree_below, agree_below_at, and_parts, eqb-true, false≢true, ne_eqb, ltb-true}
+use Rattle.std.proofs.Common.{◌≡◌, ℕ, ◌+◌, ◌-◌, ◌*◌, ◌/◌, ◌%◌, ◌^◌, ◌<◌, ◌≤◌, ◌&&◌, ◌||◌, zero, suc, Bool, true, false, not, cond, ltb, List, [], ◌∷◌, ◌++◌, length, map, get_or, take, drop, slice_index, nat_eq, replicate, bit_or, Fits, w8, refl, sym, ap, ap₂, ◌∙◌, arith}
+use Rattle.std.proofs.lemmas.Bool.{agree_below, agree_below_at, and_parts, eqb-true, ne_eqb, ltb-true}
 use Rattle.std.proofs.lemmas.Bool.Decides.{nat_tests}
-use Rattle.std.proofs.lemmas.List.{append-nil, append_assoc, drop_all, length-drop, take_all, take-append-drop, length-append, get_or_append_left, get_or-append_right, length-map, get_or-map, map-append}
+use Rattle.std.proofs.lemmas.List.{append-nil, append_assoc, drop_all, length-drop, take_all, take-append-drop, length-append, get_or_append_left, get_or-append_right, get_or-drop, length-map, get_or-map, map-append}
 use Rattle.std.proofs.lemmas.List.Folds.{list_all-append}
 use Rattle.std.proofs.lemmas.Nat.{or_shifted}
-use Rattle.std.proofs.lemmas.Simd.{chunk-drop, length-chunk, mask_l-mod, take_more_put_chunk, length-put_chunk}
+use Rattle.std.proofs.lemmas.Simd.{bitmask_splat, chunk-drop, length-chunk, take_more_put_chunk, length-put_chunk}
 use Rattle.std.proofs.Math.Seq.{take-add}
 use Rattle.std.specs.List.{list_all, range_with_len}
 use lib.Lanes.{Each1, chunk, put_chunk, zip2, sel_l, mask_l, top}
@@ -13,7 +13,7 @@ use borrow.Rule.Slice.PartMut.{put_mid}
 use Rattle.hex.specs.Hex.{IsBytes, encode_lower, encode_with, lower_digits}
 use Rattle.hex.proofs.HexLemmas.{length-encode_with}
 use Rattle.hex.proofs.Pairs.{drop-pair, encode_with-drop}
-use Rattle.records.specs.Digits.{is_value}
+use Rattle.records.specs.Digits.{is_mark, is_value}
 use Rattle.records.specs.Record.{is_lower_digit}
 use Rattle.records.proofs.HexTexts.{encode-append}
 
@@ -54,22 +54,39 @@ same_digits lane values lanes are small agree = are ∙ at_each values small
         value agree (ltb-true value 16 here) in
         ap₂ (λ x l. x ∷ l) (eqb-true (lane value) (digit value) same) (at_each values others)
 
-module _ (lane : ℕ → ℕ) (agree : agree_below is_lower_digit (λ d. is_value (lane d)) 256 ≡ true)
+-- lanes computed from digits pass a test just where the digits are lower case ones
+pub lanes_tested : (test : ℕ → Bool) (lane : ℕ → ℕ) (digits lanes : List ℕ) → lanes ≡ map lane digits
+    → Each1 (Fits w8) digits → agree_below (λ d. test (lane d)) is_lower_digit 256 ≡ true
+    → list_all test lanes ≡ list_all is_lower_digit digits
+lanes_tested test lane digits lanes are small agree =
+    ap (list_all test) are ∙ at_each digits small
+  where
+    at_each : (digits : List ℕ) → Each1 (Fits w8) digits
+        → list_all test (map lane digits) ≡ list_all is_lower_digit digits
+    at_each [] small = refl
+    at_each (d ∷ digits) small =
+        ap₂ ◌&&◌ (agree_below_at (λ d. test (lane d)) is_lower_digit 256 d agree small.0.fits)
+        (at_each digits small.1)
+
+module _ (lane : ℕ → ℕ)
+    (under : agree_below (λ d. not (is_lower_digit d) || is_value (lane d)) (λ d. true) 256 ≡ true)
     (right : agree_below (λ d. not (is_lower_digit d) || nat_eq d (digit (lane d))) (λ d. true) 256
     ≡ true) where
-  -- lanes computed from digits are values just where the digits are lower case ones
-  pub lower_lanes : (digits lanes : List ℕ) → lanes ≡ map lane digits → Each1 (Fits w8) digits
-      → list_all is_lower_digit digits ≡ list_all is_value lanes
-  lower_lanes digits lanes are small = at_each digits small ∙ ap (list_all is_value) (sym are)
+  -- lanes computed from lower case digits are values
+  pub small_lanes : (digits lanes : List ℕ) → lanes ≡ map lane digits → Each1 (Fits w8) digits
+      → list_all is_lower_digit digits ≡ true → list_all is_value lanes ≡ true
+  small_lanes digits lanes are small lower = ap (list_all is_value) are ∙ at_each digits small lower
     where
-      at_each : (digits : List ℕ) → Each1 (Fits w8) digits
-          → list_all is_lower_digit digits ≡ list_all is_value (map lane digits)
-      at_each [] small = refl
-      at_each (d ∷ digits) small =
-          ap₂ ◌&&◌ (agree_below_at is_lower_digit (λ d. is_value (lane d)) 256 d agree small.0.fits)
-          (at_each digits small.1)
+      at_each : (digits : List ℕ) → Each1 (Fits w8) digits → list_all is_lower_digit digits ≡ true
+          → list_all is_value (map lane digits) ≡ true
+      at_each [] small lower = refl
+      at_each (d ∷ digits) small lower =
+          let (here, others) = and_parts (is_lower_digit d) (list_all is_lower_digit digits) lower in
+          let one = agree_below_at (λ d. not (is_lower_digit d) || is_value (lane d))
+          (λ d. true) 256 d under small.0.fits in
+          ap₂ ◌&&◌ (rw here at one) (at_each digits small.1 others)
 
-  -- where the digits are lower case ones, the lanes are their values
+  -- and they are the values of the digits
   pub right_lanes : (digits lanes : List ℕ) → lanes ≡ map lane digits → Each1 (Fits w8) digits
       → list_all is_lower_digit digits ≡ true → digits ≡ map digit lanes
   right_lanes digits lanes are small lower = at_each digits small lower ∙ ap (map digit) (sym are)
@@ -84,17 +101,6 @@ module _ (lane : ℕ → ℕ) (agree : agree_below is_lower_digit (λ d. is_valu
           ap₂ (λ x l. x ∷ l)
           (eqb-true d (digit (lane d)) (rw here at one))
           (at_each digits small.1 others)
-
-  -- both of the above
-  pub lanes_read : (digits lanes : List ℕ) → lanes ≡ map lane digits → Each1 (Fits w8) digits
-      → record {
-        lower : list_all is_lower_digit digits ≡ list_all is_value lanes;
-        values : list_all is_lower_digit digits ≡ true → digits ≡ map digit lanes;
-      }
-  lanes_read digits lanes are small = record {
-    lower = lower_lanes digits lanes are small;
-    values = right_lanes digits lanes are small;
-  }
 
 -- ---- pairs of lanes
 
@@ -189,58 +195,61 @@ value_lanes lane bytes lanes are small agree = ap (list_all is_value) are ∙ at
         let one = agree_below_at (λ b. is_value (lane b)) (λ b. true) 256 b agree small.0.fits in
         rw one (at_each bytes small.1)
 
--- ---- whether lanes are values
+-- ---- marks
 
--- the larger of two
-abbrev larger : ℕ → ℕ → ℕ
-larger x y = cond (top 7 (cond (ltb x y) 255 0)) y x
+-- the lesser of two is a mark just where both are
+mark_min : (x y : ℕ) → is_mark (cond (top 7 (cond (ltb x y) 255 0)) x y) ≡ (is_mark x && is_mark y)
+mark_min x y = grind (arith, nat_tests)
 
--- a bit for a lane where the larger of two is no value
-abbrev pub bits : ℕ → List ℕ → List ℕ → List Bool
-bits n xs ys =
-    map (top 7) (zip2 (λ a b. cond (leb a b) 255 0) (replicate n 16)
-    (sel_l (map (top 7) (zip2 (λ a b. cond (ltb a b) 255 0) xs ys)) ys xs))
+-- two tests of each of two
+two_and_two : (p q r s : Bool) → ((p && q) && (r && s)) ≡ ((p && r) && (q && s))
+two_and_two true true r s = refl
+two_and_two true false true s = refl
+two_and_two true false false s = refl
+two_and_two false q r s = refl
 
--- a bit is set where one of two is no value
-bit_set : (x y : ℕ) → top 7 (cond (leb 16 (larger x y)) 255 0) ≡ not (is_value x && is_value y)
-bit_set x y = grind (arith, nat_tests)
+-- the lesser of each two are marks just where all are
+least_marked : (xs ys : List ℕ) → length xs ≡ length ys
+    → list_all is_mark (sel_l (map (top 7) (zip2 (λ a b. cond (ltb a b) 255 0) xs ys)) xs ys)
+    ≡ (list_all is_mark xs && list_all is_mark ys)
+least_marked [] [] e = refl
+least_marked [] (y ∷ ys) e = absurd (omega arith)
+least_marked (x ∷ xs) [] e = absurd (omega arith)
+least_marked (x ∷ xs) (y ∷ ys) e =
+    ap₂ ◌&&◌ (mark_min x y) (least_marked xs ys (omega arith))
+    ∙ two_and_two (is_mark x) (is_mark y) (list_all is_mark xs) (list_all is_mark ys)
+
+-- the same of the joined lanes
+pub both_marked : (xs ys : List ℕ) → length xs ≡ length ys
+    → list_all is_mark (sel_l (map (top 7) (zip2 (λ a b. cond (ltb a b) 255 0) xs ys)) xs ys)
+    ≡ list_all is_mark (xs ++ ys)
+both_marked xs ys e = least_marked xs ys e ∙ sym (list_all-append is_mark xs ys)
+
+-- a number is no mark just where it is 0
+mark_is : (x : ℕ) → not (nat_eq x 0) ≡ is_mark x
+mark_is x = grind (arith, nat_tests)
 
 -- one more bit
-bit_counted : (p q r s : Bool) (m : ℕ) → nat_eq m 0 ≡ (r && s)
-    → nat_eq (cond (not (p && q)) 1 0 + 2 * m) 0 ≡ ((p && r) && (q && s))
-bit_counted true true r s zero others = others
-bit_counted true true r s (suc m) others =
+bit_counted : (b r : Bool) (m : ℕ) → nat_eq m 0 ≡ r → nat_eq (cond b 1 0 + 2 * m) 0 ≡ (not b && r)
+bit_counted true r m others = ne_eqb (1 + 2 * m) 0 (λ e. omega arith)
+bit_counted false r zero others = others
+bit_counted false r (suc m) others =
     ne_eqb (0 + 2 * suc m) 0 (λ e. omega arith) ∙ sym (ne_eqb (suc m) 0 (λ e. omega arith))
     ∙ others
-bit_counted true false true s m others = ne_eqb (1 + 2 * m) 0 (λ e. omega arith)
-bit_counted true false false s m others = ne_eqb (1 + 2 * m) 0 (λ e. omega arith)
-bit_counted false q r s m others = ne_eqb (1 + 2 * m) 0 (λ e. omega arith)
 
--- no bit is set just where all are values
-no_bits : (xs ys : List ℕ) → length xs ≡ length ys → nat_eq (mask_l (bits (length xs) xs ys)) 0
-    ≡ (list_all is_value xs && list_all is_value ys)
-no_bits [] [] e = refl
-no_bits [] (y ∷ ys) e = absurd (omega arith)
-no_bits (x ∷ xs) [] e = absurd (omega arith)
-no_bits (x ∷ xs) (y ∷ ys) e =
-    ap (λ b. nat_eq (cond b 1 0 + 2 * mask_l (bits (length xs) xs ys)) 0) (bit_set x y)
-    ∙ bit_counted (is_value x) (is_value y) (list_all is_value xs) (list_all is_value ys)
-    (mask_l (bits (length xs) xs ys)) (no_bits xs ys (omega arith))
+-- no lane is 0 just where no bit is set
+bits_clear : (xs : List ℕ) → nat_eq (mask_l (map (λ x. nat_eq x 0) xs)) 0 ≡ list_all is_mark xs
+bits_clear [] = refl
+bits_clear (x ∷ xs) =
+    bit_counted (nat_eq x 0) (list_all is_mark xs) (mask_l (map (λ x. nat_eq x 0) xs)) (bits_clear xs)
+    ∙ ap (λ b. b && list_all is_mark xs) (mark_is x)
 
--- a bit for each lane
-bits_long : (xs ys : List ℕ) → length xs ≡ length ys → length (bits (length xs) xs ys) ≡ length xs
-bits_long [] ys e = refl
-bits_long (x ∷ xs) [] e = absurd (omega arith)
-bits_long (x ∷ xs) (y ∷ ys) e = ap suc (bits_long xs ys (omega arith))
-
--- a mask is empty just where all are values
-pub empty_mask : (xs ys : List ℕ) (n : ℕ) → length xs ≡ n → length ys ≡ n → n ≤ 64
-    → nat_eq (mask_l (bits n xs ys) % 2 ^ 64) 0 ≡ list_all is_value (xs ++ ys)
-empty_mask xs ys n first second few =
-    let e : length xs ≡ length ys = omega arith in
-    ap (λ k. nat_eq (mask_l (bits k xs ys) % 2 ^ 64) 0) (sym first)
-    ∙ ap (λ m. nat_eq m 0) (mask_l-mod (bits (length xs) xs ys) 64 (omega (arith, bits_long xs ys e)))
-    ∙ no_bits xs ys e ∙ sym (list_all-append is_value xs ys)
+-- a mask of the lanes that are 0 is empty just where all are marks
+pub none_clear : (xs : List ℕ) → length xs ≡ 16
+    → nat_eq (mask_l (map (top 7) (zip2 (λ a b. cond (nat_eq a b) 255 0) xs (replicate 16 0))) % 2 ^ 64)
+    0 ≡ list_all is_mark xs
+none_clear xs long =
+    ap (λ m. nat_eq m 0) (bitmask_splat w8 nat_eq xs 16 0 long (omega arith)) ∙ bits_clear xs
 
 -- ---- the steps of the loops
 
@@ -251,13 +260,6 @@ two_chunks i n m xs is =
     ap (λ k. take k xs) is ∙ take-add (i + n) n xs
     ∙ ap (λ l. l ++ chunk (i + n) n xs) (take-add i n xs)
     ∙ append_assoc (take i xs) (chunk i n xs) (chunk (i + n) n xs)
-
--- two tests that are not both passed
-some_false : (p q r s : Bool) → (q && r) ≡ false → (p && (q && (r && s))) ≡ false
-some_false false q r s some = refl
-some_false true false r s some = refl
-some_false true true false s some = refl
-some_false true true true s some = absurd (false≢true (sym some))
 
 -- what is stored by two steps of n lanes
 module _ (n done : ℕ) (bytes digits : List ℕ) (twice : length digits ≡ 2 * length bytes)
@@ -313,49 +315,9 @@ module _ (n done : ℕ) (bytes digits : List ℕ) (twice : length digits ≡ 2 *
       ∙ ap encode_lower
       (sym (take_more_put_chunk done bytes joined (done + n) (omega arith) (omega arith)))
 
-  -- 2 n more digits are lower case ones
-  pub more_lower : list_all is_lower_digit (take (2 * done) digits) ≡ true
-      → list_all is_lower_digit (chunk (2 * done) n digits) ≡ true
-      → list_all is_lower_digit (chunk (2 * done + n) n digits) ≡ true
-      → list_all is_lower_digit (take (2 * (done + n)) digits) ≡ true
-  more_lower front first second =
-      let a = chunk (2 * done) n digits in
-      let b = chunk (2 * done + n) n digits in
-      ap (list_all is_lower_digit) (two_chunks (2 * done) n (2 * (done + n)) digits (omega arith))
-      ∙ list_all-append is_lower_digit (take (2 * done) digits) (a ++ b)
-      ∙ ap₂ ◌&&◌ front (list_all-append is_lower_digit a b ∙ ap₂ ◌&&◌ first second)
-
-  -- not all are lower case digits, where some of these are not
-  pub none_lower : (list_all is_lower_digit (chunk (2 * done) n digits)
-      && list_all is_lower_digit (chunk (2 * done + n) n digits)) ≡ false
-      → list_all is_lower_digit digits ≡ false
-  none_lower some =
-      let front = take (2 * done) digits in
-      let a = chunk (2 * done) n digits in
-      let b = chunk (2 * done + n) n digits in
-      let rest = drop (2 * done + n + n) digits in
-      ap (list_all is_lower_digit) (sym (take-append-drop (2 * done) digits)
-      ∙ ap (λ l. front ++ l) (chunk-drop (2 * done) n digits
-      ∙ ap (λ l. a ++ l) (chunk-drop (2 * done + n) n digits)))
-      ∙ list_all-append is_lower_digit front (a ++ (b ++ rest))
-      ∙ ap (λ t. list_all is_lower_digit front && t) (list_all-append is_lower_digit a (b ++ rest)
-      ∙ ap (λ t. list_all is_lower_digit a && t) (list_all-append is_lower_digit b rest))
-      ∙ some_false (list_all is_lower_digit front) (list_all is_lower_digit a)
-      (list_all is_lower_digit b) (list_all is_lower_digit rest) some
-
 -- the rest of a list after a front, by its length
 to_end : (i : ℕ) (xs : List ℕ) → take (length xs - i) (drop i xs) ≡ drop i xs
 to_end i xs = take_all (length xs - i) (drop i xs) (omega (arith, length-drop i xs))
-
--- where the front has only lower case digits, the rest decides whether all are
-pub rest_lower : (i : ℕ) (digits : List ℕ) → list_all is_lower_digit (take i digits) ≡ true
-    → list_all is_lower_digit (take (length digits - i) (drop i digits))
-    ≡ list_all is_lower_digit digits
-rest_lower i digits front =
-    ap (list_all is_lower_digit) (to_end i digits)
-    ∙ ap (λ t. t && list_all is_lower_digit (drop i digits)) (sym front)
-    ∙ sym (list_all-append is_lower_digit (take i digits) (drop i digits))
-    ∙ ap (list_all is_lower_digit) (take-append-drop i digits)
 
 -- where the front is read, and the rest too, all is read
 pub rest_read : (i done : ℕ) (digits bytes rest : List ℕ)
@@ -369,3 +331,79 @@ rest_read i done digits bytes rest front back =
     ∙ sym (encode-append lower_digits (take done bytes) rest)
     ∙ ap (λ l. encode_lower (take done bytes ++ l))
     (sym (append-nil rest) ∙ ap (λ l. rest ++ l) (sym none))
+
+-- ---- digits that are counted
+
+-- a front of lower case digits, and more of them
+pub more_lower : (done more : ℕ) (text : List ℕ) → list_all is_lower_digit (take done text) ≡ true
+    → list_all is_lower_digit (take more (drop done text)) ≡ true
+    → list_all is_lower_digit (take (done + more) text) ≡ true
+more_lower done more text front rest =
+    ap (list_all is_lower_digit) (take-add done more text)
+    ∙ list_all-append is_lower_digit (take done text) (take more (drop done text))
+    ∙ ap₂ ◌&&◌ front rest
+
+-- a part of lower case digits
+pub part_lower : (i n : ℕ) (text : List ℕ) → list_all is_lower_digit text ≡ true
+    → list_all is_lower_digit (chunk i n text) ≡ true
+part_lower i n text lower =
+    let whole = ap (list_all is_lower_digit) (take-append-drop i text)
+    ∙ lower in
+    let rest = (and_parts _ _ (sym (list_all-append is_lower_digit (take i text) (drop i text))
+    ∙ whole)).1 in
+    let split = ap (list_all is_lower_digit) (take-append-drop n (drop i text)) ∙ rest in
+    (and_parts _ _ (sym (list_all-append is_lower_digit (take n (drop i text))
+    (drop n (drop i text))) ∙ split)).0
+
+-- each of some lower case digits is one
+pub lower_at : (text : List ℕ) (i : ℕ) → list_all is_lower_digit text ≡ true → i < length text
+    → is_lower_digit (slice_index text i) ≡ true
+lower_at [] i lower inside = absurd (omega arith)
+lower_at (b ∷ text) zero lower inside = (and_parts (is_lower_digit b) _ lower).0
+lower_at (b ∷ text) (suc i) lower inside =
+    lower_at text i (and_parts (is_lower_digit b) _ lower).1 (omega arith)
+
+-- digits that were counted, and those that are counted of the rest
+module _ (done : ℕ) (text : List ℕ) (front : list_all is_lower_digit (take done text) ≡ true) where
+  abbrev rest : List ℕ
+  rest = take (length text - done) (drop done text)
+
+  -- some more are lower case digits
+  pub rest_counted : (more : ℕ) → list_all is_lower_digit (take more rest) ≡ true
+      → list_all is_lower_digit (take (done + more) text) ≡ true
+  rest_counted more lower =
+      more_lower done more text front
+      (ap (λ l. list_all is_lower_digit (take more l)) (sym (to_end done text)) ∙ lower)
+
+  -- what follows them is none
+  pub rest_other : (more : ℕ)
+      → (more < length rest → is_lower_digit (slice_index rest more) ≡ false)
+      → done + more < length text → is_lower_digit (slice_index text (done + more)) ≡ false
+  rest_other more other below =
+      let long = ap length (to_end done text) ∙ length-drop done text in
+      ap is_lower_digit (sym (get_or-drop done text more 0) ∙ ap (λ l. get_or l more 0)
+      (sym (to_end done text))) ∙ other (omega (arith, long))
+
+-- the lesser marks of four chunks are marks just where the chunks are lower case digits
+pub block_lower : (text m1 m2 m3 m4 b1 b2 b : List ℕ)
+    → list_all is_mark m1 ≡ list_all is_lower_digit (chunk 0 16 text)
+    → list_all is_mark m2 ≡ list_all is_lower_digit (chunk 16 16 text)
+    → list_all is_mark m3 ≡ list_all is_lower_digit (chunk 32 16 text)
+    → list_all is_mark m4 ≡ list_all is_lower_digit (chunk 48 16 text)
+    → list_all is_mark b1 ≡ list_all is_mark (m1 ++ m2)
+    → list_all is_mark b2 ≡ list_all is_mark (m3 ++ m4)
+    → list_all is_mark b ≡ list_all is_mark (b1 ++ b2)
+    → list_all is_mark b ≡ list_all is_lower_digit (take 64 text)
+block_lower text m1 m2 m3 m4 b1 b2 b one two three four front back both =
+    both ∙ list_all-append is_mark b1 b2
+    ∙ ap₂ ◌&&◌ (front ∙ half m1 m2 (chunk 0 16 text) (chunk 16 16 text) one two
+    ∙ ap (list_all is_lower_digit) (sym (take-add 16 16 text)))
+    (back ∙ half m3 m4 (chunk 32 16 text) (chunk 48 16 text) three four)
+    ∙ sym (list_all-append is_lower_digit (take 32 text) (chunk 32 16 text ++ chunk 48 16 text))
+    ∙ ap (list_all is_lower_digit) (sym (two_chunks 32 16 64 text refl))
+  where
+    half : (x y a b : List ℕ) → list_all is_mark x ≡ list_all is_lower_digit a
+        → list_all is_mark y ≡ list_all is_lower_digit b
+        → list_all is_mark (x ++ y) ≡ list_all is_lower_digit (a ++ b)
+    half x y a b first second =
+        list_all-append is_mark x y ∙ ap₂ ◌&&◌ first second ∙ sym (list_all-append is_lower_digit a b)

@@ -1,12 +1,15 @@
+mod Arrivals
+mod Blocks
 pub mod Cuts
+mod Decimals
 mod Faults
 mod HexTexts
 mod Lanes
 pub mod Letters
 mod Lines
 pub mod Notes
-pub mod Records
 pub mod Readings
+pub mod Records
 mod RowTexts
 pub mod Sinks
 mod Spelled

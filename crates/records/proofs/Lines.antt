@@ -17,7 +17,7 @@ use Rattle.hex.specs.Hex.{IsBytes, decode_of, encode_lower}
 use Rattle.hex.specs.declared.error.FromHexError.{FromHexError}
 use Rattle.hex.proofs.HexLemmas.{decode_of-encode_lower}
 use Rattle.records.specs.Cut.{Lacks}
-use Rattle.records.specs.Record.{IsLine, is_lower_digit}
+use Rattle.records.specs.Record.{IsArrival, IsLine, is_lower_digit}
 use Rattle.records.proofs.Cuts.{Lacks-append, head, same_cut}
 use Rattle.records.proofs.HexTexts.{lower_text}
 
@@ -74,34 +74,34 @@ arrival_parts line name digits n bytes below cut lacks whole =
     same_cut 32 name (id_text n) digits (encode_lower bytes) lacks (Lacks-id n below)
     (ap (drop 7) (sym cut ∙ whole))
 
--- a line of none of the forms of an answer's line is the line of no answer
-pub no_line : (line : List ℕ) → line ≢ codes "done" → line ≢ codes "refused"
+-- a line of none of the forms of the other answers' lines is of no answer but an arrival
+pub only_arrival : (line : List ℕ) → line ≢ codes "done" → line ≢ codes "refused"
     → line ≢ codes "exited -" → line ≢ codes "timeout"
     → ((sent : ℕ) → sent < 2 ^ 64 → line ≢ codes "failed " ++ decimal sent)
     → ((pid : ℕ) → pid < 2 ^ 64 → line ≢ codes "started " ++ decimal pid)
     → ((status : ℕ) → status ≤ greatest_status → line ≢ codes "exited " ++ decimal status)
     → ((n : ℕ) → n < 2 ^ 64 → line ≢ codes "ended " ++ id_text n)
-    → ((n : ℕ) (bytes : List ℕ) → n < 2 ^ 64 → IsBytes bytes → line ≢ codes "arrive "
-    ++ (id_text n ++ (codes " " ++ encode_lower bytes)))
-    → (reply : Reply) → IsLine reply line → ⊥
-no_line line done refused killed timeout failed started exited ended arrive said.Done is = done is
-no_line line done refused killed timeout failed started exited ended arrive (said.Failed sent) is =
-    failed sent is.0 is.1
-no_line line done refused killed timeout failed started exited ended arrive (said.Started pid) is =
-    started pid is.0 is.1
-no_line line done refused killed timeout failed started exited ended arrive said.Refused is =
-    refused is
-no_line line done refused killed timeout failed started exited ended arrive
-    (said.Exited None) is = killed is
-no_line line done refused killed timeout failed started exited ended arrive
-    (said.Exited (Some status)) is = exited status is.0 is.1
-no_line line done refused killed timeout failed started exited ended arrive
-    (said.Arrive id bytes) is = arrive id.0 bytes is.0 is.1 is.2
-no_line line done refused killed timeout failed started exited ended arrive (said.Ended id) is =
-    ended id.0 is.0 is.1
-no_line line done refused killed timeout failed started exited ended arrive said.TimedOut is =
-    timeout is
-no_line line done refused killed timeout failed started exited ended arrive said.NoMore is = is
+    → (reply : Reply) → IsLine reply line → IsArrival reply
+only_arrival line done refused killed timeout failed started exited ended said.Done is =
+    absurd (done is)
+only_arrival line done refused killed timeout failed started exited ended (said.Failed sent) is =
+    absurd (failed sent is.0 is.1)
+only_arrival line done refused killed timeout failed started exited ended (said.Started pid) is =
+    absurd (started pid is.0 is.1)
+only_arrival line done refused killed timeout failed started exited ended said.Refused is =
+    absurd (refused is)
+only_arrival line done refused killed timeout failed started exited ended (said.Exited None) is =
+    absurd (killed is)
+only_arrival line done refused killed timeout failed started exited ended
+    (said.Exited (Some status)) is = absurd (exited status is.0 is.1)
+only_arrival line done refused killed timeout failed started exited ended
+    (said.Arrive id bytes) is = tt
+only_arrival line done refused killed timeout failed started exited ended (said.Ended id) is =
+    absurd (ended id.0 is.0 is.1)
+only_arrival line done refused killed timeout failed started exited ended said.TimedOut is =
+    absurd (timeout is)
+only_arrival line done refused killed timeout failed started exited ended said.NoMore is =
+    absurd is
 
 -- a word without a newline and a number have no newline
 Lacks-number : (word : List ℕ) (n : ℕ) → list_all (λ b. not (b == 10)) word ≡ true → n < 2 ^ 64 →
@@ -203,7 +203,7 @@ same_id : (a b : Id) → a.0 ≡ b.0 → a ≡ b
 same_id a b e = ap (λ (n : ℕ). record { 0 = n }) e
 
 -- no line begins with two different bytes
-heads_differ : (a b : ℕ) (x y : List ℕ) (line : List ℕ) → a ≢ b → line ≡ a ∷ x → line ≡ b ∷ y → ⊥
+pub heads_differ : (a b : ℕ) (x y : List ℕ) (line : List ℕ) → a ≢ b → line ≡ a ∷ x → line ≡ b ∷ y → ⊥
 heads_differ a b x y line differ is is' = differ (head (sym is ∙ is'))
 
 -- ids that are spelled alike are the same

@@ -1,6 +1,7 @@
 -- What is read of a source, step by step.
-use Rattle.std.proofs.Common.{◌≡◌, ◌+◌, ◌<◌, ◌≤◌, ℕ, List, [], ◌∷◌, ◌++◌, Option, Some, None, length, take, refl, sym, ap, ◌∙◌, subst, append_assoc, append-nil, inr, arith}
-use Rattle.std.proofs.lemmas.List.{length-append, length-take-le}
+use Rattle.std.proofs.Common.{◌≡◌, ◌+◌, ◌-◌, ◌<◌, ◌≤◌, ℕ, List, [], ◌∷◌, ◌++◌, Option, Some, None, length, drop, refl, sym, ap, ◌∙◌, subst, append_assoc, append-nil, inr, arith}
+use Rattle.std.proofs.Math.Seq.{drop-append_seam}
+use Rattle.std.proofs.lemmas.List.{length-append}
 use Rattle.acts.specs.declared.row.Row.{Row}
 use Rattle.records.specs.declared.reader.ReadFault.{ReadFault}
 use Rattle.records.specs.declared.reader.ReadFault.TheVariants.{GivenUp, Unfit}
@@ -24,17 +25,21 @@ module _ {S : Type 0} (gives : S → List ℕ → S → Type 0) (most : S → �
   ReadsOn-none place = ([], ([], refl, refl), append-nil place.1, omega arith)
 
   -- a piece is read
-  pub ReadsOn-piece : (before after : S) (held room : List ℕ) (taken : ℕ) →
-      gives before (take taken room) after → taken ≤ length room →
-      taken + most after ≤ most before →
-      ReadsOn gives most (before, held) [] (after, held ++ take taken room)
-  ReadsOn-piece before after held room taken step short less =
-      let long = length-take-le taken room short in (
-        take taken room,
-        (take taken room ∷ [], (after, step, refl), sym (append-nil (take taken room))),
-        refl,
-        omega (arith, long, short, less),
-      )
+  pub ReadsOn-piece : (before after : S) (held piece : List ℕ) (taken : ℕ) →
+      length piece ≡ taken → gives before piece after → taken + most after ≤ most before →
+      ReadsOn gives most (before, held) [] (after, held ++ piece)
+  ReadsOn-piece before after held piece taken long step less = (
+    piece,
+    (piece ∷ [], (after, step, refl), sym (append-nil piece)),
+    refl,
+    omega (arith, long, less),
+  )
+
+  -- a source that gives an empty piece is at its end
+  pub ends : (before after : S) (piece : List ℕ) (taken : ℕ) → length piece ≡ taken →
+      gives before piece after → taken ≡ 0 → IsAtEnd gives after
+  ends before after [] taken long step none = (before, step)
+  ends before after (b ∷ piece) taken long step none = absurd (omega (arith, long, none))
 
   -- some bytes are used, and then others
   pub ReadsOn-then : (before mid after : S × List ℕ) (x y : List ℕ) →
@@ -56,6 +61,22 @@ module _ {S : Type 0} (gives : S → List ℕ → S → Type 0) (most : S → �
       ReadsOn gives most before front (source, rest)
   ReadsOn-use before source held front rest (read, gets, whole, within) split =
       (read, gets, whole ∙ split, within)
+
+  -- what is used of what is there, where nothing is read
+  pub ReadsOn-used : (source : S) (held front rest left : List ℕ) → held ≡ front ++ rest →
+      left ≡ drop (length held - length rest) held →
+      ReadsOn gives most (source, held) front (source, left)
+  ReadsOn-used source held front rest left split is =
+      let long = length-append front rest in
+      let same = ap length split in
+      let count : length held - length rest ≡ length front = omega (arith, long, same) in
+      let gone : left ≡ rest = is ∙ ap (λ n. drop n held) count
+      ∙ ap (drop (length front)) split ∙ drop-append_seam front rest in (
+        [],
+        ([], refl, refl),
+        append-nil held ∙ split ∙ ap (λ r. front ++ r) (sym gone),
+        omega arith,
+      )
 
   -- what is there and what the source gives at most is less by what was used
   pub ReadsOn-long : (before after : S × List ℕ) (used : List ℕ) →

@@ -1,5 +1,6 @@
 -- The rows of waits: each text of rows is of one list, and where a text of rows is cut.
-use Rattle.std.proofs.Common.{◌≡◌, ◌≢◌, ◌<◌, ◌^◌, ℕ, List, [], ◌∷◌, ◌++◌, length, drop, codes, decimal, refl, sym, ap, ◌∙◌, append-nil, arith}
+use Rattle.std.proofs.Common.{◌≡◌, ◌≢◌, ◌<◌, ◌^◌, ◌==◌, true, ℕ, List, [], ◌∷◌, ◌++◌, length, drop, codes, decimal, refl, sym, ap, ◌∙◌, append-nil, arith}
+use Rattle.std.proofs.lemmas.Bool.{eqb-true}
 use Rattle.std.proofs.lemmas.Fmt.{decimal_injective}
 use Rattle.std.proofs.lemmas.List.{append_assoc}
 use Rattle.std.specs.List.{AllByRecursion}
@@ -195,3 +196,10 @@ pub rows_none : (left : List Row) (rest : List ℕ) → 0 < length rest
 rows_none [] rest some none are = absurd (omega (arith, ap length are.1))
 rows_none (row ∷ rows) rest some none are =
     none row (rows_text rows) are.0.0 (starts rows) are.1
+
+-- where nothing is left to read, the rows that were read are all
+pub rows_end : (text rest : List ℕ) (before : List Row) → text ≡ rows_text before ++ rest
+    → (length rest == 0) ≡ true → text ≡ rows_text before
+rows_end text [] before whole none = whole ∙ append-nil (rows_text before)
+rows_end text (b ∷ rest) before whole none =
+    absurd (omega (arith, eqb-true (length (b ∷ rest)) 0 none))

@@ -1,5 +1,5 @@
 -- What is read of a source, entry by entry.
-use Rattle.std.specs.Prelude.{◌≡◌, true, false, ◌+◌, ◌≤◌, ℕ, List, [], ◌++◌, drop, length}
+use Rattle.std.specs.Prelude.{◌≡◌, true, false, ◌+◌, ◌-◌, ◌≤◌, ℕ, List, [], ◌++◌, drop, length, take}
 use Rattle.records.specs.declared.ahead.Ahead.{Ahead}
 use Rattle.records.specs.declared.reader.ReadFault.{ReadFault}
 use Rattle.records.specs.declared.reader.EntryReader.{EntryReader}
@@ -11,7 +11,7 @@ use Rattle.records.specs.Sink.{Gets}
 
 -- the bytes that were read and not used yet
 abbrev pub unused : {A : Type 0} → Ahead A → List ℕ
-unused ahead = drop ahead.used ahead.bytes.items
+unused ahead = take (ahead.end - ahead.start) (drop ahead.start ahead.block.items)
 
 -- a reader's source, and what was read and not used yet
 abbrev pub place_of : {A S : Type 0} → EntryReader A S → S × List ℕ

@@ -14,6 +14,10 @@ newline = 10
 abbrev pub header : List ℕ
 header = codes "rx-record 1\n"
 
+-- what follows the word in the line of an arrival
+abbrev pub arrival_text : ℕ → List ℕ → List ℕ
+arrival_text n bytes = id_text n ++ (codes " " ++ encode_lower bytes)
+
 -- the line of an answer, without its newline; `NoMore` has none
 abbrev pub IsLine : Reply → List ℕ → Type 0
 IsLine said.Done line = line ≡ codes "done"
@@ -38,6 +42,11 @@ IsWholeLine reply text = (line : List ℕ) × IsLine reply line × (text ≡ lin
 abbrev pub IsTold : Reply → Type 0
 IsTold said.NoMore = ⊥
 IsTold _ = Unit {0}
+
+-- an arrival
+abbrev pub IsArrival : Reply → Type 0
+IsArrival (said.Arrive id bytes) = Unit {0}
+IsArrival _ = ⊥
 
 -- an answer that has a line
 abbrev pub HasLine : Reply → Type 0

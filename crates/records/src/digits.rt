@@ -1,11 +1,11 @@
 //! Bytes as lower case hexadecimal digits, two a byte.
 
-ghost use Rattle.std.specs.Prelude.{◌≡◌, ◌*◌, ◌<◌, ◌++◌, length, map, slice_index, true, nat_lt};
+ghost use Rattle.std.specs.Prelude.{◌≡◌, ◌*◌, ◌<◌, ◌≤◌, ◌++◌, length, map, slice_index, take, true, false, nat_lt};
 ghost use Rattle.std.specs.List.{list_all};
 ghost use Rattle.hex.specs.Hex.{IsBytes, encode_lower, lower_digits};
-ghost use Rattle.records.specs.Digits.{is_value};
+ghost use Rattle.records.specs.Digits.{is_mark, is_value};
 ghost use Rattle.records.specs.Record.{is_lower_digit};
-ghost use Rattle.records.specs.declared.digits.TheConstants.{LANES};
+ghost use Rattle.records.specs.declared.digits.TheConstants.{BLOCK, LANES};
 
 use std::simd::prelude::*;
 
@@ -14,6 +14,9 @@ pub const PIECE: usize = 512;
 
 /// How many bytes are converted at a time while at least that many remain.
 const LANES: usize = 16;
+
+/// How many digits are looked at at a time while at least that many remain: `4 * LANES`.
+const BLOCK: usize = 64;
 
 /// Writes the two digits of each byte, `LANES` bytes at a time while at least that many remain.
 pub fn write_digits(bytes: &[u8], digits: &mut [u8])
@@ -60,66 +63,124 @@ fn digits_of(values: u8x16) -> u8x16
     values + small.select(u8x16::splat(b'0'), u8x16::splat(b'a' - 10))
 }
 
-/// Reads bytes from their two digits each, `LANES` bytes at a time while at least that many remain,
-/// and says whether all digits were lower case ones.
-pub fn read_digits(digits: &[u8], bytes: &mut [u8]) -> bool
-    requires { length digits.now ≡ 2 * length bytes.old }
-    ensures lower { result ≡ list_all is_lower_digit digits.now }
-    ensures bytes { result ≡ true → digits.now ≡ encode_lower bytes.new }
+/// How many lower case digits a text begins with: `BLOCK` are looked at at a time, as long as all
+/// of them are digits.
+pub fn count_digits(text: &[u8]) -> usize
+    ensures within { result ≤ length text.now }
+    ensures lower { list_all is_lower_digit (take result text.now) ≡ true }
+    ensures other { result < length text.now
+        → is_lower_digit (slice_index text.now result) ≡ false }
+{
+    let mut done = 0;
+    while BLOCK <= text.len() - done && is_block(&text[done..]) {
+        done += BLOCK;
+    }
+    done + count_lanes(&text[done..])
+}
+
+/// The same, `LANES` at a time.
+fn count_lanes(text: &[u8]) -> usize
+    ensures within { result ≤ length text.now }
+    ensures lower { list_all is_lower_digit (take result text.now) ≡ true }
+    ensures other { result < length text.now
+        → is_lower_digit (slice_index text.now result) ≡ false }
+{
+    let mut done = 0;
+    while LANES <= text.len() - done && are_marked(marks_of(u8x16::from_slice(&text[done..]))) {
+        done += LANES;
+    }
+    done + count_single(&text[done..])
+}
+
+/// The same, one by one.
+fn count_single(text: &[u8]) -> usize
+    ensures within { result ≤ length text.now }
+    ensures lower { list_all is_lower_digit (take result text.now) ≡ true }
+    ensures other { result < length text.now
+        → is_lower_digit (slice_index text.now result) ≡ false }
+{
+    let mut done = 0;
+    while done < text.len() && value_of(text[done]) < 16 {
+        done += 1;
+    }
+    done
+}
+
+/// Whether the first `BLOCK` bytes of a text are all lower case digits.
+fn is_block(text: &[u8]) -> bool
+    requires { BLOCK ≤ length text.now }
+    ensures { result ≡ list_all is_lower_digit (take BLOCK text.now) }
+{
+    let first = marks_of(u8x16::from_slice(text));
+    let second = marks_of(u8x16::from_slice(&text[LANES..]));
+    let third = marks_of(u8x16::from_slice(&text[2 * LANES..]));
+    let fourth = marks_of(u8x16::from_slice(&text[3 * LANES..]));
+    are_marked(both(both(first, second), both(third, fourth)))
+}
+
+/// A mark for each byte, which is 0 just where the byte is no lower case digit.
+fn marks_of(bytes: u8x16) -> u8x16
+    ensures { list_all is_mark result ≡ list_all is_lower_digit bytes }
+{
+    // Just the numerals are left of the bytes that are counted down from 9, and so are the letters.
+    let numeral = (bytes - u8x16::splat(b'9' + 1)).saturating_sub(u8x16::splat(u8::MAX - 10));
+    let letter = (bytes - u8x16::splat(b'f' + 1)).saturating_sub(u8x16::splat(u8::MAX - 6));
+    numeral | letter
+}
+
+/// Marks that are 0 just where one of two is.
+fn both(first: u8x16, second: u8x16) -> u8x16
+    ensures { list_all is_mark result ≡ list_all is_mark (first ++ second) }
+{
+    first.simd_min(second)
+}
+
+/// Whether no mark is 0.
+fn are_marked(marks: u8x16) -> bool
+    ensures { result ≡ list_all is_mark marks }
+{
+    marks.simd_eq(u8x16::splat(0)).to_bitmask() == 0
+}
+
+/// Reads bytes from their two digits each, `LANES` bytes at a time while at least that many remain.
+pub fn read_digits(digits: &[u8], bytes: &mut [u8])
+    requires twice { length digits.now ≡ 2 * length bytes.old }
+    requires lower { list_all is_lower_digit digits.now ≡ true }
+    ensures bytes { digits.now ≡ encode_lower bytes.new }
     ensures small { IsBytes bytes.new }
 {
     let mut done = 0;
     while LANES <= bytes.len() - done {
         let first = values_of(u8x16::from_slice(&digits[2 * done..]));
         let second = values_of(u8x16::from_slice(&digits[2 * done + LANES..]));
-        if !are_values(first, second) {
-            return false;
-        }
         join(first, second).copy_to_slice(&mut bytes[done..]);
         done += LANES;
     }
-    read_rest(&digits[2 * done..], &mut bytes[done..])
+    read_rest(&digits[2 * done..], &mut bytes[done..]);
 }
 
-/// Reads bytes from their two digits each, one byte at a time, and says whether all digits were
-/// lower case ones.
-fn read_rest(digits: &[u8], bytes: &mut [u8]) -> bool
-    requires { length digits.now ≡ 2 * length bytes.old }
-    ensures lower { result ≡ list_all is_lower_digit digits.now }
-    ensures bytes { result ≡ true → digits.now ≡ encode_lower bytes.new }
+/// Reads bytes from their two digits each, one byte at a time.
+fn read_rest(digits: &[u8], bytes: &mut [u8])
+    requires twice { length digits.now ≡ 2 * length bytes.old }
+    requires lower { list_all is_lower_digit digits.now ≡ true }
+    ensures bytes { digits.now ≡ encode_lower bytes.new }
     ensures small { IsBytes bytes.new }
 {
     for place in 0..bytes.len() {
         let high = value_of(digits[2 * place]);
         let low = value_of(digits[2 * place + 1]);
-        if 16 <= high || 16 <= low {
-            return false;
-        }
         bytes[place] = high * 16 + low;
     }
-    true
 }
 
-/// The value of each lower case digit, and a number that is no such value for another byte.
+/// The value of each of some lower case digits.
 fn values_of(digits: u8x16) -> u8x16
-    ensures lower { list_all is_lower_digit digits ≡ list_all is_value result }
-    ensures values { list_all is_lower_digit digits ≡ true
-        → digits ≡ map (slice_index lower_digits) result }
+    requires { list_all is_lower_digit digits ≡ true }
+    ensures small { list_all is_value result ≡ true }
+    ensures values { digits ≡ map (slice_index lower_digits) result }
 {
-    let numeral = digits - u8x16::splat(b'0');
-    let letter = digits - u8x16::splat(b'a');
-    let others = letter
-        .simd_lt(u8x16::splat(6))
-        .select(letter + u8x16::splat(10), u8x16::splat(u8::MAX));
-    numeral.simd_lt(u8x16::splat(10)).select(numeral, others)
-}
-
-/// Whether each of these is the value of a digit.
-fn are_values(first: u8x16, second: u8x16) -> bool
-    ensures { result ≡ list_all is_value (first ++ second) }
-{
-    let larger = first.simd_max(second);
-    larger.simd_ge(u8x16::splat(16)).to_bitmask() == 0
+    let letters = digits.simd_ge(u8x16::splat(b'a'));
+    digits - letters.select(u8x16::splat(b'a' - 10), u8x16::splat(b'0'))
 }
 
 /// The bytes that values of digits make, two values a byte.

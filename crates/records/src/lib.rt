@@ -8,6 +8,8 @@ mod digits;
 pub mod entries;
 pub mod entry;
 mod line;
+mod numbers;
+mod passing;
 pub mod reader;
 pub mod record;
 mod rows;

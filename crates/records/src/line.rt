@@ -1,53 +1,61 @@
 //! The lines of records.
 
-ghost use Rattle.std.specs.Prelude.{◌≡◌, ◌≢◌, ◌^◌, ◌<◌, ◌≤◌, ◌++◌, ℕ, List, codes, decimal, MatchOption, IfOk, IfSome, IfNone};
+ghost use Rattle.std.specs.Prelude.{◌≡◌, ◌≢◌, ◌^◌, ◌<◌, ◌≤◌, ◌∷◌, ◌++◌, ℕ, List, codes, decimal, MatchOption, IfOk, IfSome, IfNone, MatchBool};
 ghost use Rattle.acts.specs.Deed.{Reply, reply_of};
 ghost use Rattle.acts.specs.Fits.{greatest_status};
 ghost use Rattle.acts.specs.Id.{id_text};
 ghost use Rattle.hex.specs.Hex.{IsBytes, encode_lower};
 ghost use Rattle.records.specs.Cut.{Lacks};
-ghost use Rattle.records.specs.Record.{IsLine};
+ghost use Rattle.records.specs.Record.{IsArrival, IsLine, arrival_text, newline};
 
 use crate::cut::cut_at;
-use crate::digits::read_digits;
-use acts::decimal::read_decimal;
+use crate::digits::{count_digits, read_digits};
+use crate::numbers::{read_decimal, read_id};
 use acts::{Answer, Id, NoMemory};
-use std::alloc::Allocator;
+use std::alloc::{Allocator, Global};
 
-/// The answer whose line this is, without the newline; `None` where it is the line of no answer.
-pub fn read_line<A: Allocator>(alloc: A, line: &[u8]) -> Result<Option<Answer<A>>, NoMemory>
-    ensures { IfOk result (λ found. MatchOption found
-        ((reply : Reply) → IsLine reply line.now → ⊥)
-        (λ answer. IsLine (reply_of answer) line.now)) }
+/// The answer whose line this is, without the newline, where it is no arrival; `None` where it is
+/// the line of no such answer.
+pub fn read_other<A: Allocator>(line: &[u8]) -> Option<Answer<A>>
+    ensures { MatchOption result
+        ((reply : Reply) → IsLine reply line.now → IsArrival reply)
+        (λ answer. IsLine (reply_of answer) line.now) }
 {
     if line == b"done".as_slice() {
-        return Ok(Some(Answer::Done));
+        return Some(Answer::Done);
     }
     if line == b"refused".as_slice() {
-        return Ok(Some(Answer::Refused));
+        return Some(Answer::Refused);
     }
     if line == b"exited -".as_slice() {
-        return Ok(Some(Answer::Exited(None)));
+        return Some(Answer::Exited(None));
     }
     if line == b"timeout".as_slice() {
-        return Ok(Some(Answer::TimedOut));
+        return Some(Answer::TimedOut);
     }
     if let Some(sent) = read_number(line, b"failed ") {
-        return Ok(Some(Answer::Failed(sent)));
+        return Some(Answer::Failed(sent));
     }
     if let Some(pid) = read_number(line, b"started ") {
-        return Ok(Some(Answer::Started(pid)));
+        return Some(Answer::Started(pid));
     }
     if let Some(status) = read_status(line) {
-        return Ok(Some(Answer::Exited(Some(status))));
+        return Some(Answer::Exited(Some(status)));
     }
-    if let Some(id) = read_end(line) {
-        return Ok(Some(Answer::Ended(id)));
+    match read_end(line) {
+        Some(id) => Some(Answer::Ended(id)),
+        None => None,
     }
-    match read_arrival(alloc, line)? {
-        Some((id, bytes)) => Ok(Some(Answer::Arrive(id, bytes))),
-        None => Ok(None),
-    }
+}
+
+/// Whether this is the line of an answer that is no arrival, as `read_other` says.
+pub fn is_other(line: &[u8]) -> bool
+    ensures { MatchBool result
+        ((reply : Reply) × IsLine reply line.now)
+        ((reply : Reply) → IsLine reply line.now → IsArrival reply) }
+{
+    let found: Option<Answer<Global>> = read_other(line);
+    found.is_some()
 }
 
 /// The number after a word in a line; `None` where the line is not the word and a number.
@@ -80,54 +88,37 @@ fn read_end(line: &[u8]) -> Option<Id>
     ensures none { IfNone result ((n : ℕ) → n < 2 ^ 64 → line.now ≢ codes "ended " ++ id_text n) }
 {
     let name = line.strip_prefix(b"ended ")?;
-    Id::read(name)
+    read_id(name)
 }
 
-/// The id and the bytes of the line of an arrival.
-fn read_arrival<A: Allocator>(alloc: A, line: &[u8]) -> Result<Option<(Id, Vec<u8, A>)>, NoMemory>
-    ensures { IfOk result (λ found. MatchOption found
-        ((n : ℕ) (bytes : List ℕ) → n < 2 ^ 64 → IsBytes bytes
-        → line.now ≢ codes "arrive " ++ (id_text n ++ (codes " " ++ encode_lower bytes)))
-        (λ arrival. IsBytes arrival.1.items
-        × (line.now ≡ codes "arrive "
-        ++ (id_text arrival.0.0 ++ (codes " " ++ encode_lower arrival.1.items))))) }
+/// The id and the digits of an arrival in the text that follows the word of its line, and what
+/// follows the line. Its end is not looked for: the digits go up to it.
+pub fn cut_arrival(text: &[u8]) -> Option<(Id, &[u8], &[u8])>
+    ensures { MatchOption result
+        ((n : ℕ) (bytes rest : List ℕ) → n < 2 ^ 64 → IsBytes bytes
+        → text.now ≢ arrival_text n bytes ++ newline ∷ rest)
+        (λ parts. (parts.0.0 < 2 ^ 64) × (bytes : List ℕ) × IsBytes bytes
+        × (parts.1.now ≡ encode_lower bytes)
+        × (text.now ≡ arrival_text parts.0.0 bytes ++ newline ∷ parts.2.now)) }
 {
-    let Some((name, digits)) = cut_arrival(line) else {
-        return Ok(None);
-    };
-    let Some(id) = Id::read(name) else {
-        return Ok(None);
-    };
-    match read_hex(alloc, digits)? {
-        Some(bytes) => Ok(Some((id, bytes))),
-        None => Ok(None),
+    let (name, behind) = cut_at(text, b' ')?;
+    let id = read_id(name)?;
+    let (digits, after) = behind.split_at(count_digits(behind));
+    let rest = after.strip_prefix(b"\n")?;
+    if digits.len() % 2 == 0 {
+        Some((id, digits, rest))
+    } else {
+        None
     }
 }
 
-/// The id's name and the digits of the line of an arrival.
-fn cut_arrival(line: &[u8]) -> Option<(&[u8], &[u8])>
-    ensures parts { IfSome result (λ parts.
-        (line.now ≡ codes "arrive " ++ (parts.0.now ++ (codes " " ++ parts.1.now)))
-        × Lacks 32 parts.0.now) }
-    ensures none { IfNone result ((name digits : List ℕ)
-        → line.now ≢ codes "arrive " ++ (name ++ (codes " " ++ digits))) }
+/// The bytes that lower case digits spell, two a byte.
+pub fn read_hex<A: Allocator>(alloc: A, digits: &[u8]) -> Result<Vec<u8, A>, NoMemory>
+    requires { (bytes : List ℕ) × IsBytes bytes × (digits.now ≡ encode_lower bytes) }
+    ensures bytes { IfOk result (λ bytes. IsBytes bytes.items) }
+    ensures digits { IfOk result (λ bytes. digits.now ≡ encode_lower bytes.items) }
 {
-    let rest = line.strip_prefix(b"arrive ")?;
-    cut_at(rest, b' ')
-}
-
-/// The bytes that a text of two lower case digits a byte spells.
-fn read_hex<A: Allocator>(alloc: A, digits: &[u8]) -> Result<Option<Vec<u8, A>>, NoMemory>
-    ensures { IfOk result (λ found. MatchOption found
-        ((bytes : List ℕ) → IsBytes bytes → digits.now ≢ encode_lower bytes)
-        (λ bytes. IsBytes bytes.items × (digits.now ≡ encode_lower bytes.items))) }
-{
-    if digits.len() % 2 != 0 {
-        return Ok(None);
-    }
     let mut bytes = vec![in alloc; 0u8; digits.len() / 2]?;
-    if !read_digits(digits, &mut bytes) {
-        return Ok(None);
-    }
-    Ok(Some(bytes))
+    read_digits(digits, &mut bytes);
+    Ok(bytes)
 }

@@ -1,16 +1,18 @@
 //! Records of version 2 that are read entry by entry, as their bytes come.
 
-ghost use Rattle.std.specs.Prelude.{◌≡◌, ◌+◌, ◌^◌, ◌<◌, ℕ, List, [], MatchOption, IfOk, IfErr, IfNone, IfSome, OnOk, length, true, false, vec_len};
-ghost use Rattle.records.specs.Entry.{AreLinesOf, note_of, second_header};
+ghost use Rattle.std.specs.Prelude.{◌≡◌, ◌+◌, ◌^◌, ◌<◌, ℕ, List, [], MatchOption, IfOk, IfErr, IfNone, IfSome, OnOk, length, true, false};
+ghost use Rattle.records.specs.Entry.{AreLinesOf, Note, lines_of, note_of, second_header};
+ghost use Rattle.records.specs.Fault.{IsNoteFault};
 ghost use Rattle.records.specs.declared.reader.ReadFault.TheVariants as fault;
 ghost use Rattle.records.specs.declared.record.RecordFault.TheVariants as unfit;
 
 use crate::ahead::Ahead;
 use crate::cut::cut_at;
-use crate::entries::{SECOND_HEADER, count_lines, read_entry};
+use crate::entries::{SECOND_HEADER, read_entry};
 use crate::entry::Entry;
+use crate::passing::pass_entry;
 use crate::record::RecordFault;
-use crate::source::{Source, first_room, widen};
+use crate::source::Source;
 use acts::NoMemory;
 use std::alloc::Allocator;
 use thiserror::Error;
@@ -49,9 +51,7 @@ pub struct EntryReader<A: Allocator, S> {
     alloc: A,
     source: S,
     ahead: Ahead<A>,
-    piece: Vec<u8, A>,
     ended: bool,
-    ghost room: { 0 < vec_len piece },
 }
 
 impl<A: Allocator + Copy, S: Source + Drop> EntryReader<A, S> {
@@ -62,12 +62,11 @@ impl<A: Allocator + Copy, S: Source + Drop> EntryReader<A, S> {
         ensures place { IfOk result (λ reader. place_of reader ≡ (source, [])) }
         ensures fresh { IfOk result (λ reader. IsFresh reader) }
     {
-        let piece = first_room(alloc)?;
+        let ahead = Ahead::new(alloc)?;
         Ok(EntryReader {
             alloc,
             source,
-            ahead: Ahead::new(alloc),
-            piece,
+            ahead,
             ended: false,
         })
     }
@@ -122,8 +121,8 @@ impl<A: Allocator + Copy, S: Source + Drop> EntryReader<A, S> {
     {
         let mut line = 2;
         let mut count = 0;
-        while let Some(entry) = self.next(line)? {
-            line += count_lines(&entry);
+        while let Some(lines) = self.pass(line)? {
+            line += lines;
             count += 1;
         }
         Ok(count)
@@ -143,15 +142,151 @@ impl<A: Allocator + Copy, S: Source + Drop> EntryReader<A, S> {
         ensures stopped { IfErr result
             (IsStopped S.gives S.gives_up S.most line (place_of self.old) (place_of self.new)) }
     {
-        self.read_ahead()?;
-        let text = self.ahead.text();
-        if text.is_empty() {
+        match self.take_at_hand(line)? {
+            Some(entry) => Ok(Some(entry)),
+            None => self.read_next(line),
+        }
+    }
+
+    /// Takes the next entry where its lines are at hand, as those of most are: then their ends are
+    /// not looked for first. `None` says nothing of what is at hand.
+    fn take_at_hand(&mut self, line: u64) -> Result<Option<Entry<A>>, NoMemory>
+        requires line { line + 1 < 2 ^ 64 }
+        ensures next { IfOk result (λ found. MatchOption found (self.new ≡ self.old)
+            (λ entry. (front : List ℕ)
+            × AreLinesOf (note_of entry).rows (note_of entry).reply front
+            × ReadsOn S.gives S.most (place_of self.old) front (place_of self.new))) }
+        ensures source { self.new.source ≡ self.old.source }
+        ensures ended { self.new.ended ≡ self.old.ended }
+    {
+        if self.ahead.text().is_empty() {
             return Ok(None);
         }
+        match self.take_entry(line) {
+            Ok(entry) => Ok(Some(entry)),
+            Err(RecordFault::NoMemory(refusal)) => Err(refusal),
+            Err(_) => Ok(None),
+        }
+    }
+
+    /// Reads the next entry, as `next`, where its lines are not at hand.
+    fn read_next(&mut self, line: u64) -> Result<Option<Entry<A>>, ReadFault>
+        requires line { line + 1 < 2 ^ 64 }
+        ensures next { IfOk result (λ found. MatchOption found
+            (ReadsOn S.gives S.most (place_of self.old) [] (place_of self.new)
+            × (unused self.new.ahead ≡ []))
+            (λ entry. (front : List ℕ)
+            × AreLinesOf (note_of entry).rows (note_of entry).reply front
+            × ReadsOn S.gives S.most (place_of self.old) front (place_of self.new))) }
+        ensures known { OnOk result (KnowsEnd S.gives self.old → KnowsEnd S.gives self.new) }
+        ensures ended { IfOk result (λ found. IfNone found (self.new.ended ≡ true)) }
+        ensures stopped { IfErr result
+            (IsStopped S.gives S.gives_up S.most line (place_of self.old) (place_of self.new)) }
+    {
+        self.read_ahead()?;
+        if self.ahead.text().is_empty() {
+            return Ok(None);
+        }
+        Ok(Some(self.take_entry(line)?))
+    }
+
+    /// Takes the entry that begins what is at hand.
+    fn take_entry(&mut self, line: u64) -> Result<Entry<A>, RecordFault>
+        requires some { 0 < length (unused self.old.ahead) }
+        requires line { line + 1 < 2 ^ 64 }
+        ensures next { IfOk result (λ entry. (front : List ℕ)
+            × AreLinesOf (note_of entry).rows (note_of entry).reply front
+            × ReadsOn S.gives S.most (place_of self.old) front (place_of self.new)) }
+        ensures fault { IfErr result (λ fault. (self.new ≡ self.old)
+            × IsNoteFault line (unused self.old.ahead) fault) }
+        ensures source { self.new.source ≡ self.old.source }
+        ensures ended { self.new.ended ≡ self.old.ended }
+    {
+        let text = self.ahead.text();
         let (entry, rest) = read_entry(self.alloc, text, line)?;
         let used = text.len() - rest.len();
         self.ahead.use_up(used);
-        Ok(Some(entry))
+        Ok(entry)
+    }
+
+    /// Passes the next entry, and says how many lines it has; `None` at the end. `line` is the
+    /// number of its first line, for faults.
+    fn pass(&mut self, line: u64) -> Result<Option<u64>, ReadFault>
+        requires line { line + 1 < 2 ^ 64 }
+        ensures next { IfOk result (λ found. MatchOption found
+            (ReadsOn S.gives S.most (place_of self.old) [] (place_of self.new)
+            × (unused self.new.ahead ≡ []))
+            (λ lines. (note : Note) × (front : List ℕ) × AreLinesOf note.rows note.reply front
+            × (lines ≡ lines_of note.rows)
+            × ReadsOn S.gives S.most (place_of self.old) front (place_of self.new))) }
+        ensures known { OnOk result (KnowsEnd S.gives self.old → KnowsEnd S.gives self.new) }
+        ensures ended { IfOk result (λ found. IfNone found (self.new.ended ≡ true)) }
+        ensures stopped { IfErr result
+            (IsStopped S.gives S.gives_up S.most line (place_of self.old) (place_of self.new)) }
+    {
+        match self.pass_at_hand(line) {
+            Some(lines) => Ok(Some(lines)),
+            None => self.pass_read(line),
+        }
+    }
+
+    /// Passes the next entry where its lines are at hand. `None` says nothing of what is at hand.
+    fn pass_at_hand(&mut self, line: u64) -> Option<u64>
+        requires line { line + 1 < 2 ^ 64 }
+        ensures next { MatchOption result (self.new ≡ self.old)
+            (λ lines. (note : Note) × (front : List ℕ) × AreLinesOf note.rows note.reply front
+            × (lines ≡ lines_of note.rows)
+            × ReadsOn S.gives S.most (place_of self.old) front (place_of self.new)) }
+        ensures source { self.new.source ≡ self.old.source }
+        ensures ended { self.new.ended ≡ self.old.ended }
+    {
+        if self.ahead.text().is_empty() {
+            return None;
+        }
+        match self.pass_entry(line) {
+            Ok(lines) => Some(lines),
+            Err(_) => None,
+        }
+    }
+
+    /// Passes the next entry, as `pass`, where its lines are not at hand.
+    fn pass_read(&mut self, line: u64) -> Result<Option<u64>, ReadFault>
+        requires line { line + 1 < 2 ^ 64 }
+        ensures next { IfOk result (λ found. MatchOption found
+            (ReadsOn S.gives S.most (place_of self.old) [] (place_of self.new)
+            × (unused self.new.ahead ≡ []))
+            (λ lines. (note : Note) × (front : List ℕ) × AreLinesOf note.rows note.reply front
+            × (lines ≡ lines_of note.rows)
+            × ReadsOn S.gives S.most (place_of self.old) front (place_of self.new))) }
+        ensures known { OnOk result (KnowsEnd S.gives self.old → KnowsEnd S.gives self.new) }
+        ensures ended { IfOk result (λ found. IfNone found (self.new.ended ≡ true)) }
+        ensures stopped { IfErr result
+            (IsStopped S.gives S.gives_up S.most line (place_of self.old) (place_of self.new)) }
+    {
+        self.read_ahead()?;
+        if self.ahead.text().is_empty() {
+            return Ok(None);
+        }
+        Ok(Some(self.pass_entry(line)?))
+    }
+
+    /// Passes the entry that begins what is at hand, and says how many lines it has.
+    fn pass_entry(&mut self, line: u64) -> Result<u64, RecordFault>
+        requires some { 0 < length (unused self.old.ahead) }
+        requires line { line + 1 < 2 ^ 64 }
+        ensures next { IfOk result (λ lines. (note : Note) × (front : List ℕ)
+            × AreLinesOf note.rows note.reply front × (lines ≡ lines_of note.rows)
+            × ReadsOn S.gives S.most (place_of self.old) front (place_of self.new)) }
+        ensures fault { IfErr result (λ fault. (self.new ≡ self.old)
+            × IsNoteFault line (unused self.old.ahead) fault) }
+        ensures source { self.new.source ≡ self.old.source }
+        ensures ended { self.new.ended ≡ self.old.ended }
+    {
+        let text = self.ahead.text();
+        let (lines, rest) = pass_entry(text, line)?;
+        let used = text.len() - rest.len();
+        self.ahead.use_up(used);
+        Ok(lines)
     }
 
     /// Reads on until the lines of an entry are there, or up to the end.
@@ -179,12 +314,12 @@ impl<A: Allocator + Copy, S: Source + Drop> EntryReader<A, S> {
         ensures broken { IfErr result
             (IsBroken S.gives S.gives_up self.old.source self.new.source) }
     {
-        let Some(taken) = self.source.read_some(&mut self.piece) else {
+        self.ahead.make_room()?;
+        let Some(taken) = self.ahead.read_from(&mut self.source) else {
             return Err(ReadFault::GivenUp);
         };
         self.ended = taken == 0;
-        self.ahead.add(&self.piece[..taken])?;
-        Ok(widen(&mut self.piece, taken)?)
+        Ok(())
     }
 }
 

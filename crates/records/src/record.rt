@@ -1,14 +1,15 @@
 //! Records: the texts of answers that a run is replayed from.
 
-ghost use Rattle.std.specs.Prelude.{◌≡◌, ◌+◌, ◌^◌, ◌<◌, ◌⊎◌, ℕ, List, length, map, ◌∷◌, ◌++◌, IfOk, IfErr, MatchResult, MatchOption};
+ghost use Rattle.std.specs.Prelude.{◌≡◌, ◌≢◌, ◌+◌, ◌^◌, ◌<◌, ◌⊎◌, ℕ, List, codes, length, map, ◌∷◌, ◌++◌, IfOk, IfErr, MatchResult, MatchOption};
 ghost use Rattle.std.specs.List.{AllByRecursion};
 ghost use Rattle.acts.specs.Deed.{Reply, reply_of};
+ghost use Rattle.hex.specs.Hex.{IsBytes};
 ghost use Rattle.records.specs.Fault.{IsFault, IsLineFault, IsRefused};
-ghost use Rattle.records.specs.Record.{AreLines, BeginsWithLine, HasHeader, HasLine, IsFirstBad, IsLine, IsRecord, IsTold, newline};
+ghost use Rattle.records.specs.Record.{AreLines, BeginsWithLine, HasHeader, HasLine, IsArrival, IsFirstBad, IsLine, IsRecord, IsTold, arrival_text, newline};
 ghost use Rattle.records.specs.declared.record.RecordFault.TheVariants as fault;
 
 use crate::cut::cut_at;
-use crate::line::read_line;
+use crate::line::{cut_arrival, read_hex, read_other};
 use acts::{Answer, NoMemory};
 use std::alloc::{AllocFailed, Allocator};
 use thiserror::Error;
@@ -98,13 +99,38 @@ pub(crate) fn read_first<A: Allocator>(
         (λ first. (line : List ℕ) × IsLine (reply_of first.0) line
         × (text.now ≡ line ++ newline ∷ first.1.now))) }
 {
-    let Some((line, rest)) = cut_at(text, b'\n') else {
+    match text.strip_prefix(b"arrive ") {
+        Some(behind) => read_arrival(alloc, behind),
+        None => Ok(read_short(text)),
+    }
+}
+
+/// The arrival whose line a text ends that follows its word, and what follows that line.
+fn read_arrival<A: Allocator>(alloc: A, text: &[u8]) -> Result<Option<(Answer<A>, &[u8])>, NoMemory>
+    ensures { IfOk result (λ found. MatchOption found
+        ((n : ℕ) (bytes rest : List ℕ) → n < 2 ^ 64 → IsBytes bytes
+        → text.now ≢ arrival_text n bytes ++ newline ∷ rest)
+        (λ first. (line : List ℕ) × IsLine (reply_of first.0) (codes "arrive " ++ line)
+        × (text.now ≡ line ++ newline ∷ first.1.now))) }
+{
+    let Some((id, digits, rest)) = cut_arrival(text) else {
         return Ok(None);
     };
-    match read_line(alloc, line)? {
-        Some(answer) => Ok(Some((answer, rest))),
-        None => Ok(None),
-    }
+    let bytes = read_hex(alloc, digits)?;
+    Ok(Some((Answer::Arrive(id, bytes), rest)))
+}
+
+/// The answer whose line a text begins with, where it is no arrival, and what follows that line.
+fn read_short<A: Allocator>(text: &[u8]) -> Option<(Answer<A>, &[u8])>
+    ensures { MatchOption result
+        ((reply : Reply) (line rest : List ℕ) → IsLine reply line
+        → text.now ≡ line ++ newline ∷ rest → IsArrival reply)
+        (λ first. (line : List ℕ) × IsLine (reply_of first.0) line
+        × (text.now ≡ line ++ newline ∷ first.1.now)) }
+{
+    let (line, rest) = cut_at(text, b'\n')?;
+    let answer = read_other(line)?;
+    Some((answer, rest))
 }
 
 /// A list of answers that have lines has one text, no two lists have the same text, and a text that

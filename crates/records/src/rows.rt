@@ -9,7 +9,7 @@ ghost use Rattle.records.specs.Rows as spec;
 ghost use Rattle.records.specs.Record.{newline};
 
 use crate::cut::{cut_at, cut_before};
-use acts::decimal::read_decimal;
+use crate::numbers::{read_decimal, read_id};
 use acts::{Id, NoMemory, Row};
 use std::alloc::Allocator;
 
@@ -59,7 +59,7 @@ fn read_rows<A: Allocator>(alloc: A, text: &[u8]) -> Result<Option<Vec<Row, A>>,
 }
 
 /// The row that a text begins with after a blank, and what follows: nothing or another blank.
-fn read_first_row(text: &[u8]) -> Option<(Row, &[u8])>
+pub(crate) fn read_first_row(text: &[u8]) -> Option<(Row, &[u8])>
     ensures row { IfSome result (λ first. IsRow first.0 × StartsAt 32 first.1.now
         × (text.now ≡ 32 ∷ (row_text first.0 ++ first.1.now))) }
     ensures none { IfNone result ((row : WaitRow) (rest : List ℕ) → IsRow row → StartsAt 32 rest
@@ -78,7 +78,7 @@ fn read_row(text: &[u8]) -> Option<Row>
 {
     let (name, sizes) = cut_at(text, b':')?;
     let (held, max) = cut_at(sizes, b':')?;
-    let id = Id::read(name)?;
+    let id = read_id(name)?;
     let held = read_decimal(held)?;
     let max = read_decimal(max)?;
     row_of(id, held, max)

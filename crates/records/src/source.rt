@@ -9,7 +9,7 @@ use std::alloc::Allocator;
 const FIRST_ROOM: usize = 4_096;
 
 /// How many bytes are read at a time, once a read has filled the room.
-const ROOM: usize = 65_536;
+pub(crate) const ROOM: usize = 65_536;
 
 /// A source of bytes, which are read piece by piece.
 pub trait Source {

@@ -1,13 +1,10 @@
-use Rattle.std.proofs.Common.{◌≡◌, ◌≤◌, ◌-◌, ◌*◌, length, take, true}
-use Rattle.std.specs.List.{list_all}
+use Rattle.std.proofs.Common.{◌≡◌, ◌≤◌, ◌-◌, ◌*◌, length, take}
 use Rattle.hex.specs.Hex.{IsBytes, encode_lower}
-use Rattle.records.specs.Record.{is_lower_digit}
 use Rattle.records.proofs.digits.read_digits.Given as goal
 
 abbrev pub invariant-loop-bytes : goal.invariant-loop-bytes
 invariant-loop-bytes l = record {
   within : l.done ≤ length l.bytes;
-  lower : list_all is_lower_digit (take (2 * l.done) l.digits) ≡ true;
   read : take (2 * l.done) l.digits ≡ encode_lower (take l.done l.bytes);
   small : IsBytes l.bytes;
 }

@@ -1,5 +1,4 @@
-use Rattle.std.proofs.Common.{length, ap, sym, ◌∙◌, arith}
-use Rattle.std.proofs.lemmas.Bool.{false≢true}
+use Rattle.std.proofs.Common.{length, ap, ◌∙◌, arith}
 use Rattle.std.specs.List.{list_all}
 use Rattle.hex.specs.Hex.{lower_digits}
 use Rattle.hex.proofs.HexLemmas.{length-encode_with}
@@ -7,12 +6,13 @@ use Rattle.records.specs.Record.{is_lower_digit}
 use Rattle.records.proofs.HexTexts.{lower_text}
 use Rattle.records.proofs.line.read_hex.Goals as goal
 
-pub returns-then-digits-ne0 : goal.returns-then-digits-ne0
-returns-then-digits-ne0 g c = λ bytes small e.
-    let twice = ap length e ∙ length-encode_with lower_digits bytes in
-    absurd (c.if-digits-ne0.true (omega (arith, twice)))
+pub read_digits-requires-clause-lower : goal.read_digits-requires-clause-lower
+read_digits-requires-clause-lower g c =
+    let (bytes, small, is) = c.requires in
+    ap (list_all is_lower_digit) is ∙ lower_text bytes small
 
-pub returns-then-not-read_digits : goal.returns-then-not-read_digits
-returns-then-not-read_digits g c = λ bytes small e.
-    let lower = ap (list_all is_lower_digit) e ∙ lower_text bytes small in
-    absurd (false≢true (sym c.if-not-read_digits.true ∙ c.read_digits.ensures.lower ∙ lower))
+pub read_digits-requires-clause-twice : goal.read_digits-requires-clause-twice
+read_digits-requires-clause-twice g c =
+    let (bytes, small, is) = c.requires in
+    let twice = ap length is ∙ length-encode_with lower_digits bytes in
+    omega (arith, twice, c.deref_mut.ensures.len, c.in_ok-bytes.ensures.len)

@@ -1,16 +1,26 @@
-use Rattle.std.proofs.Common.{sym, ◌∙◌}
-use Rattle.records.proofs.Cuts.{no_cut, same_cut}
-use Rattle.records.proofs.Lines.{Lacks-line}
+use Rattle.std.proofs.Common.{codes, ◌++◌, sym, ap, ◌∙◌}
+use Rattle.std.proofs.lemmas.Result.{IfOk-weaker}
+use Rattle.records.proofs.Arrivals.{arrival_only, arrival_word}
+use Rattle.records.proofs.Cuts.{match_weaker, no_prefix, prefix_split}
 use Rattle.records.proofs.record.read_first.Goals as goal
 
-pub returns-in_default : goal.returns-in_default
-returns-in_default g c = λ (reply, line, rest, is, e).
-    no_cut 10 c.args.text.now line rest c.in_default.ensures.none e
+pub returns-in-Some : goal.returns-in-Some
+returns-in-Some g c =
+    let behind = c.in-Some.behind.now in
+    let (test, is, room) = c.in-Some.ensures.cases in
+    let split = prefix_split c.args.text.now (codes "arrive ") behind test is in
+    IfOk-weaker c.read_arrival.result _ _ (λ found. match_weaker found
+    (λ none (reply, line, rest, is, e).
+    let (n, bytes, below, small, cut) = arrival_only reply line rest behind is (sym e ∙ split) in
+    none n bytes rest below small cut)
+    (λ first (line, is, e).
+    (codes "arrive " ++ line, is, split ∙ ap (λ l. codes "arrive " ++ l) e)))
+    c.read_arrival.ensures
 
 pub returns-in-None : goal.returns-in-None
-returns-in-None g c = λ (reply, line, rest, is, e).
-    let (whole, lacks) = c.in-Some.ensures.found in
-    let same = (same_cut 10 c.in-Some.line.now line c.in-Some.rest.now rest lacks
-    (Lacks-line reply line is) (sym whole ∙ e)).0 in
-    let none = rw c.in-None.is at c.in_ok-answer.ensures in
-    none reply (rw (sym same) at is)
+returns-in-None g c =
+    match_weaker c.read_short.result
+    (λ none (reply, line, rest, is, e).
+    let (behind, word) = arrival_word reply line rest (none reply line rest is e) is in
+    no_prefix c.args.text.now (codes "arrive ") behind c.in-None.ensures.cases (e ∙ word))
+    (λ first found. found) c.read_short.ensures

@@ -1,0 +1,38 @@
+use Rattle.std.proofs.Common.{◌∷◌, ◌++◌, drop, codes, ap, sym, ◌∙◌}
+use Rattle.records.specs.Rows.{rows_text}
+use Rattle.records.proofs.Cuts.{no_cut, no_prefix, prefix_split, same_cut}
+use Rattle.records.proofs.RowTexts.{Lacks-rows, wait_split}
+use Rattle.records.proofs.passing.pass_wait.Goals as goal
+
+pub returns-in_default : goal.returns-in_default
+returns-in_default c = λ (rows, line, rest, is, whole).
+    no_prefix c.args.text.now (codes "wait") (rows_text rows ++ 10 ∷ rest)
+    c.in_default.ensures.cases (wait_split c.args.text.now line rest rows is whole)
+
+pub returns-in_default-cut_at : goal.returns-in_default-cut_at
+returns-in_default-cut_at c = λ (rows, line, rest, is, whole).
+    let (test, cut, room) = c.in-Some.ensures.cases in
+    no_cut 10 c.in-Some.behind.now (rows_text rows) rest c.in_default-cut_at.ensures.none
+    (cut ∙ ap (drop 4) (wait_split c.args.text.now line rest rows is whole))
+
+pub returns-then-has_rows : goal.returns-then-has_rows
+returns-then-has_rows c =
+    let (test, cut, room) = c.in-Some.ensures.cases in
+    let (found, lacks) = c.in-Some-cut_at.ensures.found in
+    let (rows, are) = rw c.if-has_rows.true at c.has_rows.ensures in (
+      rows,
+      codes "wait" ++ c.in-Some-cut_at.line.now,
+      (are.0, ap (λ l. codes "wait" ++ l) are.1),
+      prefix_split c.args.text.now (codes "wait") c.in-Some.behind.now test cut
+          ∙ ap (λ l. codes "wait" ++ l) found,
+    )
+
+pub returns-else-has_rows : goal.returns-else-has_rows
+returns-else-has_rows c = λ (rows, line, rest, is, whole).
+    let (test, cut, room) = c.in-Some.ensures.cases in
+    let (found, lacks) = c.in-Some-cut_at.ensures.found in
+    let same = (same_cut 10 c.in-Some-cut_at.line.now (rows_text rows) c.in-Some-cut_at.rest.now
+    rest lacks (Lacks-rows rows is.0)
+    (sym found ∙ cut ∙ ap (drop 4) (wait_split c.args.text.now line rest rows is whole))).0 in
+    let none = rw c.if-has_rows.false at c.has_rows.ensures in
+    none rows (is.0, same)

@@ -1,0 +1,16 @@
+use Rattle.std.proofs.Common.{◌-◌, drop, length, sym, ap, ◌∙◌}
+use Rattle.records.specs.Reading.{unused}
+use Rattle.records.proofs.Readings.{ReadsOn-used}
+use Rattle.records.proofs.reader.EntryReader.take_entry.Goals as goal
+
+pub returns-clause-next : goal.returns-clause-next
+returns-clause-next g c =
+    let held = unused c.args.self.now.ahead in
+    let rest = c.in_ok-entry.rest.now in
+    let (front, are, split) = c.in_ok-entry.ensures in (
+      front,
+      are,
+      ReadsOn-used g.S.Source.gives g.S.Source.most c.args.self.now.source held front rest
+          (unused c.use_up.new.self) (sym c.text-text.ensures ∙ split)
+          (c.use_up.ensures ∙ ap (λ text. drop (length text - length rest) held) c.text-text.ensures),
+    )

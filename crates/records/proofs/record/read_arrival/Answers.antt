@@ -1,0 +1,16 @@
+use Rattle.std.proofs.Common.{codes, ◌++◌, ◌∷◌, refl, sym, ap, ◌∙◌}
+use Rattle.acts.specs.Id.{id_text}
+use Rattle.records.specs.Record.{arrival_text}
+use Rattle.records.proofs.record.read_arrival.Goals as goal
+
+pub returns : goal.returns
+returns g c =
+    let (below, bytes, small, spelled, cut) = rw c.in-Some.is at c.cut_arrival.ensures in
+    let id = c.in-Some.id in
+    let rest = c.in-Some.rest.now in
+    let items = c.in_ok-bytes.bytes.items in (
+      arrival_text id.0 items,
+      (below, c.in_ok-bytes.ensures.bytes, refl),
+      cut ∙ ap (λ digits. (id_text id.0 ++ (codes " " ++ digits)) ++ 10 ∷ rest)
+          (sym spelled ∙ c.in_ok-bytes.ensures.digits),
+    )

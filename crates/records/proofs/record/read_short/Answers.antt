@@ -1,0 +1,15 @@
+use Rattle.std.proofs.Common.{sym, ◌∙◌}
+use Rattle.records.proofs.Cuts.{no_cut, same_cut}
+use Rattle.records.proofs.Lines.{Lacks-line}
+use Rattle.records.proofs.record.read_short.Goals as goal
+
+pub returns-in_err-line : goal.returns-in_err-line
+returns-in_err-line g c = rw c.from_residual.ensures (λ reply line rest is e.
+    absurd (no_cut 10 c.args.text.now line rest c.in_err-line.ensures.none e))
+
+pub returns-in_err-answer : goal.returns-in_err-answer
+returns-in_err-answer g c = rw c.from_residual-in_err-answer.ensures (λ reply line rest is e.
+    let (found, lacks) = c.in_ok-line.ensures.found in
+    let same = (same_cut 10 c.in_ok-line.line.now line c.in_ok-line.rest.now rest lacks
+    (Lacks-line reply line is) (sym found ∙ e)).0 in
+    c.in_err-answer.ensures reply (rw (sym same) at is))
