@@ -315,6 +315,7 @@ fn resumed<A: Allocator + Copy>(
 ) -> Result<Gathered<A>, NoMemory> {
     match gathered {
         Gathered::Script(_, gathering) => {
+            let gathering = Box::into_inner(gathering);
             resume(alloc, scopes, gathering, Value::from_slice(alloc, value)?)
         }
         _ => Ok(Gathered::Values(Vec::new(alloc))),
