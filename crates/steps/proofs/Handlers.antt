@@ -1,10 +1,12 @@
 -- The handlers of what is open.
-use Rattle.std.proofs.Common.{◌≡◌, ◌∙◌, List, [], ◌∷◌, ◌++◌, ℕ, Option, None, Some, length, map, option_to_list, refl, sym, ap}
-use Rattle.std.specs.Prelude.{reverse}
+use Rattle.std.proofs.Common.{◌≡◌, ◌∙◌, Bool, true, false, List, [], ◌∷◌, ◌++◌, ℕ, Option, None, Some, length, map, option_to_list, refl, sym, ap, if◌then◌else◌}
+use Rattle.std.specs.Prelude.{nat_le, reverse}
 use Rattle.std.proofs.lemmas.List.{map-append, nil_from_length, reverse-append}
-use Rattle.state.specs.Prelude.{Code, Leaves, Status}
-use Rattle.steps.specs.Handling.{handled, led, way_of}
-use Rattle.steps.specs.Spot.{Did, Handler, Over, Spot, Stuck}
+use Rattle.bodies.specs.Catch.{number_of}
+use Rattle.state.specs.Prelude.{Code, Gives, Leaves, Outcome, Status, Stops}
+use Rattle.steps.specs.Handling.{handled, led, outside, resumed, way_of, with_code}
+use Rattle.steps.specs.Moves.{jumping}
+use Rattle.steps.specs.Spot.{Begins, Did, Handler, Over, Spot, Stuck, Went, with_top}
 use Rattle.steps.specs.View.{handler_of}
 use Rattle.steps.specs.declared.handler.Handler as opened
 use Rattle.steps.specs.declared.handler.Way.{Way}
@@ -75,3 +77,43 @@ module _ (code : Code) (value : List ℕ) (s : Status) where
   none_left handlers spot none =
       sym (ap (λ hs. handled (reverse (map handler_of hs)) code value spot s)
       (nil_from_length handlers none))
+
+-- a command begins
+abbrev pub IsBegun : Did → Type 0
+IsBegun (Begins words spot s) = Unit {0}
+IsBegun did = ⊥
+
+jumped : (b : Bool) (spot : Spot) (s : Status) →
+    IsBegun (if b then Went spot s else Stuck) → ⊥
+jumped true spot s begun = begun
+jumped false spot s begun = begun
+
+jumps : (place : ℕ) (spot : Spot) (s : Status) → IsBegun (jumping place spot s) → ⊥
+jumps place spot s = jumped (nat_le spot.place place) (record spot { place = place }) s
+
+led_nowhere : (w : Option Way) (code : Code) (value : List ℕ) (spot : Spot) (s : Status)
+    (h : Handler) (handlers : List Handler) (around : Did) → (IsBegun around → ⊥) →
+    IsBegun (led w code value spot s h handlers around) → ⊥
+led_nowhere None code value spot s h handlers around none begun = none begun
+led_nowhere (Some way.Out) code value spot s h handlers around none begun =
+    jumps h.over (outside h handlers spot) s begun
+led_nowhere (Some (way.End end)) code value spot s h handlers around none begun =
+    jumps end (with_top [] (outside h (h ∷ handlers) spot)) s begun
+led_nowhere (Some way.Caught) code value spot s h handlers around none begun =
+    jumps h.over (with_code (number_of code) value (outside h handlers spot)) s begun
+
+handled_nowhere : (handlers : List Handler) (code : Code) (value : List ℕ) (spot : Spot)
+    (s : Status) → IsBegun (handled handlers code value spot s) → ⊥
+handled_nowhere [] code value spot s begun = begun
+handled_nowhere (h ∷ handlers) code value spot s begun =
+    led_nowhere (way_of h.covers code) code value spot s h handlers
+    (handled handlers code value spot s)
+    (λ b. handled_nowhere handlers code value spot s b) begun
+
+-- where an outcome leads no command begins
+pub none_begins : (spot : Spot) (outcome : Outcome) (s : Status) →
+    IsBegun (resumed spot outcome s) → ⊥
+none_begins spot (Gives value) s begun = begun
+none_begins spot (Leaves code value) s begun =
+    handled_nowhere spot.handlers code value spot s begun
+none_begins spot (Stops stop) s begun = begun

@@ -1,5 +1,6 @@
 pub mod Does
 pub mod Elements
+pub mod Goes
 pub mod Handlers
 pub mod Leads
 pub mod Meanings

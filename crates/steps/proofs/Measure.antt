@@ -31,3 +31,41 @@ pub falls : (size place next left now : ℕ) → place < size → now ≤ left �
     now * (size + 1) + (size - next) < left * (size + 1) + (size - place)
 falls size place next left now within no_more ahead =
     either_falls size place next left now within ahead (eq-or-lt_of_le no_more)
+
+either_command : (size place next left now : ℕ) → (now ≡ left → size - next < size - place) →
+    (now ≡ left) ⊎ (now < left) →
+    now * (size + 1) + (size - next) < left * (size + 1) + (size - place)
+either_command size place next left now ahead (inl same) =
+    let product : now * (size + 1) ≡ left * (size + 1) = ap (λ n. n * (size + 1)) same in
+    let fewer : size - next < size - place = ahead same in
+    omega (arith, product, fewer)
+either_command size place next left now ahead (inr less) =
+    tick_falls size place next left now less
+
+-- so it is where several instructions lead to a command
+pub command_falls : (size place next left now : ℕ) → now ≤ left →
+    (now ≡ left → size - next < size - place) →
+    now * (size + 1) + (size - next) < left * (size + 1) + (size - place)
+command_falls size place next left now no_more ahead =
+    either_command size place next left now ahead (eq-or-lt_of_le no_more)
+
+-- several instructions that take no tick lead to no place before the first one
+pub no_way_back : (from place next first left now : ℕ) → now ≤ left → left ≤ first →
+    (left ≡ first → from ≤ place) → (now ≡ left → place < next) → now ≡ first → from ≤ next
+no_way_back from place next first left now fewer few before ahead same =
+    let was : left ≡ first = omega (arith, fewer, few, same) in
+    let is : now ≡ left = omega (arith, fewer, few, same) in
+    let one : from ≤ place = before was in
+    let other : place < next = ahead is in
+    omega (arith, one, other)
+
+-- and fewer places are left
+pub fewer_left : (size from place next first left now : ℕ) → place < size → now ≤ left →
+    left ≤ first → (left ≡ first → from ≤ place) → (now ≡ left → place < next) → now ≡ first →
+    size - next < size - from
+fewer_left size from place next first left now within fewer few before ahead same =
+    let was : left ≡ first = omega (arith, fewer, few, same) in
+    let is : now ≡ left = omega (arith, fewer, few, same) in
+    let one : from ≤ place = before was in
+    let other : place < next = ahead is in
+    omega (arith, one, other, within)

@@ -1,12 +1,23 @@
 -- The run of a code as one value.
-use Rattle.std.specs.Prelude.{Some}
+use Rattle.std.specs.Prelude.{◌≢◌, ℕ, ◌+◌, ◌-◌, ◌*◌, length}
 use Rattle.state.specs.Prelude.{Dialogue, FitsState, Outcome, Status}
 use Rattle.state.specs.declared.state.State.{State}
 use Rattle.steps.specs.Follows.{Follows, Resumes}
 use Rattle.steps.specs.Handling.{resumed}
 use Rattle.steps.specs.View.{did_of, spot_of}
+use Rattle.steps.specs.declared.progress.Progress.{Progress}
+use Rattle.steps.specs.declared.progress.Progress.TheVariants as went
 use Rattle.steps.specs.declared.run.Run.{Run}
-use Rattle.steps.specs.declared.stopped.Stopped.{Stopped}
+
+-- how many places the run has still before it
+abbrev pub places_left : {A : Type 0} → Run A → ℕ
+places_left run = length run.code.value.items - run.spot.place
+
+-- with so many ticks left no more commands than this begin before the code is over: without a tick
+-- a command stands further on than the one before, and with each tick the run may go back to any
+-- place (this project's own rule)
+abbrev pub most_commands : {A : Type 0} → Run A → ℕ → ℕ
+most_commands run left = left * (length run.code.value.items + 1) + places_left run
 
 module _ {A X : Type 0} (last : Status → Outcome → Dialogue X) where
   -- a run waits for an outcome: whichever it is, this is what is left to be done with it, and then
@@ -18,9 +29,9 @@ module _ {A X : Type 0} (last : Status → Outcome → Dialogue X) where
 
   -- for some state of the definition that the code's state fits, the dialogue continues as the
   -- command that begins, whose outcome the run awaits, or as what is done last
-  pub record HasStopped (stopped : Stopped A) (run : Run A) (state : State A) (p : Dialogue X) :
+  pub record HasStopped (progress : Progress) (run : Run A) (state : State A) (p : Dialogue X) :
       Type 0 where
     pub status : Status
     pub fits : FitsState state status
-    pub follows :
-        Follows run.code.value.items last (did_of (Some stopped) (spot_of run.spot) status) p
+    pub stops : progress ≢ went.GoesOn
+    pub follows : Follows run.code.value.items last (did_of progress run.spot status) p

@@ -4,9 +4,9 @@ use Rattle.state.specs.Prelude.{Code, Leaves, Scopes, Status, outcome_of}
 use Rattle.steps.specs.Handling.{led}
 use Rattle.steps.specs.declared.handler.Handler as opened
 use Rattle.steps.specs.declared.handling.Taker.{Taker}
+use Rattle.steps.specs.declared.progress.Progress.{Progress}
+use Rattle.steps.specs.declared.progress.Progress.TheVariants as went
 use Rattle.steps.specs.declared.spot.Spot as coded
-use Rattle.steps.specs.declared.stopped.Stopped.{Stopped}
-use Rattle.steps.specs.declared.stopped.Stopped.TheVariants as stopped
 use Rattle.steps.specs.Spot.{Handler, Spot, Did, Went, Begins, Over, Stuck}
 use Rattle.tclstate.specs.Procs.{Procs}
 
@@ -30,17 +30,20 @@ spot_of spot = record {
   handlers = reverse (map handler_of spot.handlers.items);
 }
 
--- the result of an instruction: the run goes on, or has stopped there
-abbrev pub did_of : {A : Type 0} → Option (Stopped A) → Spot → Status → Did
-did_of None spot s = Went spot s
-did_of (Some (stopped.Begins words)) spot s = Begins words.items spot s
-did_of (Some (stopped.Over outcome)) spot s = Over (outcome_of outcome) s
-did_of (Some stopped.Stuck) spot s = Stuck
+-- the result of an instruction: the run goes on, or has stopped there, where the words by which a
+-- command begins lie, and the outcome of the code
+abbrev pub did_of : {A : Type 0} → Progress → coded.Spot A → Status → Did
+did_of went.GoesOn spot s = Went (spot_of spot) s
+did_of went.Begins spot s = Begins spot.words.items (spot_of spot) s
+did_of went.Over spot s = Over (outcome_of spot.outcome) s
+did_of went.Stuck spot s = Stuck
 
--- goes on with the value that was taken off a spot, if there is one
-abbrev pub given : Option (List ℕ) → Spot → (List ℕ → Spot → Did) → Did
-given None spot next = Stuck
-given (Some value) spot next = next value spot
+-- the code is not over after an instruction, and no operand was missing
+abbrev pub IsOpen : Progress → Type 0
+IsOpen went.GoesOn = Unit {0}
+IsOpen went.Begins = Unit {0}
+IsOpen went.Over = ⊥
+IsOpen went.Stuck = ⊥
 
 -- a state of the definition with these variables, these procedures and these ticks left
 abbrev pub with_parts : Scopes → Procs → ℕ → Status → Status

@@ -1,13 +1,14 @@
 //! Instructions one after the other, up to the next command or to the end.
 
-ghost use Rattle.std.specs.Prelude.{◌≤◌, Some, IfOk};
+ghost use Rattle.std.specs.Prelude.{◌≡◌, ◌≢◌, ◌<◌, ◌≤◌, ◌-◌, length, IfOk};
 ghost use Rattle.state.specs.Prelude.{Status};
 ghost use Rattle.steps.specs.Does.{Arrives};
 ghost use Rattle.steps.specs.View.{did_of, spot_of, with_parts};
+ghost use Rattle.steps.specs.declared.progress.Progress.TheVariants as went;
 
+use crate::progress::Progress;
 use crate::spot::Spot;
 use crate::stepping::step;
-use crate::stopped::Stopped;
 use code::Instruction;
 use memory::NoMemory;
 use std::alloc::Allocator;
@@ -24,15 +25,19 @@ pub fn advance<A: Allocator + Copy>(
     scopes: &mut Scopes<A>,
     procs: &Procs<A>,
     left: &mut u64,
-) -> Result<Stopped<A>, NoMemory>
-    ensures arrives { (s : Status) → IfOk result (λ stopped. Arrives code.now (spot_of spot.old)
+) -> Result<Progress, NoMemory>
+    ensures arrives { (s : Status) → IfOk result (λ progress. Arrives code.now (spot_of spot.old)
         (with_parts scopes.old procs.now left.old s)
-        (did_of (Some stopped) (spot_of spot.new) (with_parts scopes.new procs.now left.new s))) }
+        (did_of progress spot.new (with_parts scopes.new procs.now left.new s))) }
+    ensures stops { IfOk result (λ progress. progress ≢ went.GoesOn) }
+    ensures onward { IfOk result (λ progress. progress ≡ went.Begins → left.new ≡ left.old →
+        length code.now - spot.new.place < length code.now - spot.old.place) }
     ensures ticks { left.new ≤ left.old }
 {
     'steps: loop {
-        if let Some(stopped) = step(alloc, code, spot, scopes, procs, left)? {
-            return Ok(stopped);
+        let progress = step(alloc, code, spot, scopes, procs, left)?;
+        if progress != Progress::GoesOn {
+            return Ok(progress);
         }
     }
 }

@@ -1,19 +1,19 @@
 //! The instructions of `foreach` (foreach(n)).
 
-ghost use Rattle.std.specs.Prelude.{◌≡◌, ◌≤◌, [], ◌∷◌, ℕ, List, codes, Ok, IfOk};
+ghost use Rattle.std.specs.Prelude.{◌≡◌, ◌≤◌, [], ◌∷◌, codes, Ok, IfOk};
 ghost use Rattle.state.specs.Piece.{ListText};
 ghost use Rattle.state.specs.Prelude.{Status};
 ghost use Rattle.steps.specs.Does.{Does};
-ghost use Rattle.steps.specs.Foreach.{assigning, by_words, dealing, dealt, finishing, hidden, looking, taking};
-ghost use Rattle.steps.specs.Spot.{Did, Reads as reads_text, Spot as Standing};
-ghost use Rattle.steps.specs.View.{did_of, given, spot_of, with_parts};
+ghost use Rattle.steps.specs.Foreach.{assigning, by_words, dealing, dealt, finishing, hidden, looking};
+ghost use Rattle.steps.specs.Spot.{Reads as reads_text};
+ghost use Rattle.steps.specs.View.{did_of, spot_of, with_parts};
 ghost use Rattle.tclstate.specs.Pairs.{found};
 
 use crate::handling::failed;
 use crate::operating::jump;
+use crate::progress::Progress;
 use crate::spot::Spot;
-use crate::stopped::Stopped;
-use crate::storing::store;
+use crate::storing::{keep, store};
 use acts::{NoMemory, Raise};
 use meanings::elements;
 use std::alloc::Allocator;
@@ -43,40 +43,40 @@ fn begin_by_words<A: Allocator + Copy>(
     variables: &Value<A>,
     body: &Value<A>,
     place: usize,
-) -> Result<Option<Stopped<A>>, NoMemory>
-    ensures does { (s : Status) → IfOk result (λ stopped. did_of stopped (spot_of spot.new) s
+) -> Result<Progress, NoMemory>
+    ensures does { (s : Status) → IfOk result (λ progress. did_of progress spot.new s
         ≡ by_words variables.now body.now place (spot_of spot.old) s) }
     ensures place { spot.old.place ≤ spot.new.place }
 {
     let Some(list) = spot.operands.pop() else {
-        return Ok(Some(Stopped::Stuck));
+        return Ok(Progress::Stuck);
     };
     if place < spot.place {
-        return Ok(Some(Stopped::Stuck));
+        return Ok(Progress::Stuck);
     }
     spot.place = place;
-    let words = words_of(alloc, variables, list, body)?;
-    Ok(Some(Stopped::Begins(words)))
+    spot.words = words_of(alloc, variables, list, body)?;
+    Ok(Progress::Begins)
 }
 
 /// Where a procedure hides a `foreach`, it begins by its words.
-pub fn begin_hidden<A: Allocator + Copy>(
+pub fn begin_foreach<A: Allocator + Copy>(
     alloc: A,
     spot: &mut Spot<A>,
     procs: &Procs<A>,
     variables: &Value<A>,
     body: &Value<A>,
     place: usize,
-) -> Result<Option<Stopped<A>>, NoMemory>
-    ensures does { (s : Status) → s.procedures ≡ procs.now → IfOk result (λ stopped.
-        did_of stopped (spot_of spot.new) s
+) -> Result<Progress, NoMemory>
+    ensures does { (s : Status) → s.procedures ≡ procs.now → IfOk result (λ progress.
+        did_of progress spot.new s
         ≡ hidden (found s.procedures (codes "foreach")) variables.now body.now place
         (spot_of spot.old) s) }
     ensures place { spot.old.place ≤ spot.new.place }
 {
     match procs.get(b"foreach") {
         Some(_) => Ok(begin_by_words(alloc, spot, variables, body, place)?),
-        None => Ok(None),
+        None => Ok(Progress::GoesOn),
     }
 }
 
@@ -85,8 +85,8 @@ fn put_elements<A: Allocator + Copy>(
     spot: &mut Spot<A>,
     mut elements: Vec<Value<A>, A>,
     place: usize,
-) -> Result<Option<Stopped<A>>, NoMemory>
-    ensures does { (s : Status) → IfOk result (λ stopped. did_of stopped (spot_of spot.new) s
+) -> Result<Progress, NoMemory>
+    ensures does { (s : Status) → IfOk result (λ progress. did_of progress spot.new s
         ≡ dealt place (spot_of spot.old) s (Ok elements.items)) }
     ensures place { spot.old.place ≤ spot.new.place }
 {
@@ -102,10 +102,10 @@ fn deal_text<A: Allocator + Copy>(
     spot: &mut Spot<A>,
     text: &[u8],
     place: usize,
-) -> Result<Option<Stopped<A>>, NoMemory>
-    ensures does { (s : Status) → IfOk result (λ stopped.
+) -> Result<Progress, NoMemory>
+    ensures does { (s : Status) → IfOk result (λ progress.
         Does (reads_text (ListText text.now) (dealt place (spot_of spot.old) s))
-        (did_of stopped (spot_of spot.new) s)) }
+        (did_of progress spot.new s)) }
     ensures place { spot.old.place ≤ spot.new.place }
 {
     match elements(alloc, text) {
@@ -120,51 +120,29 @@ pub fn deal<A: Allocator + Copy>(
     alloc: A,
     spot: &mut Spot<A>,
     place: usize,
-) -> Result<Option<Stopped<A>>, NoMemory>
-    ensures does { (s : Status) → IfOk result (λ stopped.
-        Does (dealing place (spot_of spot.old) s) (did_of stopped (spot_of spot.new) s)) }
+) -> Result<Progress, NoMemory>
+    ensures does { (s : Status) → IfOk result (λ progress.
+        Does (dealing place (spot_of spot.old) s) (did_of progress spot.new s)) }
     ensures place { spot.old.place ≤ spot.new.place }
 {
     let Some(text) = spot.operands.pop() else {
-        return Ok(Some(Stopped::Stuck));
+        return Ok(Progress::Stuck);
     };
     Ok(deal_text(alloc, spot, text.as_slice(), place)?)
 }
 
 /// Where no element is left, this place is next.
-pub fn look<A: Allocator + Copy>(
-    spot: &mut Spot<A>,
-    place: usize,
-) -> Result<Option<Stopped<A>>, NoMemory>
-    ensures does { (s : Status) → IfOk result (λ stopped.
-        did_of stopped (spot_of spot.new) s ≡ looking place (spot_of spot.old) s) }
+pub fn look<A: Allocator + Copy>(spot: &mut Spot<A>, place: usize) -> Progress
+    ensures does { (s : Status) → did_of result spot.new s ≡ looking place (spot_of spot.old) s }
     ensures place { spot.old.place ≤ spot.new.place }
 {
-    let Some(mark) = spot.marks.pop() else {
-        return Ok(Some(Stopped::Stuck));
+    let Some(mark) = spot.marks.last() else {
+        return Progress::Stuck;
     };
-    spot.marks.push(mark)?;
-    if spot.operands.len() <= mark {
-        return Ok(jump(spot, place));
+    if spot.operands.len() <= *mark {
+        return jump(spot, place);
     }
-    Ok(None)
-}
-
-/// Takes the next element off, or gives the empty text where none is left; `None` where there is
-/// no mark.
-fn take<A: Allocator + Copy>(spot: &mut Spot<A>) -> Result<Option<Value<A>>, NoMemory>
-    ensures taken { (next : List ℕ → Standing → Did) → IfOk result (λ taken.
-        given taken (spot_of spot.new) next ≡ taking (spot_of spot.old) next) }
-    ensures place { spot.new.place ≡ spot.old.place }
-{
-    let Some(mark) = spot.marks.pop() else {
-        return Ok(None);
-    };
-    spot.marks.push(mark)?;
-    if spot.operands.len() <= mark {
-        return Ok(Some(Value::empty()));
-    }
-    Ok(spot.operands.pop())
+    Progress::GoesOn
 }
 
 /// The variable of this name takes the next element.
@@ -172,28 +150,31 @@ pub fn assign<A: Allocator + Copy>(
     alloc: A,
     spot: &mut Spot<A>,
     scopes: &mut Scopes<A>,
-    word: &[u8],
-) -> Result<Option<Stopped<A>>, NoMemory>
-    ensures does { (s : Status) → IfOk result (λ stopped.
-        did_of stopped (spot_of spot.new) (with_parts scopes.new s.procedures s.left s)
+    word: &Value<A>,
+) -> Result<Progress, NoMemory>
+    ensures does { (s : Status) → IfOk result (λ progress.
+        did_of progress spot.new (with_parts scopes.new s.procedures s.left s)
         ≡ assigning word.now (spot_of spot.old)
         (with_parts scopes.old s.procedures s.left s)) }
     ensures place { spot.old.place ≤ spot.new.place }
 {
-    let Some(value) = take(spot)? else {
-        return Ok(Some(Stopped::Stuck));
+    let Some(mark) = spot.marks.last() else {
+        return Ok(Progress::Stuck);
     };
-    Ok(store(alloc, spot, scopes, word, value)?)
+    if spot.operands.len() <= *mark {
+        return Ok(store(alloc, spot, scopes, word.as_slice(), Value::empty())?);
+    }
+    Ok(keep(alloc, spot, scopes, word)?)
 }
 
 /// Drops the elements that are left, and puts the empty text on top.
-pub fn finish<A: Allocator + Copy>(spot: &mut Spot<A>) -> Result<Option<Stopped<A>>, NoMemory>
-    ensures does { (s : Status) → IfOk result (λ stopped.
-        did_of stopped (spot_of spot.new) s ≡ finishing (spot_of spot.old) s) }
+pub fn finish<A: Allocator + Copy>(spot: &mut Spot<A>) -> Result<Progress, NoMemory>
+    ensures does { (s : Status) → IfOk result (λ progress.
+        did_of progress spot.new s ≡ finishing (spot_of spot.old) s) }
     ensures place { spot.new.place ≡ spot.old.place }
 {
     let Some(mark) = spot.marks.pop() else {
-        return Ok(Some(Stopped::Stuck));
+        return Ok(Progress::Stuck);
     };
     spot.operands.truncate(mark);
     Ok(spot.put(Value::empty())?)

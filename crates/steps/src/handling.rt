@@ -1,8 +1,9 @@
 //! Where the outcome of a command, or the error of an instruction, leads.
 
-ghost use Rattle.std.specs.Prelude.{◌≡◌, ◌∷◌, ◌≤◌, [], decimal, ℕ, List, IfOk, OnOk};
+ghost use Rattle.std.specs.Prelude.{◌≡◌, ◌∷◌, ◌≤◌, [], decimal, option_copied, ℕ, List, Some, IfOk, OnOk};
 ghost use Rattle.bodies.specs.Catch as catch;
-ghost use Rattle.state.specs.Prelude.{Status, flaw_of, outcome_of};
+ghost use Rattle.state.specs.Prelude.{Fault as Failure, Status, flaw_of, outcome_of};
+ghost use Rattle.state.specs.Stores.{IsTold};
 ghost use Rattle.state.specs.View as states;
 ghost use Rattle.steps.specs.Handling.{fails, handled, led, outside, resumed, with_code};
 ghost use Rattle.steps.specs.Moves.{jumping};
@@ -11,12 +12,14 @@ ghost use Rattle.steps.specs.View.{did_of, handler_of, led_by, spot_of};
 
 use crate::handler::{Handler, Way, way_of};
 use crate::operating::jump;
+use crate::progress::Progress;
 use crate::spot::Spot;
-use crate::stopped::Stopped;
 use acts::{Fault, NoMemory};
 use state::outcome::raised;
+use state::variables::trouble;
 use state::{Code, Leave, Outcome};
 use std::alloc::Allocator;
+use tclstate::ScopeError;
 use tcltext::{Value, print_nat};
 
 /// The handler that takes an outcome, and the way that the outcome goes.
@@ -72,8 +75,8 @@ fn end_body<A: Allocator + Copy>(
     spot: &mut Spot<A>,
     handler: Handler,
     end: usize,
-) -> Result<Option<Stopped<A>>, NoMemory>
-    ensures does { (s : Status) → IfOk result (λ stopped. did_of stopped (spot_of spot.new) s
+) -> Result<Progress, NoMemory>
+    ensures does { (s : Status) → IfOk result (λ progress. did_of progress spot.new s
         ≡ jumping end (with_top [] (record (spot_of spot.old) {
           handlers = handler_of handler ∷ (spot_of spot.old).handlers;
         })) s) }
@@ -90,8 +93,8 @@ fn end_script<A: Allocator + Copy>(
     place: usize,
     code: Code,
     value: Value<A>,
-) -> Result<Option<Stopped<A>>, NoMemory>
-    ensures does { (s : Status) → IfOk result (λ stopped. did_of stopped (spot_of spot.new) s
+) -> Result<Progress, NoMemory>
+    ensures does { (s : Status) → IfOk result (λ progress. did_of progress spot.new s
         ≡ jumping place (with_code (catch.number_of (states.code_of code)) value
         (spot_of spot.old)) s) }
     ensures place { spot.old.place ≤ spot.new.place }
@@ -106,8 +109,8 @@ fn go<A: Allocator + Copy>(
     taker: Taker,
     code: Code,
     value: Value<A>,
-) -> Result<Option<Stopped<A>>, NoMemory>
-    ensures does { (s : Status) → IfOk result (λ stopped. did_of stopped (spot_of spot.new) s
+) -> Result<Progress, NoMemory>
+    ensures does { (s : Status) → IfOk result (λ progress. did_of progress spot.new s
         ≡ led_by (Some taker) (states.code_of code) value (spot_of spot.old) s) }
     ensures place { spot.old.place ≤ spot.new.place }
 {
@@ -142,14 +145,14 @@ fn leave<A: Allocator + Copy>(
     spot: &mut Spot<A>,
     code: Code,
     value: Value<A>,
-) -> Result<Option<Stopped<A>>, NoMemory>
-    ensures does { (s : Status) → IfOk result (λ stopped. did_of stopped (spot_of spot.new) s
+) -> Result<Progress, NoMemory>
+    ensures does { (s : Status) → IfOk result (λ progress. did_of progress spot.new s
         ≡ handled (spot_of spot.old).handlers (states.code_of code) value (spot_of spot.old) s) }
     ensures place { spot.old.place ≤ spot.new.place }
 {
     match taker_of(spot, code) {
         Some(taker) => Ok(go(spot, taker, code, value)?),
-        None => Ok(Some(Stopped::Over(Err(Leave::Coded(code, value))))),
+        None => Ok(spot.end(Err(Leave::Coded(code, value)))),
     }
 }
 
@@ -162,28 +165,50 @@ fn leave<A: Allocator + Copy>(
 pub fn resume<A: Allocator + Copy>(
     spot: &mut Spot<A>,
     outcome: Outcome<A>,
-) -> Result<Option<Stopped<A>>, NoMemory>
-    ensures does { (s : Status) → IfOk result (λ stopped. did_of stopped (spot_of spot.new) s
+) -> Result<Progress, NoMemory>
+    ensures does { (s : Status) → IfOk result (λ progress. did_of progress spot.new s
         ≡ resumed (spot_of spot.old) (outcome_of outcome) s) }
     ensures place { spot.old.place ≤ spot.new.place }
 {
     match outcome {
         Ok(value) => Ok(spot.put(value)?),
         Err(Leave::Coded(code, value)) => Ok(leave(spot, code, value)?),
-        Err(Leave::Stopped(stop)) => Ok(Some(Stopped::Over(Err(Leave::Stopped(stop))))),
+        Err(Leave::Stopped(stop)) => Ok(spot.end(Err(Leave::Stopped(stop)))),
     }
 }
 
 /// An instruction fails with the script's error, which goes to what takes it of all that is open.
+#[cold]
+#[inline(never)]
 pub(crate) fn failed<A: Allocator + Copy>(
     alloc: A,
     spot: &mut Spot<A>,
     fault: Fault<A>,
-) -> Result<Option<Stopped<A>>, NoMemory>
-    ensures does { (s : Status) → IfOk result (λ stopped. did_of stopped (spot_of spot.new) s
+) -> Result<Progress, NoMemory>
+    ensures does { (s : Status) → IfOk result (λ progress. did_of progress spot.new s
         ≡ fails (flaw_of fault) (spot_of spot.old) s) }
     ensures place { spot.old.place ≤ spot.new.place }
 {
     let outcome = raised(alloc, &fault)?;
     Ok(resume(spot, outcome)?)
+}
+
+/// An instruction fails since a variable, or an element, has this trouble.
+#[cold]
+#[inline(never)]
+pub(crate) fn fail_to_reach<A: Allocator + Copy>(
+    alloc: A,
+    spot: &mut Spot<A>,
+    error: ScopeError,
+    name: &[u8],
+    index: Option<&[u8]>,
+) -> Result<Progress, NoMemory>
+    ensures does { IfOk result (λ progress. (fault : Failure A) ×
+        IsTold fault error name.now (option_copied index.entry) ×
+        ((s : Status) →
+        did_of progress spot.new s ≡ fails (flaw_of fault) (spot_of spot.old) s)) }
+    ensures place { spot.old.place ≤ spot.new.place }
+{
+    let fault = trouble(alloc, error, name, index)?;
+    Ok(failed(alloc, spot, fault)?)
 }

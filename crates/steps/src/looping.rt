@@ -7,8 +7,8 @@ ghost use Rattle.steps.specs.View.{did_of, spot_of, with_parts};
 
 use crate::handler::{Covered, Handler};
 use crate::handling::failed;
+use crate::progress::Progress;
 use crate::spot::Spot;
-use crate::stopped::Stopped;
 use acts::{NoMemory, Raise};
 use operators::{Operand, truth};
 use state::{Leave, Stop};
@@ -20,16 +20,16 @@ pub fn begin_turn<A: Allocator + Copy>(
     body: usize,
     end: usize,
     left: &mut u64,
-) -> Result<Option<Stopped<A>>, NoMemory>
-    ensures does { (s : Status) → IfOk result (λ stopped.
-        did_of stopped (spot_of spot.new) (with_parts s.scopes s.procedures left.new s)
+) -> Result<Progress, NoMemory>
+    ensures does { (s : Status) → IfOk result (λ progress.
+        did_of progress spot.new (with_parts s.scopes s.procedures left.new s)
         ≡ turned body end true (spot_of spot.old)
         (with_parts s.scopes s.procedures left.old s)) }
     ensures ticks { left.new ≤ left.old }
     ensures place { left.new ≡ left.old → spot.new.place ≡ spot.old.place }
 {
     if *left == 0 {
-        return Ok(Some(Stopped::Over(Err(Leave::Stopped(Stop::Limit)))));
+        return Ok(spot.end(Err(Leave::Stopped(Stop::Limit))));
     }
     *left -= 1;
     spot.handlers.push(Handler {
@@ -40,7 +40,7 @@ pub fn begin_turn<A: Allocator + Copy>(
         levels: spot.levels,
     })?;
     spot.place = body;
-    Ok(None)
+    Ok(Progress::GoesOn)
 }
 
 /// Drops the truth value of a loop's test, and begins a turn where it is true.
@@ -50,52 +50,52 @@ pub fn turn<A: Allocator + Copy>(
     body: usize,
     end: usize,
     left: &mut u64,
-) -> Result<Option<Stopped<A>>, NoMemory>
-    ensures does { (s : Status) → IfOk result (λ stopped.
-        did_of stopped (spot_of spot.new) (with_parts s.scopes s.procedures left.new s)
+) -> Result<Progress, NoMemory>
+    ensures does { (s : Status) → IfOk result (λ progress.
+        did_of progress spot.new (with_parts s.scopes s.procedures left.new s)
         ≡ turning body end (spot_of spot.old) (with_parts s.scopes s.procedures left.old s)) }
     ensures ticks { left.new ≤ left.old }
     ensures place { left.new ≡ left.old → spot.old.place ≤ spot.new.place }
 {
     let Some(value) = spot.operands.pop() else {
-        return Ok(Some(Stopped::Stuck));
+        return Ok(Progress::Stuck);
     };
     match truth(alloc, &Operand::text(value)) {
         Ok(true) => Ok(begin_turn(spot, body, end, left)?),
-        Ok(false) => Ok(None),
+        Ok(false) => Ok(Progress::GoesOn),
         Err(Raise::Fault(fault)) => Ok(failed(alloc, spot, fault)?),
         Err(Raise::NoMemory(refusal)) => Err(refusal),
     }
 }
 
 /// The body of a turn is over: its value is dropped, and the script after the turn begins.
-pub fn begin_step<A: Allocator + Copy>(spot: &mut Spot<A>) -> Result<Option<Stopped<A>>, NoMemory>
-    ensures does { (s : Status) → IfOk result (λ stopped.
-        did_of stopped (spot_of spot.new) s ≡ stepping (spot_of spot.old) s) }
+pub fn begin_step<A: Allocator + Copy>(spot: &mut Spot<A>) -> Result<Progress, NoMemory>
+    ensures does { (s : Status) → IfOk result (λ progress.
+        did_of progress spot.new s ≡ stepping (spot_of spot.old) s) }
     ensures place { spot.new.place ≡ spot.old.place }
 {
     let Some(_) = spot.operands.pop() else {
-        return Ok(Some(Stopped::Stuck));
+        return Ok(Progress::Stuck);
     };
     let Some(mut open) = spot.handlers.pop() else {
-        return Ok(Some(Stopped::Stuck));
+        return Ok(Progress::Stuck);
     };
     open.covers = Covered::Step;
     spot.handlers.push(open)?;
-    Ok(None)
+    Ok(Progress::GoesOn)
 }
 
 /// A turn is over: the value on top is dropped.
-pub fn end_turn<A: Allocator + Copy>(spot: &mut Spot<A>) -> Option<Stopped<A>>
+pub fn end_turn<A: Allocator + Copy>(spot: &mut Spot<A>) -> Progress
     ensures does { (s : Status) →
-        did_of result (spot_of spot.new) s ≡ ending (spot_of spot.old) s }
+        did_of result spot.new s ≡ ending (spot_of spot.old) s }
     ensures place { spot.new.place ≡ spot.old.place }
 {
     let Some(_) = spot.operands.pop() else {
-        return Some(Stopped::Stuck);
+        return Progress::Stuck;
     };
     let Some(_) = spot.handlers.pop() else {
-        return Some(Stopped::Stuck);
+        return Progress::Stuck;
     };
-    None
+    Progress::GoesOn
 }

@@ -12,8 +12,8 @@ ghost use Rattle.steps.specs.Moves.{jumping};
 ghost use Rattle.steps.specs.View.{did_of, spot_of};
 
 use crate::handling::failed;
+use crate::progress::Progress;
 use crate::spot::Spot;
-use crate::stopped::Stopped;
 use acts::{NoMemory, Raise};
 use operators::{Operand, binary, call, truth, unary, written};
 use std::alloc::Allocator;
@@ -25,10 +25,10 @@ fn settle<A: Allocator + Copy>(
     alloc: A,
     spot: &mut Spot<A>,
     value: Result<Operand<A>, Raise<A>>,
-) -> Result<Option<Stopped<A>>, NoMemory>
+) -> Result<Progress, NoMemory>
     ensures does { (meaning : Meaning) (s : Status) → Answers meaning value →
-        IfOk result (λ stopped. Does (gives meaning (spot_of spot.old) s)
-        (did_of stopped (spot_of spot.new) s)) }
+        IfOk result (λ progress. Does (gives meaning (spot_of spot.old) s)
+        (did_of progress spot.new s)) }
     ensures place { spot.old.place ≤ spot.new.place }
 {
     match value {
@@ -43,9 +43,9 @@ pub fn number<A: Allocator + Copy>(
     alloc: A,
     spot: &mut Spot<A>,
     digits: &Value<A>,
-) -> Result<Option<Stopped<A>>, NoMemory>
-    ensures does { (s : Status) → IfOk result (λ stopped.
-        Does (putting digits.now (spot_of spot.old) s) (did_of stopped (spot_of spot.new) s)) }
+) -> Result<Progress, NoMemory>
+    ensures does { (s : Status) → IfOk result (λ progress.
+        Does (putting digits.now (spot_of spot.old) s) (did_of progress spot.new s)) }
     ensures place { spot.old.place ≤ spot.new.place }
 {
     let digits = digits.share()?;
@@ -58,13 +58,13 @@ pub fn prefix<A: Allocator + Copy>(
     alloc: A,
     spot: &mut Spot<A>,
     operator: Unary,
-) -> Result<Option<Stopped<A>>, NoMemory>
-    ensures does { (s : Status) → IfOk result (λ stopped.
-        Does (prefixing operator (spot_of spot.old) s) (did_of stopped (spot_of spot.new) s)) }
+) -> Result<Progress, NoMemory>
+    ensures does { (s : Status) → IfOk result (λ progress.
+        Does (prefixing operator (spot_of spot.old) s) (did_of progress spot.new s)) }
     ensures place { spot.old.place ≤ spot.new.place }
 {
     let Some(value) = spot.operands.pop() else {
-        return Ok(Some(Stopped::Stuck));
+        return Ok(Progress::Stuck);
     };
     let value = unary(alloc, operator, &Operand::text(value));
     Ok(settle(alloc, spot, value)?)
@@ -75,16 +75,16 @@ pub fn join_both<A: Allocator + Copy>(
     alloc: A,
     spot: &mut Spot<A>,
     operator: Binary,
-) -> Result<Option<Stopped<A>>, NoMemory>
-    ensures does { (s : Status) → IfOk result (λ stopped.
-        Does (joining_both operator (spot_of spot.old) s) (did_of stopped (spot_of spot.new) s)) }
+) -> Result<Progress, NoMemory>
+    ensures does { (s : Status) → IfOk result (λ progress.
+        Does (joining_both operator (spot_of spot.old) s) (did_of progress spot.new s)) }
     ensures place { spot.old.place ≤ spot.new.place }
 {
     let Some(right) = spot.operands.pop() else {
-        return Ok(Some(Stopped::Stuck));
+        return Ok(Progress::Stuck);
     };
     let Some(left) = spot.operands.pop() else {
-        return Ok(Some(Stopped::Stuck));
+        return Ok(Progress::Stuck);
     };
     let value = binary(alloc, operator, &Operand::text(left), &Operand::text(right));
     Ok(settle(alloc, spot, value)?)
@@ -101,32 +101,29 @@ fn told<A: Allocator + Copy>(alloc: A, operand: &Operand<A>) -> Result<Operand<A
 }
 
 /// Replaces the operand on top by its truth value.
-pub fn tell<A: Allocator + Copy>(
-    alloc: A,
-    spot: &mut Spot<A>,
-) -> Result<Option<Stopped<A>>, NoMemory>
-    ensures does { (s : Status) → IfOk result (λ stopped.
-        Does (telling (spot_of spot.old) s) (did_of stopped (spot_of spot.new) s)) }
+pub fn tell<A: Allocator + Copy>(alloc: A, spot: &mut Spot<A>) -> Result<Progress, NoMemory>
+    ensures does { (s : Status) → IfOk result (λ progress.
+        Does (telling (spot_of spot.old) s) (did_of progress spot.new s)) }
     ensures place { spot.old.place ≤ spot.new.place }
 {
     let Some(value) = spot.operands.pop() else {
-        return Ok(Some(Stopped::Stuck));
+        return Ok(Progress::Stuck);
     };
     let value = told(alloc, &Operand::text(value));
     Ok(settle(alloc, spot, value)?)
 }
 
 /// This place is next; there is no way back.
-pub fn jump<A: Allocator + Copy>(spot: &mut Spot<A>, place: usize) -> Option<Stopped<A>>
+pub fn jump<A: Allocator + Copy>(spot: &mut Spot<A>, place: usize) -> Progress
     ensures does { (s : Status) →
-        did_of result (spot_of spot.new) s ≡ jumping place (spot_of spot.old) s }
+        did_of result spot.new s ≡ jumping place (spot_of spot.old) s }
     ensures place { spot.old.place ≤ spot.new.place }
 {
     if place < spot.place {
-        return Some(Stopped::Stuck);
+        return Progress::Stuck;
     }
     spot.place = place;
-    None
+    Progress::GoesOn
 }
 
 /// Where the left operand has the truth value that decides, puts that on top and jumps.
@@ -136,13 +133,13 @@ fn decide<A: Allocator + Copy>(
     place: usize,
     known: bool,
     holds: bool,
-) -> Result<Option<Stopped<A>>, NoMemory>
-    ensures does { (s : Status) → IfOk result (λ stopped.
-        did_of stopped (spot_of spot.new) s ≡ deciding known holds place (spot_of spot.old) s) }
+) -> Result<Progress, NoMemory>
+    ensures does { (s : Status) → IfOk result (λ progress.
+        did_of progress spot.new s ≡ deciding known holds place (spot_of spot.old) s) }
     ensures place { spot.old.place ≤ spot.new.place }
 {
     if known != holds {
-        return Ok(None);
+        return Ok(Progress::GoesOn);
     }
     let value = Operand::truth(holds).into_text(alloc)?;
     spot.operands.push(value)?;
@@ -155,13 +152,13 @@ pub fn choose<A: Allocator + Copy>(
     spot: &mut Spot<A>,
     place: usize,
     known: bool,
-) -> Result<Option<Stopped<A>>, NoMemory>
-    ensures does { (s : Status) → IfOk result (λ stopped.
-        did_of stopped (spot_of spot.new) s ≡ choosing place known (spot_of spot.old) s) }
+) -> Result<Progress, NoMemory>
+    ensures does { (s : Status) → IfOk result (λ progress.
+        did_of progress spot.new s ≡ choosing place known (spot_of spot.old) s) }
     ensures place { spot.old.place ≤ spot.new.place }
 {
     let Some(value) = spot.operands.pop() else {
-        return Ok(Some(Stopped::Stuck));
+        return Ok(Progress::Stuck);
     };
     match truth(alloc, &Operand::text(value)) {
         Ok(holds) => Ok(decide(alloc, spot, place, known, holds)?),
@@ -175,16 +172,16 @@ pub fn jump_unless<A: Allocator + Copy>(
     alloc: A,
     spot: &mut Spot<A>,
     place: usize,
-) -> Result<Option<Stopped<A>>, NoMemory>
-    ensures does { (s : Status) → IfOk result (λ stopped.
-        did_of stopped (spot_of spot.new) s ≡ unless_of place (spot_of spot.old) s) }
+) -> Result<Progress, NoMemory>
+    ensures does { (s : Status) → IfOk result (λ progress.
+        did_of progress spot.new s ≡ unless_of place (spot_of spot.old) s) }
     ensures place { spot.old.place ≤ spot.new.place }
 {
     let Some(value) = spot.operands.pop() else {
-        return Ok(Some(Stopped::Stuck));
+        return Ok(Progress::Stuck);
     };
     match truth(alloc, &Operand::text(value)) {
-        Ok(true) => Ok(None),
+        Ok(true) => Ok(Progress::GoesOn),
         Ok(false) => Ok(jump(spot, place)),
         Err(Raise::Fault(fault)) => Ok(failed(alloc, spot, fault)?),
         Err(Raise::NoMemory(refusal)) => Err(refusal),
@@ -211,10 +208,10 @@ pub fn apply<A: Allocator + Copy>(
     spot: &mut Spot<A>,
     function: Function,
     n: usize,
-) -> Result<Option<Stopped<A>>, NoMemory>
-    ensures does { (s : Status) → IfOk result (λ stopped. Does
+) -> Result<Progress, NoMemory>
+    ensures does { (s : Status) → IfOk result (λ progress. Does
         (calling function (length (spot_of spot.old).operands - n) (spot_of spot.old) s)
-        (did_of stopped (spot_of spot.new) s)) }
+        (did_of progress spot.new s)) }
     ensures place { spot.old.place ≤ spot.new.place }
 {
     let below = spot.operands.len().saturating_sub(n);

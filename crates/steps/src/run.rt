@@ -1,6 +1,6 @@
 //! The run of a code as one value: the code, which is shared, and where the run stands in it.
 
-ghost use Rattle.std.specs.Prelude.{◌≡◌, ◌≤◌, length, IfOk};
+ghost use Rattle.std.specs.Prelude.{◌≡◌, ◌<◌, ◌≤◌, length, IfOk};
 ghost use Rattle.code.specs.Code.{ScriptAt};
 ghost use Rattle.plan.specs.Plan.{and_then, onward};
 ghost use Rattle.runs.specs.Ending.{Over};
@@ -10,13 +10,14 @@ ghost use Rattle.state.specs.Prelude.{Dialogue, FitsState, Outcome as Ending, St
 
 use crate::advancing::advance;
 use crate::handling::resume;
+use crate::progress::Progress;
 use crate::spot::Spot;
-use crate::stopped::Stopped;
 use acts::NoMemory;
 use code::Instruction;
 use state::{Outcome, State};
 use std::alloc::Allocator;
 use std::rc::Rc;
+use tcltext::Value;
 
 /// The run of a code, which waits for an outcome: at its beginning for the empty text, and then for
 /// that of the command that began last.
@@ -27,7 +28,8 @@ pub struct Run<A: Allocator> {
 }
 
 impl<A: Allocator + Copy> Run<A> {
-    ghost use Rattle.steps.specs.Run.{Awaits, HasStopped};
+    ghost use Rattle.steps.specs.Run.{Awaits, HasStopped, most_commands, places_left};
+    ghost use Rattle.steps.specs.declared.progress.Progress.TheVariants as went;
 
     /// The run of a script's code of which nothing is done yet, in which this many levels may nest.
     pub fn begin(alloc: A, code: Rc<Vec<Instruction<A>, A>, A>, levels: u8) -> Run<A>
@@ -44,12 +46,18 @@ impl<A: Allocator + Copy> Run<A> {
                 marks: Vec::new(alloc),
                 levels,
                 handlers: Vec::new(alloc),
+                words: Vec::new(alloc),
+                outcome: Ok(Value::empty()),
             },
         }
     }
 
     /// Hands in the outcome that the run waits for, and runs the code up to the next command, whose
-    /// outcome it waits for then, or to the end.
+    /// words lie in the spot and whose outcome the run waits for then, or to the end, whose outcome
+    /// lies there. It never answers `GoesOn`.
+    ///
+    /// A command that begins without a tick before it stands further on in the code than the one
+    /// before, so that a run ends after so many outcomes.
     ///
     /// # Errors
     /// `NoMemory` where memory is refused.
@@ -58,15 +66,20 @@ impl<A: Allocator + Copy> Run<A> {
         alloc: A,
         state: &mut State<A>,
         outcome: Outcome<A>,
-    ) -> Result<Stopped<A>, NoMemory>
+    ) -> Result<Progress, NoMemory>
         ensures stops { (last next : Status → Ending → Dialogue Over) (s : Status) →
             FitsState state.old s → Awaits last self.old next →
-            IfOk result (λ stopped.
-            HasStopped last stopped self.new state.new (next s (outcome_of outcome))) }
+            IfOk result (λ progress.
+            HasStopped last progress self.new state.new (next s (outcome_of outcome))) }
         ensures left { IfOk result (λ _. state.new.left ≤ state.old.left) }
+        ensures onward { IfOk result (λ progress. progress ≡ went.Begins →
+            state.new.left ≡ state.old.left → places_left self.new < places_left self.old) }
+        ensures falls { IfOk result (λ progress. progress ≡ went.Begins →
+            most_commands self.new state.new.left < most_commands self.old state.old.left) }
     {
-        if let Some(stopped) = resume(&mut self.spot, outcome)? {
-            return Ok(stopped);
+        let progress = resume(&mut self.spot, outcome)?;
+        if progress != Progress::GoesOn {
+            return Ok(progress);
         }
         Ok(advance(
             alloc,

@@ -1,17 +1,17 @@
 //! Where the run of a code stands, and how instructions change it.
 
 ghost use Rattle.std.specs.Prelude.{◌≡◌, ◌≤◌, ◌-◌, [], ◌∷◌, length, Some, IfOk};
-ghost use Rattle.state.specs.Prelude.{Status};
+ghost use Rattle.state.specs.Prelude.{Gives, Status, outcome_of};
 ghost use Rattle.steps.specs.Machine.{beginning, beginning_counted, counting, discarding, entering, joining, leaving, ticking};
 ghost use Rattle.steps.specs.Moves.{on_top};
 ghost use Rattle.steps.specs.Spot.{Over as is_over, Went as goes, beginning_at, with_top};
-ghost use Rattle.state.specs.Prelude.{Gives};
-ghost use Rattle.steps.specs.View.{did_of, spot_of, with_parts};
+ghost use Rattle.steps.specs.View.{IsOpen, did_of, spot_of, with_parts};
+ghost use Rattle.steps.specs.declared.progress.Progress.TheVariants as went;
 
 use crate::handler::Handler;
-use crate::stopped::Stopped;
+use crate::progress::Progress;
 use memory::NoMemory;
-use state::{Leave, Stop};
+use state::{Leave, Outcome, Stop};
 use std::alloc::Allocator;
 use tcltext::Value;
 
@@ -29,6 +29,10 @@ pub struct Spot<A: Allocator> {
     pub levels: u8,
     /// The handlers of the turns of loops that are open, the innermost last.
     pub handlers: Vec<Handler, A>,
+    /// The words by which the last command began.
+    pub words: Vec<Value<A>, A>,
+    /// The outcome of the code, once it is over.
+    pub outcome: Outcome<A>,
 }
 
 impl<A: Allocator + Copy> Spot<A> {
@@ -47,118 +51,141 @@ impl<A: Allocator + Copy> Spot<A> {
             marks: Vec::new(alloc),
             levels,
             handlers: Vec::new(alloc),
+            words: Vec::new(alloc),
+            outcome: Ok(Value::empty()),
         })
     }
 
+    /// Puts a text that is shared on top.
+    pub fn put_shared(&mut self, text: &Value<A>) -> Result<Progress, NoMemory>
+        ensures does { (s : Status) → IfOk result (λ progress. did_of progress self.new s
+            ≡ goes (with_top text.now (spot_of self.old)) s) }
+        ensures place { self.new.place ≡ self.old.place }
+    {
+        Ok(self.put(text.share()?)?)
+    }
+
     /// Puts a value on top.
-    pub fn put(&mut self, value: Value<A>) -> Result<Option<Stopped<A>>, NoMemory>
-        ensures does { (s : Status) → IfOk result (λ stopped.
-            did_of stopped (spot_of self.new) s ≡ goes (with_top value (spot_of self.old)) s) }
+    pub fn put(&mut self, value: Value<A>) -> Result<Progress, NoMemory>
+        ensures does { (s : Status) → IfOk result (λ progress.
+            did_of progress self.new s ≡ goes (with_top value (spot_of self.old)) s) }
         ensures place { self.new.place ≡ self.old.place }
     {
         self.operands.push(value)?;
-        Ok(None)
+        Ok(Progress::GoesOn)
     }
 
     /// The value on top is the outcome.
-    pub fn finish(&mut self) -> Stopped<A>
-        ensures { (s : Status) → did_of (Some result) (spot_of self.new) s
+    pub fn finish(&mut self) -> Progress
+        ensures does { (s : Status) → did_of result self.new s
             ≡ on_top (spot_of self.old).operands (λ value below. is_over (Gives value) s) }
+        ensures ends { IsOpen result → ⊥ }
     {
         let Some(value) = self.operands.pop() else {
-            return Stopped::Stuck;
+            return Progress::Stuck;
         };
-        Stopped::Over(Ok(value))
+        self.end(Ok(value))
+    }
+
+    /// The code is over, with this outcome.
+    pub fn end(&mut self, outcome: Outcome<A>) -> Progress
+        ensures does { (s : Status) →
+            did_of result self.new s ≡ is_over (outcome_of outcome) s }
+        ensures over { result ≡ went.Over }
+        ensures place { self.new.place ≡ self.old.place }
+    {
+        self.outcome = outcome;
+        Progress::Over
     }
 
     /// Drops the value on top, and takes a tick.
-    pub fn tick(&mut self, left: &mut u64) -> Option<Stopped<A>>
+    pub fn tick(&mut self, left: &mut u64) -> Progress
         ensures does { (s : Status) →
-            did_of result (spot_of self.new) (with_parts s.scopes s.procedures left.new s)
+            did_of result self.new (with_parts s.scopes s.procedures left.new s)
             ≡ ticking (spot_of self.old) (with_parts s.scopes s.procedures left.old s) }
         ensures ticks { left.new ≤ left.old }
         ensures place { self.new.place ≡ self.old.place }
     {
         let Some(_) = self.operands.pop() else {
-            return Some(Stopped::Stuck);
+            return Progress::Stuck;
         };
         if *left == 0 {
-            return Some(Stopped::Over(Err(Leave::Stopped(Stop::Limit))));
+            return self.end(Err(Leave::Stopped(Stop::Limit)));
         }
         *left -= 1;
-        None
+        Progress::GoesOn
     }
 
     /// Drops the value on top.
-    pub fn discard(&mut self) -> Option<Stopped<A>>
+    pub fn discard(&mut self) -> Progress
         ensures does { (s : Status) →
-            did_of result (spot_of self.new) s ≡ discarding (spot_of self.old) s }
+            did_of result self.new s ≡ discarding (spot_of self.old) s }
         ensures place { self.new.place ≡ self.old.place }
     {
         let Some(_) = self.operands.pop() else {
-            return Some(Stopped::Stuck);
+            return Progress::Stuck;
         };
-        None
+        Progress::GoesOn
     }
 
     /// Puts the text on top after the one below it.
-    pub fn join(&mut self, alloc: A) -> Result<Option<Stopped<A>>, NoMemory>
-        ensures does { (s : Status) → IfOk result (λ stopped.
-            did_of stopped (spot_of self.new) s ≡ joining (spot_of self.old) s) }
+    pub fn join(&mut self, alloc: A) -> Result<Progress, NoMemory>
+        ensures does { (s : Status) → IfOk result (λ progress.
+            did_of progress self.new s ≡ joining (spot_of self.old) s) }
         ensures place { self.new.place ≡ self.old.place }
     {
         let Some(value) = self.operands.pop() else {
-            return Ok(Some(Stopped::Stuck));
+            return Ok(Progress::Stuck);
         };
         let Some(bytes) = self.operands.pop() else {
-            return Ok(Some(Stopped::Stuck));
+            return Ok(Progress::Stuck);
         };
         let joined = bytes.append(alloc, value.as_slice())?;
         self.operands.push(joined)?;
-        Ok(None)
+        Ok(Progress::GoesOn)
     }
 
     /// A script in brackets is over.
-    pub fn leave(&mut self) -> Option<Stopped<A>>
+    pub fn leave(&mut self) -> Progress
         ensures does { (s : Status) →
-            did_of result (spot_of self.new) s ≡ leaving (spot_of self.old) s }
+            did_of result self.new s ≡ leaving (spot_of self.old) s }
         ensures place { self.new.place ≡ self.old.place }
     {
         if self.levels == u8::MAX {
-            return Some(Stopped::Stuck);
+            return Progress::Stuck;
         }
         self.levels += 1;
-        None
+        Progress::GoesOn
     }
 
     /// From here on words are counted, after this many.
-    pub fn count(&mut self, n: usize) -> Result<Option<Stopped<A>>, NoMemory>
-        ensures does { (s : Status) → IfOk result (λ stopped.
-            did_of stopped (spot_of self.new) s ≡ counting n (spot_of self.old) s) }
+    pub fn count(&mut self, n: usize) -> Result<Progress, NoMemory>
+        ensures does { (s : Status) → IfOk result (λ progress.
+            did_of progress self.new s ≡ counting n (spot_of self.old) s) }
         ensures place { self.new.place ≡ self.old.place }
     {
         let below = self.operands.len().saturating_sub(n);
         self.marks.push(below)?;
-        Ok(None)
+        Ok(Progress::GoesOn)
     }
 
     /// Begins a command, whose words are all operands but this many.
-    pub fn begin(&mut self, below: usize) -> Result<Option<Stopped<A>>, NoMemory>
-        ensures does { (s : Status) → IfOk result (λ stopped.
-            did_of stopped (spot_of self.new) s ≡ beginning below (spot_of self.old) s) }
+    pub fn begin(&mut self, below: usize) -> Result<Progress, NoMemory>
+        ensures does { (s : Status) → IfOk result (λ progress.
+            did_of progress self.new s ≡ beginning below (spot_of self.old) s) }
         ensures place { self.new.place ≡ self.old.place }
     {
         if self.operands.len() < below {
-            return Ok(Some(Stopped::Stuck));
+            return Ok(Progress::Stuck);
         }
-        let words = self.operands.split_off(below)?;
-        Ok(Some(Stopped::Begins(words)))
+        self.words = self.operands.split_off(below)?;
+        Ok(Progress::Begins)
     }
 
     /// Begins a command, whose words are this many operands.
-    pub fn begin_last(&mut self, n: usize) -> Result<Option<Stopped<A>>, NoMemory>
-        ensures does { (s : Status) → IfOk result (λ stopped.
-            did_of stopped (spot_of self.new) s
+    pub fn begin_last(&mut self, n: usize) -> Result<Progress, NoMemory>
+        ensures does { (s : Status) → IfOk result (λ progress.
+            did_of progress self.new s
             ≡ beginning (length (spot_of self.old).operands - n) (spot_of self.old) s) }
         ensures place { self.new.place ≡ self.old.place }
     {
@@ -167,13 +194,13 @@ impl<A: Allocator + Copy> Spot<A> {
     }
 
     /// Begins a command, whose words were counted.
-    pub fn begin_counted(&mut self) -> Result<Option<Stopped<A>>, NoMemory>
-        ensures does { (s : Status) → IfOk result (λ stopped.
-            did_of stopped (spot_of self.new) s ≡ beginning_counted (spot_of self.old) s) }
+    pub fn begin_counted(&mut self) -> Result<Progress, NoMemory>
+        ensures does { (s : Status) → IfOk result (λ progress.
+            did_of progress self.new s ≡ beginning_counted (spot_of self.old) s) }
         ensures place { self.new.place ≡ self.old.place }
     {
         let Some(below) = self.marks.pop() else {
-            return Ok(Some(Stopped::Stuck));
+            return Ok(Progress::Stuck);
         };
         Ok(self.begin(below)?)
     }

@@ -1,28 +1,33 @@
 //! One instruction.
 
-ghost use Rattle.std.specs.Prelude.{◌≡◌, ◌<◌, ◌≤◌, length, slice_get, option_copied, IfOk, IfNone};
+ghost use Rattle.std.specs.Prelude.{◌≡◌, ◌<◌, ◌≤◌, length, slice_get, option_copied, IfOk, None};
+ghost use Rattle.acts.specs.Flaw as flaw;
+ghost use Rattle.state.specs.Faults.{flaw_of_fault};
 ghost use Rattle.state.specs.Piece.{ListText};
 ghost use Rattle.state.specs.Prelude.{Status};
 ghost use Rattle.steps.specs.Does.{Does};
+ghost use Rattle.steps.specs.Handling.{fails};
 ghost use Rattle.steps.specs.Machine.{does as said, entering, indexing, machine, reading, spread as spread_of, spreading, unhidden};
 ghost use Rattle.steps.specs.Spot.{Reads as reads_text};
+ghost use Rattle.steps.specs.View.{IsOpen, did_of, spot_of, with_parts};
+ghost use Rattle.tclparse.specs.Seen.{fault_of};
 ghost use Rattle.tclstate.specs.Pairs.{found};
-ghost use Rattle.steps.specs.View.{did_of, spot_of, with_parts};
 
-use crate::catching::{begin_catch, end_catch, keep};
-use crate::foreach::{assign, begin_hidden, deal, finish, look};
-use crate::handling::failed;
+use crate::catching::{begin_catch, end_catch};
+use crate::foreach::{assign, begin_foreach, deal, finish, look};
+use crate::handling::{fail_to_reach, failed};
 use crate::looping::{begin_step, begin_turn, end_turn, turn};
 use crate::operating::{apply, choose, join_both, jump, jump_unless, number, prefix, tell};
+use crate::progress::Progress;
 use crate::spot::Spot;
-use crate::stopped::Stopped;
+use crate::storing::keep;
 use crate::switch::{begin_switch, compare, match_glob};
-use acts::{Fault, NoMemory, Raise};
+use acts::{NoMemory, Raise};
 use code::Instruction;
 use meanings::elements;
 use state::faults::no_script;
-use state::variables::trouble;
 use std::alloc::Allocator;
+use tclparse::Fault;
 use tclstate::{Procs, Scopes};
 use tcltext::Value;
 
@@ -33,19 +38,30 @@ fn read<A: Allocator + Copy>(
     scopes: &Scopes<A>,
     name: &[u8],
     index: Option<&[u8]>,
-) -> Result<Option<Stopped<A>>, NoMemory>
-    ensures does { (s : Status) → s.scopes ≡ scopes.now → IfOk result (λ stopped.
-        did_of stopped (spot_of spot.new) s
+) -> Result<Progress, NoMemory>
+    ensures does { (s : Status) → s.scopes ≡ scopes.now → IfOk result (λ progress.
+        did_of progress spot.new s
         ≡ reading name.now (option_copied index.entry) (spot_of spot.old) s) }
     ensures place { spot.old.place ≤ spot.new.place }
 {
     match scopes.get(name, index) {
-        Ok(value) => Ok(spot.put(value.share()?)?),
-        Err(error) => {
-            let fault = trouble(alloc, error, name, index)?;
-            Ok(failed(alloc, spot, fault)?)
-        }
+        Ok(value) => Ok(spot.put_shared(value)?),
+        Err(error) => Ok(fail_to_reach(alloc, spot, error, name, index)?),
     }
+}
+
+/// Puts the value of the variable of this name on top.
+fn read_variable<A: Allocator + Copy>(
+    alloc: A,
+    spot: &mut Spot<A>,
+    scopes: &Scopes<A>,
+    name: &Value<A>,
+) -> Result<Progress, NoMemory>
+    ensures does { (s : Status) → s.scopes ≡ scopes.now → IfOk result (λ progress.
+        did_of progress spot.new s ≡ reading name.now None (spot_of spot.old) s) }
+    ensures place { spot.old.place ≤ spot.new.place }
+{
+    Ok(read(alloc, spot, scopes, name.as_slice(), None)?)
 }
 
 /// Puts the value of the element at the index on top in its place.
@@ -53,27 +69,38 @@ fn read_element<A: Allocator + Copy>(
     alloc: A,
     spot: &mut Spot<A>,
     scopes: &Scopes<A>,
-    name: &[u8],
-) -> Result<Option<Stopped<A>>, NoMemory>
-    ensures does { (s : Status) → s.scopes ≡ scopes.now → IfOk result (λ stopped.
-        did_of stopped (spot_of spot.new) s ≡ indexing name.now (spot_of spot.old) s) }
+    name: &Value<A>,
+) -> Result<Progress, NoMemory>
+    ensures does { (s : Status) → s.scopes ≡ scopes.now → IfOk result (λ progress.
+        did_of progress spot.new s ≡ indexing name.now (spot_of spot.old) s) }
     ensures place { spot.old.place ≤ spot.new.place }
 {
     let Some(index) = spot.operands.pop() else {
-        return Ok(Some(Stopped::Stuck));
+        return Ok(Progress::Stuck);
     };
-    Ok(read(alloc, spot, scopes, name, Some(index.as_slice()))?)
+    Ok(read(alloc, spot, scopes, name.as_slice(), Some(index.as_slice()))?)
+}
+
+/// A script in brackets is refused, since no level is left.
+#[cold]
+#[inline(never)]
+fn refuse_level<A: Allocator + Copy>(alloc: A, spot: &mut Spot<A>) -> Result<Progress, NoMemory>
+    ensures does { (s : Status) → IfOk result (λ progress.
+        did_of progress spot.new s ≡ fails flaw.TooManyNested (spot_of spot.old) s) }
+    ensures place { spot.old.place ≤ spot.new.place }
+{
+    Ok(failed(alloc, spot, acts::Fault::TooManyNested)?)
 }
 
 /// A script in brackets begins, where a level is left.
-fn enter<A: Allocator + Copy>(alloc: A, spot: &mut Spot<A>) -> Result<Option<Stopped<A>>, NoMemory>
-    ensures does { (s : Status) → IfOk result (λ stopped.
-        did_of stopped (spot_of spot.new) s
+fn enter<A: Allocator + Copy>(alloc: A, spot: &mut Spot<A>) -> Result<Progress, NoMemory>
+    ensures does { (s : Status) → IfOk result (λ progress.
+        did_of progress spot.new s
         ≡ entering spot.old.levels (spot_of spot.old) s) }
     ensures place { spot.old.place ≤ spot.new.place }
 {
     if spot.levels == 0 {
-        return Ok(failed(alloc, spot, Fault::TooManyNested)?);
+        return Ok(refuse_level(alloc, spot)?);
     }
     spot.levels -= 1;
     Ok(spot.put(Value::empty())?)
@@ -84,16 +111,16 @@ fn spread_text<A: Allocator + Copy>(
     alloc: A,
     spot: &mut Spot<A>,
     text: &[u8],
-) -> Result<Option<Stopped<A>>, NoMemory>
-    ensures does { (s : Status) → IfOk result (λ stopped.
+) -> Result<Progress, NoMemory>
+    ensures does { (s : Status) → IfOk result (λ progress.
         Does (reads_text (ListText text.now) (spread_of (spot_of spot.old) s))
-        (did_of stopped (spot_of spot.new) s)) }
+        (did_of progress spot.new s)) }
     ensures place { spot.old.place ≤ spot.new.place }
 {
     match elements(alloc, text) {
         Ok(mut elements) => {
             spot.operands.append(&mut elements)?;
-            Ok(None)
+            Ok(Progress::GoesOn)
         }
         Err(Raise::Fault(fault)) => Ok(failed(alloc, spot, fault)?),
         Err(Raise::NoMemory(refusal)) => Err(refusal),
@@ -101,31 +128,44 @@ fn spread_text<A: Allocator + Copy>(
 }
 
 /// Puts the elements of the list on top in its place.
-fn spread<A: Allocator + Copy>(alloc: A, spot: &mut Spot<A>) -> Result<Option<Stopped<A>>, NoMemory>
-    ensures does { (s : Status) → IfOk result (λ stopped.
-        Does (spreading (spot_of spot.old) s) (did_of stopped (spot_of spot.new) s)) }
+fn spread<A: Allocator + Copy>(alloc: A, spot: &mut Spot<A>) -> Result<Progress, NoMemory>
+    ensures does { (s : Status) → IfOk result (λ progress.
+        Does (spreading (spot_of spot.old) s) (did_of progress spot.new s)) }
     ensures place { spot.old.place ≤ spot.new.place }
 {
     let Some(text) = spot.operands.pop() else {
-        return Ok(Some(Stopped::Stuck));
+        return Ok(Progress::Stuck);
     };
     Ok(spread_text(alloc, spot, text.as_slice())?)
+}
+
+/// The script ends by a fault of its text.
+fn end_faulty<A: Allocator + Copy>(
+    alloc: A,
+    spot: &mut Spot<A>,
+    fault: Fault,
+) -> Result<Progress, NoMemory>
+    ensures does { (s : Status) → IfOk result (λ progress. did_of progress spot.new s
+        ≡ fails (flaw_of_fault (fault_of fault)) (spot_of spot.old) s) }
+    ensures place { spot.old.place ≤ spot.new.place }
+{
+    Ok(failed(alloc, spot, no_script(fault))?)
 }
 
 /// Where no procedure has this name, the place is next.
 fn jump_unhidden<A: Allocator + Copy>(
     spot: &mut Spot<A>,
     procs: &Procs<A>,
-    name: &[u8],
+    name: &Value<A>,
     place: usize,
-) -> Option<Stopped<A>>
+) -> Progress
     ensures does { (s : Status) → s.procedures ≡ procs.now →
-        did_of result (spot_of spot.new) s
+        did_of result spot.new s
         ≡ unhidden (found s.procedures name.now) place (spot_of spot.old) s }
     ensures place { spot.old.place ≤ spot.new.place }
 {
-    match procs.get(name) {
-        Some(_) => None,
+    match procs.get(name.as_slice()) {
+        Some(_) => Progress::GoesOn,
         None => jump(spot, place),
     }
 }
@@ -138,18 +178,18 @@ fn perform<A: Allocator + Copy>(
     scopes: &mut Scopes<A>,
     procs: &Procs<A>,
     left: &mut u64,
-) -> Result<Option<Stopped<A>>, NoMemory>
-    ensures does { (s : Status) → IfOk result (λ stopped. Does
+) -> Result<Progress, NoMemory>
+    ensures does { (s : Status) → IfOk result (λ progress. Does
         (said instruction.now (spot_of spot.old) (with_parts scopes.old procs.now left.old s))
-        (did_of stopped (spot_of spot.new) (with_parts scopes.new procs.now left.new s))) }
+        (did_of progress spot.new (with_parts scopes.new procs.now left.new s))) }
     ensures ticks { left.new ≤ left.old }
     ensures place { left.new ≡ left.old → spot.old.place ≤ spot.new.place }
 {
     match instruction {
         Instruction::Next => Ok(spot.tick(left)),
-        Instruction::Text(text) => Ok(spot.put(text.share()?)?),
-        Instruction::Variable(name) => Ok(read(alloc, spot, scopes, name.as_slice(), None)?),
-        Instruction::Element(name) => Ok(read_element(alloc, spot, scopes, name.as_slice())?),
+        Instruction::Text(text) => Ok(spot.put_shared(text)?),
+        Instruction::Variable(name) => Ok(read_variable(alloc, spot, scopes, name)?),
+        Instruction::Element(name) => Ok(read_element(alloc, spot, scopes, name)?),
         Instruction::Join => Ok(spot.join(alloc)?),
         Instruction::Enter => Ok(enter(alloc, spot)?),
         Instruction::Leave => Ok(spot.leave()),
@@ -157,7 +197,7 @@ fn perform<A: Allocator + Copy>(
         Instruction::Spread => Ok(spread(alloc, spot)?),
         Instruction::Command(n) => Ok(spot.begin_last(*n)?),
         Instruction::Counted => Ok(spot.begin_counted()?),
-        Instruction::Fault(fault) => Ok(failed(alloc, spot, no_script(*fault))?),
+        Instruction::Fault(fault) => Ok(end_faulty(alloc, spot, *fault)?),
         Instruction::Numeral(digits) => Ok(number(alloc, spot, digits)?),
         Instruction::Prefix(operator) => Ok(prefix(alloc, spot, *operator)?),
         Instruction::Binary(operator) => Ok(join_both(alloc, spot, *operator)?),
@@ -167,38 +207,34 @@ fn perform<A: Allocator + Copy>(
         Instruction::Truth => Ok(tell(alloc, spot)?),
         Instruction::Unless(place) => Ok(jump_unless(alloc, spot, *place)?),
         Instruction::Jump(place) => Ok(jump(spot, *place)),
-        Instruction::Unhidden(name, place) => {
-            Ok(jump_unhidden(spot, procs, name.as_slice(), *place))
-        }
+        Instruction::Unhidden(name, place) => Ok(jump_unhidden(spot, procs, name, *place)),
         Instruction::Turn(body, end) => Ok(turn(alloc, spot, *body, *end, left)?),
         Instruction::Step => Ok(begin_step(spot)?),
         Instruction::EndTurn => Ok(end_turn(spot)),
         Instruction::Discard => Ok(spot.discard()),
-        Instruction::Foreach(variables, body, place) => Ok(begin_hidden(
-            alloc, spot, procs, variables, body, *place,
-        )?),
+        Instruction::Foreach(names, body, place) => {
+            Ok(begin_foreach(alloc, spot, procs, names, body, *place)?)
+        }
         Instruction::Deal(place) => Ok(deal(alloc, spot, *place)?),
-        Instruction::More(place) => Ok(look(spot, *place)?),
-        Instruction::Assign(name) => Ok(assign(alloc, spot, scopes, name.as_slice())?),
+        Instruction::More(place) => Ok(look(spot, *place)),
+        Instruction::Assign(name) => Ok(assign(alloc, spot, scopes, name)?),
         Instruction::Begin(body, end) => Ok(begin_turn(spot, *body, *end, left)?),
         Instruction::Done => Ok(finish(spot)?),
-        Instruction::Switch(options, after, place) => Ok(begin_switch(
-            alloc, spot, procs, *options, after, *place,
-        )?),
-        Instruction::Equals(pattern, taken, other) => {
-            Ok(compare(spot, pattern.as_slice(), *taken, *other))
+        Instruction::Switch(options, after, place) => {
+            Ok(begin_switch(alloc, spot, procs, *options, after, *place)?)
         }
+        Instruction::Equals(pattern, taken, other) => Ok(compare(spot, pattern, *taken, *other)),
         Instruction::Matches(pattern, taken, other) => {
             Ok(match_glob(spot, pattern, *taken, *other))
         }
         Instruction::Catch(place) => Ok(begin_catch(spot, *place)?),
         Instruction::EndCatch => Ok(end_catch(spot)?),
-        Instruction::Store(name) => Ok(keep(alloc, spot, scopes, name.as_slice())?),
-        Instruction::Hole => Ok(Some(Stopped::Stuck)),
+        Instruction::Store(name) => Ok(keep(alloc, spot, scopes, name)?),
+        Instruction::Hole => Ok(Progress::Stuck),
     }
 }
 
-/// Does what the instruction at the place says, and answers `None` where the run goes on.
+/// Does what the instruction at the place says; after the last one the code is over.
 ///
 /// # Errors
 /// `NoMemory` where memory is refused.
@@ -209,18 +245,18 @@ pub fn step<A: Allocator + Copy>(
     scopes: &mut Scopes<A>,
     procs: &Procs<A>,
     left: &mut u64,
-) -> Result<Option<Stopped<A>>, NoMemory>
-    ensures does { (s : Status) → IfOk result (λ stopped. Does
+) -> Result<Progress, NoMemory>
+    ensures does { (s : Status) → IfOk result (λ progress. Does
         (machine (slice_get code.now spot.old.place) (spot_of spot.old)
         (with_parts scopes.old procs.now left.old s))
-        (did_of stopped (spot_of spot.new) (with_parts scopes.new procs.now left.new s))) }
-    ensures onward { IfOk result (λ stopped. IfNone stopped
-        ((spot.old.place < length code.now) × (left.new ≤ left.old) ×
-        (left.new ≡ left.old → spot.old.place < spot.new.place))) }
+        (did_of progress spot.new (with_parts scopes.new procs.now left.new s))) }
+    ensures onward { IfOk result (λ progress. IsOpen progress →
+        (spot.old.place < length code.now) × (left.new ≤ left.old) ×
+        (left.new ≡ left.old → spot.old.place < spot.new.place)) }
     ensures ticks { left.new ≤ left.old }
 {
     let Some(instruction) = code.get(spot.place) else {
-        return Ok(Some(spot.finish()));
+        return Ok(spot.finish());
     };
     spot.place += 1;
     Ok(perform(alloc, instruction, spot, scopes, procs, left)?)

@@ -9,8 +9,8 @@ ghost use Rattle.steps.specs.View.{did_of, spot_of};
 ghost use Rattle.tclstate.specs.Pairs.{found};
 
 use crate::operating::jump;
+use crate::progress::Progress;
 use crate::spot::Spot;
-use crate::stopped::Stopped;
 use acts::NoMemory;
 use code::{Flag, Options};
 use state::arguments::begins_with_dash;
@@ -106,20 +106,20 @@ fn begin_by_words<A: Allocator + Copy>(
     options: Options,
     after: &[Value<A>],
     place: usize,
-) -> Result<Option<Stopped<A>>, NoMemory>
-    ensures does { (s : Status) → IfOk result (λ stopped. did_of stopped (spot_of spot.new) s
+) -> Result<Progress, NoMemory>
+    ensures does { (s : Status) → IfOk result (λ progress. did_of progress spot.new s
         ≡ by_words options after.now place (spot_of spot.old) s) }
     ensures place { spot.old.place ≤ spot.new.place }
 {
     let Some(text) = spot.operands.pop() else {
-        return Ok(Some(Stopped::Stuck));
+        return Ok(Progress::Stuck);
     };
     if place < spot.place {
-        return Ok(Some(Stopped::Stuck));
+        return Ok(Progress::Stuck);
     }
     spot.place = place;
-    let words = words_of(alloc, options, text, after)?;
-    Ok(Some(Stopped::Begins(words)))
+    spot.words = words_of(alloc, options, text, after)?;
+    Ok(Progress::Begins)
 }
 
 /// Where the string on top is an option, the `switch` begins by its words.
@@ -129,16 +129,16 @@ fn begin_option<A: Allocator + Copy>(
     options: Options,
     after: &[Value<A>],
     place: usize,
-) -> Result<Option<Stopped<A>>, NoMemory>
-    ensures does { (s : Status) → IfOk result (λ stopped. did_of stopped (spot_of spot.new) s
+) -> Result<Progress, NoMemory>
+    ensures does { (s : Status) → IfOk result (λ progress. did_of progress spot.new s
         ≡ choosing options after.now place (spot_of spot.old) s) }
     ensures place { spot.old.place ≤ spot.new.place }
 {
     let Some(text) = spot.operands.last() else {
-        return Ok(Some(Stopped::Stuck));
+        return Ok(Progress::Stuck);
     };
     if is_string(options, text.as_slice(), after) {
-        return Ok(None);
+        return Ok(Progress::GoesOn);
     }
     Ok(begin_by_words(alloc, spot, options, after, place)?)
 }
@@ -151,9 +151,9 @@ pub fn begin_switch<A: Allocator + Copy>(
     options: Options,
     after: &[Value<A>],
     place: usize,
-) -> Result<Option<Stopped<A>>, NoMemory>
-    ensures does { (s : Status) → s.procedures ≡ procs.now → IfOk result (λ stopped.
-        did_of stopped (spot_of spot.new) s
+) -> Result<Progress, NoMemory>
+    ensures does { (s : Status) → s.procedures ≡ procs.now → IfOk result (λ progress.
+        did_of progress spot.new s
         ≡ hidden (found s.procedures (codes "switch")) options after.now place
         (spot_of spot.old) s) }
     ensures place { spot.old.place ≤ spot.new.place }
@@ -165,13 +165,8 @@ pub fn begin_switch<A: Allocator + Copy>(
 }
 
 /// After a pattern that takes the string the first place is next, else the second.
-fn go<A: Allocator + Copy>(
-    spot: &mut Spot<A>,
-    takes: bool,
-    taken: usize,
-    other: usize,
-) -> Option<Stopped<A>>
-    ensures does { (s : Status) → did_of result (spot_of spot.new) s
+fn go<A: Allocator + Copy>(spot: &mut Spot<A>, takes: bool, taken: usize, other: usize) -> Progress
+    ensures does { (s : Status) → did_of result spot.new s
         ≡ going takes taken other (spot_of spot.old) s }
     ensures place { spot.old.place ≤ spot.new.place }
 {
@@ -185,18 +180,18 @@ fn go<A: Allocator + Copy>(
 /// Compares the string on top with a text.
 pub fn compare<A: Allocator + Copy>(
     spot: &mut Spot<A>,
-    pattern: &[u8],
+    pattern: &Value<A>,
     taken: usize,
     other: usize,
-) -> Option<Stopped<A>>
-    ensures does { (s : Status) → did_of result (spot_of spot.new) s
+) -> Progress
+    ensures does { (s : Status) → did_of result spot.new s
         ≡ comparing pattern.now taken other (spot_of spot.old) s }
     ensures place { spot.old.place ≤ spot.new.place }
 {
     let Some(text) = spot.operands.last() else {
-        return Some(Stopped::Stuck);
+        return Progress::Stuck;
     };
-    let takes = pattern == text.as_slice();
+    let takes = pattern.as_slice() == text.as_slice();
     go(spot, takes, taken, other)
 }
 
@@ -206,13 +201,13 @@ pub fn match_glob<A: Allocator + Copy>(
     pattern: &Pattern<A>,
     taken: usize,
     other: usize,
-) -> Option<Stopped<A>>
+) -> Progress
     ensures does { (s : Status) → Does (matching pattern.now taken other (spot_of spot.old) s)
-        (did_of result (spot_of spot.new) s) }
+        (did_of result spot.new s) }
     ensures place { spot.old.place ≤ spot.new.place }
 {
     let Some(text) = spot.operands.last() else {
-        return Some(Stopped::Stuck);
+        return Progress::Stuck;
     };
     let takes = pattern.whole(text.as_slice());
     go(spot, takes, taken, other)

@@ -6,7 +6,7 @@ use state::{Code, Leave, Outcome};
 use std::alloc::{Allocator, Global};
 use std::process::Abort;
 use std::test::Fail;
-use steps::{Spot, Stopped, advance, resume};
+use steps::{Progress, Spot, advance, resume};
 use tclparse::Script;
 use tclstate::{Formals, Procedure, Procs, Scopes};
 use tcltext::Value;
@@ -29,58 +29,68 @@ fn variables(alloc: Global) -> Result<Scopes<Global>, Fail> {
     Ok(scopes)
 }
 
+/// Puts the words of a command after a text.
+fn show_words<A: Allocator>(shown: &mut Vec<u8, A>, words: &[Value<A>]) -> Result<(), Fail> {
+    for word in words {
+        shown.push(b'<')?;
+        shown.extend_from_slice(word.as_slice())?;
+        shown.push(b'>')?;
+    }
+    Ok(())
+}
+
+/// Puts the outcome of a code after a text.
+fn show_outcome<A: Allocator>(shown: &mut Vec<u8, A>, outcome: &Outcome<A>) -> Result<(), Fail> {
+    match outcome {
+        Ok(value) => shown.extend_from_slice(value.as_slice())?,
+        Err(Leave::Coded(_, value)) => shown.extend_from_slice(value.as_slice())?,
+        Err(Leave::Stopped(_)) => shown.extend_from_slice(b"stopped")?,
+    }
+    Ok(())
+}
+
 /// Puts how a run stopped after a text.
-fn show<A: Allocator>(shown: &mut Vec<u8, A>, stopped: &Stopped<A>) -> Result<(), Fail> {
-    match stopped {
-        Stopped::Begins(words) => {
-            for word in words {
-                shown.push(b'<')?;
-                shown.extend_from_slice(word.as_slice())?;
-                shown.push(b'>')?;
-            }
-        }
-        Stopped::Over(Ok(value)) => shown.extend_from_slice(value.as_slice())?,
-        Stopped::Over(Err(Leave::Coded(_, value))) => shown.extend_from_slice(value.as_slice())?,
-        Stopped::Over(Err(Leave::Stopped(_))) => shown.extend_from_slice(b"stopped")?,
-        Stopped::Stuck => shown.extend_from_slice(b"stuck")?,
+fn show<A: Allocator>(
+    shown: &mut Vec<u8, A>,
+    progress: Progress,
+    spot: &Spot<A>,
+) -> Result<(), Fail> {
+    match progress {
+        Progress::GoesOn => shown.extend_from_slice(b"goes on")?,
+        Progress::Begins => show_words(shown, &spot.words)?,
+        Progress::Over => show_outcome(shown, &spot.outcome)?,
+        Progress::Stuck => shown.extend_from_slice(b"stuck")?,
     }
     shown.push(b'\n')?;
     Ok(())
 }
 
 /// A value that ends a script with a code: that of the word after the name.
-fn leaves(
-    alloc: Global,
-    code: Code,
-    words: &[Value<Global>],
-) -> Result<Option<Outcome<Global>>, Fail> {
+fn leaves(alloc: Global, code: Code, words: &[Value<Global>]) -> Result<Outcome<Global>, Fail> {
     let value = match words {
         [_, value] => value.as_slice(),
         _ => b"",
     };
     let value = Value::from_slice(alloc, value)?;
-    Ok(Some(Err(Leave::Coded(code, value))))
+    Ok(Err(Leave::Coded(code, value)))
 }
 
-/// The outcome of the command that begins, if one does, by its name: that of `break`, of
-/// `continue`, of `error` and of `return`, how often there was a `count`, or else the value `v`.
+/// The outcome of a command with these words, by its name: that of `break`, of `continue`, of
+/// `error` and of `return`, how often there was a `count`, or else the value `v`.
 fn outcome_of(
     alloc: Global,
-    stopped: &Stopped<Global>,
+    words: &[Value<Global>],
     counts: &mut u8,
-) -> Result<Option<Outcome<Global>>, Fail> {
-    let Stopped::Begins(words) = stopped else {
-        return Ok(None);
-    };
-    let name = match words.as_slice() {
+) -> Result<Outcome<Global>, Fail> {
+    let name = match words {
         [name, ..] => name.as_slice(),
         [] => b"",
     };
     if name == b"break".as_slice() {
-        return Ok(Some(Err(Leave::Coded(Code::Break, Value::empty()))));
+        return Ok(Err(Leave::Coded(Code::Break, Value::empty())));
     }
     if name == b"continue".as_slice() {
-        return Ok(Some(Err(Leave::Coded(Code::Continue, Value::empty()))));
+        return Ok(Err(Leave::Coded(Code::Continue, Value::empty())));
     }
     if name == b"error".as_slice() {
         return Ok(leaves(alloc, Code::Error, words)?);
@@ -91,9 +101,9 @@ fn outcome_of(
     if name == b"count".as_slice() {
         *counts = counts.saturating_add(1);
         let digit = [b'0'.saturating_add(*counts)];
-        return Ok(Some(Ok(Value::from_slice(alloc, &digit)?)));
+        return Ok(Ok(Value::from_slice(alloc, &digit)?));
     }
-    Ok(Some(Ok(Value::from_slice(alloc, b"v")?)))
+    Ok(Ok(Value::from_slice(alloc, b"v")?))
 }
 
 /// The commands of a code, and how it ends, where these procedures are defined and so many ticks
@@ -110,13 +120,15 @@ pub(crate) fn commands_within(
     let mut counts = 0;
     let mut shown = Vec::new(alloc);
     for _ in 0..20 {
-        let stopped = advance(alloc, code, &mut spot, &mut scopes, procs, &mut left)?;
-        show(&mut shown, &stopped)?;
-        let Some(outcome) = outcome_of(alloc, &stopped, &mut counts)? else {
+        let progress = advance(alloc, code, &mut spot, &mut scopes, procs, &mut left)?;
+        show(&mut shown, progress, &spot)?;
+        if progress != Progress::Begins {
             return Ok(shown);
-        };
-        if let Some(over) = resume(&mut spot, outcome)? {
-            show(&mut shown, &over)?;
+        }
+        let outcome = outcome_of(alloc, &spot.words, &mut counts)?;
+        let progress = resume(&mut spot, outcome)?;
+        if progress != Progress::GoesOn {
+            show(&mut shown, progress, &spot)?;
             return Ok(shown);
         }
     }

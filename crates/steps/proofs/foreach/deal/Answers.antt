@@ -21,7 +21,7 @@ returns-clause-does g c = λ s.
     let old = c.args.spot.now.operands.items in
     let new = c.pop.new.self.items in
     let v = c.in-Some.text in
-    let did = did_of c.in_ok-deal_text.field-0 (spot_of c.deal_text.new.spot) s in
+    let did = did_of c.in_ok-deal_text.field-0 c.deal_text.new.spot s in
     subst (λ os. Does (on_top os (λ text below.
     Reads (ListText text) (dealt place (with_operands below spot) s))) did)
     (sym (one_on_top old new c.pop.result v c.pop.ensures.items c.in-Some.is))

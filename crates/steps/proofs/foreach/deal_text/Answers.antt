@@ -24,5 +24,5 @@ returns-in_ok-failed-in-Err-Fault-clause-does g c = λ s.
     subst (λ why. IsNoList c.args.text.now why) c.in-Err-Fault.field-0-is
     c.in-Err-Fault.ensures.fault in
     no_list_does c.args.text.now fault (dealt c.args.place spot s)
-    (did_of c.in_ok-failed-in-Err-Fault.field-0 (spot_of c.failed.new.spot) s) none
+    (did_of c.in_ok-failed-in-Err-Fault.field-0 c.failed.new.spot s) none
     (λ why told. c.in_ok-failed-in-Err-Fault.ensures.does s ∙ ap (λ f. fails f spot s) told)

@@ -13,5 +13,6 @@ returns-in_ok-go-in-Some-clause-does g c = λ s.
 pub returns-in-None-clause-does : goal.returns-in-None-clause-does
 returns-in-None-clause-does g c = λ s.
     let code = code_of c.args.code in
-    sym (ap (λ o. led_by o code c.args.value (spot_of c.taker_of.new.spot) s) c.in-None.is)
+    c.end.ensures.does s
+    ∙ sym (ap (λ o. led_by o code c.args.value (spot_of c.taker_of.new.spot) s) c.in-None.is)
     ∙ c.taker_of.ensures.takes c.args.value s

@@ -35,7 +35,7 @@ returns-clause-does g c = λ s.
     subst (λ os. Does
     (on_top os (λ r rest. on_top rest (λ l below.
     gives (binary op l r) (with_operands below spot) s)))
-    (did_of c.in_ok-settle.field-0 (spot_of c.settle.new.spot) s))
+    (did_of c.in_ok-settle.field-0 c.settle.new.spot s))
     (sym (one_on_top old more c.pop.result right c.pop.ensures.items c.in-Some.is
     ∙ ap (λ os. right ∷ os)
     (one_on_top more new c.pop-2.result left c.pop-2.ensures.items c.in-Some-pop.is)))

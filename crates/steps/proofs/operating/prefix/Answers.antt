@@ -24,6 +24,6 @@ returns-clause-does g c = λ s.
     subst (λ t. Answers (unary c.args.operator t) c.unary-value.result) c.text.ensures c.unary-value.ensures in
     subst (λ os. Does
     (on_top os (λ value below. gives (unary c.args.operator value) (with_operands below spot) s))
-    (did_of c.in_ok-settle.field-0 (spot_of c.settle.new.spot) s))
+    (did_of c.in_ok-settle.field-0 c.settle.new.spot s))
     (sym (one_on_top old new c.pop.result v c.pop.ensures.items c.in-Some.is))
     (c.in_ok-settle.ensures.does (unary c.args.operator v) s answers)

@@ -25,6 +25,6 @@ returns-clause-does g c = λ s.
     subst (λ t. Answers (told (truth_of t)) c.told-value.result) c.text.ensures c.told-value.ensures in
     subst (λ os. Does
     (on_top os (λ value below. gives (told (truth_of value)) (with_operands below spot) s))
-    (did_of c.in_ok-settle.field-0 (spot_of c.settle.new.spot) s))
+    (did_of c.in_ok-settle.field-0 c.settle.new.spot s))
     (sym (one_on_top old new c.pop.result v c.pop.ensures.items c.in-Some.is))
     (c.in_ok-settle.ensures.does (told (truth_of v)) s answers)

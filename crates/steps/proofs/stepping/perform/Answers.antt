@@ -1,10 +1,5 @@
-use Rattle.std.proofs.Common.{◌∙◌, None, codes, refl, ap}
-use Rattle.steps.specs.Catch.{keeping}
-use Rattle.steps.specs.Foreach.{assigning}
-use Rattle.steps.specs.Handling.{fails}
-use Rattle.steps.specs.Machine.{indexing, reading, unhidden}
-use Rattle.steps.specs.Spot.{Went, with_top}
-use Rattle.steps.specs.Switch.{comparing, hidden}
+use Rattle.std.proofs.Common.{◌∙◌, codes, refl, ap}
+use Rattle.steps.specs.Switch.{hidden}
 use Rattle.steps.specs.View.{spot_of, with_parts}
 use Rattle.tclstate.specs.Pairs.{found}
 use Rattle.steps.proofs.Does.{does_so, same_does}
@@ -17,21 +12,19 @@ returns-in-Next-clause-does g c = λ s.
     does_so c.args.instruction.now _ spot t c.in-Next.is
     (same_does (c.tick.ensures.does t))
 
-pub returns-in_ok-put-in-Text-clause-does : goal.returns-in_ok-put-in-Text-clause-does
-returns-in_ok-put-in-Text-clause-does g c = λ s.
+pub returns-in_ok-put_shared-in-Text-clause-does : goal.returns-in_ok-put_shared-in-Text-clause-does
+returns-in_ok-put_shared-in-Text-clause-does g c = λ s.
     let spot = spot_of c.args.spot.now in
     let t = with_parts c.args.scopes.now c.args.procs.now c.args.left.now s in
     does_so c.args.instruction.now _ spot t c.in-Text.is
-    (same_does (c.in_ok-put-in-Text.ensures.does t
-    ∙ ap (λ v. Went (with_top v spot) t) c.in_ok-share-in-Text.ensures))
+    (same_does (c.in_ok-put_shared-in-Text.ensures.does t))
 
-pub returns-in_ok-read-in-Variable-clause-does : goal.returns-in_ok-read-in-Variable-clause-does
-returns-in_ok-read-in-Variable-clause-does g c = λ s.
+pub returns-in_ok-read_variable-in-Variable-clause-does : goal.returns-in_ok-read_variable-in-Variable-clause-does
+returns-in_ok-read_variable-in-Variable-clause-does g c = λ s.
     let spot = spot_of c.args.spot.now in
     let t = with_parts c.args.scopes.now c.args.procs.now c.args.left.now s in
     does_so c.args.instruction.now _ spot t c.in-Variable.is
-    (same_does (c.in_ok-read-in-Variable.ensures.does t refl
-    ∙ ap (λ n. reading n None spot t) c.as_slice.ensures))
+    (same_does (c.in_ok-read_variable-in-Variable.ensures.does t refl))
 
 pub returns-in_ok-read_element-in-Element-clause-does :
     goal.returns-in_ok-read_element-in-Element-clause-does
@@ -39,8 +32,7 @@ returns-in_ok-read_element-in-Element-clause-does g c = λ s.
     let spot = spot_of c.args.spot.now in
     let t = with_parts c.args.scopes.now c.args.procs.now c.args.left.now s in
     does_so c.args.instruction.now _ spot t c.in-Element.is
-    (same_does (c.in_ok-read_element-in-Element.ensures.does t refl
-    ∙ ap (λ n. indexing n spot t) c.as_slice-in-Element.ensures))
+    (same_does (c.in_ok-read_element-in-Element.ensures.does t refl))
 
 pub returns-in_ok-join-in-Join-clause-does : goal.returns-in_ok-join-in-Join-clause-does
 returns-in_ok-join-in-Join-clause-does g c = λ s.
@@ -86,13 +78,13 @@ returns-in_ok-begin_counted-in-Counted-clause-does g c = λ s.
     does_so c.args.instruction.now _ spot t c.in-Counted.is
     (same_does (c.in_ok-begin_counted-in-Counted.ensures.does t))
 
-pub returns-in_ok-failed-in-Fault-clause-does : goal.returns-in_ok-failed-in-Fault-clause-does
-returns-in_ok-failed-in-Fault-clause-does g c = λ s.
+pub returns-in_ok-end_faulty-in-Fault-clause-does :
+    goal.returns-in_ok-end_faulty-in-Fault-clause-does
+returns-in_ok-end_faulty-in-Fault-clause-does g c = λ s.
     let spot = spot_of c.args.spot.now in
     let t = with_parts c.args.scopes.now c.args.procs.now c.args.left.now s in
     does_so c.args.instruction.now _ spot t c.in-Fault.is
-    (same_does (c.in_ok-failed-in-Fault.ensures.does t
-    ∙ ap (λ f. fails f spot t) c.no_script.ensures))
+    (same_does (c.in_ok-end_faulty-in-Fault.ensures.does t))
 
 pub returns-in_ok-number-in-Numeral-clause-does : goal.returns-in_ok-number-in-Numeral-clause-does
 returns-in_ok-number-in-Numeral-clause-does g c = λ s.
@@ -162,9 +154,7 @@ returns-in-Unhidden-clause-does g c = λ s.
     let spot = spot_of c.args.spot.now in
     let t = with_parts c.args.scopes.now c.args.procs.now c.args.left.now s in
     does_so c.args.instruction.now _ spot t c.in-Unhidden.is
-    (same_does (c.jump_unhidden.ensures.does t refl
-    ∙ ap (λ n. unhidden (found t.procedures n) c.in-Unhidden.place spot t)
-    c.as_slice-in-Unhidden.ensures))
+    (same_does (c.jump_unhidden.ensures.does t refl))
 
 pub returns-in_ok-turn-in-Turn-clause-does : goal.returns-in_ok-turn-in-Turn-clause-does
 returns-in_ok-turn-in-Turn-clause-does g c = λ s.
@@ -194,13 +184,13 @@ returns-in-Discard-clause-does g c = λ s.
     does_so c.args.instruction.now _ spot t c.in-Discard.is
     (same_does (c.discard.ensures.does t))
 
-pub returns-in_ok-begin_hidden-in-Foreach-clause-does :
-    goal.returns-in_ok-begin_hidden-in-Foreach-clause-does
-returns-in_ok-begin_hidden-in-Foreach-clause-does g c = λ s.
+pub returns-in_ok-begin_foreach-in-Foreach-clause-does :
+    goal.returns-in_ok-begin_foreach-in-Foreach-clause-does
+returns-in_ok-begin_foreach-in-Foreach-clause-does g c = λ s.
     let spot = spot_of c.args.spot.now in
     let t = with_parts c.args.scopes.now c.args.procs.now c.args.left.now s in
     does_so c.args.instruction.now _ spot t c.in-Foreach.is
-    (same_does (c.in_ok-begin_hidden-in-Foreach.ensures.does t refl))
+    (same_does (c.in_ok-begin_foreach-in-Foreach.ensures.does t refl))
 
 pub returns-in_ok-deal-in-Deal-clause-does :
     goal.returns-in_ok-deal-in-Deal-clause-does
@@ -210,13 +200,13 @@ returns-in_ok-deal-in-Deal-clause-does g c = λ s.
     does_so c.args.instruction.now _ spot t c.in-Deal.is
     (c.in_ok-deal-in-Deal.ensures.does t)
 
-pub returns-in_ok-look-in-More-clause-does :
-    goal.returns-in_ok-look-in-More-clause-does
-returns-in_ok-look-in-More-clause-does g c = λ s.
+pub returns-in-More-clause-does :
+    goal.returns-in-More-clause-does
+returns-in-More-clause-does g c = λ s.
     let spot = spot_of c.args.spot.now in
     let t = with_parts c.args.scopes.now c.args.procs.now c.args.left.now s in
     does_so c.args.instruction.now _ spot t c.in-More.is
-    (same_does (c.in_ok-look-in-More.ensures.does t))
+    (same_does (c.look.ensures.does t))
 
 pub returns-in_ok-assign-in-Assign-clause-does :
     goal.returns-in_ok-assign-in-Assign-clause-does
@@ -224,8 +214,7 @@ returns-in_ok-assign-in-Assign-clause-does g c = λ s.
     let spot = spot_of c.args.spot.now in
     let t = with_parts c.args.scopes.now c.args.procs.now c.args.left.now s in
     does_so c.args.instruction.now _ spot t c.in-Assign.is
-    (same_does (c.in_ok-assign-in-Assign.ensures.does t
-    ∙ ap (λ n. assigning n spot t) c.as_slice-in-Assign.ensures))
+    (same_does (c.in_ok-assign-in-Assign.ensures.does t))
 
 pub returns-in_ok-begin_turn-in-Begin-clause-does :
     goal.returns-in_ok-begin_turn-in-Begin-clause-does
@@ -258,9 +247,7 @@ returns-in-Equals-clause-does g c = λ s.
     let spot = spot_of c.args.spot.now in
     let t = with_parts c.args.scopes.now c.args.procs.now c.args.left.now s in
     does_so c.args.instruction.now _ spot t c.in-Equals.is
-    (same_does (c.compare.ensures.does t
-    ∙ ap (λ p. comparing p c.in-Equals.taken c.in-Equals.other spot t)
-    c.as_slice-in-Equals.ensures))
+    (same_does (c.compare.ensures.does t))
 
 pub returns-in-Matches-clause-does : goal.returns-in-Matches-clause-does
 returns-in-Matches-clause-does g c = λ s.
@@ -289,8 +276,7 @@ returns-in_ok-keep-in-Store-clause-does g c = λ s.
     let spot = spot_of c.args.spot.now in
     let t = with_parts c.args.scopes.now c.args.procs.now c.args.left.now s in
     does_so c.args.instruction.now _ spot t c.in-Store.is
-    (same_does (c.in_ok-keep-in-Store.ensures.does t
-    ∙ ap (λ n. keeping n spot t) c.as_slice-in-Store.ensures))
+    (same_does (c.in_ok-keep-in-Store.ensures.does t))
 
 pub returns-in-Hole-clause-does : goal.returns-in-Hole-clause-does
 returns-in-Hole-clause-does g c = λ s.

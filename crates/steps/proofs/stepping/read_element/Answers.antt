@@ -13,7 +13,9 @@ returns-clause-does g c = λ s same.
     let old = c.args.spot.now.operands.items in
     let new = c.pop.new.self.items in
     c.in_ok-read.ensures.does s same
-    ∙ ap (λ i. reading name (Some i) (with_operands (reverse new) spot) s) c.as_slice.ensures
+    ∙ ap (λ n. reading n (Some c.as_slice-2.result.now) (with_operands (reverse new) spot) s)
+    c.as_slice.ensures
+    ∙ ap (λ i. reading name (Some i) (with_operands (reverse new) spot) s) c.as_slice-2.ensures
     ∙ sym (ap (λ os. on_top os (λ index below. reading name (Some index) (with_operands below spot)
     s))
     (one_on_top old new c.pop.result c.in-Some.index c.pop.ensures.items c.in-Some.is))

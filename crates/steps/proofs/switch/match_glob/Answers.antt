@@ -35,6 +35,6 @@ returns-clause-does g c = λ s.
     subst (λ text. IsTrue c.whole-takes.result ↔ Whole items text) c.as_slice.ensures c.whole-takes.ensures in
     subst (λ os. Does (on_top os (λ text below.
     Reads (TestText items text) (λ it_does. going it_does taken other spot s)))
-    (did_of c.go.result (spot_of c.go.new.spot) s))
+    (did_of c.go.result c.go.new.spot s))
     (sym (last_on_top old v top))
     (reads {text = TestText items v} c.whole-takes.result says (same_does (c.go.ensures.does s)))
