@@ -1,9 +1,9 @@
 //! The table of the commands: how each one begins, and how it continues with an answer.
 //!
 //! What waits for the answer to an act is wide, and passing it from one function to the next would
-//! cost a short command many more instructions. So a command that asks for no act is done apart from
-//! those that do, and of these the tables of the kinds are inlined into this one, and this one into
-//! its caller.
+//! cost a short command many more instructions. So a command that asks for no act is done apart
+//! from those that do, and of these the tables of the kinds are inlined into this one, and this one
+//! into its caller.
 #![tactic(auto, using(state::proofs::Reaches::same_reaches))]
 
 ghost use Rattle.std.specs.Prelude.{◌≡◌, ◌≤◌, drop, IfOk};

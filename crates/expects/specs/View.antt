@@ -87,8 +87,9 @@ next_of (waits.Shown id turn) deed =
     written (notes id (bytes_of deed) (turn_of turn.value) turn.value.levels)
 next_of (waits.Noted id turn) deed =
     written (arrives id (bytes_of deed) (turn_of turn.value) turn.value.levels)
-next_of (waits.Closed id turn choice) deed =
-    λ s reply. settles choice (turn_of turn.value) turn.value.levels (shut id s)
+next_of (waits.Closed box) deed =
+    λ s reply. settles box.value.choice (turn_of box.value.turn.value) box.value.turn.value.levels
+    (shut box.value.id s)
 
 -- the answer brings bytes
 abbrev pub Brings : Reply → Type 0
@@ -100,7 +101,7 @@ abbrev pub IsOnTheWay : {A : Type 0} → waiting.Waits A → Reply → Type 0
 IsOnTheWay (waits.Awaited turn) reply = Brings reply
 IsOnTheWay (waits.Shown id turn) reply = Unit {0}
 IsOnTheWay (waits.Noted id turn) reply = Unit {0}
-IsOnTheWay (waits.Closed id turn choice) reply = ⊥
+IsOnTheWay (waits.Closed box) reply = ⊥
 
 -- the result of a turn: it has ended, a body runs whose outcome goes to the turn, or an act waits
 -- for its answer

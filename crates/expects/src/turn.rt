@@ -39,9 +39,17 @@ pub enum Waits<A: Allocator> {
     Shown(Id, Box<Turn<A>, A>),
     /// A turn that waits for bytes of this id to be written to the log.
     Noted(Id, Box<Turn<A>, A>),
-    /// A turn that waits for this id, which ended, to be closed; and what was chosen, if anything
-    /// was.
-    Closed(Id, Box<Turn<A>, A>, Option<Choice<A>>),
+    /// A turn that waits for an id, which ended, to be closed.
+    Closed(Box<Ended<A>, A>),
+}
+
+/// A turn after the end of an id, which is to be closed before what was chosen is done.
+#[derive(Drop)]
+pub struct Ended<A: Allocator> {
+    pub id: Id,
+    pub turn: Box<Turn<A>, A>,
+    /// What was chosen, if anything was.
+    pub choice: Option<Choice<A>>,
 }
 
 /// The result of a turn.

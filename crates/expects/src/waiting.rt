@@ -6,10 +6,10 @@ ghost use Rattle.expects.specs.Turn as definition;
 ghost use Rattle.expects.specs.View.{Brings, Comes, IsOnTheWay, bytes_of, course_of_talk, has_failed, next_of, notes, rows_waited, settles, turn_of};
 ghost use Rattle.state.specs.Dialogue.{written};
 
-use crate::turn::{Talk, Turn, Turned, Waits};
+use crate::turn::{Ended, Talk, Turn, Turned, Waits};
 use crate::turning::{select, settle};
 use acts::{Act, Answer, Id, NoMemory, Row};
-use dialog::{Choice, Trigger};
+use dialog::Trigger;
 use state::{Leave, State, Stop};
 use std::alloc::Allocator;
 
@@ -37,7 +37,7 @@ pub fn answered<A: Allocator + Copy>(
         }
         Waits::Shown(id, turn) => Ok(shown(state, id, out_bytes(alloc, act), turn, &answer)),
         Waits::Noted(id, turn) => Ok(noted(state, id, out_bytes(alloc, act), turn, &answer)),
-        Waits::Closed(id, turn, choice) => closed(alloc, state, id, turn, choice),
+        Waits::Closed(ended) => closed(alloc, state, Box::into_inner(ended)),
     }
 }
 
@@ -176,8 +176,8 @@ fn ended<A: Allocator + Copy>(
     ensures left { state.new.left ≡ state.old.left }
 {
     let choice = select(alloc, state, &turn.effective, Trigger::End(id))?;
-    let waits = Waits::Closed(id, turn, choice);
-    Ok(Talk::Turned(Turned::Asks(Act::Close(id), waits)))
+    let ended = Box::new(alloc, Ended { id, turn, choice })?;
+    Ok(Talk::Turned(Turned::Asks(Act::Close(id), Waits::Closed(ended))))
 }
 
 /// After a timeout: a choice is made and done.
@@ -199,15 +199,15 @@ fn timed_out<A: Allocator + Copy>(
 fn closed<A: Allocator + Copy>(
     alloc: A,
     state: &mut State<A>,
-    id: Id,
-    turn: Box<Turn<A>, A>,
-    choice: Option<Choice<A>>,
+    ended: Ended<A>,
 ) -> Result<Talk<A>, NoMemory>
     ensures comes { (s : Status) → FitsState state.old s → IfOk result (λ talk.
         Comes course_of_talk talk state.new
-        (settles choice (turn_of turn.value) turn.value.levels (shut id s))) }
+        (settles ended.choice (turn_of ended.turn.value) ended.turn.value.levels
+        (shut ended.id s))) }
     ensures left { state.new.left ≤ state.old.left }
 {
+    let Ended { id, turn, choice } = ended;
     state.ids.close(id);
     Ok(Talk::Turned(settle(alloc, state, turn, choice)?))
 }

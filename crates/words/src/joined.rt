@@ -7,8 +7,11 @@ use std::alloc::Allocator;
 use std::marker::Model;
 use tcltext::Value;
 
-/// The bytes of a word so far. The first value is shared, so that a word of one value copies nothing;
-/// with the second one all bytes lie in one vector.
+/// How much room is made for what comes after the first value of a word, in bytes: most words fit.
+const ROOM: usize = 64;
+
+/// The bytes of a word so far. The first value is shared, so that a word of one value copies
+/// nothing; with the second one all bytes lie in one vector.
 #[derive(Drop)]
 pub struct Joined<A: Allocator> {
     first: Value<A>,
@@ -48,7 +51,9 @@ impl<A: Allocator + Copy> Joined<A> {
                 self.first = value.share()?;
                 return Ok(());
             }
-            self.all.extend_from_slice(self.first.as_slice())?;
+            let first = self.first.as_slice();
+            self.all.reserve(first.len().saturating_add(ROOM))?;
+            self.all.extend_from_slice(first)?;
             self.first = Value::empty();
         }
         self.all.extend_from_slice(value.as_slice())?;

@@ -10,4 +10,5 @@ returns-clause-comes g c = λ s fits.
     let t = c.args.turn.value in
     let made = rw c.deref.ensures at (c.in_ok-choice.ensures.selects s fits) in
     comes_reading course_of_talk _ _ (consumed_by (after.End c.args.id) made.selected s) _ made.fits
-    (ends_reaches c.in_ok-choice.choice (turn_of t) t.levels _ s c.args.id made)
+    (rw c.in_ok-ended.ensures.ok
+    (ends_reaches c.in_ok-choice.choice (turn_of t) t.levels _ s c.args.id made))
