@@ -1,15 +1,17 @@
 -- What is kept in a table of links, of which one was read from or written to.
 use Rattle.std.proofs.Common.{◌≡◌, ◌≢◌, ◌==◌, ◌||◌, ℕ, zero, suc, ◌+◌, ◌<◌, ◌≤◌, Bool, true, false, not, cond, nat_lt, List, [], ◌∷◌, ◌++◌, Some, None, map, length, refl, sym, ap, subst, ◌∙◌, append-nil, slice_index_or, slice_set, if◌then◌else◌, inl, inr, arith}
-use Rattle.std.proofs.lemmas.Bool.{false≢true}
+use Rattle.std.proofs.lemmas.Bool.{eq-eqb, false≢true, lt-ltb, ne_eqb}
 use Rattle.std.proofs.lemmas.Bool.Decides.{eqb_tells, nat_tests}
+use Rattle.std.proofs.lemmas.List.{get_or-map, length-map}
 use Rattle.std.proofs.lemmas.List.Quantifiers.{position-Some}
-use Rattle.std.specs.List.{list_any, position, prefix_len}
+use Rattle.std.proofs.lemmas.List.Sums.{position_or_len_is}
+use Rattle.std.specs.List.{list_any, position, position_or_len, prefix_len}
 use Rattle.acts.specs.declared.id.Id.{Id}
 use Rattle.acts.specs.Deed.{Reply}
 use Rattle.acts.specs.Deed as said
 use Rattle.live.specs.Calls.{Call, heard, sent}
 use Rattle.live.specs.Early.{Exchanged, Exchanges, IfAnswered}
-use Rattle.live.specs.Kept.{Traded, Trades, ids_of, is_open, kept_of, only}
+use Rattle.live.specs.Kept.{ArePast, Traded, Trades, ids_of, is_open, kept_of, only}
 use Rattle.live.specs.Outputs.{went_out}
 use Rattle.live.specs.declared.peers.Peer.{Peer}
 use Rattle.live.proofs.Exchanging.{is_other, is_same}
@@ -60,6 +62,46 @@ pub found_at : {L : Type 0} (owner : L → Id) (id : Id) (list : List (Peer L)) 
 found_at owner id list place peer found value =
     let (within, here, before) = position-Some _ list place peer found in
     at_first owner id list place peer within here before value
+
+-- before a place that was passed no link is the id's
+not_before : {L : Type 0} (owner : L → Id) (id : Id) (list : List (Peer L)) (place k : ℕ)
+    (peer : Peer L) → ArePast (ids_of owner list) place id.0 → k < place → k < length list →
+    ((owner (slice_index_or list k peer).link).0 == id.0) ≡ false
+not_before {L = L} owner id list place k peer past less within =
+    let whose = λ (it : Peer L). owner it.link in
+    let one = get_or-map whose list k peer (whose peer) within in
+    let below = past k (whose peer) less (omega (arith, length-map list whose)) in
+    ne_eqb _ _ (λ same. absurd (omega (arith, below, ap (λ it. it.0) one, same)))
+
+-- so the first link of an id stands there, where the link there is the id's
+pub past_first : {L : Type 0} (owner : L → Id) (id : Id) (list : List (Peer L)) (place : ℕ)
+    (peer : Peer L) → ArePast (ids_of owner list) place id.0 → place < length list →
+    owner (slice_index_or list place peer).link ≡ id →
+    Some place ≡ position (λ y. (owner y.link).0 == id.0) list
+past_first {L = L} owner id list place peer past within whose =
+    let test = λ (y : Peer L). (owner y.link).0 == id.0 in
+    let first : position_or_len test list ≡ place =
+    position_or_len_is test list place peer (omega arith)
+    (λ k less. not_before owner id list place k peer past less (omega arith))
+    (λ inside. eq-eqb _ _ (ap (λ it. it.0) whose)) in
+    sym (ap (λ n. cond (nat_lt n (length list)) (Some n) None) first
+    ∙ ap (λ b. cond b (Some place) None) (lt-ltb place (length list) within))
+
+-- one more link is passed
+pub past_more : {L : Type 0} (owner : L → Id) (n : ℕ) (list : List (Peer L)) (place : ℕ)
+    (peer : Peer L) → ArePast (ids_of owner list) place n →
+    (owner (slice_index_or list place peer).link).0 < n → ArePast (ids_of owner list) (place + 1) n
+past_more {L = L} owner n list place peer past less k id below within =
+    elim (eqb_tells k place) [
+      | inl known ↦
+          let whose = λ (it : Peer L). owner it.link in
+          let here = get_or-map whose list k peer id (omega (arith, length-map list whose)) in
+          let there = ap (λ m. slice_index_or list m peer) known.1 in
+          omega (arith, less, ap (λ it. it.0) here, ap (λ it. (whose it).0) there)
+      | inr known ↦
+          let other = known.1 in
+          past k id (omega (arith, below, other)) within
+    ]
 
 -- what is kept for the id is what is kept there
 pub kept_at : {L : Type 0} (owner : L → Id) (id : Id) (list : List (Peer L)) (place : ℕ)

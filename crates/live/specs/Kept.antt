@@ -1,5 +1,5 @@
 -- What is kept of what came from the links that are open.
-use Rattle.std.specs.Prelude.{◌≡◌, ◌==◌, ◌++◌, ℕ, Bool, List, [], ◌∷◌, map, if◌then◌else◌}
+use Rattle.std.specs.Prelude.{◌≡◌, ◌<◌, ◌==◌, ◌++◌, ℕ, Bool, List, [], ◌∷◌, length, map, slice_index_or, if◌then◌else◌}
 use Rattle.std.specs.List.{list_any}
 use Rattle.acts.specs.declared.id.Id.{Id}
 use Rattle.live.specs.Calls.{Call, Made, heard, sent}
@@ -18,6 +18,11 @@ ids_of owner list = map (λ peer. owner peer.link) list
 -- whether a link of an id is among those that are open
 abbrev pub is_open : (ids : List Id) → Id → Bool
 is_open ids id = list_any (λ one. one.0 == id.0) ids
+
+-- the ids before a place have lesser numbers than this one
+abbrev pub ArePast : (ids : List Id) → (place number : ℕ) → Type 0
+ArePast ids place number = (k : ℕ) (id : Id) → k < place → k < length ids →
+    (slice_index_or ids k id).0 < number
 
 -- these bytes for one id, and none for any other
 abbrev pub only : Id → List ℕ → Id → List ℕ

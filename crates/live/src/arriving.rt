@@ -12,7 +12,7 @@ ghost use Rattle.live.specs.Turns.{IsFirst, KeepsTurns, in_turn, last_of};
 
 use crate::calls::{Owned, System};
 use crate::link::Look;
-use crate::peers::{Peers, look_early, place_of};
+use crate::peers::{Passed, Peers, look_early, place_from, place_of};
 use crate::system::MOST_TRIES;
 use crate::waiting::{Left, is_over, time_from, time_left};
 use acts::{Answer, Id, Row, Timer};
@@ -171,8 +171,10 @@ fn look_through<S: System>(
     ensures last { IfOk result (λ found.
         peers.new.last ≡ last_of (option_map reply_of found) peers.old.last) }
 {
+    let mut passed = Passed::none();
     for row in rows {
-        match look_at(system, peers, *row)? {
+        let place = place_from(&peers.list, row.id, &mut passed);
+        match look_at(system, peers, *row, place)? {
             Some(answer) => return Ok(Some(answer)),
             None => {}
         }
@@ -180,13 +182,17 @@ fn look_through<S: System>(
     Ok(None)
 }
 
-/// Reads for one row once. An id that is not open gives nothing. Without any room for what comes
+/// Reads for one row once, whose link stands at this place, where there is one. An id that is not
+/// open gives nothing. Without any room for what comes
 /// all would be silent for ever, which no list with a link is without.
 fn look_at<S: System>(
     system: &mut S,
     peers: &mut Peers<S::Link>,
     row: Row,
+    place: Option<usize>,
 ) -> io::Result<Option<Answer<Global>>>
+    requires { place ≡ position (λ peer. (S.Link.owner peer.link).0 == row.id.0)
+        peers.old.list.items }
     ensures of_row { IfOk result (λ found. IfSome found (λ answer.
         is_of row (reply_of answer) ≡ true)) }
     ensures deadline { peers.new.deadline ≡ peers.old.deadline }
@@ -199,7 +205,7 @@ fn look_at<S: System>(
     ensures last { IfOk result (λ found.
         peers.new.last ≡ last_of (option_map reply_of found) peers.old.last) }
 {
-    let Some(place) = place_of(&peers.list, row.id) else {
+    let Some(place) = place else {
         return Ok(None);
     };
     if peers.room.is_empty() {

@@ -4,6 +4,7 @@ ghost use Rattle.std.specs.Prelude.{◌≡◌, [], ◌+◌, ◌++◌, ◌<◌, �
 ghost use Rattle.std.specs.Vec.{vec_capacity};
 ghost use Rattle.std.specs.Io.{StartsWith};
 ghost use Rattle.live.specs.Early.{Exchanged, HandsOn, LooksEarly, LooksInto, UnlessMemory, early_room, most_early};
+ghost use Rattle.live.specs.Kept.{ArePast, ids_of};
 ghost use Rattle.live.specs.Look.{IsWithin};
 ghost use Rattle.live.specs.declared.link.Look.TheVariants.{Silence};
 
@@ -173,6 +174,59 @@ impl<L: Owned + Drop> Peers<L> {
     {
         self.list.retain(|peer| peer.link.id() != id);
     }
+}
+
+/// How far a list of links was gone through.
+#[derive(Drop)]
+pub struct Passed {
+    place: usize,
+    /// The ids of the links before the place are lesser than this number.
+    number: u64,
+}
+
+impl Passed {
+    /// None of the links.
+    pub fn none() -> Passed
+        ensures { result.place ≡ 0 }
+    {
+        Passed {
+            place: 0,
+            number: 0,
+        }
+    }
+}
+
+/// The place of the link of an id, which is looked for from where the list was left. So the list is
+/// gone through once for many ids, where they rise and those of the list do.
+pub fn place_from<L: Owned>(list: &[Peer<L>], id: Id, passed: &mut Passed) -> Option<usize>
+    requires { ArePast (ids_of L.owner list.now) passed.old.place passed.old.number }
+    ensures place { result ≡ position (λ peer. (L.owner peer.link).0 == id.0) list.now }
+    ensures passed { ArePast (ids_of L.owner list.now) passed.new.place passed.new.number }
+{
+    let from = if passed.number <= id.0 {
+        passed.place
+    } else {
+        0
+    };
+    let place = pass(list, id, from);
+    passed.place = place;
+    passed.number = id.0;
+    if place < list.len() && list[place].link.id() == id {
+        return Some(place);
+    }
+    place_of(list, id)
+}
+
+/// The place behind the links from a place on whose ids are lesser.
+fn pass<L: Owned>(list: &[Peer<L>], id: Id, from: usize) -> usize
+    requires { ArePast (ids_of L.owner list.now) from id.0 }
+    ensures { ArePast (ids_of L.owner list.now) result id.0 }
+{
+    let mut place = from;
+    while place < list.len() && list[place].link.id().0 < id.0 {
+        place += 1;
+    }
+    place
 }
 
 /// The place of the link of an id.

@@ -1,9 +1,9 @@
-use Rattle.std.proofs.Common.{◌∙◌, [], Some, None, ap, drop, refl, suc, sym, subst, take}
+use Rattle.std.proofs.Common.{◌∙◌, [], Some, None, ap, arith, drop, refl, suc, sym, subst, take}
 use Rattle.std.proofs.lemmas.List.{take_all, take_more}
 use Rattle.std.proofs.Math.Seq.{split_at}
 use Rattle.acts.specs.Deed.{reply_of}
 use Rattle.live.specs.Arriving.{Sees}
-use Rattle.live.specs.Kept.{ids_of, kept_of}
+use Rattle.live.specs.Kept.{ArePast, ids_of, kept_of}
 use Rattle.live.specs.Turns.{last_of}
 use Rattle.live.proofs.Order.{first_here}
 use Rattle.live.proofs.Silence.{sees_none, sees_then}
@@ -17,6 +17,7 @@ loop-row-init g c =
       same = refl;
       sees = sees_none g.S.System.step c.args.system.now
           (ids_of owner c.args.peers.now.list.items) (kept_of owner c.args.peers.now.list.items);
+      past = λ k id less _. absurd (omega (arith, c.none-passed.ensures, less));
     }
 
 pub returns-in-Some-clause-sees : goal.returns-in-Some-clause-sees
@@ -60,6 +61,11 @@ loop-row-preserved g c =
           (sees_then g.S.System.step _ _ _ ids (ids_of owner c.loop-row.peers.list.items) _ _ _ _ _
           None c.loop-row.invariant.sees c.loop-row.invariant.same
           (rw c.in-None.is at c.in_ok-answer.ensures.sees));
+      past = subst (λ now. ArePast now c.place_from-place.new.passed.place
+          c.place_from-place.new.passed.number) (sym c.look_at.ensures.ids)
+          (subst (λ items. ArePast (ids_of owner items) c.place_from-place.new.passed.place
+          c.place_from-place.new.passed.number) c.deref.ensures.value
+          c.place_from-place.ensures.passed);
     }
 
 pub returns-clause-sees : goal.returns-clause-sees

@@ -1,6 +1,6 @@
 use Rattle.std.proofs.Common.{◌≡◌, None, take}
 use Rattle.live.specs.Arriving.{Sees}
-use Rattle.live.specs.Kept.{ids_of, kept_of}
+use Rattle.live.specs.Kept.{ArePast, ids_of, kept_of}
 use Rattle.live.proofs.arriving.look_through.Given as goal
 
 -- the rows so far were silent
@@ -14,4 +14,5 @@ invariant-loop-row g l =
       sees : Sees g.S.System.step l.initial.system (ids l.initial.peers.list.items)
           (take l.row-index l.rows) (kept l.initial.peers.list.items) None
           (kept l.peers.list.items) l.system;
+      past : ArePast (ids l.peers.list.items) l.passed.place l.passed.number;
     }
