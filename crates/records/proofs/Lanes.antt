@@ -225,8 +225,8 @@ pub both_marked : (xs ys : List ℕ) → length xs ≡ length ys
     ≡ list_all is_mark (xs ++ ys)
 both_marked xs ys e = least_marked xs ys e ∙ sym (list_all-append is_mark xs ys)
 
--- a number is no mark just where it is 0
-mark_is : (x : ℕ) → not (nat_eq x 0) ≡ is_mark x
+-- a number is no mark just where it is lesser than the least
+mark_is : (x : ℕ) → not (ltb x 246) ≡ is_mark x
 mark_is x = grind (arith, nat_tests)
 
 -- one more bit
@@ -237,19 +237,19 @@ bit_counted false r (suc m) others =
     ne_eqb (0 + 2 * suc m) 0 (λ e. omega arith) ∙ sym (ne_eqb (suc m) 0 (λ e. omega arith))
     ∙ others
 
--- no lane is 0 just where no bit is set
-bits_clear : (xs : List ℕ) → nat_eq (mask_l (map (λ x. nat_eq x 0) xs)) 0 ≡ list_all is_mark xs
+-- all lanes are marks just where no bit is set for one that is none
+bits_clear : (xs : List ℕ) → nat_eq (mask_l (map (λ x. ltb x 246) xs)) 0 ≡ list_all is_mark xs
 bits_clear [] = refl
 bits_clear (x ∷ xs) =
-    bit_counted (nat_eq x 0) (list_all is_mark xs) (mask_l (map (λ x. nat_eq x 0) xs)) (bits_clear xs)
+    bit_counted (ltb x 246) (list_all is_mark xs) (mask_l (map (λ x. ltb x 246) xs)) (bits_clear xs)
     ∙ ap (λ b. b && list_all is_mark xs) (mark_is x)
 
--- a mask of the lanes that are 0 is empty just where all are marks
+-- a mask of the lanes that are no marks is empty just where all are marks
 pub none_clear : (xs : List ℕ) → length xs ≡ 16
-    → nat_eq (mask_l (map (top 7) (zip2 (λ a b. cond (nat_eq a b) 255 0) xs (replicate 16 0))) % 2 ^ 64)
+    → nat_eq (mask_l (map (top 7) (zip2 (λ a b. cond (ltb a b) 255 0) xs (replicate 16 246))) % 2 ^ 64)
     0 ≡ list_all is_mark xs
 none_clear xs long =
-    ap (λ m. nat_eq m 0) (bitmask_splat w8 nat_eq xs 16 0 long (omega arith)) ∙ bits_clear xs
+    ap (λ m. nat_eq m 0) (bitmask_splat w8 ltb xs 16 246 long (omega arith)) ∙ bits_clear xs
 
 -- ---- the steps of the loops
 
@@ -384,8 +384,20 @@ module _ (done : ℕ) (text : List ℕ) (front : list_all is_lower_digit (take d
       ap is_lower_digit (sym (get_or-drop done text more 0) ∙ ap (λ l. get_or l more 0)
       (sym (to_end done text))) ∙ other (omega (arith, long))
 
+-- the lesser marks of two halves are marks just where the block is of lower case digits
+pub block_lower : (text m1 m2 b : List ℕ)
+    → list_all is_mark m1 ≡ list_all is_lower_digit (take 64 text)
+    → list_all is_mark m2 ≡ list_all is_lower_digit (take 64 (take (length text - 64) (drop 64 text)))
+    → list_all is_mark b ≡ list_all is_mark (m1 ++ m2)
+    → list_all is_mark b ≡ list_all is_lower_digit (take 128 text)
+block_lower text m1 m2 b one two both =
+    both ∙ list_all-append is_mark m1 m2
+    ∙ ap₂ ◌&&◌ one (two ∙ ap (λ l. list_all is_lower_digit (take 64 l)) (to_end 64 text))
+    ∙ sym (list_all-append is_lower_digit (take 64 text) (chunk 64 64 text))
+    ∙ ap (list_all is_lower_digit) (sym (take-add 64 64 text))
+
 -- the lesser marks of four chunks are marks just where the chunks are lower case digits
-pub block_lower : (text m1 m2 m3 m4 b1 b2 b : List ℕ)
+pub half_lower : (text m1 m2 m3 m4 b1 b2 b : List ℕ)
     → list_all is_mark m1 ≡ list_all is_lower_digit (chunk 0 16 text)
     → list_all is_mark m2 ≡ list_all is_lower_digit (chunk 16 16 text)
     → list_all is_mark m3 ≡ list_all is_lower_digit (chunk 32 16 text)
@@ -394,7 +406,7 @@ pub block_lower : (text m1 m2 m3 m4 b1 b2 b : List ℕ)
     → list_all is_mark b2 ≡ list_all is_mark (m3 ++ m4)
     → list_all is_mark b ≡ list_all is_mark (b1 ++ b2)
     → list_all is_mark b ≡ list_all is_lower_digit (take 64 text)
-block_lower text m1 m2 m3 m4 b1 b2 b one two three four front back both =
+half_lower text m1 m2 m3 m4 b1 b2 b one two three four front back both =
     both ∙ list_all-append is_mark b1 b2
     ∙ ap₂ ◌&&◌ (front ∙ half m1 m2 (chunk 0 16 text) (chunk 16 16 text) one two
     ∙ ap (list_all is_lower_digit) (sym (take-add 16 16 text)))

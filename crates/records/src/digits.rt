@@ -15,8 +15,14 @@ pub const PIECE: usize = 512;
 /// How many bytes are converted at a time while at least that many remain.
 const LANES: usize = 16;
 
-/// How many digits are looked at at a time while at least that many remain: `4 * LANES`.
-const BLOCK: usize = 64;
+/// How many digits are looked at at a time while at least that many remain: `8 * LANES`.
+const BLOCK: usize = 128;
+
+/// Half of a block: `4 * LANES`.
+const HALF: usize = 64;
+
+/// The least number that is a mark: one of the last ten that a byte holds.
+const LEAST_MARK: u8 = 246;
 
 /// Writes the two digits of each byte, `LANES` bytes at a time while at least that many remain.
 pub fn write_digits(bytes: &[u8], digits: &mut [u8])
@@ -111,35 +117,44 @@ fn is_block(text: &[u8]) -> bool
     requires { BLOCK ≤ length text.now }
     ensures { result ≡ list_all is_lower_digit (take BLOCK text.now) }
 {
+    are_marked(both(marks_of_half(text), marks_of_half(&text[HALF..])))
+}
+
+/// Numbers that are all marks just where the first `HALF` bytes of a text are lower case digits.
+fn marks_of_half(text: &[u8]) -> u8x16
+    requires { HALF ≤ length text.now }
+    ensures { list_all is_mark result ≡ list_all is_lower_digit (take HALF text.now) }
+{
     let first = marks_of(u8x16::from_slice(text));
     let second = marks_of(u8x16::from_slice(&text[LANES..]));
     let third = marks_of(u8x16::from_slice(&text[2 * LANES..]));
     let fourth = marks_of(u8x16::from_slice(&text[3 * LANES..]));
-    are_marked(both(both(first, second), both(third, fourth)))
+    both(both(first, second), both(third, fourth))
 }
 
-/// A mark for each byte, which is 0 just where the byte is no lower case digit.
+/// A number for each byte, which is a mark just where the byte is a lower case digit.
 fn marks_of(bytes: u8x16) -> u8x16
     ensures { list_all is_mark result ≡ list_all is_lower_digit bytes }
 {
-    // Just the numerals are left of the bytes that are counted down from 9, and so are the letters.
-    let numeral = (bytes - u8x16::splat(b'9' + 1)).saturating_sub(u8x16::splat(u8::MAX - 10));
-    let letter = (bytes - u8x16::splat(b'f' + 1)).saturating_sub(u8x16::splat(u8::MAX - 6));
-    numeral | letter
+    // A difference wraps. So the numerals, and no other bytes, come to be the last ten numbers of a
+    // byte, and the letters the last six, of which four less leaves just them among the last ten.
+    let numeral = bytes - u8x16::splat(b'9' + 1);
+    let letter = (bytes - u8x16::splat(b'f' + 1)).saturating_sub(u8x16::splat(4));
+    numeral.simd_max(letter)
 }
 
-/// Marks that are 0 just where one of two is.
+/// Numbers that are marks just where those of two are.
 fn both(first: u8x16, second: u8x16) -> u8x16
     ensures { list_all is_mark result ≡ list_all is_mark (first ++ second) }
 {
     first.simd_min(second)
 }
 
-/// Whether no mark is 0.
+/// Whether all numbers are marks.
 fn are_marked(marks: u8x16) -> bool
     ensures { result ≡ list_all is_mark marks }
 {
-    marks.simd_eq(u8x16::splat(0)).to_bitmask() == 0
+    marks.simd_lt(u8x16::splat(LEAST_MARK)).to_bitmask() == 0
 }
 
 /// Reads bytes from their two digits each, `LANES` bytes at a time while at least that many remain.
@@ -179,8 +194,9 @@ fn values_of(digits: u8x16) -> u8x16
     ensures small { list_all is_value result ≡ true }
     ensures values { digits ≡ map (slice_index lower_digits) result }
 {
-    let letters = digits.simd_ge(u8x16::splat(b'a'));
-    digits - letters.select(u8x16::splat(b'a' - 10), u8x16::splat(b'0'))
+    // Of the two differences the wrong one is greater: it wraps for a numeral, and is beyond the
+    // values for a letter.
+    (digits - u8x16::splat(b'0')).simd_min(digits - u8x16::splat(b'a' - 10))
 }
 
 /// The bytes that values of digits make, two values a byte.

@@ -15,6 +15,6 @@ returns-clause-other c =
 pub loop-done-preserved : goal.loop-done-preserved
 loop-done-preserved c = record {
   within = omega arith;
-  lower = rest_counted c.loop-done.done c.args.text.now c.loop-done.invariant.lower 64
+  lower = rest_counted c.loop-done.done c.args.text.now c.loop-done.invariant.lower 128
       (sym c.is_block.ensures ∙ c.if-is_block.true);
 }

@@ -5,7 +5,5 @@ use Rattle.records.proofs.digits.is_block.Goals as goal
 pub returns : goal.returns
 returns c =
     c.are_marked.ensures
-    ∙ block_lower c.args.text.now c.marks_of-first.result c.marks_of-second.result
-    c.marks_of-third.result c.marks_of-fourth.result c.both.result c.both-2.result c.both-3.result
-    c.marks_of-first.ensures c.marks_of-second.ensures c.marks_of-third.ensures
-    c.marks_of-fourth.ensures c.both.ensures c.both-2.ensures c.both-3.ensures
+    ∙ block_lower c.args.text.now c.marks_of_half.result c.marks_of_half-2.result c.both.result
+    c.marks_of_half.ensures c.marks_of_half-2.ensures c.both.ensures

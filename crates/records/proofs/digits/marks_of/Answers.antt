@@ -9,14 +9,17 @@ returns c =
     let v = c.args.bytes in
     let long = c.fits-bytes.0 in
     lanes_tested is_mark _ v _
+    (chosen _ _ _ v
     (zip2_of_maps _ _ _ v
+    (zip2_splat _ v 16 58 long)
     (zip2_of_maps _ _ _ v
     (chosen _ _ _ v
-    (zip2_of_maps _ _ _ v (zip2_splat _ v 16 58 long) (splat_is_map v 16 245 long))
-    (splat_is_map v 16 245 long) (zip2_splat _ v 16 58 long))
-    (splat_is_map v 16 245 long))
+    (zip2_of_maps _ _ _ v (zip2_splat _ v 16 103 long) (splat_is_map v 16 4 long))
+    (splat_is_map v 16 4 long) (zip2_splat _ v 16 103 long))
+    (splat_is_map v 16 4 long)))
     (zip2_of_maps _ _ _ v
     (chosen _ _ _ v
-    (zip2_of_maps _ _ _ v (zip2_splat _ v 16 103 long) (splat_is_map v 16 249 long))
-    (splat_is_map v 16 249 long) (zip2_splat _ v 16 103 long))
-    (splat_is_map v 16 249 long))) c.fits-bytes.1 refl
+    (zip2_of_maps _ _ _ v (zip2_splat _ v 16 103 long) (splat_is_map v 16 4 long))
+    (splat_is_map v 16 4 long) (zip2_splat _ v 16 103 long))
+    (splat_is_map v 16 4 long))
+    (zip2_splat _ v 16 58 long)) c.fits-bytes.1 refl
