@@ -1,8 +1,8 @@
 -- What the lanes of one step hold: the digits of bytes, and the bytes and values of digits.
-use Rattle.std.proofs.Common.{◌≡◌, ℕ, ◌+◌, ◌-◌, ◌*◌, ◌/◌, ◌%◌, ◌^◌, ◌<◌, ◌≤◌, ◌&&◌, ◌||◌, zero, suc, Bool, true, false, not, cond, ltb, List, [], ◌∷◌, ◌++◌, length, map, get_or, take, drop, slice_index, nat_eq, replicate, bit_or, Fits, w8, refl, sym, ap, ap₂, ◌∙◌, arith}
+use Rattle.std.proofs.Common.{◌≡◌, ℕ, ◌+◌, ◌-◌, ◌*◌, ◌/◌, ◌%◌, ◌^◌, ◌<◌, ◌≤◌, ◌&&◌, ◌||◌, zero, suc, Bool, true, false, not, cond, ltb, List, [], ◌∷◌, ◌++◌, length, map, get_or, take, drop, slice_index, nat_eq, replicate, bit_or, Fits, w8, refl, subst, sym, ap, ap₂, ◌∙◌, arith}
 use Rattle.std.proofs.lemmas.Bool.{agree_below, agree_below_at, and_parts, eqb-true, ne_eqb, ltb-true}
 use Rattle.std.proofs.lemmas.Bool.Decides.{nat_tests}
-use Rattle.std.proofs.lemmas.List.{append-nil, append_assoc, drop_all, length-drop, take_all, take-append-drop, length-append, get_or_append_left, get_or-append_right, get_or-drop, length-map, get_or-map, map-append}
+use Rattle.std.proofs.lemmas.List.{append-nil, append_assoc, drop_all, length-drop, take_all, take-append-drop, length-append, get_or_append_left, get_or-append_right, get_or-drop, length-map, get_or-map}
 use Rattle.std.proofs.lemmas.List.Folds.{list_all-append}
 use Rattle.std.proofs.lemmas.Nat.{or_shifted}
 use Rattle.std.proofs.lemmas.Simd.{bitmask_splat, chunk-drop, length-chunk, take_more_put_chunk, length-put_chunk}
@@ -291,33 +291,46 @@ module _ (n done : ℕ) (bytes digits : List ℕ) (twice : length digits ≡ 2 *
       ∙ so_far
 
   -- n more bytes are read
-  pub more_read : (first second joined : List ℕ)
-      → chunk (2 * done) n digits ≡ map digit first
-      → chunk (2 * done + n) n digits ≡ map digit second
-      → map digit (first ++ second) ≡ encode_lower joined
+  pub more_read : (joined : List ℕ) → chunk (2 * done) (2 * n) digits ≡ encode_lower joined
       → take (2 * done) digits ≡ encode_lower (take done bytes)
       → take (2 * (done + n)) digits ≡ encode_lower (take (done + n) (put_chunk done bytes joined))
-  more_read first second joined one two is so_far =
-      let front = take (2 * done) digits in
-      let a = chunk (2 * done) n digits in
-      let b = chunk (2 * done + n) n digits in
-      let block : a ++ b ≡ encode_lower joined =
-      ap₂ ◌++◌ one two ∙ sym (map-append digit first second) ∙ is in
+  more_read joined block so_far =
+      let both : 2 * (done + n) ≡ 2 * done + 2 * n = omega arith in
       let long : length joined ≡ n = omega (
         arith,
-        length-append a b,
         ap length block ∙ length-encode_with lower_digits joined,
-        length-chunk (2 * done) n digits (omega arith),
-        length-chunk (2 * done + n) n digits (omega arith),
+        length-chunk (2 * done) (2 * n) digits (omega arith),
       ) in
-      two_chunks (2 * done) n (2 * (done + n)) digits (omega arith)
+      ap (λ k. take k digits) both ∙ take-add (2 * done) (2 * n) digits
       ∙ ap₂ ◌++◌ so_far block ∙ sym (encode-append lower_digits (take done bytes) joined)
       ∙ ap encode_lower
       (sym (take_more_put_chunk done bytes joined (done + n) (omega arith) (omega arith)))
 
+-- twice n more bytes are read
+pub twice_read : (n done : ℕ) (bytes digits first second : List ℕ)
+    → length digits ≡ 2 * length bytes → done + 2 * n ≤ length bytes
+    → chunk (2 * done) (2 * n) digits ≡ encode_lower first
+    → chunk (2 * done + 2 * n) (2 * n) digits ≡ encode_lower second
+    → take (2 * done) digits ≡ encode_lower (take done bytes)
+    → take (2 * (done + 2 * n)) digits
+    ≡ encode_lower (take (done + 2 * n) (put_chunk (done + n) (put_chunk done bytes first) second))
+twice_read n done bytes digits first second twice within one two so_far =
+    let once = put_chunk done bytes first in
+    let long = length-put_chunk done bytes first in
+    let here : 2 * done + 2 * n ≡ 2 * (done + n) = omega arith in
+    let end : done + n + n ≡ done + 2 * n = omega arith in
+    subst (λ k. take (2 * k) digits ≡ encode_lower (take k (put_chunk (done + n) once second))) end
+    (more_read n (done + n) once digits (omega (arith, long)) (omega (arith, long)) second
+    (subst (λ i. chunk i (2 * n) digits ≡ encode_lower second) here two)
+    (more_read n done bytes digits twice (omega arith) first one so_far))
+
 -- the rest of a list after a front, by its length
 to_end : (i : ℕ) (xs : List ℕ) → take (length xs - i) (drop i xs) ≡ drop i xs
 to_end i xs = take_all (length xs - i) (drop i xs) (omega (arith, length-drop i xs))
+
+-- the front of the rest of a list
+pub front_of_rest : (i n : ℕ) (xs : List ℕ) → chunk i n xs ≡ take n (take (length xs - i) (drop i xs))
+front_of_rest i n xs = sym (ap (take n) (to_end i xs))
 
 -- where the front is read, and the rest too, all is read
 pub rest_read : (i done : ℕ) (digits bytes rest : List ℕ)

@@ -5,7 +5,7 @@ ghost use Rattle.std.specs.List.{list_all};
 ghost use Rattle.hex.specs.Hex.{IsBytes, encode_lower, lower_digits};
 ghost use Rattle.records.specs.Digits.{is_mark, is_value};
 ghost use Rattle.records.specs.Record.{is_lower_digit};
-ghost use Rattle.records.specs.declared.digits.TheConstants.{BLOCK, LANES};
+ghost use Rattle.records.specs.declared.digits.TheConstants.{BLOCK, HALF, LANES, WIDE};
 
 use std::simd::prelude::*;
 
@@ -14,6 +14,9 @@ pub const PIECE: usize = 512;
 
 /// How many bytes are converted at a time while at least that many remain.
 const LANES: usize = 16;
+
+/// How many bytes are read at a time while at least that many remain: `2 * LANES`.
+const WIDE: usize = 32;
 
 /// How many digits are looked at at a time while at least that many remain: `8 * LANES`.
 const BLOCK: usize = 128;
@@ -157,7 +160,7 @@ fn are_marked(marks: u8x16) -> bool
     marks.simd_lt(u8x16::splat(LEAST_MARK)).to_bitmask() == 0
 }
 
-/// Reads bytes from their two digits each, `LANES` bytes at a time while at least that many remain.
+/// Reads bytes from their two digits each, `WIDE` bytes at a time while at least that many remain.
 pub fn read_digits(digits: &[u8], bytes: &mut [u8])
     requires twice { length digits.now ≡ 2 * length bytes.old }
     requires lower { list_all is_lower_digit digits.now ≡ true }
@@ -165,10 +168,26 @@ pub fn read_digits(digits: &[u8], bytes: &mut [u8])
     ensures small { IsBytes bytes.new }
 {
     let mut done = 0;
+    while WIDE <= bytes.len() - done {
+        let first = bytes_of(&digits[2 * done..]);
+        let second = bytes_of(&digits[2 * done + WIDE..]);
+        first.copy_to_slice(&mut bytes[done..]);
+        second.copy_to_slice(&mut bytes[done + LANES..]);
+        done += WIDE;
+    }
+    read_lanes(&digits[2 * done..], &mut bytes[done..]);
+}
+
+/// Reads bytes from their two digits each, `LANES` bytes at a time while at least that many remain.
+fn read_lanes(digits: &[u8], bytes: &mut [u8])
+    requires twice { length digits.now ≡ 2 * length bytes.old }
+    requires lower { list_all is_lower_digit digits.now ≡ true }
+    ensures bytes { digits.now ≡ encode_lower bytes.new }
+    ensures small { IsBytes bytes.new }
+{
+    let mut done = 0;
     while LANES <= bytes.len() - done {
-        let first = values_of(u8x16::from_slice(&digits[2 * done..]));
-        let second = values_of(u8x16::from_slice(&digits[2 * done + LANES..]));
-        join(first, second).copy_to_slice(&mut bytes[done..]);
+        bytes_of(&digits[2 * done..]).copy_to_slice(&mut bytes[done..]);
         done += LANES;
     }
     read_rest(&digits[2 * done..], &mut bytes[done..]);
@@ -186,6 +205,18 @@ fn read_rest(digits: &[u8], bytes: &mut [u8])
         let low = value_of(digits[2 * place + 1]);
         bytes[place] = high * 16 + low;
     }
+}
+
+/// The bytes that the first `WIDE` of some digits spell.
+fn bytes_of(digits: &[u8]) -> u8x16
+    requires enough { WIDE ≤ length digits.now }
+    requires lower { list_all is_lower_digit digits.now ≡ true }
+    ensures digits { take WIDE digits.now ≡ encode_lower result }
+    ensures small { IsBytes result }
+{
+    let first = values_of(u8x16::from_slice(digits));
+    let second = values_of(u8x16::from_slice(&digits[LANES..]));
+    join(first, second)
 }
 
 /// The value of each of some lower case digits.
