@@ -8,8 +8,9 @@ use Rattle.acts.specs.History.{History}
 use Rattle.acts.specs.declared.act.Act.{Act}
 use Rattle.acts.specs.declared.answer.Answer.{Answer}
 use Rattle.acts.specs.declared.row.Row.{Row}
-use Rattle.machine.specs.Frames.{stack}
-use Rattle.machine.specs.Phases.{IsPlan, IsTold, Stands, after_acts, deed_in, paired}
+use Rattle.machine.specs.Frames.{Onward, stack}
+use Rattle.machine.specs.Phases.{IsPlan, IsTold, after_acts, deed_in, paired}
+use Rattle.machine.specs.Below.{StandsOver}
 use Rattle.engine.specs.Session.{IsAt, AsksFirst, EndsSo, Tells}
 use Rattle.engine.specs.Step.{AsksFor}
 use Rattle.machine.specs.View.{ending_of}
@@ -107,20 +108,20 @@ module _ (text : List ℕ) (args : List (List ℕ)) (limit : ℕ) (past : Histor
 
   module _ {A : Type 0} where
     -- the remaining runs after the act that waits, where it is answered
-    pub left_behind : (at : Phase A) (answer : Option (Answer A)) (frames : List (Frame A))
-        (s : Status) (answers : ℕ) (plan : Dialogue Over) → IsPlan at frames s answers plan →
-        IsLeft plan text args limit past →
+    pub left_behind : (last : Onward) (at : Phase A) (answer : Option (Answer A))
+        (frames : List (Frame A)) (s : Status) (answers : ℕ) (plan : Dialogue Over) →
+        IsPlan last at frames s answers plan → IsLeft plan text args limit past →
         IsLeft (after_acts plan (paired (deed_in at) answer)) text args limit
         (past ++ paired (deed_in at) answer)
-    left_behind (phase.Has outcome) answer frames s answers plan is left = none_more plan left
-    left_behind (phase.Asks act waits) None frames s answers plan is left = none_more plan left
-    left_behind (phase.Asks act waits) (Some answer) frames s answers plan is left =
+    left_behind last (phase.Has outcome) answer frames s answers plan is left = none_more plan left
+    left_behind last (phase.Asks act waits) None frames s answers plan is left = none_more plan left
+    left_behind last (phase.Asks act waits) (Some answer) frames s answers plan is left =
         one_more plan (deed_of act) _ (reply_of answer) is left
-    left_behind (phase.Closes act c) None frames s answers plan is left = none_more plan left
-    left_behind (phase.Closes act c) (Some answer) frames s answers plan is left =
+    left_behind last (phase.Closes act c) None frames s answers plan is left = none_more plan left
+    left_behind last (phase.Closes act c) (Some answer) frames s answers plan is left =
         one_more plan (deed_of act) _ (reply_of answer) is left
-    left_behind (phase.Over end) answer frames s answers plan is left = none_more plan left
-    left_behind (phase.Refused refusal) answer frames s answers plan is left = absurd is
+    left_behind last (phase.Over end) answer frames s answers plan is left = none_more plan left
+    left_behind last (phase.Refused refusal) answer frames s answers plan is left = absurd is
 
   -- each remaining run begins with the act at hand
   act_is_first : (plan : Dialogue Over) (deed : Deed) (next : Reply → Dialogue Over) →
@@ -184,17 +185,17 @@ module _ (text : List ℕ) (args : List (List ℕ)) (limit : ℕ) (past : Histor
       )
 
   -- what a phase says of the remaining runs
-  pub tells : {A : Type 0} (at : Phase A) (frames : List (Frame A)) (s : Status) (answers : ℕ)
-      (plan : Dialogue Over) → IsTold at → IsPlan at frames s answers plan →
+  pub tells : {A : Type 0} (last : Onward) (at : Phase A) (frames : List (Frame A)) (s : Status)
+      (answers : ℕ) (plan : Dialogue Over) → IsTold at → IsPlan last at frames s answers plan →
       answers ≡ length past → IsLeft plan text args limit past → Tells at text args limit past
-  tells (phase.Has outcome) frames s answers plan told is count left = absurd told
-  tells (phase.Asks act waits) frames s answers plan told is count left =
+  tells last (phase.Has outcome) frames s answers plan told is count left = absurd told
+  tells last (phase.Asks act waits) frames s answers plan told is count left =
       asks_first plan (deed_of act) _ is left
-  tells (phase.Closes act c) frames s answers plan told is count left =
+  tells last (phase.Closes act c) frames s answers plan told is count left =
       asks_first plan (deed_of act) _ is left
-  tells (phase.Over end) frames s answers plan told is count left =
+  tells last (phase.Over end) frames s answers plan told is count left =
       ends_so plan is.0 (ending_of end) answers is.1 is.2 count left
-  tells (phase.Refused refusal) frames s answers plan told is count left = absurd told
+  tells last (phase.Refused refusal) frames s answers plan told is count left = absurd told
 
 module _ {A : Type 0} (session : Session A) (text : List ℕ) (args : List (List ℕ)) (limit : ℕ)
     (past : History) (at : IsAt session text args limit past) where
@@ -211,7 +212,8 @@ pub session_tells : {A : Type 0} (session : Session A) (text : List ℕ) (args :
     (limit : ℕ) (past : History) → IsTold session.phase →
     IsAt session text args limit past → Tells session.phase text args limit past
 session_tells session text args limit past told at =
-    tells text args limit past session.phase (stack session.frames) at.status session.answers
+    tells text args limit past at.last session.phase
+    (stack session.running.frames) at.status session.answers
     at.plan told at.is_plan at.answers at.exact
 
 -- the act that is asked is one of a command, or one that closes the run
@@ -234,7 +236,7 @@ either_given at act (inr is) = subst (λ p. AsksFor p act) (sym is.1) refl
 -- a session that continued is at its next place
 pub went_on : {A : Type 0} (old new : Session A) (text : List ℕ) (args : List (List ℕ)) (limit : ℕ)
     (past : History) (answer : Option (Answer A)) → (at : IsAt old text args limit past) →
-    Stands new.phase (stack new.frames) new.state new.answers
+    StandsOver new.running.code new.phase (stack new.running.frames) new.state new.answers
     (after_acts at.plan (paired (deed_in old.phase) answer)) →
     new.answers ≡ old.answers + length (paired (deed_in old.phase) answer) →
     IsAt new text args limit (past ++ paired (deed_in old.phase) answer)
@@ -245,11 +247,13 @@ went_on old new text args limit past answer at stands count =
     record {
       allowed = at.allowed;
       answers = omega (arith, count, sum, before);
-      status = stands.status;
-      fits = stands.fits;
-      plan = stands.plan;
-      is_plan = stands.is_plan;
-      exact = then_same (goes_exact stands.goes)
-          (left_behind text args limit past old.phase answer (stack old.frames) at.status
-          old.answers at.plan at.is_plan at.exact);
+      status = stands.stands.status;
+      fits = stands.stands.fits;
+      last = stands.last;
+      below = stands.below;
+      plan = stands.stands.plan;
+      is_plan = stands.stands.is_plan;
+      exact = then_same (goes_exact stands.stands.goes)
+          (left_behind text args limit past at.last old.phase answer (stack old.running.frames)
+          at.status old.answers at.plan at.is_plan at.exact);
     }

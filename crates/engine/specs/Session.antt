@@ -4,8 +4,9 @@ use Rattle.state.specs.Prelude.{Deed, deed_of, NoMemory, Dialogue, IsTree, Statu
 use Rattle.acts.specs.History.{History}
 use Rattle.acts.specs.Limits.{IsLimit}
 use Rattle.acts.specs.declared.answer.Answer.{Answer}
-use Rattle.machine.specs.Frames.{stack}
+use Rattle.machine.specs.Frames.{Onward, stack}
 use Rattle.machine.specs.Phases.{IsPlan, deed_in, paired}
+use Rattle.machine.specs.Below.{IsBelow}
 use Rattle.machine.specs.View.{ending_of}
 use Rattle.machine.specs.declared.end.End.{End}
 use Rattle.machine.specs.declared.phase.Phase.{Phase}
@@ -28,8 +29,10 @@ pub record IsAt {A : Type 0} (session : Session A) (text : List ℕ) (args : Lis
   pub answers : session.answers ≡ length past
   pub status : Status
   pub fits : FitsState session.state status
+  pub last : Onward
+  pub below : IsBelow session.running.code last
   pub plan : Dialogue Over
-  pub is_plan : IsPlan session.phase (stack session.frames) status session.answers plan
+  pub is_plan : IsPlan last session.phase (stack session.running.frames) status session.answers plan
   pub exact : Same (Runs plan_of IsTree plan)
       (Rests Over plan_of IsTree (whole text args limit) past)
 

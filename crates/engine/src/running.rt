@@ -55,7 +55,7 @@ pub fn run_watched<A: Allocator + Copy, W: World<A>, T: Watch<A, Frame<A>, State
         script.now (words_of args.now) limits.ticks) }
 {
     watch.starts(script, args);
-    let mut session = Session::start(alloc, script, args, limits)?;
+    let mut session = Session::begin(alloc, script, args, limits, watch.sees_frames())?;
     session.go_on(None, watch)?;
     'acts: loop {
         let answer = match session.step() {

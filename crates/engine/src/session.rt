@@ -4,7 +4,6 @@ ghost use Rattle.std.specs.Prelude.{◌≡◌, ℕ, List, [], ◌++◌, IfOk, If
 ghost use Rattle.std.specs.Borrow.{sem};
 ghost use Rattle.acts.specs.History.{History};
 ghost use Rattle.engine.specs.Session.{end_in};
-ghost use Rattle.machine.specs.Frames.{IsWhole};
 ghost use Rattle.machine.specs.Phases.{GivesAgain, IsTold, MayFail};
 ghost use Rattle.machine.specs.View.{words_of};
 
@@ -12,21 +11,18 @@ use crate::Lead;
 use acts::{Act, Answer, Limits, NoMemory};
 use machine::answering::forward;
 use machine::beginning::beginning;
-use machine::frame::{Frame, Script};
-use machine::{End, Phase, Unwatched, Watch};
+use machine::frame::Frame;
+use machine::{End, Phase, Running, Unwatched, Watch};
 use state::State;
 use std::alloc::Allocator;
 use std::mem;
 use tcltext::Value;
 
-/// How many levels of evaluation may nest in a script (interp(n), recursionlimit).
-const MOST_LEVELS: u8 = 100;
-
 /// A run of a script that stops at each act. It is started, and then asked for its next step again
 /// and again, with the answer to the last act, until it gives the end.
 #[derive(Drop)]
 pub struct Session<A: Allocator> {
-    frames: Vec<Frame<A>, A>,
+    running: Running<A>,
     state: State<A>,
     /// How many answers it has got.
     answers: u64,
@@ -58,12 +54,23 @@ impl<A: Allocator + Copy> Session<A> {
         ensures { IfOk result (λ session.
             IsAt session script.now (words_of args.now) limits.ticks []) }
     {
-        let state = beginning(alloc, args, limits)?;
-        let mut frames = Vec::new(alloc);
-        first_frame(alloc, script)?.push(&mut frames)?;
+        Session::begin(alloc, script, args, limits, false)
+    }
+
+    /// The same; where someone looks at the frames, the script stands among them as its tree.
+    pub(crate) fn begin(
+        alloc: A,
+        script: &[u8],
+        args: &[Vec<u8, A>],
+        limits: Limits,
+        in_sight: bool,
+    ) -> Result<Session<A>, NoMemory>
+        ensures { IfOk result (λ session.
+            IsAt session script.now (words_of args.now) limits.ticks []) }
+    {
         Ok(Session {
-            frames,
-            state,
+            running: Running::begin(alloc, script, in_sight)?,
+            state: beginning(alloc, args, limits)?,
             answers: 0,
             phase: Phase::Has(Ok(Value::empty())),
         })
@@ -103,13 +110,13 @@ impl<A: Allocator + Copy> Session<A> {
         ensures again { GivesAgain (λ _ end. self.new.phase ≡ end) self.old.phase result }
         ensures watched { T.told watch.old [] watch.new }
     {
-        let alloc = *self.frames.allocator();
+        let alloc = *self.running.frames.allocator();
         // A placeholder while the session goes on; nothing sees it.
         let phase = mem::replace(&mut self.phase, Phase::Over(End::NoMore));
         let answers = &mut self.answers;
         match forward(
             alloc,
-            &mut self.frames,
+            &mut self.running,
             &mut self.state,
             answers,
             phase,
@@ -153,7 +160,7 @@ impl<A: Allocator + Copy> Session<A> {
         ensures { result ≡ self.phase }
     {
         let Session {
-            frames: _,
+            running: _,
             state: _,
             answers: _,
             phase,
@@ -173,17 +180,4 @@ fn end_of<A: Allocator + Copy>(phase: Phase<A>) -> Option<End<A>>
         Phase::Closes(_, _) => None,
         Phase::Refused(_) => None,
     }
-}
-
-/// A script that has not begun, as a frame.
-fn first_frame<A: Allocator + Copy>(alloc: A, script: &[u8]) -> Result<Frame<A>, NoMemory>
-    ensures { IfOk result (λ frame. IsWhole frame script.now) }
-{
-    let tclparse::Script { commands, fault } = tclparse::Script::read(alloc, script)?;
-    Ok(Frame::Script(Script {
-        commands,
-        next: 0,
-        levels: MOST_LEVELS,
-        fault,
-    }))
 }

@@ -100,6 +100,10 @@ impl<A: Allocator + Copy, S: Sink> Watch<A, Frame<A>, State<A>, Leaf<A, Waits<A>
     ghost joins = { λ x y z h k.
         joined S.adds S.has_failed (told_of x) (told_of y) (told_of z) h k };
 
+    fn sees_frames(&self) -> bool {
+        true
+    }
+
     fn starts(&mut self, script: &[u8], args: &[Vec<u8, A>]) {
         let noted = self.teller.starts(script, args);
         self.note(noted);

@@ -7,3 +7,4 @@ pub mod Machines
 pub mod Held
 pub mod Waiting
 pub mod Added
+pub mod Below

@@ -1,15 +1,15 @@
 -- The commands of a script, one after the other.
 use Rattle.std.proofs.Common.{◌≡◌, ◌∙◌, ℕ, zero, suc, ◌+◌, ◌<◌, ◌≤◌, List, [], ◌∷◌, length, drop, get_or, Option, option_map, refl, sym, ap, arith, add-one, drop-cons}
 use Rattle.std.proofs.lemmas.List.{drop_all}
-use Rattle.machine.specs.Frames.{next_of, left_of, onward_of}
-use Rattle.machine.specs.Goes.{Goes, calls}
+use Rattle.machine.specs.Frames.{Onward, next_of, left_of, onward_of}
+use Rattle.steps.specs.Goes.{Goes, calls}
 use Rattle.machine.specs.declared.frame.Frame.{Frame}
 use Rattle.machine.specs.declared.frame.Frame.TheVariants as frame
 use Rattle.machine.specs.declared.frame.Script.{Script}
 use Rattle.state.specs.Prelude.{stops, on_value, Gives, Status}
 use Rattle.plan.specs.Plan.{and_then, onward}
 use Rattle.runs.specs.Scripts.{script, one}
-use Rattle.machine.proofs.Silent.{same_goes, then_goes}
+use Rattle.steps.proofs.Leads.Silent.{same_goes, then_goes}
 use Rattle.state.proofs.Ticks.{tick_refused}
 use Rattle.state.specs.Outcome as stop
 use Rattle.tclparse.specs.Fault.{Fault}
@@ -41,20 +41,6 @@ module _ {A : Type 0} where
       commands_from cs i ≡ no_commands
   commands_over cs i le = ap (λ l. commands_then l no_commands) (drop_all i cs le)
 
-module _ {A : Type 0} (frames : List (Frame A)) where
-  -- a script continues with its next command, and the rest of it is put on the stack
-  pub script_goes : (own rest : Script A) (ws : Words) (s : Status) (value : List ℕ) →
-      commands_from own.commands.value.items own.next
-      ≡ tree.command ws (commands_from rest.commands.value.items rest.next) →
-      rest.levels ≡ own.levels → rest.fault ≡ own.fault →
-      Goes (left_of (next_of (frame.Script own) s (Gives value)) frames)
-      (left_of (one own.levels ws s) (frame.Script rest ∷ frames))
-  script_goes own rest ws s value is levels fault =
-      then_goes
-      (same_goes (ap (λ cs. left_of
-      (script own.levels cs (option_map fault_of own.fault) s value) frames) is))
-      (calls (same_goes (rw (levels, fault) refl)))
-
   -- there is a command at a place before the end
   pub some_at : (cs : List (Command A)) (i : ℕ) → i < length cs →
       (ws : Words) × (rest : Commands) × (commands_from cs i ≡ tree.command ws rest)
@@ -62,15 +48,29 @@ module _ {A : Type 0} (frames : List (Frame A)) where
   some_at (c ∷ cs) zero lt = (command_view c, commands_then cs no_commands, refl)
   some_at (c ∷ cs) (suc i) lt = some_at cs i (omega arith)
 
+module _ {A : Type 0} (last : Onward) (frames : List (Frame A)) where
+  -- a script continues with its next command, and the rest of it is put on the stack
+  pub script_goes : (own rest : Script A) (ws : Words) (s : Status) (value : List ℕ) →
+      commands_from own.commands.value.items own.next
+      ≡ tree.command ws (commands_from rest.commands.value.items rest.next) →
+      rest.levels ≡ own.levels → rest.fault ≡ own.fault →
+      Goes (left_of last (next_of (frame.Script own) s (Gives value)) frames)
+      (left_of last (one own.levels ws s) (frame.Script rest ∷ frames))
+  script_goes own rest ws s value is levels fault =
+      then_goes
+      (same_goes (ap (λ cs. left_of last
+      (script own.levels cs (option_map fault_of own.fault) s value) frames) is))
+      (calls (same_goes (rw (levels, fault) refl)))
+
   -- where no tick is left, the next command ends the run
   pub limit_goes : (cs : List (Command A)) (i levels : ℕ) (fault : Option Fault) (s : Status)
       (value : List ℕ) → i < length cs → s.left ≡ 0 →
-      Goes (left_of (script levels (commands_from cs i) fault s value) frames)
-      (left_of (stops stop.Limit s) frames)
+      Goes (left_of last (script levels (commands_from cs i) fault s value) frames)
+      (left_of last (stops stop.Limit s) frames)
   limit_goes cs i levels fault s value lt none =
       let at = some_at cs i lt in
       then_goes
-      (same_goes (ap (λ l. left_of (script levels l fault s value) frames) at.2))
+      (same_goes (ap (λ l. left_of last (script levels l fault s value) frames) at.2))
       (calls (same_goes (ap (λ c. and_then c (onward (λ t o.
-      and_then (on_value (script levels at.1 fault) t o) (onward (onward_of frames)))))
+      and_then (on_value (script levels at.1 fault) t o) (onward (onward_of last frames)))))
       (tick_refused s _ none))))

@@ -2,9 +2,9 @@
 use Rattle.std.proofs.Common.{◌≡◌, ◌∙◌, ℕ, suc, ◌+◌, ◌<◌, ◌≤◌, inl, inr, List, [], ◌∷◌, length, Box, MatchOption, Option, Some, None, option_map, refl, sym, ap, subst, arith}
 use Rattle.std.specs.declared.rc.Rc.{Rc}
 use Rattle.std.specs.declared.vec.Vec.{Vec}
-use Rattle.machine.specs.Frames.{left_of, next_of, onward_of, weight, weight_of, words_in, words_of_frame}
+use Rattle.machine.specs.Frames.{Onward, left_of, next_of, onward_of, weight, weight_of, words_in, words_of_frame}
 use Rattle.control.specs.declared.held.Held.{Held}
-use Rattle.machine.specs.Goes.{Goes, here}
+use Rattle.steps.specs.Goes.{Goes, here}
 use Rattle.machine.specs.Taken.{CannotMove, HasNoCommand, HasNone, IsTaken, MovesOn, course_of_taken, weight_taken, words_taken, tick_of}
 use Rattle.machine.specs.declared.frame.Frame.{Frame}
 use Rattle.machine.specs.declared.frame.Frame.TheVariants as frame
@@ -13,7 +13,8 @@ use Rattle.machine.specs.declared.frame.WordsOf.{WordsOf}
 use Rattle.machine.specs.declared.taken.Taken.{Taken}
 use Rattle.machine.specs.declared.taken.Taken.TheVariants as it
 use Rattle.machine.proofs.Scripted.{commands_over, limit_goes, script_goes, some_at}
-use Rattle.machine.proofs.Silent.{same_goes, same_left, then_goes}
+use Rattle.machine.proofs.Silent.{same_left}
+use Rattle.steps.proofs.Leads.Silent.{same_goes, then_goes}
 use Rattle.expects.specs.declared.turn.Turn.{Turn}
 use Rattle.runs.specs.Commands.{command}
 use Rattle.runs.specs.Scripts.{script}
@@ -44,19 +45,19 @@ module _ {A : Type 0} where
       (ticks left : ℕ) → MovesOn ws levels old new → ticks ≡ suc left →
       IsTaken (it.Command ws levels) old new ticks left
   moves_taken ws levels old new ticks left moves one = record {
-    goes = λ s value has.
+    goes = λ last s value has.
         let after : Status = record s { left = left } in
         let course = λ (n : ℕ). words n (words_of ws) [] after (command n) in
         let inner = moves.levels_are ∙ moves.hands.levels in
-        then_goes (same_goes (ap (λ fs. onward_of fs s (Gives value)) moves.stood))
+        then_goes (same_goes (ap (λ fs. onward_of last fs s (Gives value)) moves.stood))
         (then_goes
-        (script_goes moves.rest moves.before moves.behind (words_of ws) s value
+        (script_goes last moves.rest moves.before moves.behind (words_of ws) s value
         moves.hands.commands moves.hands.levels moves.hands.fault)
         (then_goes
-        (same_left (frame.Script moves.behind ∷ moves.rest)
+        (same_left last (frame.Script moves.behind ∷ moves.rest)
         (tick_taken s left (λ t. words moves.before.levels (words_of ws) [] t
         (command moves.before.levels)) (has ∙ one) ∙ ap course (sym inner)))
-        (same_goes (ap (λ fs. left_of (course levels) fs) (sym moves.stands)))));
+        (same_goes (ap (λ fs. left_of last (course levels) fs) (sym moves.stands)))));
     ticked = omega (arith, one);
     weighs = let same = ap weight moves.stood ∙ sym (ap weight moves.stands) in omega (arith, same);
     waits =
@@ -67,13 +68,13 @@ module _ {A : Type 0} where
   off : (f : Frame A) (taken : Taken A) (frames : List (Frame A)) (ticks : ℕ) →
       tick_of taken ≡ 0 → weight_taken taken ≡ weight_of f →
       words_taken taken ≡ words_of_frame f →
-      ((s : Status) (value : List ℕ) → s.left ≡ ticks →
-      Goes (left_of (next_of f s (Gives value)) frames)
-      (left_of (course_of_taken taken s value) frames)) →
+      ((last : Onward) (s : Status) (value : List ℕ) → s.left ≡ ticks →
+      Goes (left_of last (next_of f s (Gives value)) frames)
+      (left_of last (course_of_taken taken s value) frames)) →
       IsTaken taken (f ∷ frames) frames ticks ticks
   off f taken frames ticks no_tick weighs waits goes = record {
-    goes = λ s value has. then_goes (goes s value has)
-        (same_left frames (ap (λ t. course_of_taken taken t value) (kept_ticks s ticks has)));
+    goes = λ last s value has. then_goes (goes last s value has)
+        (same_left last frames (ap (λ t. course_of_taken taken t value) (kept_ticks s ticks has)));
     ticked = omega (arith, no_tick);
     weighs = ap (λ n. n + weight frames) (sym weighs);
     waits = ap (λ n. n + words_in frames) (sym waits);
@@ -85,11 +86,11 @@ module _ {A : Type 0} where
       HasNoCommand (frame.Script own ∷ frames) ticks →
       IsTaken it.Limit (frame.Script own ∷ frames) frames ticks ticks
   limit_taken own frames ticks lt (inl none) =
-      off (frame.Script own) it.Limit frames ticks refl refl refl (λ s value has.
-      limit_goes frames own.commands.value.items own.next own.levels
+      off (frame.Script own) it.Limit frames ticks refl refl refl (λ last s value has.
+      limit_goes last frames own.commands.value.items own.next own.levels
       (option_map fault_of own.fault) s value lt (has ∙ none))
   limit_taken own frames ticks lt (inr none) =
-      let at = some_at frames own.commands.value.items own.next lt in
+      let at = some_at own.commands.value.items own.next lt in
       absurd (let clash = sym none ∙ at.2 in cc)
 
   -- the commands of a script are over
@@ -97,8 +98,8 @@ module _ {A : Type 0} where
       length own.commands.value.items ≤ own.next →
       IsTaken (it.Behind own.fault) (frame.Script own ∷ frames) frames ticks ticks
   behind_taken own frames ticks le =
-      off (frame.Script own) (it.Behind own.fault) frames ticks refl refl refl (λ s value has.
-      same_left frames
+      off (frame.Script own) (it.Behind own.fault) frames ticks refl refl refl (λ last s value has.
+      same_left last frames
       (ap (λ cs. script own.levels cs (option_map fault_of own.fault) s value)
       (commands_over own.commands.value.items own.next le)))
 
@@ -109,17 +110,17 @@ module _ {A : Type 0} where
       ticks ticks
   waiting_taken gathering levels whose frames ticks =
       off (frame.Words gathering levels whose) (it.Words gathering levels whose) frames ticks refl
-      refl refl (λ s value has. here)
+      refl refl (λ last s value has. here)
 
   pub held_taken : (held : Held A) (frames : List (Frame A)) (ticks : ℕ) →
       IsTaken (it.Held held) (frame.Held held ∷ frames) frames ticks ticks
   held_taken held frames ticks =
-      off (frame.Held held) (it.Held held) frames ticks refl refl refl (λ s value has. here)
+      off (frame.Held held) (it.Held held) frames ticks refl refl refl (λ last s value has. here)
 
   pub turn_taken : (turn : Box (Turn A) A) (frames : List (Frame A)) (ticks : ℕ) →
       IsTaken (it.Turn turn) (frame.Turn turn ∷ frames) frames ticks ticks
   turn_taken turn frames ticks =
-      off (frame.Turn turn) (it.Turn turn) frames ticks refl refl refl (λ s value has. here)
+      off (frame.Turn turn) (it.Turn turn) frames ticks refl refl refl (λ last s value has. here)
 
   -- where no command was handed out, none could be
   pub none_moved : (old new : List (Frame A)) (ticks left : ℕ)

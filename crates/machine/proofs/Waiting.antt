@@ -1,10 +1,10 @@
 -- Turns of expect under frames.
 use Rattle.std.proofs.Common.{◌≡◌, ℕ, List, [], ◌∷◌, Box, sym, ap}
-use Rattle.machine.specs.Frames.{begun, left_of}
-use Rattle.machine.specs.Goes.{Goes, here, calls}
+use Rattle.machine.specs.Frames.{Onward, begun, left_of}
+use Rattle.steps.specs.Goes.{Goes, here, calls}
 use Rattle.machine.specs.declared.frame.Frame.{Frame}
 use Rattle.machine.specs.declared.frame.Frame.TheVariants as frame
-use Rattle.machine.proofs.Silent.{same_goes, then_goes}
+use Rattle.steps.proofs.Leads.Silent.{same_goes, then_goes}
 use Rattle.expects.specs.Turn.{turns}
 use Rattle.expects.specs.View.{course_of_turned}
 use Rattle.expects.specs.declared.turn.Turn as turning
@@ -14,17 +14,17 @@ use Rattle.state.specs.Prelude.{gives, TurnTree, Status}
 use Rattle.state.specs.Piece.{Turn}
 use Rattle.tclparse.specs.declared.script.Script.{Script}
 
-module _ {A : Type 0} (fs : List (Frame A)) where
+module _ {A : Type 0} (last : Onward) (fs : List (Frame A)) where
   -- a turn begins
   pub turn_goes : (turn : TurnTree) (levels : ℕ) (s : Status) →
-      Goes (left_of (goes (Turn turn levels) s) fs) (left_of (turns turn levels s) fs)
+      Goes (left_of last (goes (Turn turn levels) s) fs) (left_of last (turns turn levels s) fs)
   turn_goes turn levels s = calls here
 
   -- the body of what was chosen stands on the stack above its turn
   pub body_goes : (script : Script A) (levels : ℕ) (turn : Box (turning.Turn A) A)
       (new : List (Frame A)) (s : Status) →
       new ≡ frame.Script (begun script levels) ∷ frame.Turn turn ∷ fs →
-      Goes (left_of (course_of_turned (came.Runs script levels turn) s) fs)
-      (left_of (gives [] s) new)
+      Goes (left_of last (course_of_turned (came.Runs script levels turn) s) fs)
+      (left_of last (gives [] s) new)
   body_goes script levels turn new s on =
-      then_goes (calls here) (same_goes (ap (λ l. left_of (gives [] s) l) (sym on)))
+      then_goes (calls here) (same_goes (ap (λ l. left_of last (gives [] s) l) (sym on)))

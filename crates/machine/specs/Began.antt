@@ -5,6 +5,7 @@ use Rattle.expects.specs.Expect.{by_words, expect}
 use Rattle.expects.specs.Turn.{turns}
 use Rattle.expects.specs.View.{form_of, turn_of}
 use Rattle.kinds.specs.Exchange.{talks}
+use Rattle.machine.specs.Frames.{Onward}
 use Rattle.machine.specs.Phases.{Begins, Leads}
 use Rattle.machine.specs.declared.frame.Frame.{Frame}
 use Rattle.machine.specs.declared.starting.Asking.{Asking}
@@ -28,9 +29,11 @@ course_of_asking (asking.Turn turn) s = turns (turn_of turn.value) turn.value.le
 
 -- for some state of the definition that the code's state fits, the dialogue continues with the
 -- outcome, or as what may ask for acts, and then as the frames say
-abbrev pub HasBegun : {A : Type 0} → Begun A → List (Frame A) → State A → Dialogue Over → Type 0
-HasBegun (begun.Has outcome) frames state p = Leads (leaf.Has outcome) frames state p
-HasBegun (begun.Asks what) frames state p = Begins (course_of_asking what) frames state p
+abbrev pub HasBegun : {A : Type 0} → Onward → Begun A → List (Frame A) → State A →
+    Dialogue Over → Type 0
+HasBegun last (begun.Has outcome) frames state p = Leads last (leaf.Has outcome) frames state p
+HasBegun last (begun.Asks what) frames state p =
+    Begins last (course_of_asking what) frames state p
 
 -- how much more may begin from what may ask for acts: a command may end by exp_continue
 abbrev pub asking_load : {A : Type 0} → Asking A → ℕ

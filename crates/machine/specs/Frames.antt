@@ -1,6 +1,6 @@
 -- What is done next: the frames of a session.
 use Rattle.std.specs.Prelude.{◌≡◌, ℕ, ◌+◌, ◌*◌, List, [], ◌∷◌, map, Option, option_map, reverse, drop}
-use Rattle.state.specs.Prelude.{Course, Dialogue, on_value, Outcome, Gives, Status}
+use Rattle.state.specs.Prelude.{Course, Dialogue, on_value, Outcome, Status}
 use Rattle.std.specs.declared.vec.Vec.{Vec}
 use Rattle.control.specs.View as control
 use Rattle.machine.specs.declared.frame.Frame.{Frame}
@@ -12,14 +12,10 @@ use Rattle.expects.specs.Expect.{by_words}
 use Rattle.expects.specs.Turn.{behind}
 use Rattle.expects.specs.View.{form_of, turn_of}
 use Rattle.plan.specs.Plan.{and_then, onward, after}
-use Rattle.runs.specs.Closing.{closing}
 use Rattle.runs.specs.Commands.{command}
 use Rattle.runs.specs.Ending.{Over}
-use Rattle.runs.specs.Run.{most_levels}
 use Rattle.runs.specs.Scripts.{script}
 use Rattle.state.specs.declared.state.State.{State}
-use Rattle.tclparse.specs.Fault.{Fault}
-use Rattle.tclparse.specs.Grammar.{IsScript}
 use Rattle.tclparse.specs.Seen.{fault_of}
 use Rattle.tclparse.specs.Tree.{Commands, no_commands}
 use Rattle.tclparse.specs.View.{commands_then}
@@ -56,20 +52,17 @@ abbrev pub begun : {A : Type 0} → read.Script A → ℕ → Script A
 begun script levels =
     record { commands = script.commands; next = 0; levels = levels; fault = script.fault }
 
--- a frame is the script of a whole text, of which nothing is done yet
-pub record IsWhole {A : Type 0} (f : Frame A) (text : List ℕ) : Type 0 where
-  pub commands : Commands
-  pub fault : Option Fault
-  pub is : IsScript commands fault text
-  pub next : (s : Status) → next_of f s (Gives []) ≡ script most_levels commands fault s []
+-- what is done with an outcome
+abbrev pub Onward : Type 0
+Onward = Status → Outcome → Dialogue Over
 
--- what is done with an outcome: the frames from the top down, and then the run is closed
-abbrev pub onward_of : {A : Type 0} → List (Frame A) → Status → Outcome → Dialogue Over
-onward_of frames = after (map next_of frames) closing
+-- what is done with an outcome: the frames from the top down, and then what is done last
+abbrev pub onward_of : {A : Type 0} → Onward → List (Frame A) → Onward
+onward_of last frames = after (map next_of frames) last
 
 -- a course, and then what is done with its outcome
-abbrev pub left_of : {A : Type 0} → Course → List (Frame A) → Dialogue Over
-left_of course frames = and_then course (onward (onward_of frames))
+abbrev pub left_of : {A : Type 0} → Onward → Course → List (Frame A) → Dialogue Over
+left_of last course frames = and_then course (onward (onward_of last frames))
 
 -- how much a frame may still put on the stack between two ticks
 abbrev pub weight_of : {A : Type 0} → Frame A → ℕ

@@ -5,8 +5,8 @@ use Rattle.acts.specs.History.{History}
 use Rattle.acts.specs.declared.answer.Answer.{Answer}
 use Rattle.machine.specs.Waiting.{next_of}
 use Rattle.machine.specs.declared.waits.Waits.{Waits}
-use Rattle.machine.specs.Frames.{call_of, load, onward_of, left_of, weight, words_in}
-use Rattle.machine.specs.Goes.{Goes}
+use Rattle.machine.specs.Frames.{Onward, call_of, load, onward_of, left_of, weight, words_in}
+use Rattle.steps.specs.Goes.{Goes}
 use Rattle.machine.specs.View.{ending_of}
 use Rattle.machine.specs.declared.closing.Closing.{Closing}
 use Rattle.machine.specs.declared.closing.Closing.TheVariants as closing
@@ -34,19 +34,19 @@ use Rattle.words.specs.Words.{words}
 
 -- for some state of the definition that the code's state fits, the dialogue continues as the course
 -- at hand, and then as the frames say
-pub record Leads {A : Type 0} (l : Leaf A (Waits A)) (frames : List (Frame A)) (state : State A)
-    (p : Dialogue Over) : Type 0 where
-  pub status : Status
-  pub fits : FitsState state status
-  pub goes : Goes p (left_of (course_of next_of l status) frames)
-
--- for some state of the definition that the code's state fits, the dialogue continues as the course
--- of what begins, and then as the frames say
-pub record Begins {A : Type 0} (course : Status → Course) (frames : List (Frame A))
+pub record Leads {A : Type 0} (last : Onward) (l : Leaf A (Waits A)) (frames : List (Frame A))
     (state : State A) (p : Dialogue Over) : Type 0 where
   pub status : Status
   pub fits : FitsState state status
-  pub goes : Goes p (left_of (course status) frames)
+  pub goes : Goes p (left_of last (course_of next_of l status) frames)
+
+-- for some state of the definition that the code's state fits, the dialogue continues as the course
+-- of what begins, and then as the frames say
+pub record Begins {A : Type 0} (last : Onward) (course : Status → Course)
+    (frames : List (Frame A)) (state : State A) (p : Dialogue Over) : Type 0 where
+  pub status : Status
+  pub fits : FitsState state status
+  pub goes : Goes p (left_of last (course status) frames)
 
 -- what begins, as a course
 abbrev pub course_of_next : {A : Type 0} → Next A → Status → Course
@@ -56,9 +56,11 @@ course_of_next (next.Turn turn) s = turns (turn_of turn.value) turn.value.levels
 course_of_next next.Again s = gives [] s
 
 -- what a frame did with an outcome: it gave another one, or something begins
-abbrev pub Unwinds : {A : Type 0} → Unwound A → List (Frame A) → State A → Dialogue Over → Type 0
-Unwinds (unwound.Has outcome) frames state p = Leads (leaf.Has outcome) frames state p
-Unwinds (unwound.Begins next) frames state p = Begins (course_of_next next) frames state p
+abbrev pub Unwinds : {A : Type 0} → Onward → Unwound A → List (Frame A) → State A →
+    Dialogue Over → Type 0
+Unwinds last (unwound.Has outcome) frames state p = Leads last (leaf.Has outcome) frames state p
+Unwinds last (unwound.Begins next) frames state p =
+    Begins last (course_of_next next) frames state p
 
 -- how much may begin from words that are all substituted: a command may end by exp_continue
 abbrev pub call_load : WordsOf → ℕ
@@ -92,23 +94,25 @@ closing_on (closing.Report text) s reply = ends_with (reported text.items reply)
 closing_on (closing.Close end) s reply = ends_with (ending_of end) s
 
 -- what a session is still to do from this state of the definition on, after this many answers
-abbrev pub IsPlan : {A : Type 0} → Phase A → List (Frame A) → Status → ℕ → Dialogue Over → Type 0
-IsPlan (phase.Has outcome) frames s answers p = p ≡ onward_of frames s (outcome_of outcome)
-IsPlan (phase.Asks act waits) frames s answers p =
-    p ≡ left_of (course_of next_of (leaf.Asks act waits) s) frames
-IsPlan (phase.Closes act c) frames s answers p = p ≡ does (deed_of act) (closing_on c s)
-IsPlan (phase.Over end) frames s answers p =
+abbrev pub IsPlan : {A : Type 0} → Onward → Phase A → List (Frame A) → Status → ℕ →
+    Dialogue Over → Type 0
+IsPlan last (phase.Has outcome) frames s answers p =
+    p ≡ onward_of last frames s (outcome_of outcome)
+IsPlan last (phase.Asks act waits) frames s answers p =
+    p ≡ left_of last (course_of next_of (leaf.Asks act waits) s) frames
+IsPlan last (phase.Closes act c) frames s answers p = p ≡ does (deed_of act) (closing_on c s)
+IsPlan last (phase.Over end) frames s answers p =
     (over : Over) × (p ≡ Ends over) × (ending_of end ≡ numbered answers over)
-IsPlan (phase.Refused refusal) frames s answers p = ⊥
+IsPlan last (phase.Refused refusal) frames s answers p = ⊥
 
 -- for some state of the definition that the code's state fits, the dialogue continues as what the
 -- session is still to do
-pub record Stands {A : Type 0} (at : Phase A) (frames : List (Frame A)) (state : State A)
-    (answers : ℕ) (p : Dialogue Over) : Type 0 where
+pub record Stands {A : Type 0} (last : Onward) (at : Phase A) (frames : List (Frame A))
+    (state : State A) (answers : ℕ) (p : Dialogue Over) : Type 0 where
   pub status : Status
   pub fits : FitsState state status
   pub plan : Dialogue Over
-  pub is_plan : IsPlan at frames status answers plan
+  pub is_plan : IsPlan last at frames status answers plan
   pub goes : Goes p plan
 
 -- the act that waits for its answer

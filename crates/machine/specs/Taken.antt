@@ -4,8 +4,8 @@ use Rattle.state.specs.Prelude.{Course, stops, Gives, Status}
 use Rattle.std.specs.declared.rc.Rc.{Rc}
 use Rattle.std.specs.declared.vec.Vec.{Vec}
 use Rattle.control.specs.View as control
-use Rattle.machine.specs.Frames.{call_of, commands_left, left_of, onward_of, weight, words_in, words_load}
-use Rattle.machine.specs.Goes.{Goes}
+use Rattle.machine.specs.Frames.{Onward, call_of, commands_left, left_of, onward_of, weight, words_in, words_load}
+use Rattle.steps.specs.Goes.{Goes}
 use Rattle.machine.specs.declared.frame.Frame.{Frame}
 use Rattle.machine.specs.declared.frame.Frame.TheVariants as frame
 use Rattle.machine.specs.declared.frame.Script.{Script}
@@ -105,9 +105,9 @@ tick_of (it.Turn turn) = 0
 -- after a value the dialogue continues as what was taken, and then as the remaining frames say
 pub record IsTaken {A : Type 0} (taken : Taken A) (old new : List (Frame A))
     (ticks left : ℕ) : Type 0 where
-  pub goes : (s : Status) (value : List ℕ) → s.left ≡ ticks →
-      Goes (onward_of old s (Gives value))
-      (left_of (course_of_taken taken (record s { left = left }) value) new)
+  pub goes : (last : Onward) (s : Status) (value : List ℕ) → s.left ≡ ticks →
+      Goes (onward_of last old s (Gives value))
+      (left_of last (course_of_taken taken (record s { left = left }) value) new)
   pub ticked : ticks ≡ tick_of taken + left
   pub weighs : weight old ≡ weight_taken taken + weight new
   pub waits : words_in old ≡ words_taken taken + words_in new

@@ -3,6 +3,7 @@
 ghost use Rattle.std.specs.Prelude.{◌≡◌, ℕ, List, [], IfOk};
 ghost use Rattle.state.specs.Prelude.{deed_of, reply_of, Status, FitsState, outcome_of};
 ghost use Rattle.dialog.specs.Peers.{opened};
+ghost use Rattle.machine.specs.Frames.{Onward};
 ghost use Rattle.machine.specs.Phases.{IsTold, Stands, closing_on};
 ghost use Rattle.machine.specs.View.{ending_of};
 ghost use Rattle.machine.specs.declared.frame.Frame.{Frame};
@@ -36,9 +37,10 @@ pub fn close_run<A: Allocator + Copy>(
     answers: u64,
     outcome: Outcome<A>,
 ) -> Result<Phase<A>, NoMemory>
-    ensures stands { (frames : List (Frame A)) (s : Status) → FitsState state.old s →
+    ensures stands { (frames : List (Frame A)) (last : Onward) (s : Status) →
+        FitsState state.old s →
         IfOk result (λ phase.
-        Stands phase frames state.new answers (closes_run s (outcome_of outcome))) }
+        Stands last phase frames state.new answers (closes_run s (outcome_of outcome))) }
     ensures told { IfOk result IsTold }
 {
     match outcome {
@@ -55,9 +57,10 @@ fn leave_run<A: Allocator + Copy>(
     code: Code,
     text: &[u8],
 ) -> Result<Phase<A>, NoMemory>
-    ensures stands { (frames : List (Frame A)) (s : Status) (answers : ℕ) → FitsState state.old s →
+    ensures stands { (frames : List (Frame A)) (last : Onward) (s : Status) (answers : ℕ) →
+        FitsState state.old s →
         IfOk result (λ phase.
-        Stands phase frames state.new answers (leaves (code_of code) text.now s)) }
+        Stands last phase frames state.new answers (leaves (code_of code) text.now s)) }
     ensures told { IfOk result IsTold }
 {
     match code {
@@ -72,9 +75,10 @@ fn leave_run<A: Allocator + Copy>(
 
 /// Writes the text of an uncaught error first.
 fn report<A: Allocator + Copy>(alloc: A, text: Vec<u8, A>) -> Result<Phase<A>, NoMemory>
-    ensures stands { (frames : List (Frame A)) (s : Status) (answers : ℕ) (state : State A) →
+    ensures stands { (frames : List (Frame A)) (last : Onward) (s : Status) (answers : ℕ)
+        (state : State A) →
         FitsState state s →
-        IfOk result (λ phase. Stands phase frames state answers (reports text.items s)) }
+        IfOk result (λ phase. Stands last phase frames state answers (reports text.items s)) }
     ensures told { IfOk result IsTold }
 {
     let mut line = Vec::from_slice(alloc, &text)?;
@@ -84,8 +88,9 @@ fn report<A: Allocator + Copy>(alloc: A, text: Vec<u8, A>) -> Result<Phase<A>, N
 
 /// Begins to close a run that this stop ended, after this many answers.
 fn stop_run<A: Allocator + Copy>(state: &mut State<A>, answers: u64, stop: Stop) -> Phase<A>
-    ensures stands { (frames : List (Frame A)) (s : Status) → FitsState state.old s →
-        Stands result frames state.new answers
+    ensures stands { (frames : List (Frame A)) (last : Onward) (s : Status) →
+        FitsState state.old s →
+        Stands last result frames state.new answers
         (closes_run s (outcomes.Stops (stop_of stop))) }
     ensures told { IsTold result }
 {
@@ -100,8 +105,9 @@ fn stop_run<A: Allocator + Copy>(state: &mut State<A>, answers: u64, stop: Stop)
 
 /// Closes the next open id, or the log where no id is open; with nothing open the run is over.
 fn close_next<A: Allocator + Copy>(state: &mut State<A>, end: End<A>) -> Phase<A>
-    ensures stands { (frames : List (Frame A)) (s : Status) (answers : ℕ) → FitsState state.old s →
-        Stands result frames state.new answers (ends_with (ending_of end) s) }
+    ensures stands { (frames : List (Frame A)) (last : Onward) (s : Status) (answers : ℕ) →
+        FitsState state.old s →
+        Stands last result frames state.new answers (ends_with (ending_of end) s) }
     ensures told { IsTold result }
 {
     match state.ids.close_oldest() {
@@ -112,9 +118,10 @@ fn close_next<A: Allocator + Copy>(state: &mut State<A>, end: End<A>) -> Phase<A
 
 /// Closes the log if it is open, and else the run is over; no id is open here.
 fn close_log<A: Allocator>(state: &mut State<A>, end: End<A>) -> Phase<A>
-    ensures stands { (frames : List (Frame A)) (s : Status) (answers : ℕ) → FitsState state.old s →
+    ensures stands { (frames : List (Frame A)) (last : Onward) (s : Status) (answers : ℕ) →
+        FitsState state.old s →
         opened s.ids.peers ≡ [] →
-        Stands result frames state.new answers (ends_with (ending_of end) s) }
+        Stands last result frames state.new answers (ends_with (ending_of end) s) }
     ensures told { IsTold result }
 {
     if !state.log.logging {
@@ -132,8 +139,9 @@ pub fn closed<A: Allocator + Copy>(
     closing: Closing<A>,
     answer: Answer<A>,
 ) -> Phase<A>
-    ensures stands { (frames : List (Frame A)) (s : Status) → FitsState state.old s →
-        Stands result frames state.new answers
+    ensures stands { (frames : List (Frame A)) (last : Onward) (s : Status) →
+        FitsState state.old s →
+        Stands last result frames state.new answers
         (judged stopped (deed_of act) (reply_of answer) (closing_on closing s (reply_of answer))) }
     ensures told { IsTold result }
 {

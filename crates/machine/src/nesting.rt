@@ -2,9 +2,9 @@
 
 ghost use Rattle.std.specs.Prelude.{◌≡◌, ◌+◌, ◌*◌, ◌≤◌, [], ◌∷◌, IfOk};
 ghost use Rattle.state.specs.Prelude.{Status, FitsState, outcome_of};
-ghost use Rattle.machine.specs.Frames.{begun, call_of, left_of, onward_of, stack, weight, words_in, words_load};
+ghost use Rattle.machine.specs.Frames.{Onward, begun, call_of, left_of, onward_of, stack, weight, words_in, words_load};
 ghost use Rattle.machine.specs.Gathers.{Gathers, again_among};
-ghost use Rattle.machine.specs.Goes.{Goes};
+ghost use Rattle.steps.specs.Goes.{Goes};
 ghost use Rattle.machine.specs.declared.frame.Frame.TheVariants as frames_are;
 ghost use Rattle.state.specs.Budget.{again_of};
 ghost use Rattle.tclparse.specs.View.{commands_of, words_of};
@@ -32,9 +32,9 @@ pub(crate) fn gather<A: Allocator + Copy>(
     levels: u8,
     whose: WordsOf,
 ) -> Result<Result<Vec<Value<A>, A>, Outcome<A>>, NoMemory>
-    ensures gathers { (s : Status) → FitsState state.now s →
-        IfOk result (λ r. Gathers r (stack frames.new) s
-        (left_of (meant_words levels (words_of words) [] s (call_of whose levels))
+    ensures gathers { (last : Onward) (s : Status) → FitsState state.now s →
+        IfOk result (λ r. Gathers last r (stack frames.new) s
+        (left_of last (meant_words levels (words_of words) [] s (call_of whose levels))
         (stack frames.old)) (call_of whose levels)) }
     ensures load { IfOk result (λ r. again_among r + words_in (stack frames.new)
         ≤ words_load whose + words_in (stack frames.old)) }
@@ -61,10 +61,10 @@ pub(crate) fn nest<A: Allocator + Copy>(
     levels: u8,
     whose: WordsOf,
 ) -> Result<Outcome<A>, NoMemory>
-    ensures goes { (s : Status) → IfOk result (λ outcome.
-        Goes (left_of (nested levels (commands_of commands) s
+    ensures goes { (last : Onward) (s : Status) → IfOk result (λ outcome.
+        Goes (left_of last (nested levels (commands_of commands) s
         (gathering_on levels gathering.value (call_of whose levels))) (stack frames.old))
-        (onward_of (stack frames.new) s (outcome_of outcome))) }
+        (onward_of last (stack frames.new) s (outcome_of outcome))) }
     ensures weighs { IfOk result (λ outcome.
         weight (stack frames.new)
         ≤ 4 + 2 * scripts_left gathering.value + weight (stack frames.old)) }

@@ -11,8 +11,8 @@ ghost use Rattle.control.specs.Commands as controls;
 ghost use Rattle.control.specs.View as control;
 ghost use Rattle.control.specs.View.{control_of};
 ghost use Rattle.machine.specs.Began.{HasBegun, asking_load, begun_load, course_of_asking};
-ghost use Rattle.machine.specs.Frames.{call_of, left_of, load, onward_of, stack, words_in};
-ghost use Rattle.machine.specs.Goes.{Goes};
+ghost use Rattle.machine.specs.Frames.{Onward, call_of, left_of, load, onward_of, stack, words_in};
+ghost use Rattle.steps.specs.Goes.{Goes};
 ghost use Rattle.machine.specs.Phases.{Leads, call_load, course_of_next, more_of};
 ghost use Rattle.machine.specs.Waiting.{again_in};
 ghost use Rattle.machine.specs.declared.frame.Frame as framed;
@@ -85,12 +85,13 @@ pub(crate) fn start<A: Allocator + Copy, T: Watch<A, Frame<A>, State<A>, Leaf<A,
     next: Next<A>,
     watch: &mut T,
 ) -> Result<Leaf<A, Waits<A>>, NoMemory>
-    ensures leads { (s : Status) → FitsState state.old s →
-        IfOk result (λ leaf. Leads leaf (stack frames.new) state.new
-        (left_of (course_of_next next s) (stack frames.old))) }
+    ensures leads { (last : Onward) (s : Status) → FitsState state.old s →
+        IfOk result (λ leaf. Leads last leaf (stack frames.new) state.new
+        (left_of last (course_of_next next s) (stack frames.old))) }
     ensures load { IfOk result (λ leaf. again_in leaf + load (stack frames.new) state.new
         ≤ more_of next + load (stack frames.old) state.old) }
     ensures watched { T.told watch.old [] watch.new }
+    ensures left { state.new.left ≤ state.old.left }
 {
     match begin_next(alloc, frames, state, next, watch)? {
         Begun::Has(outcome) => Ok(Leaf::Has(outcome)),
@@ -106,12 +107,13 @@ fn begin_next<A: Allocator + Copy, T: Watch<A, Frame<A>, State<A>, Leaf<A, Waits
     next: Next<A>,
     watch: &mut T,
 ) -> Result<Begun<A>, NoMemory>
-    ensures begins { (s : Status) → FitsState state.old s →
-        IfOk result (λ begun. HasBegun begun (stack frames.new) state.new
-        (left_of (course_of_next next s) (stack frames.old))) }
+    ensures begins { (last : Onward) (s : Status) → FitsState state.old s →
+        IfOk result (λ begun. HasBegun last begun (stack frames.new) state.new
+        (left_of last (course_of_next next s) (stack frames.old))) }
     ensures load { IfOk result (λ begun. begun_load begun + load (stack frames.new) state.new
         ≤ more_of next + load (stack frames.old) state.old) }
     ensures watched { T.told watch.old [] watch.new }
+    ensures left { state.new.left ≤ state.old.left }
 {
     match next {
         Next::Command(words, levels) => begin(alloc, frames, state, words, levels, watch),
@@ -134,12 +136,13 @@ fn go_on<A: Allocator + Copy, T: Watch<A, Frame<A>, State<A>, Leaf<A, Waits<A>>>
     whose: WordsOf,
     watch: &mut T,
 ) -> Result<Begun<A>, NoMemory>
-    ensures begins { (s : Status) → FitsState state.old s →
-        IfOk result (λ begun. HasBegun begun (stack frames.new) state.new
-        (left_of (call_of whose levels s words.items) (stack frames.old))) }
+    ensures begins { (last : Onward) (s : Status) → FitsState state.old s →
+        IfOk result (λ begun. HasBegun last begun (stack frames.new) state.new
+        (left_of last (call_of whose levels s words.items) (stack frames.old))) }
     ensures load { IfOk result (λ begun. begun_load begun + load (stack frames.new) state.new
         ≤ call_load whose + load (stack frames.old) state.old) }
     ensures watched { T.told watch.old [] watch.new }
+    ensures left { state.new.left ≤ state.old.left }
 {
     match whose {
         WordsOf::Command => call(alloc, frames, state, words, levels, watch),
@@ -159,13 +162,14 @@ fn begin<A: Allocator + Copy, T: Watch<A, Frame<A>, State<A>, Leaf<A, Waits<A>>>
     levels: u8,
     watch: &mut T,
 ) -> Result<Begun<A>, NoMemory>
-    ensures begins { (s : Status) → FitsState state.old s →
-        IfOk result (λ begun. HasBegun begun (stack frames.new) state.new
-        (left_of (meant_words levels (words_of words) [] s (command levels))
+    ensures begins { (last : Onward) (s : Status) → FitsState state.old s →
+        IfOk result (λ begun. HasBegun last begun (stack frames.new) state.new
+        (left_of last (meant_words levels (words_of words) [] s (command levels))
         (stack frames.old))) }
     ensures load { IfOk result (λ begun. begun_load begun + load (stack frames.new) state.new
         ≤ 2 + load (stack frames.old) state.old) }
     ensures watched { T.told watch.old [] watch.new }
+    ensures left { state.new.left ≤ state.old.left }
 {
     match gather(alloc, frames, state, words, levels, WordsOf::Command)? {
         Ok(values) => call(alloc, frames, state, values, levels, watch),
@@ -182,12 +186,13 @@ fn call<A: Allocator + Copy, T: Watch<A, Frame<A>, State<A>, Leaf<A, Waits<A>>>>
     levels: u8,
     watch: &mut T,
 ) -> Result<Begun<A>, NoMemory>
-    ensures begins { (s : Status) → FitsState state.old s →
-        IfOk result (λ begun. HasBegun begun (stack frames.new) state.new
-        (left_of (command levels s words.items) (stack frames.old))) }
+    ensures begins { (last : Onward) (s : Status) → FitsState state.old s →
+        IfOk result (λ begun. HasBegun last begun (stack frames.new) state.new
+        (left_of last (command levels s words.items) (stack frames.old))) }
     ensures load { IfOk result (λ begun. begun_load begun + load (stack frames.new) state.new
         ≤ 1 + load (stack frames.old) state.old) }
     ensures watched { T.told watch.old [] watch.new }
+    ensures left { state.new.left ≤ state.old.left }
 {
     if words.is_empty() {
         return Ok(Begun::Has(Ok(Value::empty())));
@@ -208,15 +213,17 @@ fn call_control<A: Allocator + Copy>(
     words: &[Value<A>],
     levels: u8,
 ) -> Result<Option<Outcome<A>>, NoMemory>
-    ensures leads { (s : Status) → FitsState state.old s → IfOk result (λ ran. MatchOption ran
+    ensures leads { (last : Onward) (s : Status) → FitsState state.old s →
+        IfOk result (λ ran. MatchOption ran
         ((command levels s words.now ≡ other_command levels s words.now)
         × FitsState state.new s × (stack frames.new ≡ stack frames.old))
-        (λ outcome. Leads (leaf.Has outcome) (stack frames.new) state.new
-        (left_of (command levels s words.now) (stack frames.old)))) }
+        (λ outcome. Leads last (leaf.Has outcome) (stack frames.new) state.new
+        (left_of last (command levels s words.now) (stack frames.old)))) }
     ensures load { IfOk result (λ ran. MatchOption ran (state.new.left ≤ state.old.left)
         (λ outcome. again_of (outcome_of outcome) + load (stack frames.new) state.new
         ≤ 1 + load (stack frames.old) state.old)) }
     ensures kept { IfOk result (λ ran. IfNone ran (stack frames.new ≡ stack frames.old)) }
+    ensures left { state.new.left ≤ state.old.left }
 {
     let [name, args @ ..] = words else {
         return Ok(None);
@@ -241,15 +248,17 @@ fn call_procedure<A: Allocator + Copy>(
     args: &[Value<A>],
     levels: u8,
 ) -> Result<Option<Outcome<A>>, NoMemory>
-    ensures leads { (s : Status) → FitsState state.old s → IfOk result (λ called. MatchOption called
+    ensures leads { (last : Onward) (s : Status) → FitsState state.old s →
+        IfOk result (λ called. MatchOption called
         ((found s.procedures name.now ≡ None) × FitsState state.new s
         × (stack frames.new ≡ stack frames.old))
-        (λ outcome. Leads (leaf.Has outcome) (stack frames.new) state.new
-        (left_of (command levels s (name.now ∷ args.now)) (stack frames.old)))) }
+        (λ outcome. Leads last (leaf.Has outcome) (stack frames.new) state.new
+        (left_of last (command levels s (name.now ∷ args.now)) (stack frames.old)))) }
     ensures load { IfOk result (λ called. MatchOption called (state.new.left ≤ state.old.left)
         (λ outcome. again_of (outcome_of outcome) + load (stack frames.new) state.new
         ≤ 1 + load (stack frames.old) state.old)) }
     ensures kept { IfOk result (λ called. IfNone called (stack frames.new ≡ stack frames.old)) }
+    ensures left { state.new.left ≤ state.old.left }
 {
     match state.procs.get(name) {
         Some(_) => enter_procedure(alloc, frames, state, name, args, levels),
@@ -267,15 +276,17 @@ fn enter_procedure<A: Allocator + Copy>(
     args: &[Value<A>],
     levels: u8,
 ) -> Result<Option<Outcome<A>>, NoMemory>
-    ensures leads { (s : Status) → FitsState state.old s → IfOk result (λ called. MatchOption called
+    ensures leads { (last : Onward) (s : Status) → FitsState state.old s →
+        IfOk result (λ called. MatchOption called
         ((found s.procedures name.now ≡ None) × FitsState state.new s
         × (stack frames.new ≡ stack frames.old))
-        (λ outcome. Leads (leaf.Has outcome) (stack frames.new) state.new
-        (left_of (command levels s (name.now ∷ args.now)) (stack frames.old)))) }
+        (λ outcome. Leads last (leaf.Has outcome) (stack frames.new) state.new
+        (left_of last (command levels s (name.now ∷ args.now)) (stack frames.old)))) }
     ensures load { IfOk result (λ called. MatchOption called (state.new.left ≤ state.old.left)
         (λ outcome. again_of (outcome_of outcome) + load (stack frames.new) state.new
         ≤ 1 + load (stack frames.old) state.old)) }
     ensures kept { IfOk result (λ called. IfNone called (stack frames.new ≡ stack frames.old)) }
+    ensures left { state.new.left ≤ state.old.left }
 {
     match control::call(alloc, state, name, args, levels)? {
         Some(nesting) => Ok(Some(hold(frames, nesting)?)),
@@ -293,13 +304,14 @@ fn begin_control<A: Allocator + Copy>(
     args: &[Value<A>],
     levels: u8,
 ) -> Result<Outcome<A>, NoMemory>
-    ensures leads { (s : Status) → FitsState state.old s → IfOk result (λ outcome.
-        Leads (leaf.Has outcome) (stack frames.new) state.new
-        (left_of (controls.does (control_of control) levels args.now s)
+    ensures leads { (last : Onward) (s : Status) → FitsState state.old s → IfOk result (λ outcome.
+        Leads last (leaf.Has outcome) (stack frames.new) state.new
+        (left_of last (controls.does (control_of control) levels args.now s)
         (stack frames.old))) }
     ensures load { IfOk result (λ outcome.
         again_of (outcome_of outcome) + load (stack frames.new) state.new
         ≤ 1 + load (stack frames.old) state.old) }
+    ensures left { state.new.left ≤ state.old.left }
 {
     let nesting = control::begin(alloc, state, control, args, levels)?;
     hold(frames, nesting)
@@ -313,9 +325,9 @@ fn call_other<A: Allocator + Copy>(
     words: Vec<Value<A>, A>,
     levels: u8,
 ) -> Result<Begun<A>, NoMemory>
-    ensures begins { (frames : List (framed.Frame A)) (s : Status) → FitsState state.old s →
-        IfOk result (λ begun. HasBegun begun frames state.new
-        (left_of (other_command levels s words.items) frames)) }
+    ensures begins { (frames : List (framed.Frame A)) (last : Onward) (s : Status) →
+        FitsState state.old s → IfOk result (λ begun. HasBegun last begun frames state.new
+        (left_of last (other_command levels s words.items) frames)) }
     ensures again { IfOk result (λ begun. begun_load begun ≤ 1) }
     ensures left { state.new.left ≤ state.old.left }
 {
@@ -335,9 +347,9 @@ fn call_plain<A: Allocator + Copy>(
     state: &mut State<A>,
     words: Vec<Value<A>, A>,
 ) -> Result<Begun<A>, NoMemory>
-    ensures begins { (frames : List (framed.Frame A)) (s : Status) → FitsState state.old s →
-        IfOk result (λ begun. HasBegun begun frames state.new
-        (left_of (plain.command s words.items) frames)) }
+    ensures begins { (frames : List (framed.Frame A)) (last : Onward) (s : Status) →
+        FitsState state.old s → IfOk result (λ begun. HasBegun last begun frames state.new
+        (left_of last (plain.command s words.items) frames)) }
     ensures again { IfOk result (λ begun. begun_load begun ≤ 1) }
     ensures left { state.new.left ≤ state.old.left }
 {
@@ -355,11 +367,12 @@ fn ask<A: Allocator + Copy>(
     state: &mut State<A>,
     asking: Asking<A>,
 ) -> Result<Leaf<A, Waits<A>>, NoMemory>
-    ensures leads { (s : Status) → FitsState state.old s →
-        IfOk result (λ leaf. Leads leaf (stack frames.new) state.new
-        (left_of (course_of_asking asking s) (stack frames.old))) }
+    ensures leads { (last : Onward) (s : Status) → FitsState state.old s →
+        IfOk result (λ leaf. Leads last leaf (stack frames.new) state.new
+        (left_of last (course_of_asking asking s) (stack frames.old))) }
     ensures load { IfOk result (λ leaf. again_in leaf + load (stack frames.new) state.new
         ≤ asking_load asking + load (stack frames.old) state.old) }
+    ensures left { state.new.left ≤ state.old.left }
 {
     match asking {
         Asking::Command(acting, words) => {
@@ -391,9 +404,9 @@ fn hold<A: Allocator>(
     frames: &mut Vec<Frame<A>, A>,
     nesting: Nesting<A, Held<A>>,
 ) -> Result<Outcome<A>, NoMemory>
-    ensures goes { (s : Status) → IfOk result (λ outcome.
-        Goes (left_of (course_of_nesting control.next_of nesting s) (stack frames.old))
-        (onward_of (stack frames.new) s (outcome_of outcome))) }
+    ensures goes { (last : Onward) (s : Status) → IfOk result (λ outcome.
+        Goes (left_of last (course_of_nesting control.next_of nesting s) (stack frames.old))
+        (onward_of last (stack frames.new) s (outcome_of outcome))) }
     ensures words { IfOk result (λ outcome.
         again_of (outcome_of outcome) + words_in (stack frames.new)
         ≤ 1 + words_in (stack frames.old)) }

@@ -2,8 +2,8 @@
 
 ghost use Rattle.std.specs.Prelude.{◌≡◌, ◌+◌, ◌≤◌, IfOk};
 ghost use Rattle.state.specs.Prelude.{Status, FitsState};
-ghost use Rattle.machine.specs.Frames.{left_of, load, stack, words_in};
-ghost use Rattle.machine.specs.Goes.{Goes};
+ghost use Rattle.machine.specs.Frames.{Onward, left_of, load, stack, words_in};
+ghost use Rattle.steps.specs.Goes.{Goes};
 ghost use Rattle.machine.specs.Phases.{Leads};
 ghost use Rattle.machine.specs.Waiting.{again_in, next_of};
 ghost use Rattle.expects.specs.Expect as definition;
@@ -34,11 +34,12 @@ pub fn wait<A: Allocator + Copy>(
     args: &[Value<A>],
     levels: u8,
 ) -> Result<Leaf<A, Waits<A>>, NoMemory>
-    ensures leads { (s : Status) → FitsState state.old s →
-        IfOk result (λ leaf. Leads leaf (stack frames.new) state.new
-        (left_of (definition.expect (form_of form) levels args.now s) (stack frames.old))) }
+    ensures leads { (last : Onward) (s : Status) → FitsState state.old s →
+        IfOk result (λ leaf. Leads last leaf (stack frames.new) state.new
+        (left_of last (definition.expect (form_of form) levels args.now s) (stack frames.old))) }
     ensures load { IfOk result (λ leaf. again_in leaf + load (stack frames.new) state.new
         ≤ 1 + load (stack frames.old) state.old) }
+    ensures left { state.new.left ≤ state.old.left }
 {
     match begin(alloc, state, form, args, levels)? {
         Begun::Opens(opening) => open(alloc, frames, state, opening),
@@ -60,11 +61,12 @@ pub fn say<A: Allocator + Copy>(
     words: &[Value<A>],
     levels: u8,
 ) -> Result<Leaf<A, Waits<A>>, NoMemory>
-    ensures leads { (s : Status) → FitsState state.old s →
-        IfOk result (λ leaf. Leads leaf (stack frames.new) state.new
-        (left_of (definition.by_words (form_of form) levels s words.now) (stack frames.old))) }
+    ensures leads { (last : Onward) (s : Status) → FitsState state.old s →
+        IfOk result (λ leaf. Leads last leaf (stack frames.new) state.new
+        (left_of last (definition.by_words (form_of form) levels s words.now) (stack frames.old))) }
     ensures load { IfOk result (λ leaf. again_in leaf + load (stack frames.new) state.new
         ≤ load (stack frames.old) state.old) }
+    ensures left { state.new.left ≤ state.old.left }
 {
     let opening = by_words(alloc, state, form, words, levels)?;
     open(alloc, frames, state, opening)
@@ -77,12 +79,13 @@ fn open<A: Allocator + Copy>(
     state: &mut State<A>,
     opening: Opening<A>,
 ) -> Result<Leaf<A, Waits<A>>, NoMemory>
-    ensures leads { (s : Status) → FitsState state.old s →
-        IfOk result (λ leaf. Leads leaf (stack frames.new) state.new
-        (left_of (course_of_opening opening s) (stack frames.old))) }
+    ensures leads { (last : Onward) (s : Status) → FitsState state.old s →
+        IfOk result (λ leaf. Leads last leaf (stack frames.new) state.new
+        (left_of last (course_of_opening opening s) (stack frames.old))) }
     ensures load { IsPlainOpening opening →
         IfOk result (λ leaf. again_in leaf + load (stack frames.new) state.new
         ≤ load (stack frames.old) state.old) }
+    ensures left { state.new.left ≤ state.old.left }
 {
     match opening {
         Opening::Has(outcome) => Ok(Leaf::Has(outcome)),
@@ -98,11 +101,12 @@ pub fn take_turn<A: Allocator + Copy>(
     state: &mut State<A>,
     turn: Box<Turn<A>, A>,
 ) -> Result<Leaf<A, Waits<A>>, NoMemory>
-    ensures leads { (s : Status) → FitsState state.old s →
-        IfOk result (λ leaf. Leads leaf (stack frames.new) state.new
-        (left_of (turns (turn_of turn.value) turn.value.levels s) (stack frames.old))) }
+    ensures leads { (last : Onward) (s : Status) → FitsState state.old s →
+        IfOk result (λ leaf. Leads last leaf (stack frames.new) state.new
+        (left_of last (turns (turn_of turn.value) turn.value.levels s) (stack frames.old))) }
     ensures load { IfOk result (λ leaf. again_in leaf + load (stack frames.new) state.new
         ≤ load (stack frames.old) state.old) }
+    ensures left { state.new.left ≤ state.old.left }
 {
     let turned = turn_of_it(alloc, state, turn)?;
     settle(frames, turned)
@@ -115,9 +119,9 @@ pub fn talk<A: Allocator + Copy>(
     state: &mut State<A>,
     talk: Talk<A>,
 ) -> Result<Leaf<A, Waits<A>>, NoMemory>
-    ensures { (s : Status) → FitsState state.old s →
-        IfOk result (λ leaf. Leads leaf (stack frames.new) state.new
-        (left_of (course_of_talk talk s) (stack frames.old))) }
+    ensures { (last : Onward) (s : Status) → FitsState state.old s →
+        IfOk result (λ leaf. Leads last leaf (stack frames.new) state.new
+        (left_of last (course_of_talk talk s) (stack frames.old))) }
 {
     match talk {
         Talk::Turned(turned) => settle(frames, turned),
@@ -130,9 +134,9 @@ fn settle<A: Allocator>(
     frames: &mut Vec<Frame<A>, A>,
     turned: Turned<A>,
 ) -> Result<Leaf<A, Waits<A>>, NoMemory>
-    ensures goes { (s : Status) → IfOk result (λ leaf.
-        Goes (left_of (course_of_turned turned s) (stack frames.old))
-        (left_of (course_of next_of leaf s) (stack frames.new))) }
+    ensures goes { (last : Onward) (s : Status) → IfOk result (λ leaf.
+        Goes (left_of last (course_of_turned turned s) (stack frames.old))
+        (left_of last (course_of next_of leaf s) (stack frames.new))) }
     ensures words { IsPlain turned → IfOk result (λ leaf.
         again_in leaf + words_in (stack frames.new) ≤ words_in (stack frames.old)) }
 {

@@ -1,10 +1,10 @@
 //! How the frames take the outcome of the part within them, from the top down.
 
-ghost use Rattle.std.specs.Prelude.{◌≡◌, ◌+◌, ◌*◌, [], option_map, Err, IfOk, IfErr};
+ghost use Rattle.std.specs.Prelude.{◌≡◌, ◌≤◌, ◌+◌, ◌*◌, [], option_map, Err, IfOk, IfErr};
 ghost use Rattle.state.specs.Prelude.{Ends, Status, FitsState, outcome_of};
 ghost use Rattle.control.specs.View as control;
 ghost use Rattle.control.specs.View.{scripts_held};
-ghost use Rattle.machine.specs.Frames.{call_of, left_of, next_of, onward_of, stack, weight, weight_of, words_in, words_load, words_of_frame};
+ghost use Rattle.machine.specs.Frames.{Onward, call_of, left_of, next_of, onward_of, stack, weight, weight_of, words_in, words_load, words_of_frame};
 ghost use Rattle.expects.specs.Turn.{behind as behind_body};
 ghost use Rattle.expects.specs.View.{turn_of};
 ghost use Rattle.machine.specs.Phases.{IsEmptied, Lightens, Unwinds};
@@ -46,13 +46,14 @@ pub(crate) fn unwind<A: Allocator + Copy>(
     state: &mut State<A>,
     mut outcome: Outcome<A>,
 ) -> Result<Unwound<A>, NoMemory>
-    ensures unwinds { (s : Status) → FitsState state.old s →
-        IfOk result (λ unwound. Unwinds unwound (stack frames.new) state.new
-        (onward_of (stack frames.old) s (outcome_of outcome))) }
+    ensures unwinds { (last : Onward) (s : Status) → FitsState state.old s →
+        IfOk result (λ unwound. Unwinds last unwound (stack frames.new) state.new
+        (onward_of last (stack frames.old) s (outcome_of outcome))) }
     ensures emptied { IfOk result (λ unwound. IsEmptied unwound (stack frames.new)) }
     ensures lightens { IfOk result (λ unwound.
         Lightens unwound (stack frames.new) state.new (1 + weight (stack frames.old))
         (again_of (outcome_of outcome) + words_in (stack frames.old)) state.old.left) }
+    ensures left { IfOk result (λ _. state.new.left ≤ state.old.left) }
 {
     'frames: loop {
         match resume(alloc, frames, state, outcome)? {
@@ -71,14 +72,15 @@ fn resume<A: Allocator + Copy>(
     state: &mut State<A>,
     outcome: Outcome<A>,
 ) -> Result<Result<Unwound<A>, Outcome<A>>, NoMemory>
-    ensures unwinds { (s : Status) → FitsState state.old s →
-        IfOk result (λ r. IfOk r (λ unwound. Unwinds unwound (stack frames.new) state.new
-        (onward_of (stack frames.old) s (outcome_of outcome)))) }
+    ensures unwinds { (last : Onward) (s : Status) → FitsState state.old s →
+        IfOk result (λ r. IfOk r (λ unwound. Unwinds last unwound (stack frames.new) state.new
+        (onward_of last (stack frames.old) s (outcome_of outcome)))) }
     ensures lightens { IfOk result (λ r. IfOk r (λ unwound.
         Lightens unwound (stack frames.new) state.new (weight (stack frames.old))
         (again_of (outcome_of outcome) + words_in (stack frames.old)) state.old.left)) }
     ensures over { IfOk result (λ r. IfErr r (λ last. (last ≡ outcome)
         × (stack frames.old ≡ []) × (stack frames.new ≡ []) × (state.new ≡ state.old))) }
+    ensures left { IfOk result (λ _. state.new.left ≤ state.old.left) }
 {
     match outcome {
         Ok(value) => match take_top(frames, &mut state.left)? {
@@ -100,13 +102,14 @@ fn value_on<A: Allocator + Copy>(
     taken: Taken<A>,
     value: Value<A>,
 ) -> Result<Unwound<A>, NoMemory>
-    ensures unwinds { (s : Status) → FitsState state.old s →
-        IfOk result (λ unwound. Unwinds unwound (stack frames.new) state.new
-        (left_of (course_of_taken taken s value) (stack frames.old))) }
+    ensures unwinds { (last : Onward) (s : Status) → FitsState state.old s →
+        IfOk result (λ unwound. Unwinds last unwound (stack frames.new) state.new
+        (left_of last (course_of_taken taken s value) (stack frames.old))) }
     ensures lightens { IfOk result (λ unwound.
         Lightens unwound (stack frames.new) state.new
         (weight_taken taken + weight (stack frames.old))
         (words_taken taken + words_in (stack frames.old)) (tick_of taken + state.old.left)) }
+    ensures left { state.new.left ≤ state.old.left }
 {
     match taken {
         Taken::Command(words, levels) => Ok(Unwound::Begins(Next::Command(words, levels))),
@@ -130,14 +133,15 @@ fn leave_on<A: Allocator + Copy>(
     frame: Frame<A>,
     leave: Leave<A>,
 ) -> Result<Unwound<A>, NoMemory>
-    ensures unwinds { (s : Status) → FitsState state.old s →
-        IfOk result (λ unwound. Unwinds unwound (stack frames.new) state.new
-        (left_of (next_of frame s (outcome_of (Err leave))) (stack frames.old))) }
+    ensures unwinds { (last : Onward) (s : Status) → FitsState state.old s →
+        IfOk result (λ unwound. Unwinds last unwound (stack frames.new) state.new
+        (left_of last (next_of frame s (outcome_of (Err leave))) (stack frames.old))) }
     ensures lightens { IfOk result (λ unwound.
         Lightens unwound (stack frames.new) state.new
         (weight_of frame + weight (stack frames.old))
         (again_of (outcome_of (Err leave)) + (words_of_frame frame + words_in (stack frames.old)))
         state.old.left) }
+    ensures left { state.new.left ≤ state.old.left }
 {
     match frame {
         Frame::Held(held) => held_on(alloc, frames, state, held, Err(leave)),
@@ -173,14 +177,15 @@ fn words_on<A: Allocator + Copy>(
     whose: WordsOf,
     value: Value<A>,
 ) -> Result<Unwound<A>, NoMemory>
-    ensures unwinds { (s : Status) → FitsState state.old s →
-        IfOk result (λ unwound. Unwinds unwound (stack frames.new) state.new
-        (left_of (gathering_on levels gathering (call_of whose levels) s value)
+    ensures unwinds { (last : Onward) (s : Status) → FitsState state.old s →
+        IfOk result (λ unwound. Unwinds last unwound (stack frames.new) state.new
+        (left_of last (gathering_on levels gathering (call_of whose levels) s value)
         (stack frames.old))) }
     ensures lightens { IfOk result (λ unwound.
         Lightens unwound (stack frames.new) state.new
         (3 + 2 * scripts_left gathering + weight (stack frames.old))
         (words_load whose + words_in (stack frames.old)) state.old.left) }
+    ensures left { state.new.left ≤ state.old.left }
 {
     let gathered = words::resume(alloc, &state.scopes, gathering, value)?;
     match gathered {
@@ -205,13 +210,14 @@ fn turn_on<A: Allocator + Copy>(
     turn: Box<Turn<A>, A>,
     outcome: Outcome<A>,
 ) -> Result<Unwound<A>, NoMemory>
-    ensures unwinds { (s : Status) → FitsState state.old s →
-        IfOk result (λ unwound. Unwinds unwound (stack frames.new) state.new
-        (left_of (behind_body (turn_of turn.value) turn.value.levels s (outcome_of outcome))
+    ensures unwinds { (last : Onward) (s : Status) → FitsState state.old s →
+        IfOk result (λ unwound. Unwinds last unwound (stack frames.new) state.new
+        (left_of last (behind_body (turn_of turn.value) turn.value.levels s (outcome_of outcome))
         (stack frames.old))) }
     ensures lightens { IfOk result (λ unwound.
         Lightens unwound (stack frames.new) state.new (1 + weight (stack frames.old))
         (again_of (outcome_of outcome) + words_in (stack frames.old)) state.old.left) }
+    ensures left { state.new.left ≤ state.old.left }
 {
     match resumed(alloc, state, turn, outcome)? {
         Opening::Has(outcome) => Ok(Unwound::Has(outcome)),
@@ -228,13 +234,14 @@ fn held_on<A: Allocator + Copy>(
     held: Held<A>,
     outcome: Outcome<A>,
 ) -> Result<Unwound<A>, NoMemory>
-    ensures unwinds { (s : Status) → FitsState state.old s →
-        IfOk result (λ unwound. Unwinds unwound (stack frames.new) state.new
-        (left_of (control.next_of held s (outcome_of outcome)) (stack frames.old))) }
+    ensures unwinds { (last : Onward) (s : Status) → FitsState state.old s →
+        IfOk result (λ unwound. Unwinds last unwound (stack frames.new) state.new
+        (left_of last (control.next_of held s (outcome_of outcome)) (stack frames.old))) }
     ensures lightens { IfOk result (λ unwound.
         Lightens unwound (stack frames.new) state.new
         (1 + 2 * scripts_held held + weight (stack frames.old))
         (1 + words_in (stack frames.old)) state.old.left) }
+    ensures left { state.new.left ≤ state.old.left }
 {
     let left = state.left;
     let nesting = control::resumed(alloc, state, held, outcome)?;

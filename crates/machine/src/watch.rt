@@ -15,6 +15,11 @@ pub trait Watch<A: Allocator, F, S, L> {
     /// answers, in this order.
     ghost told: { Self → History → Self → Type 0 };
 
+    /// Whether it looks at the frames. Then each script that runs stands among them as its tree;
+    /// else the script of the run is run as its code, and who watches is told of none of its
+    /// commands that are over at once.
+    fn sees_frames(&self) -> bool;
+
     /// A run of this script begins, with these arguments.
     fn starts(&mut self, script: &[u8], args: &[Vec<u8, A>])
         ensures { told self.old [] self.new };
@@ -59,6 +64,11 @@ impl<A: Allocator, F, S, L> Watch<A, F, S, L> for Unwatched {
     ghost stays = { λ _. tt };
 
     ghost joins = { λ _ _ _ _ _ _ _. tt };
+
+    #[inline(always)]
+    fn sees_frames(&self) -> bool {
+        false
+    }
 
     #[inline(always)]
     fn starts(&mut self, _script: &[u8], _args: &[Vec<u8, A>]) {}

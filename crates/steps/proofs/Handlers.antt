@@ -1,5 +1,5 @@
 -- The handlers of what is open.
-use Rattle.std.proofs.Common.{◌≡◌, ◌∙◌, Bool, true, false, List, [], ◌∷◌, ◌++◌, ℕ, Option, None, Some, length, map, option_to_list, refl, sym, ap, if◌then◌else◌}
+use Rattle.std.proofs.Common.{◌≡◌, ◌∙◌, Bool, true, false, List, [], ◌∷◌, ◌++◌, ℕ, Option, None, Some, length, map, option_to_list, refl, sym, ap, subst, if◌then◌else◌}
 use Rattle.std.specs.Prelude.{nat_le, reverse}
 use Rattle.std.proofs.lemmas.List.{map-append, nil_from_length, reverse-append}
 use Rattle.bodies.specs.Catch.{number_of}
@@ -7,10 +7,14 @@ use Rattle.state.specs.Prelude.{Code, Gives, Leaves, Outcome, Status, Stops}
 use Rattle.steps.specs.Handling.{handled, led, outside, resumed, way_of, with_code}
 use Rattle.steps.specs.Moves.{jumping}
 use Rattle.steps.specs.Spot.{Begins, Did, Handler, Over, Spot, Stuck, Went, with_top}
-use Rattle.steps.specs.View.{handler_of}
+use Rattle.runs.specs.Run.{initial}
+use Rattle.steps.specs.View.{did_of, handler_of}
 use Rattle.steps.specs.declared.handler.Handler as opened
 use Rattle.steps.specs.declared.handler.Way.{Way}
 use Rattle.steps.specs.declared.handler.Way.TheVariants as way
+use Rattle.steps.specs.declared.progress.Progress.{Progress}
+use Rattle.steps.specs.declared.progress.Progress.TheVariants as went
+use Rattle.steps.specs.declared.spot.Spot as coded
 
 -- a handler was put on top
 pub one_put : (old new : List opened.Handler) (h : opened.Handler) → new ≡ old ++ h ∷ [] →
@@ -79,7 +83,7 @@ module _ (code : Code) (value : List ℕ) (s : Status) where
       (nil_from_length handlers none))
 
 -- a command begins
-abbrev pub IsBegun : Did → Type 0
+abbrev IsBegun : Did → Type 0
 IsBegun (Begins words spot s) = Unit {0}
 IsBegun did = ⊥
 
@@ -111,9 +115,18 @@ handled_nowhere (h ∷ handlers) code value spot s begun =
     (λ b. handled_nowhere handlers code value spot s b) begun
 
 -- where an outcome leads no command begins
-pub none_begins : (spot : Spot) (outcome : Outcome) (s : Status) →
+none_begins : (spot : Spot) (outcome : Outcome) (s : Status) →
     IsBegun (resumed spot outcome s) → ⊥
 none_begins spot (Gives value) s begun = begun
 none_begins spot (Leaves code value) s begun =
     handled_nowhere spot.handlers code value spot s begun
 none_begins spot (Stops stop) s begun = begun
+
+-- where the code does what an outcome leads to, whatever the state, no command begins
+pub leads_nowhere : {A : Type 0} (progress : Progress) (new : coded.Spot A) (spot : Spot)
+    (outcome : Outcome) → ((s : Status) → did_of progress new s ≡ resumed spot outcome s) →
+    progress ≡ went.Begins → ⊥
+leads_nowhere progress new spot outcome does begun =
+    let s = initial [] 0 in
+    none_begins spot outcome s (subst IsBegun (does s)
+    (subst (λ it. IsBegun (did_of it new s)) (sym begun) tt))

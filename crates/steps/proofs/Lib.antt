@@ -9,3 +9,5 @@ pub mod Rounds
 pub mod Runs
 pub mod Strings
 pub mod Stores
+pub mod Named
+pub mod AtOnce

@@ -1,6 +1,7 @@
 -- The run of a code as one value.
-use Rattle.std.specs.Prelude.{◌≢◌, ℕ, ◌+◌, ◌-◌, ◌*◌, length}
-use Rattle.state.specs.Prelude.{Dialogue, FitsState, Outcome, Status}
+use Rattle.std.specs.Prelude.{◌≢◌, ℕ, ◌+◌, ◌-◌, ◌*◌, List, Result, length}
+use Rattle.state.specs.Prelude.{Course, Dialogue, Ends, FitsState, Outcome, Reaches, Status, outcome_of}
+use Rattle.state.specs.declared.outcome.Leave.{Leave}
 use Rattle.state.specs.declared.state.State.{State}
 use Rattle.steps.specs.Follows.{Follows, Resumes}
 use Rattle.steps.specs.Handling.{resumed}
@@ -18,6 +19,14 @@ places_left run = length run.code.value.items - run.spot.place
 -- place (this project's own rule)
 abbrev pub most_commands : {A : Type 0} → Run A → ℕ → ℕ
 most_commands run left = left * (length run.code.value.items + 1) + places_left run
+
+-- for some state of the definition that the code's state fits, the course ends with this outcome,
+-- once the texts that it reads are read
+pub record IsDone {A : Type 0} (course : Course) (outcome : Result (List ℕ) (Leave A))
+    (state : State A) : Type 0 where
+  pub status : Status
+  pub fits : FitsState state status
+  pub reaches : Reaches course (Ends (status, outcome_of outcome))
 
 module _ {A X : Type 0} (last : Status → Outcome → Dialogue X) where
   -- a run waits for an outcome: whichever it is, this is what is left to be done with it, and then

@@ -2,6 +2,7 @@
 #![tactic(auto)]
 
 mod advancing;
+mod at_once;
 mod catching;
 mod foreach;
 mod handler;

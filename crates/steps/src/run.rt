@@ -9,6 +9,7 @@ ghost use Rattle.state.specs.Piece.{ScriptTree};
 ghost use Rattle.state.specs.Prelude.{Dialogue, FitsState, Outcome as Ending, Status, on_value, outcome_of};
 
 use crate::advancing::advance;
+use crate::at_once::perform;
 use crate::handling::resume;
 use crate::progress::Progress;
 use crate::spot::Spot;
@@ -52,9 +53,9 @@ impl<A: Allocator + Copy> Run<A> {
         }
     }
 
-    /// Hands in the outcome that the run waits for, and runs the code up to the next command, whose
-    /// words lie in the spot and whose outcome the run waits for then, or to the end, whose outcome
-    /// lies there. It never answers `GoesOn`.
+    /// Hands in the outcome that the run waits for, and runs the code up to the next command that
+    /// is not over at once, whose words lie in the spot and whose outcome the run waits for then,
+    /// or to the end, whose outcome lies there. It never answers `GoesOn`.
     ///
     /// A command that begins without a tick before it stands further on in the code than the one
     /// before, so that a run ends after so many outcomes.
@@ -62,6 +63,36 @@ impl<A: Allocator + Copy> Run<A> {
     /// # Errors
     /// `NoMemory` where memory is refused.
     pub fn go_on(
+        &mut self,
+        alloc: A,
+        state: &mut State<A>,
+        mut outcome: Outcome<A>,
+    ) -> Result<Progress, NoMemory>
+        ensures stops { (last next : Status → Ending → Dialogue Over) (s : Status) →
+            FitsState state.old s → Awaits last self.old next →
+            IfOk result (λ progress.
+            HasStopped last progress self.new state.new (next s (outcome_of outcome))) }
+        ensures left { IfOk result (λ _. state.new.left ≤ state.old.left) }
+        ensures onward { IfOk result (λ progress. progress ≡ went.Begins →
+            state.new.left ≡ state.old.left → places_left self.new < places_left self.old) }
+        ensures falls { IfOk result (λ progress. progress ≡ went.Begins →
+            most_commands self.new state.new.left < most_commands self.old state.old.left) }
+    {
+        'commands: loop {
+            let progress = self.reach_command(alloc, state, outcome)?;
+            if progress != Progress::Begins {
+                return Ok(progress);
+            }
+            match perform(alloc, state, &self.spot.words)? {
+                Some(done) => outcome = done,
+                None => return Ok(Progress::Begins),
+            }
+        }
+    }
+
+    /// Hands in the outcome that the run waits for, and runs the code up to the next command, or to
+    /// the end.
+    fn reach_command(
         &mut self,
         alloc: A,
         state: &mut State<A>,

@@ -2,14 +2,14 @@ use Rattle.std.proofs.Common.{◌≡◌, ◌∙◌, false, true, refl, ap}
 use Rattle.dialog.specs.declared.log_state.LogState.{LogState}
 use Rattle.machine.specs.View.{ending_of}
 use Rattle.machine.proofs.Closings.{closes_log_last, closes_none}
-use Rattle.machine.proofs.Silent.{same_goes}
+use Rattle.steps.proofs.Leads.Silent.{same_goes}
 use Rattle.runs.specs.Ending.{With}
 use Rattle.state.proofs.Fits.{log_fits}
 use Rattle.state.specs.Status.{Status}
 use Rattle.machine.proofs.closing.close_log.Goals as goal
 
 pub returns-then-not-state-clause-stands : goal.returns-then-not-state-clause-stands
-returns-then-not-state-clause-stands g c = λ frames s answers fits none.
+returns-then-not-state-clause-stands g c = λ frames last s answers fits none.
     let shut : s.log.logging ≡ false =
     ap (λ (l : LogState). l.logging) fits.log ∙ c.if-not-state.true in
     record {
@@ -21,7 +21,7 @@ returns-then-not-state-clause-stands g c = λ frames s answers fits none.
     }
 
 pub returns-clause-stands : goal.returns-clause-stands
-returns-clause-stands g c = λ frames s answers fits none.
+returns-clause-stands g c = λ frames last s answers fits none.
     let logs : s.log.logging ≡ true =
     ap (λ (l : LogState). l.logging) fits.log ∙ c.if-not-state.false in
     let log : LogState = record c.args.state.now.log { logging = false } in

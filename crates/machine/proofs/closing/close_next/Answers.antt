@@ -1,13 +1,13 @@
 use Rattle.std.proofs.Common.{refl}
 use Rattle.machine.specs.View.{ending_of}
 use Rattle.machine.proofs.Closings.{closes_first, none_open}
-use Rattle.machine.proofs.Silent.{same_goes}
+use Rattle.steps.proofs.Leads.Silent.{same_goes}
 use Rattle.state.specs.Status.{shut}
 use Rattle.state.proofs.Fits.{ids_fit}
 use Rattle.machine.proofs.closing.close_next.Goals as goal
 
 pub returns-in-Some-clause-stands : goal.returns-in-Some-clause-stands
-returns-in-Some-clause-stands g c = λ frames s answers fits.
+returns-in-Some-clause-stands g c = λ frames last s answers fits.
     let f = c.in-Some.ensures s.ids fits.ids in
     record {
       status = shut c.in-Some.id s;
@@ -20,7 +20,7 @@ returns-in-Some-clause-stands g c = λ frames s answers fits.
     }
 
 pub returns-in-None-clause-stands : goal.returns-in-None-clause-stands
-returns-in-None-clause-stands g c = λ frames s answers fits.
+returns-in-None-clause-stands g c = λ frames last s answers fits.
     let none = c.in-None.ensures s.ids fits.ids in
-    c.close_log.ensures.stands frames s answers (ids_fit _ s fits _ s.ids none.1)
+    c.close_log.ensures.stands frames last s answers (ids_fit _ s fits _ s.ids none.1)
     (none_open s none.0)

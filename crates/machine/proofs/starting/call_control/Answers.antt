@@ -4,9 +4,10 @@ use Rattle.control.specs.Commands.{does, named}
 use Rattle.control.specs.View.{control_of}
 use Rattle.machine.specs.Frames.{left_of, stack}
 use Rattle.machine.specs.Phases.{Leads}
-use Rattle.machine.proofs.Held.{command_none, command_other, command_runs, other_none, taken_apart}
+use Rattle.steps.proofs.Named.{command_none, command_other, command_runs, other_none, taken_apart}
 use Rattle.machine.proofs.Machines.{leads_from}
-use Rattle.machine.proofs.Silent.{same_goes, same_left, then_goes}
+use Rattle.machine.proofs.Silent.{same_left}
+use Rattle.steps.proofs.Leads.Silent.{same_goes, then_goes}
 use Rattle.runs.specs.Commands.{command}
 use Rattle.state.specs.Prelude.{FitsState}
 use Rattle.state.specs.declared.leaf.Leaf.TheVariants as leaf
@@ -14,14 +15,18 @@ use Rattle.tclstate.specs.Pairs.{found}
 use Rattle.machine.proofs.starting.call_control.Goals as goal
 
 pub returns-in_default-clause-leads : goal.returns-in_default-clause-leads
-returns-in_default-clause-leads g c = λ s fits.
+returns-in_default-clause-leads g c = λ last s fits.
     let words = c.args.words.now in
     let zero : length words ≡ 0 = search (rules, arith) in
-    let none = no_word words zero in
-    (command_none c.args.levels words s none ∙ sym (other_none c.args.levels words s none), fits, refl)
+    let none = no_word words zero in (
+      command_none c.args.levels words s none ∙ sym
+          (other_none c.args.levels words s none),
+      fits,
+      refl,
+    )
 
 pub returns-in-Some-clause-leads : goal.returns-in-Some-clause-leads
-returns-in-Some-clause-leads g c = λ s fits.
+returns-in-Some-clause-leads g c = λ last s fits.
     let old = stack c.args.frames.now in
     let new = stack c.call_procedure.new.frames in
     let state = c.call_procedure.new.state in
@@ -34,12 +39,13 @@ returns-in-Some-clause-leads g c = λ s fits.
     c.as_slice-name.ensures in
     let leads = subst (λ r. MatchOption r
     ((found s.procedures name ≡ None) × FitsState state s × (new ≡ old))
-    (λ outcome. Leads (leaf.Has outcome) new state (left_of (command levels s (name ∷ args)) old)))
-    c.in-Some.is (c.in_ok-outcome.ensures.leads s fits) in
-    leads_from new state (same_left old (ap (λ ws. command levels s ws) split)) leads
+    (λ outcome. Leads last (leaf.Has outcome) new state (left_of last (command levels s
+    (name ∷ args)) old)))
+    c.in-Some.is (c.in_ok-outcome.ensures.leads last s fits) in
+    leads_from last new state (same_left last old (ap (λ ws. command levels s ws) split)) leads
 
 pub returns-in-None-clause-leads : goal.returns-in-None-clause-leads
-returns-in-None-clause-leads g c = λ s fits.
+returns-in-None-clause-leads g c = λ last s fits.
     let old = stack c.args.frames.now in
     let new = stack c.call_procedure.new.frames in
     let state = c.call_procedure.new.state in
@@ -52,14 +58,15 @@ returns-in-None-clause-leads g c = λ s fits.
     c.as_slice-name.ensures in
     let kept = subst (λ r. MatchOption r
     ((found s.procedures name ≡ None) × FitsState state s × (new ≡ old))
-    (λ outcome. Leads (leaf.Has outcome) new state (left_of (command levels s (name ∷ args)) old)))
-    c.in_default-2.is (c.in_ok-outcome.ensures.leads s fits) in
+    (λ outcome. Leads last (leaf.Has outcome) new state (left_of last (command levels s
+    (name ∷ args)) old)))
+    c.in_default-2.is (c.in_ok-outcome.ensures.leads last s fits) in
     let none : named name ≡ None = sym c.in-None.ensures in
     (command_other levels words s name args split kept.0 none, kept.1, kept.2)
 
 pub returns-in_ok-begin_control-in-Some-read-clause-leads :
     goal.returns-in_ok-begin_control-in-Some-read-clause-leads
-returns-in_ok-begin_control-in-Some-read-clause-leads g c = λ s fits.
+returns-in_ok-begin_control-in-Some-read-clause-leads g c = λ last s fits.
     let old = stack c.args.frames.now in
     let new = stack c.call_procedure.new.frames in
     let state = c.call_procedure.new.state in
@@ -73,10 +80,12 @@ returns-in_ok-begin_control-in-Some-read-clause-leads g c = λ s fits.
     c.as_slice-name.ensures in
     let kept = subst (λ r. MatchOption r
     ((found s.procedures name ≡ None) × FitsState state s × (new ≡ old))
-    (λ outcome. Leads (leaf.Has outcome) new state (left_of (command levels s (name ∷ args)) old)))
-    c.in_default-2.is (c.in_ok-outcome.ensures.leads s fits) in
+    (λ outcome. Leads last (leaf.Has outcome) new state (left_of last (command levels s
+    (name ∷ args)) old)))
+    c.in_default-2.is (c.in_ok-outcome.ensures.leads last s fits) in
     let known : named name ≡ Some control = sym c.in-Some-read.ensures in
-    leads_from _ _
-    (then_goes (same_left old (command_runs levels words s name args split kept.0 control known))
-    (same_goes (ap (λ fs. left_of (does control levels args s) fs) (sym kept.2))))
-    (c.in_ok-begin_control-in-Some-read.ensures.leads s kept.1)
+    leads_from last _ _
+    (then_goes (same_left last old
+    (command_runs levels words s name args split kept.0 control known))
+    (same_goes (ap (λ fs. left_of last (does control levels args s) fs) (sym kept.2))))
+    (c.in_ok-begin_control-in-Some-read.ensures.leads last s kept.1)

@@ -1,116 +1,110 @@
-use Rattle.std.proofs.Common.{◌≡◌, ◌∙◌, ◌<◌, ◌-◌, arith, length, rules, refl, sym, subst}
-use Rattle.state.specs.Prelude.{Status, outcome_of}
-use Rattle.state.specs.View.{no_ids}
-use Rattle.steps.specs.Does.{Arrives}
-use Rattle.steps.specs.Follows.{Follows, Resumes}
-use Rattle.steps.specs.Handling.{resumed}
-use Rattle.steps.specs.Spot.{Went}
-use Rattle.steps.specs.View.{did_of, spot_of, with_parts}
+use Rattle.std.proofs.Common.{◌≡◌, ◌∙◌, ◌≤◌, ◌<◌, MatchOption, refl, subst, sym, arith}
+use Rattle.runs.specs.Commands.{command}
+use Rattle.state.specs.Prelude.{FitsState, outcome_of}
+use Rattle.steps.specs.Goes.{here}
+use Rattle.steps.specs.Run.{HasStopped, IsDone}
 use Rattle.steps.specs.declared.progress.Progress.TheVariants as went
-use Rattle.steps.proofs.Goes.{goes_on}
-use Rattle.steps.proofs.Handlers.{IsBegun, none_begins}
-use Rattle.steps.proofs.Leads.Resumed.{resumes_so}
-use Rattle.steps.proofs.Measure.{command_falls}
-use Rattle.steps.proofs.Runs.{arrives_follow, same_parts}
+use Rattle.steps.proofs.AtOnce.{done_stands, fewer_commands, stops_after}
+use Rattle.steps.proofs.Goes.{begins}
 use Rattle.steps.proofs.run.Run.go_on.Goals as goal
+
+pub commands-init : goal.commands-init
+commands-init g c = record {
+  stands = λ last next s fits awaits. record {
+    next = next;
+    status = s;
+    fits = fits;
+    awaits = awaits;
+    goes = here;
+  };
+  left = omega arith;
+  fewer = omega arith;
+  onward = λ same. omega arith;
+}
 
 pub returns-then-ne-clause-stops : goal.returns-then-ne-clause-stops
 returns-then-ne-clause-stops g c = λ last next s fits awaits.
-    let code = c.args.self.now.code.value.items in
-    let outcome = outcome_of c.args.outcome in
+    let stood = c.commands.invariant.stands last next s fits awaits in
+    stops_after last c.in_ok-progress.progress c.reach_command.new.self c.reach_command.new.state
+    (next s (outcome_of c.args.outcome))
+    (stood.next stood.status (outcome_of c.commands.outcome)) stood.goes
+    (c.in_ok-progress.ensures.stops last stood.next stood.status stood.fits stood.awaits)
+
+pub returns-in-None-clause-stops : goal.returns-in-None-clause-stops
+returns-in-None-clause-stops g c = λ last next s fits awaits.
+    let run = c.reach_command.new.self in
+    let stood = c.commands.invariant.stands last next s fits awaits in
+    let begun : c.in_ok-progress.progress ≡ went.Begins =
+    begins c.in_ok-progress.progress (sym c.ne.ensures ∙ c.if-ne.false) in
+    let stopped = stops_after last went.Begins run c.reach_command.new.state
+    (next s (outcome_of c.args.outcome))
+    (stood.next stood.status (outcome_of c.commands.outcome)) stood.goes
+    (subst (λ progress. HasStopped last progress run c.reach_command.new.state
+    (stood.next stood.status (outcome_of c.commands.outcome))) begun
+    (c.in_ok-progress.ensures.stops last stood.next stood.status stood.fits stood.awaits)) in
     record {
-      status = s;
-      fits = fits;
-      stops = search rules;
-      follows = subst (λ did. Follows code last did (next s outcome))
-          (sym (c.in_ok-progress.ensures.does s))
-          (resumes_so code last _ (next s outcome) (awaits s outcome));
+      status = stopped.status;
+      fits = subst (λ done. MatchOption done (FitsState c.perform.new.state stopped.status)
+          (λ outcome. IsDone (command run.spot.levels stopped.status c.deref.result.now) outcome
+          c.perform.new.state)) c.in-None.is
+          (c.in_ok-done.ensures.done run.spot.levels stopped.status stopped.fits);
+      stops = stopped.stops;
+      follows = stopped.follows;
     }
 
--- where an outcome leads no command begins
-pub returns-then-ne-clause-onward : goal.returns-then-ne-clause-onward
-returns-then-ne-clause-onward g c = λ begun same.
-    let state = c.args.state.now in
-    let s : Status = record {
-      scopes = state.scopes;
-      procedures = state.procs;
-      ids = no_ids;
-      log = state.log;
-      left = state.left;
-    } in
-    absurd (none_begins (spot_of c.args.self.now.spot) (outcome_of c.args.outcome) s
-    (subst IsBegun (c.in_ok-progress.ensures.does s)
-    (subst (λ progress. IsBegun (did_of progress c.resume.new.spot s)) (sym begun) tt)))
+pub returns-in-None-clause-falls : goal.returns-in-None-clause-falls
+returns-in-None-clause-falls g c = λ is.
+    let run = c.reach_command.new.self in
+    let begun : c.in_ok-progress.progress ≡ went.Begins =
+    begins c.in_ok-progress.progress (sym c.ne.ensures ∙ c.if-ne.false) in
+    let less = c.in_ok-progress.ensures.falls begun in
+    let fewer = fewer_commands run c.reach_command.new.state.left c.perform.new.state.left
+    c.perform.ensures.left in
+    omega (arith, less, fewer, c.commands.invariant.fewer)
 
-pub returns-then-ne-clause-falls : goal.returns-then-ne-clause-falls
-returns-then-ne-clause-falls g c = λ begun.
-    let state = c.args.state.now in
-    let s : Status = record {
-      scopes = state.scopes;
-      procedures = state.procs;
-      ids = no_ids;
-      log = state.log;
-      left = state.left;
-    } in
-    absurd (none_begins (spot_of c.args.self.now.spot) (outcome_of c.args.outcome) s
-    (subst IsBegun (c.in_ok-progress.ensures.does s)
-    (subst (λ progress. IsBegun (did_of progress c.resume.new.spot s)) (sym begun) tt)))
-
-pub returns-clause-stops : goal.returns-clause-stops
-returns-clause-stops g c = λ last next s fits awaits.
-    let code = c.args.self.now.code.value.items in
-    let state = c.args.state.now in
-    let outcome = outcome_of c.args.outcome in
-    let mid = spot_of c.resume.new.spot in
-    let goes : c.in_ok-progress.progress ≡ went.GoesOn =
-    goes_on c.in_ok-progress.progress (sym c.ne.ensures ∙ c.if-ne.false) in
-    let led : Went mid s ≡ resumed (spot_of c.args.self.now.spot) outcome s =
-    subst (λ progress. did_of progress c.resume.new.spot s
-    ≡ resumed (spot_of c.args.self.now.spot) outcome s) goes (c.in_ok-progress.ensures.does s) in
-    let rest : Resumes code last (Went mid s) (next s outcome) =
-    subst (λ did. Resumes code last did (next s outcome)) (sym led) (awaits s outcome) in
-    let is_code : c.deref-2.result.now ≡ code = search rules in
-    let parts = with_parts c.advance.new.scopes state.procs c.advance.new.left s in
-    let did = did_of c.in_ok-advance.field-0 c.advance.new.spot parts in
-    let from = with_parts state.scopes state.procs state.left s in
-    let came : Arrives code mid from did =
-    subst (λ items. Arrives items mid from did) is_code (c.in_ok-advance.ensures.arrives s) in
+pub commands-preserved : goal.commands-preserved
+commands-preserved g c =
+    let run = c.reach_command.new.self in
+    let begun : c.in_ok-progress.progress ≡ went.Begins =
+    begins c.in_ok-progress.progress (sym c.ne.ensures ∙ c.if-ne.false) in
+    let before = c.commands.invariant in
+    let less = c.in_ok-progress.ensures.falls begun in
+    let fewer = fewer_commands run c.reach_command.new.state.left c.perform.new.state.left
+    c.perform.ensures.left in
     record {
-      status = parts;
-      fits = record {
-        scopes = refl;
-        procedures = refl;
-        ids = fits.ids;
-        log = fits.log;
-        left = refl;
-      };
-      stops = c.in_ok-advance.ensures.stops;
-      follows = arrives_follow code last mid s from did (next s outcome)
-          (same_parts s state.scopes state.procs state.left fits.scopes fits.procedures fits.left)
-          rest came;
+      stands = λ last next s fits awaits.
+          let stood = before.stands last next s fits awaits in
+          let stopped = stops_after last went.Begins run c.reach_command.new.state
+          (next s (outcome_of c.args.outcome))
+          (stood.next stood.status (outcome_of c.commands.outcome)) stood.goes
+          (subst (λ progress. HasStopped last progress run c.reach_command.new.state
+          (stood.next stood.status (outcome_of c.commands.outcome))) begun
+          (c.in_ok-progress.ensures.stops last stood.next stood.status stood.fits stood.awaits)) in
+          done_stands last run c.reach_command.new.state c.perform.new.state c.in-Some.done
+          (next s (outcome_of c.args.outcome)) stopped
+          (subst (λ ws. IsDone (command run.spot.levels stopped.status ws) c.in-Some.done
+          c.perform.new.state) c.deref.ensures.value
+          (subst (λ done. MatchOption done (FitsState c.perform.new.state stopped.status)
+          (λ outcome. IsDone (command run.spot.levels stopped.status c.deref.result.now) outcome
+          c.perform.new.state)) c.in-Some.is
+          (c.in_ok-done.ensures.done run.spot.levels stopped.status stopped.fits)));
+      left = omega (arith, c.in_ok-progress.ensures.left, c.perform.ensures.left, before.left);
+      fewer = omega (arith, less, fewer, before.fewer);
+      onward = λ same.
+          let one : c.reach_command.new.state.left ≡ c.commands.state.left =
+          omega (arith, same, c.in_ok-progress.ensures.left, c.perform.ensures.left, before.left) in
+          let other : c.commands.state.left ≡ c.args.state.now.left =
+          omega (arith, same, c.in_ok-progress.ensures.left, c.perform.ensures.left, before.left) in
+          let on = c.in_ok-progress.ensures.onward begun one in
+          let was = before.onward other in
+          omega (arith, on, was);
     }
 
-pub returns-clause-onward : goal.returns-clause-onward
-returns-clause-onward g c = λ begun same.
-    let code = c.args.self.now.code.value.items in
-    let new = c.advance.new.spot.place in
-    let mid = c.resume.new.spot.place in
-    let is_code : c.deref-2.result.now ≡ code = search rules in
-    let fewer : length code - new < length code - mid =
-    subst (λ items. length items - new < length items - mid) is_code
-    (c.in_ok-advance.ensures.onward begun same) in
-    omega (arith, fewer, c.resume.ensures.place)
-
-pub returns-clause-falls : goal.returns-clause-falls
-returns-clause-falls g c = λ begun.
-    let code = c.args.self.now.code.value.items in
-    let old = c.args.self.now.spot.place in
-    let new = c.advance.new.spot.place in
-    let mid = c.resume.new.spot.place in
-    let is_code : c.deref-2.result.now ≡ code = search rules in
-    command_falls (length code) old new c.args.state.now.left c.advance.new.left
-    c.advance.ensures.ticks (λ same.
-    let fewer : length code - new < length code - mid =
-    subst (λ items. length items - new < length items - mid) is_code
-    (c.in_ok-advance.ensures.onward begun same) in
-    omega (arith, fewer, c.resume.ensures.place))
+pub commands-smaller : goal.commands-smaller
+commands-smaller g c =
+    let begun : c.in_ok-progress.progress ≡ went.Begins =
+    begins c.in_ok-progress.progress (sym c.ne.ensures ∙ c.if-ne.false) in
+    let less = c.in_ok-progress.ensures.falls begun in
+    let fewer = fewer_commands c.reach_command.new.self c.reach_command.new.state.left
+    c.perform.new.state.left c.perform.ensures.left in
+    omega (arith, less, fewer)

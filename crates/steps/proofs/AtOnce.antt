@@ -1,0 +1,104 @@
+-- Commands that are over at once, in the run of a code.
+use Rattle.std.proofs.Common.{◌≡◌, ℕ, ◌+◌, ◌*◌, ◌<◌, ◌≤◌, List, [], ◌∷◌, length, Option, None, Some, Result, false, refl, arith}
+use Rattle.std.specs.Prelude.{is_some}
+use Rattle.std.proofs.Math.Nat.{mul-le-mul_right}
+use Rattle.code.specs.declared.instruction.Instruction.{Instruction}
+use Rattle.commands.specs.Commands as plain
+use Rattle.control.specs.Commands.{named}
+use Rattle.expects.specs.Words.{named as form_of}
+use Rattle.plan.specs.Plan.{and_then, onward}
+use Rattle.runs.specs.Commands.{command}
+use Rattle.runs.specs.Ending.{Over as Ended}
+use Rattle.state.specs.Piece.{Text, Tree}
+use Rattle.state.specs.Prelude.{Course, Dialogue, IsTree, Outcome, Reaches, Status, FitsState, outcome_of}
+use Rattle.state.specs.Reaches as words_reach
+use Rattle.state.specs.declared.outcome.Leave.{Leave}
+use Rattle.state.specs.declared.state.State.{State}
+use Rattle.steps.specs.Follows.{Follows, Resumes}
+use Rattle.steps.specs.Goes.{Goes, here, reads}
+use Rattle.steps.specs.Handling.{resumed}
+use Rattle.steps.specs.Run.{Awaits, HasStopped, IsDone, most_commands}
+use Rattle.steps.specs.Spot.{Did, Went, Reads, Begins, Over, Stuck}
+use Rattle.steps.specs.View.{did_of, spot_of}
+use Rattle.steps.specs.declared.progress.Progress.{Progress}
+use Rattle.steps.specs.declared.progress.Progress.TheVariants as went
+use Rattle.steps.specs.declared.run.Run.{Run}
+use Rattle.steps.proofs.Leads.Silent.{then_goes}
+use Rattle.tclstate.specs.Pairs.{found}
+
+-- what is no procedure, runs no script and takes no branches is a plain command
+pub command_plain : (levels : ℕ) (s : Status) (name : List ℕ) (args : List (List ℕ)) →
+    found s.procedures name ≡ None → named name ≡ None → form_of name ≡ None →
+    command levels s (name ∷ args) ≡ plain.command s (name ∷ args)
+command_plain levels s name args undefined unknown unformed =
+    rw (undefined, unknown, unformed) refl
+
+-- a course that continues as another by reading texts does so with what follows it
+pub reaches_goes : {X : Type 0} {p q : Course} (next : Status → Outcome → Dialogue X) →
+    Reaches p q → Goes (and_then p (onward next)) (and_then q (onward next))
+reaches_goes next words_reach.here = here
+reaches_goes next (words_reach.reads tree is a) = reads tree is (reaches_goes next a)
+
+module _ {A X : Type 0} (code : List (Instruction A)) (last : Status → Outcome → Dialogue X) where
+  -- what an instruction did is what was left to be done before some silent steps
+  pub follows_after : (did : Did) (p q : Dialogue X) → Goes p q → Follows code last did q →
+      Follows code last did p
+  follows_after (Went spot s) p q goes comes = record {
+    then = comes.then;
+    goes = then_goes goes comes.goes;
+    at = comes.at;
+  }
+  follows_after (Reads text next) p q goes follows =
+      λ tree is. follows_after (next tree) p q goes (follows tree is)
+  follows_after (Begins words spot s) p q goes waits = record {
+    next = waits.next;
+    goes = then_goes goes waits.goes;
+    resumes = waits.resumes;
+  }
+  follows_after (Over outcome s) p q goes over = then_goes goes over
+  follows_after Stuck p q goes stuck = absurd stuck
+
+-- the run of a code has come to where it waits for an outcome: for some state of the definition
+-- that the code's state fits, the dialogue continues as what is left to be done with it
+pub record Stood {A : Type 0} (last : Status → Outcome → Dialogue Ended) (run : Run A)
+    (state : State A) (o : Outcome) (p : Dialogue Ended) : Type 0 where
+  pub next : Status → Outcome → Dialogue Ended
+  pub status : Status
+  pub fits : FitsState state status
+  pub awaits : Awaits last run next
+  pub goes : Goes p (next status o)
+
+module _ {A : Type 0} (last : Status → Outcome → Dialogue Ended) where
+  -- where it stops, it stops after all that was done before
+  pub stops_after : (progress : Progress) (run : Run A) (state : State A) (p q : Dialogue Ended) →
+      Goes p q → HasStopped last progress run state q → HasStopped last progress run state p
+  stops_after progress run state p q goes stopped = record {
+    status = stopped.status;
+    fits = stopped.fits;
+    stops = stopped.stops;
+    follows = follows_after run.code.value.items last (did_of progress run.spot stopped.status) p q
+        goes stopped.follows;
+  }
+
+  -- a command is over at once, and the run waits for its outcome no longer
+  pub done_stands : (run : Run A) (old new : State A) (done : Result (List ℕ) (Leave A))
+      (p : Dialogue Ended) → (stopped : HasStopped last went.Begins run old p) →
+      IsDone (command run.spot.levels stopped.status run.spot.words.items) done new →
+      Stood last run new (outcome_of done) p
+  done_stands run old new done p stopped over =
+      let waits = stopped.follows in
+      record {
+        next = waits.next;
+        status = over.status;
+        fits = over.fits;
+        awaits = λ t outcome. waits.resumes t outcome;
+        goes = then_goes waits.goes (reaches_goes waits.next over.reaches);
+      }
+
+-- with fewer ticks no more commands may begin
+pub fewer_commands : {A : Type 0} (run : Run A) (left now : ℕ) → now ≤ left →
+    most_commands run now ≤ most_commands run left
+fewer_commands run left now fewer =
+    let size = length run.code.value.items + 1 in
+    let product : now * size ≤ left * size = mul-le-mul_right size fewer in
+    omega (arith, product)

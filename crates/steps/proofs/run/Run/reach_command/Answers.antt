@@ -1,0 +1,97 @@
+use Rattle.std.proofs.Common.{◌≡◌, ◌∙◌, ◌<◌, ◌-◌, arith, length, rules, refl, sym, subst}
+use Rattle.state.specs.Prelude.{outcome_of}
+use Rattle.steps.specs.Does.{Arrives}
+use Rattle.steps.specs.Follows.{Follows, Resumes}
+use Rattle.steps.specs.Handling.{resumed}
+use Rattle.steps.specs.Spot.{Went}
+use Rattle.steps.specs.View.{did_of, spot_of, with_parts}
+use Rattle.steps.specs.declared.progress.Progress.TheVariants as went
+use Rattle.steps.proofs.Goes.{goes_on}
+use Rattle.steps.proofs.Handlers.{leads_nowhere}
+use Rattle.steps.proofs.Leads.Resumed.{resumes_so}
+use Rattle.steps.proofs.Measure.{command_falls}
+use Rattle.steps.proofs.Runs.{arrives_follow, same_parts}
+use Rattle.steps.proofs.run.Run.reach_command.Goals as goal
+
+pub returns-then-ne-clause-stops : goal.returns-then-ne-clause-stops
+returns-then-ne-clause-stops g c = λ last next s fits awaits.
+    let code = c.args.self.now.code.value.items in
+    let outcome = outcome_of c.args.outcome in
+    record {
+      status = s;
+      fits = fits;
+      stops = search rules;
+      follows = subst (λ did. Follows code last did (next s outcome))
+          (sym (c.in_ok-progress.ensures.does s))
+          (resumes_so code last _ (next s outcome) (awaits s outcome));
+    }
+
+-- where an outcome leads no command begins
+pub returns-then-ne-clause-onward : goal.returns-then-ne-clause-onward
+returns-then-ne-clause-onward g c = λ begun same.
+    absurd (leads_nowhere c.in_ok-progress.progress c.resume.new.spot
+    (spot_of c.args.self.now.spot) (outcome_of c.args.outcome) c.in_ok-progress.ensures.does begun)
+
+pub returns-then-ne-clause-falls : goal.returns-then-ne-clause-falls
+returns-then-ne-clause-falls g c = λ begun.
+    absurd (leads_nowhere c.in_ok-progress.progress c.resume.new.spot
+    (spot_of c.args.self.now.spot) (outcome_of c.args.outcome) c.in_ok-progress.ensures.does begun)
+
+pub returns-clause-stops : goal.returns-clause-stops
+returns-clause-stops g c = λ last next s fits awaits.
+    let code = c.args.self.now.code.value.items in
+    let state = c.args.state.now in
+    let outcome = outcome_of c.args.outcome in
+    let mid = spot_of c.resume.new.spot in
+    let goes : c.in_ok-progress.progress ≡ went.GoesOn =
+    goes_on c.in_ok-progress.progress (sym c.ne.ensures ∙ c.if-ne.false) in
+    let led : Went mid s ≡ resumed (spot_of c.args.self.now.spot) outcome s =
+    subst (λ progress. did_of progress c.resume.new.spot s
+    ≡ resumed (spot_of c.args.self.now.spot) outcome s) goes (c.in_ok-progress.ensures.does s) in
+    let rest : Resumes code last (Went mid s) (next s outcome) =
+    subst (λ did. Resumes code last did (next s outcome)) (sym led) (awaits s outcome) in
+    let is_code : c.deref-2.result.now ≡ code = search rules in
+    let parts = with_parts c.advance.new.scopes state.procs c.advance.new.left s in
+    let did = did_of c.in_ok-advance.field-0 c.advance.new.spot parts in
+    let from = with_parts state.scopes state.procs state.left s in
+    let came : Arrives code mid from did =
+    subst (λ items. Arrives items mid from did) is_code (c.in_ok-advance.ensures.arrives s) in
+    record {
+      status = parts;
+      fits = record {
+        scopes = refl;
+        procedures = refl;
+        ids = fits.ids;
+        log = fits.log;
+        left = refl;
+      };
+      stops = c.in_ok-advance.ensures.stops;
+      follows = arrives_follow code last mid s from did (next s outcome)
+          (same_parts s state.scopes state.procs state.left fits.scopes fits.procedures fits.left)
+          rest came;
+    }
+
+pub returns-clause-onward : goal.returns-clause-onward
+returns-clause-onward g c = λ begun same.
+    let code = c.args.self.now.code.value.items in
+    let new = c.advance.new.spot.place in
+    let mid = c.resume.new.spot.place in
+    let is_code : c.deref-2.result.now ≡ code = search rules in
+    let fewer : length code - new < length code - mid =
+    subst (λ items. length items - new < length items - mid) is_code
+    (c.in_ok-advance.ensures.onward begun same) in
+    omega (arith, fewer, c.resume.ensures.place)
+
+pub returns-clause-falls : goal.returns-clause-falls
+returns-clause-falls g c = λ begun.
+    let code = c.args.self.now.code.value.items in
+    let old = c.args.self.now.spot.place in
+    let new = c.advance.new.spot.place in
+    let mid = c.resume.new.spot.place in
+    let is_code : c.deref-2.result.now ≡ code = search rules in
+    command_falls (length code) old new c.args.state.now.left c.advance.new.left
+    c.advance.ensures.ticks (λ same.
+    let fewer : length code - new < length code - mid =
+    subst (λ items. length items - new < length items - mid) is_code
+    (c.in_ok-advance.ensures.onward begun same) in
+    omega (arith, fewer, c.resume.ensures.place))
