@@ -1,6 +1,5 @@
 -- Commands that are over at once, in the run of a code.
-use Rattle.std.proofs.Common.{◌≡◌, ℕ, ◌+◌, ◌*◌, ◌<◌, ◌≤◌, List, [], ◌∷◌, length, Option, None, Some, Result, false, refl, arith}
-use Rattle.std.specs.Prelude.{is_some}
+use Rattle.std.proofs.Common.{◌≡◌, ◌≢◌, ℕ, ◌+◌, ◌*◌, ◌≤◌, List, ◌∷◌, length, None, Result, refl, sym, subst, arith}
 use Rattle.std.proofs.Math.Nat.{mul-le-mul_right}
 use Rattle.code.specs.declared.instruction.Instruction.{Instruction}
 use Rattle.commands.specs.Commands as plain
@@ -9,20 +8,20 @@ use Rattle.expects.specs.Words.{named as form_of}
 use Rattle.plan.specs.Plan.{and_then, onward}
 use Rattle.runs.specs.Commands.{command}
 use Rattle.runs.specs.Ending.{Over as Ended}
-use Rattle.state.specs.Piece.{Text, Tree}
-use Rattle.state.specs.Prelude.{Course, Dialogue, IsTree, Outcome, Reaches, Status, FitsState, outcome_of}
+use Rattle.state.specs.Prelude.{Course, Dialogue, Outcome, Reaches, Status, FitsState, outcome_of}
 use Rattle.state.specs.Reaches as words_reach
 use Rattle.state.specs.declared.outcome.Leave.{Leave}
 use Rattle.state.specs.declared.state.State.{State}
 use Rattle.steps.specs.Follows.{Follows, Resumes}
 use Rattle.steps.specs.Goes.{Goes, here, reads}
 use Rattle.steps.specs.Handling.{resumed}
-use Rattle.steps.specs.Run.{Awaits, HasStopped, IsDone, most_commands}
+use Rattle.steps.specs.Run.{Awaits, HasCome, HasStopped, IsDone, most_commands}
 use Rattle.steps.specs.Spot.{Did, Went, Reads, Begins, Over, Stuck}
-use Rattle.steps.specs.View.{did_of, spot_of}
+use Rattle.steps.specs.View.{below_words, did_of, spot_of, words_of}
 use Rattle.steps.specs.declared.progress.Progress.{Progress}
 use Rattle.steps.specs.declared.progress.Progress.TheVariants as went
 use Rattle.steps.specs.declared.run.Run.{Run}
+use Rattle.steps.specs.declared.spot.Spot.{Spot}
 use Rattle.steps.proofs.Leads.Silent.{then_goes}
 use Rattle.tclstate.specs.Pairs.{found}
 
@@ -69,36 +68,71 @@ pub record Stood {A : Type 0} (last : Status → Outcome → Dialogue Ended) (ru
   pub goes : Goes p (next status o)
 
 module _ {A : Type 0} (last : Status → Outcome → Dialogue Ended) where
-  -- where it stops, it stops after all that was done before
-  pub stops_after : (progress : Progress) (run : Run A) (state : State A) (p q : Dialogue Ended) →
-      Goes p q → HasStopped last progress run state q → HasStopped last progress run state p
-  stops_after progress run state p q goes stopped = record {
-    status = stopped.status;
-    fits = stopped.fits;
-    stops = stopped.stops;
-    follows = follows_after run.code.value.items last (did_of progress run.spot stopped.status) p q
-        goes stopped.follows;
+  -- where it comes to, it comes to after all that was done before
+  pub comes_after : (progress : Progress) (run : Run A) (state : State A) (p q : Dialogue Ended) →
+      Goes p q → HasCome last progress run state q → HasCome last progress run state p
+  comes_after progress run state p q goes came = record {
+    status = came.status;
+    fits = came.fits;
+    stops = came.stops;
+    follows = follows_after run.code.value.items last (did_of progress run.spot came.status) p q
+        goes came.follows;
   }
 
+  -- where no command begins it has stopped there
+  pub over_stops : (progress : Progress) (run : Run A) (state : State A) (p : Dialogue Ended) →
+      progress ≢ went.Begins → HasCome last progress run state p →
+      HasStopped last progress run state p
+  over_stops went.GoesOn run state p other came = absurd (came.stops refl)
+  over_stops went.Begins run state p other came = absurd (other refl)
+  over_stops went.Over run state p other came = record {
+    status = came.status;
+    fits = came.fits;
+    stops = came.stops;
+    follows = came.follows;
+  }
+  over_stops went.Stuck run state p other came = absurd came.follows
+
+  -- and where one begins, once its words are taken off the operands
+  pub begun_stops : (run : Run A) (spot : Spot A) (old new : State A) (p : Dialogue Ended) →
+      (came : HasCome last went.Begins run old p) → FitsState new came.status →
+      spot.words.items ≡ words_of run.spot → spot_of spot ≡ below_words run.spot →
+      HasStopped last went.Begins (record run { spot = spot }) new p
+  begun_stops run spot old new p came fits words stands =
+      let code = run.code.value.items in
+      record {
+        status = came.status;
+        fits = fits;
+        stops = came.stops;
+        follows = subst (λ ws. Follows code last (Begins ws (spot_of spot) came.status) p)
+            (sym words)
+            (subst (λ at. Follows code last (Begins (words_of run.spot) at came.status) p)
+            (sym stands) came.follows);
+      }
+
   -- a command is over at once, and the run waits for its outcome no longer
-  pub done_stands : (run : Run A) (old new : State A) (done : Result (List ℕ) (Leave A))
-      (p : Dialogue Ended) → (stopped : HasStopped last went.Begins run old p) →
-      IsDone (command run.spot.levels stopped.status run.spot.words.items) done new →
-      Stood last run new (outcome_of done) p
-  done_stands run old new done p stopped over =
-      let waits = stopped.follows in
+  pub done_stands : (run : Run A) (spot : Spot A) (old new : State A)
+      (done : Result (List ℕ) (Leave A)) (p : Dialogue Ended) →
+      (came : HasCome last went.Begins run old p) → spot_of spot ≡ below_words run.spot →
+      IsDone (command run.spot.levels came.status (words_of run.spot)) done new →
+      Stood last (record run { spot = spot }) new (outcome_of done) p
+  done_stands run spot old new done p came stands over =
+      let waits = came.follows in
       record {
         next = waits.next;
         status = over.status;
         fits = over.fits;
-        awaits = λ t outcome. waits.resumes t outcome;
+        awaits = λ t outcome. subst (λ at. Resumes run.code.value.items last
+            (resumed at outcome t) (waits.next t outcome)) (sym stands)
+            (waits.resumes t outcome);
         goes = then_goes waits.goes (reaches_goes waits.next over.reaches);
       }
 
--- with fewer ticks no more commands may begin
-pub fewer_commands : {A : Type 0} (run : Run A) (left now : ℕ) → now ≤ left →
-    most_commands run now ≤ most_commands run left
-fewer_commands run left now fewer =
+-- with fewer ticks no more commands may begin at the same place
+pub fewer_commands : {A : Type 0} (run : Run A) (spot : Spot A) (left now : ℕ) → now ≤ left →
+    spot.place ≡ run.spot.place →
+    most_commands (record run { spot = spot }) now ≤ most_commands run left
+fewer_commands run spot left now fewer place =
     let size = length run.code.value.items + 1 in
     let product : now * size ≤ left * size = mul-le-mul_right size fewer in
-    omega (arith, product)
+    omega (arith, product, place)

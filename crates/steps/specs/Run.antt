@@ -5,7 +5,7 @@ use Rattle.state.specs.declared.outcome.Leave.{Leave}
 use Rattle.state.specs.declared.state.State.{State}
 use Rattle.steps.specs.Follows.{Follows, Resumes}
 use Rattle.steps.specs.Handling.{resumed}
-use Rattle.steps.specs.View.{did_of, spot_of}
+use Rattle.steps.specs.View.{did_of, spot_of, stop_of}
 use Rattle.steps.specs.declared.progress.Progress.{Progress}
 use Rattle.steps.specs.declared.progress.Progress.TheVariants as went
 use Rattle.steps.specs.declared.run.Run.{Run}
@@ -37,10 +37,20 @@ module _ {A X : Type 0} (last : Status → Outcome → Dialogue X) where
       Resumes run.code.value.items last (resumed (spot_of run.spot) outcome s) (next s outcome)
 
   -- for some state of the definition that the code's state fits, the dialogue continues as the
+  -- command that begins by the words on top, without which the run awaits its outcome, or as what
+  -- is done last
+  pub record HasCome (progress : Progress) (run : Run A) (state : State A) (p : Dialogue X) :
+      Type 0 where
+    pub status : Status
+    pub fits : FitsState state status
+    pub stops : progress ≢ went.GoesOn
+    pub follows : Follows run.code.value.items last (did_of progress run.spot status) p
+
+  -- for some state of the definition that the code's state fits, the dialogue continues as the
   -- command that begins, whose outcome the run awaits, or as what is done last
   pub record HasStopped (progress : Progress) (run : Run A) (state : State A) (p : Dialogue X) :
       Type 0 where
     pub status : Status
     pub fits : FitsState state status
     pub stops : progress ≢ went.GoesOn
-    pub follows : Follows run.code.value.items last (did_of progress run.spot status) p
+    pub follows : Follows run.code.value.items last (stop_of progress run.spot status) p

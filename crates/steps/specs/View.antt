@@ -1,5 +1,5 @@
 -- What the values of the code stand for.
-use Rattle.std.specs.Prelude.{ℕ, List, Option, Some, None, map, reverse}
+use Rattle.std.specs.Prelude.{ℕ, List, Option, Some, None, drop, map, reverse, take}
 use Rattle.state.specs.Prelude.{Code, Leaves, Scopes, Status, outcome_of}
 use Rattle.steps.specs.Handling.{led}
 use Rattle.steps.specs.declared.handler.Handler as opened
@@ -30,13 +30,30 @@ spot_of spot = record {
   handlers = reverse (map handler_of spot.handlers.items);
 }
 
--- the result of an instruction: the run goes on, or has stopped there, where the words by which a
--- command begins lie, and the outcome of the code
+-- the words of a command that begins: all operands but those below them
+abbrev pub words_of : {A : Type 0} → coded.Spot A → List (List ℕ)
+words_of spot = drop spot.below spot.operands.items
+
+-- where the run stands without these words
+abbrev pub below_words : {A : Type 0} → coded.Spot A → Spot
+below_words spot = record (spot_of spot) {
+  operands = reverse (take spot.below spot.operands.items);
+}
+
+-- the result of an instruction: the run goes on; or a command begins by the words on top; or the
+-- code is over, with the outcome that lies there; or an operand is missing
 abbrev pub did_of : {A : Type 0} → Progress → coded.Spot A → Status → Did
 did_of went.GoesOn spot s = Went (spot_of spot) s
-did_of went.Begins spot s = Begins spot.words.items (spot_of spot) s
+did_of went.Begins spot s = Begins (words_of spot) (below_words spot) s
 did_of went.Over spot s = Over (outcome_of spot.outcome) s
 did_of went.Stuck spot s = Stuck
+
+-- the same where the words by which a command begins lie apart from the operands
+abbrev pub stop_of : {A : Type 0} → Progress → coded.Spot A → Status → Did
+stop_of went.GoesOn spot s = did_of went.GoesOn spot s
+stop_of went.Begins spot s = Begins spot.words.items (spot_of spot) s
+stop_of went.Over spot s = did_of went.Over spot s
+stop_of went.Stuck spot s = did_of went.Stuck spot s
 
 -- the code is not over after an instruction, and no operand was missing
 abbrev pub IsOpen : Progress → Type 0

@@ -55,8 +55,8 @@ fn begin_by_words<A: Allocator + Copy>(
         return Ok(Progress::Stuck);
     }
     spot.place = place;
-    spot.words = words_of(alloc, variables, list, body)?;
-    Ok(Progress::Begins)
+    let words = words_of(alloc, variables, list, body)?;
+    Ok(spot.begin_by(words)?)
 }
 
 /// Where a procedure hides a `foreach`, it begins by its words.

@@ -5,7 +5,8 @@
 pub enum Progress {
     /// It goes on with the instruction at its place.
     GoesOn,
-    /// A command begins by the words that lie in the spot; its value is to be put on top.
+    /// A command begins by its words, which lie on top, or, where `Run::go_on` answers this, in
+    /// `words`; its value is to be put on top.
     Begins,
     /// The code is over, with the outcome that lies in the spot.
     Over,

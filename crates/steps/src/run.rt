@@ -29,7 +29,7 @@ pub struct Run<A: Allocator> {
 }
 
 impl<A: Allocator + Copy> Run<A> {
-    ghost use Rattle.steps.specs.Run.{Awaits, HasStopped, most_commands, places_left};
+    ghost use Rattle.steps.specs.Run.{Awaits, HasCome, HasStopped, most_commands, places_left};
     ghost use Rattle.steps.specs.declared.progress.Progress.TheVariants as went;
 
     /// The run of a script's code of which nothing is done yet, in which this many levels may nest.
@@ -47,6 +47,7 @@ impl<A: Allocator + Copy> Run<A> {
                 marks: Vec::new(alloc),
                 levels,
                 handlers: Vec::new(alloc),
+                below: 0,
                 words: Vec::new(alloc),
                 outcome: Ok(Value::empty()),
             },
@@ -83,15 +84,21 @@ impl<A: Allocator + Copy> Run<A> {
             if progress != Progress::Begins {
                 return Ok(progress);
             }
-            match perform(alloc, state, &self.spot.words)? {
-                Some(done) => outcome = done,
-                None => return Ok(Progress::Begins),
+            match perform(alloc, state, self.spot.words_on_top())? {
+                Some(done) => {
+                    self.spot.drop_words();
+                    outcome = done;
+                }
+                None => {
+                    self.spot.take_words()?;
+                    return Ok(Progress::Begins);
+                }
             }
         }
     }
 
-    /// Hands in the outcome that the run waits for, and runs the code up to the next command, or to
-    /// the end.
+    /// Hands in the outcome that the run waits for, and runs the code up to the next command, whose
+    /// words are operands still, or to the end.
     fn reach_command(
         &mut self,
         alloc: A,
@@ -101,7 +108,7 @@ impl<A: Allocator + Copy> Run<A> {
         ensures stops { (last next : Status → Ending → Dialogue Over) (s : Status) →
             FitsState state.old s → Awaits last self.old next →
             IfOk result (λ progress.
-            HasStopped last progress self.new state.new (next s (outcome_of outcome))) }
+            HasCome last progress self.new state.new (next s (outcome_of outcome))) }
         ensures left { IfOk result (λ _. state.new.left ≤ state.old.left) }
         ensures onward { IfOk result (λ progress. progress ≡ went.Begins →
             state.new.left ≡ state.old.left → places_left self.new < places_left self.old) }

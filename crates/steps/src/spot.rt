@@ -1,11 +1,11 @@
 //! Where the run of a code stands, and how instructions change it.
 
-ghost use Rattle.std.specs.Prelude.{◌≡◌, ◌≤◌, ◌-◌, [], ◌∷◌, length, Some, IfOk};
+ghost use Rattle.std.specs.Prelude.{◌≡◌, ◌≤◌, ◌-◌, [], ◌∷◌, length, Some, IfOk, OnOk};
 ghost use Rattle.state.specs.Prelude.{Gives, Status, outcome_of};
 ghost use Rattle.steps.specs.Machine.{beginning, beginning_counted, counting, discarding, entering, joining, leaving, ticking};
 ghost use Rattle.steps.specs.Moves.{on_top};
-ghost use Rattle.steps.specs.Spot.{Over as is_over, Went as goes, beginning_at, with_top};
-ghost use Rattle.steps.specs.View.{IsOpen, did_of, spot_of, with_parts};
+ghost use Rattle.steps.specs.Spot.{Begins, Over as is_over, Went as goes, beginning_at, with_top};
+ghost use Rattle.steps.specs.View.{IsOpen, below_words, did_of, spot_of, with_parts, words_of};
 ghost use Rattle.steps.specs.declared.progress.Progress.TheVariants as went;
 
 use crate::handler::Handler;
@@ -29,7 +29,9 @@ pub struct Spot<A: Allocator> {
     pub levels: u8,
     /// The handlers of the turns of loops that are open, the innermost last.
     pub handlers: Vec<Handler, A>,
-    /// The words by which the last command began.
+    /// How many operands stand below the words of the command that begins.
+    pub below: usize,
+    /// The words by which the last command began that is not over at once.
     pub words: Vec<Value<A>, A>,
     /// The outcome of the code, once it is over.
     pub outcome: Outcome<A>,
@@ -51,6 +53,7 @@ impl<A: Allocator + Copy> Spot<A> {
             marks: Vec::new(alloc),
             levels,
             handlers: Vec::new(alloc),
+            below: 0,
             words: Vec::new(alloc),
             outcome: Ok(Value::empty()),
         })
@@ -170,38 +173,80 @@ impl<A: Allocator + Copy> Spot<A> {
     }
 
     /// Begins a command, whose words are all operands but this many.
-    pub fn begin(&mut self, below: usize) -> Result<Progress, NoMemory>
-        ensures does { (s : Status) → IfOk result (λ progress.
-            did_of progress self.new s ≡ beginning below (spot_of self.old) s) }
+    pub fn begin(&mut self, below: usize) -> Progress
+        ensures does { (s : Status) →
+            did_of result self.new s ≡ beginning below (spot_of self.old) s }
         ensures place { self.new.place ≡ self.old.place }
     {
         if self.operands.len() < below {
-            return Ok(Progress::Stuck);
+            return Progress::Stuck;
         }
-        self.words = self.operands.split_off(below)?;
-        Ok(Progress::Begins)
+        self.below = below;
+        Progress::Begins
     }
 
     /// Begins a command, whose words are this many operands.
-    pub fn begin_last(&mut self, n: usize) -> Result<Progress, NoMemory>
-        ensures does { (s : Status) → IfOk result (λ progress.
-            did_of progress self.new s
-            ≡ beginning (length (spot_of self.old).operands - n) (spot_of self.old) s) }
+    pub fn begin_last(&mut self, n: usize) -> Progress
+        ensures does { (s : Status) → did_of result self.new s
+            ≡ beginning (length (spot_of self.old).operands - n) (spot_of self.old) s }
         ensures place { self.new.place ≡ self.old.place }
     {
         let below = self.operands.len().saturating_sub(n);
-        Ok(self.begin(below)?)
+        self.begin(below)
     }
 
     /// Begins a command, whose words were counted.
-    pub fn begin_counted(&mut self) -> Result<Progress, NoMemory>
-        ensures does { (s : Status) → IfOk result (λ progress.
-            did_of progress self.new s ≡ beginning_counted (spot_of self.old) s) }
+    pub fn begin_counted(&mut self) -> Progress
+        ensures does { (s : Status) →
+            did_of result self.new s ≡ beginning_counted (spot_of self.old) s }
         ensures place { self.new.place ≡ self.old.place }
     {
         let Some(below) = self.marks.pop() else {
-            return Ok(Progress::Stuck);
+            return Progress::Stuck;
         };
-        Ok(self.begin(below)?)
+        self.begin(below)
+    }
+
+    /// Begins a command by words that are no operands yet.
+    pub(crate) fn begin_by(&mut self, mut words: Vec<Value<A>, A>) -> Result<Progress, NoMemory>
+        ensures does { (s : Status) → IfOk result (λ progress.
+            did_of progress self.new s ≡ Begins words.items (spot_of self.old) s) }
+        ensures place { self.new.place ≡ self.old.place }
+    {
+        self.below = self.operands.len();
+        self.operands.append(&mut words)?;
+        Ok(Progress::Begins)
+    }
+
+    /// The words of the command that begins.
+    pub(crate) fn words_on_top(&self) -> &[Value<A>]
+        ensures { result.now ≡ words_of self.now }
+    {
+        match self.operands.get(self.below..) {
+            Some(words) => words,
+            None => &[],
+        }
+    }
+
+    /// Drops the words of the command that begins.
+    pub(crate) fn drop_words(&mut self)
+        ensures stands { spot_of self.new ≡ below_words self.old }
+        ensures place { self.new.place ≡ self.old.place }
+    {
+        self.operands.truncate(self.below);
+    }
+
+    /// Takes the words of the command that begins off the operands.
+    ///
+    /// # Errors
+    /// `NoMemory` where memory is refused.
+    pub fn take_words(&mut self) -> Result<(), NoMemory>
+        ensures words { OnOk result (self.new.words.items ≡ words_of self.old) }
+        ensures stands { OnOk result (spot_of self.new ≡ below_words self.old) }
+        ensures place { self.new.place ≡ self.old.place }
+    {
+        let below = self.below.min(self.operands.len());
+        self.words = self.operands.split_off(below)?;
+        Ok(())
     }
 }

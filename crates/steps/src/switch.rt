@@ -118,8 +118,8 @@ fn begin_by_words<A: Allocator + Copy>(
         return Ok(Progress::Stuck);
     }
     spot.place = place;
-    spot.words = words_of(alloc, options, text, after)?;
-    Ok(Progress::Begins)
+    let words = words_of(alloc, options, text, after)?;
+    Ok(spot.begin_by(words)?)
 }
 
 /// Where the string on top is an option, the `switch` begins by its words.

@@ -121,10 +121,12 @@ pub(crate) fn commands_within(
     let mut shown = Vec::new(alloc);
     for _ in 0..20 {
         let progress = advance(alloc, code, &mut spot, &mut scopes, procs, &mut left)?;
-        show(&mut shown, progress, &spot)?;
         if progress != Progress::Begins {
+            show(&mut shown, progress, &spot)?;
             return Ok(shown);
         }
+        spot.take_words()?;
+        show(&mut shown, progress, &spot)?;
         let outcome = outcome_of(alloc, &spot.words, &mut counts)?;
         let progress = resume(&mut spot, outcome)?;
         if progress != Progress::GoesOn {

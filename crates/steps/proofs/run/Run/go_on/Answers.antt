@@ -1,10 +1,10 @@
-use Rattle.std.proofs.Common.{◌≡◌, ◌∙◌, ◌≤◌, ◌<◌, MatchOption, refl, subst, sym, arith}
+use Rattle.std.proofs.Common.{◌≡◌, ◌≢◌, ◌∙◌, MatchOption, rules, subst, sym, arith}
 use Rattle.runs.specs.Commands.{command}
 use Rattle.state.specs.Prelude.{FitsState, outcome_of}
 use Rattle.steps.specs.Goes.{here}
-use Rattle.steps.specs.Run.{HasStopped, IsDone}
+use Rattle.steps.specs.Run.{HasCome, IsDone}
 use Rattle.steps.specs.declared.progress.Progress.TheVariants as went
-use Rattle.steps.proofs.AtOnce.{done_stands, fewer_commands, stops_after}
+use Rattle.steps.proofs.AtOnce.{begun_stops, comes_after, done_stands, fewer_commands, over_stops}
 use Rattle.steps.proofs.Goes.{begins}
 use Rattle.steps.proofs.run.Run.go_on.Goals as goal
 
@@ -24,11 +24,14 @@ commands-init g c = record {
 
 pub returns-then-ne-clause-stops : goal.returns-then-ne-clause-stops
 returns-then-ne-clause-stops g c = λ last next s fits awaits.
+    let run = c.reach_command.new.self in
+    let progress = c.in_ok-progress.progress in
     let stood = c.commands.invariant.stands last next s fits awaits in
-    stops_after last c.in_ok-progress.progress c.reach_command.new.self c.reach_command.new.state
-    (next s (outcome_of c.args.outcome))
+    let other : progress ≢ went.Begins = search rules in
+    over_stops last progress run c.reach_command.new.state (next s (outcome_of c.args.outcome)) other
+    (comes_after last progress run c.reach_command.new.state (next s (outcome_of c.args.outcome))
     (stood.next stood.status (outcome_of c.commands.outcome)) stood.goes
-    (c.in_ok-progress.ensures.stops last stood.next stood.status stood.fits stood.awaits)
+    (c.in_ok-progress.ensures.stops last stood.next stood.status stood.fits stood.awaits))
 
 pub returns-in-None-clause-stops : goal.returns-in-None-clause-stops
 returns-in-None-clause-stops g c = λ last next s fits awaits.
@@ -36,21 +39,19 @@ returns-in-None-clause-stops g c = λ last next s fits awaits.
     let stood = c.commands.invariant.stands last next s fits awaits in
     let begun : c.in_ok-progress.progress ≡ went.Begins =
     begins c.in_ok-progress.progress (sym c.ne.ensures ∙ c.if-ne.false) in
-    let stopped = stops_after last went.Begins run c.reach_command.new.state
+    let came = comes_after last went.Begins run c.reach_command.new.state
     (next s (outcome_of c.args.outcome))
     (stood.next stood.status (outcome_of c.commands.outcome)) stood.goes
-    (subst (λ progress. HasStopped last progress run c.reach_command.new.state
+    (subst (λ progress. HasCome last progress run c.reach_command.new.state
     (stood.next stood.status (outcome_of c.commands.outcome))) begun
     (c.in_ok-progress.ensures.stops last stood.next stood.status stood.fits stood.awaits)) in
-    record {
-      status = stopped.status;
-      fits = subst (λ done. MatchOption done (FitsState c.perform.new.state stopped.status)
-          (λ outcome. IsDone (command run.spot.levels stopped.status c.deref.result.now) outcome
-          c.perform.new.state)) c.in-None.is
-          (c.in_ok-done.ensures.done run.spot.levels stopped.status stopped.fits);
-      stops = stopped.stops;
-      follows = stopped.follows;
-    }
+    begun_stops last run c.take_words.new.self c.reach_command.new.state c.perform.new.state
+    (next s (outcome_of c.args.outcome)) came
+    (subst (λ done. MatchOption done (FitsState c.perform.new.state came.status)
+    (λ outcome. IsDone (command run.spot.levels came.status c.words_on_top.result.now) outcome
+    c.perform.new.state)) c.in-None.is
+    (c.in_ok-done.ensures.done run.spot.levels came.status came.fits))
+    c.in_ok-take_words-in-None.ensures.words c.in_ok-take_words-in-None.ensures.stands
 
 pub returns-in-None-clause-falls : goal.returns-in-None-clause-falls
 returns-in-None-clause-falls g c = λ is.
@@ -58,8 +59,8 @@ returns-in-None-clause-falls g c = λ is.
     let begun : c.in_ok-progress.progress ≡ went.Begins =
     begins c.in_ok-progress.progress (sym c.ne.ensures ∙ c.if-ne.false) in
     let less = c.in_ok-progress.ensures.falls begun in
-    let fewer = fewer_commands run c.reach_command.new.state.left c.perform.new.state.left
-    c.perform.ensures.left in
+    let fewer = fewer_commands run c.take_words.new.self c.reach_command.new.state.left
+    c.perform.new.state.left c.perform.ensures.left c.take_words.ensures.place in
     omega (arith, less, fewer, c.commands.invariant.fewer)
 
 pub commands-preserved : goal.commands-preserved
@@ -69,25 +70,25 @@ commands-preserved g c =
     begins c.in_ok-progress.progress (sym c.ne.ensures ∙ c.if-ne.false) in
     let before = c.commands.invariant in
     let less = c.in_ok-progress.ensures.falls begun in
-    let fewer = fewer_commands run c.reach_command.new.state.left c.perform.new.state.left
-    c.perform.ensures.left in
+    let fewer = fewer_commands run c.drop_words.new.self c.reach_command.new.state.left
+    c.perform.new.state.left c.perform.ensures.left c.drop_words.ensures.place in
     record {
       stands = λ last next s fits awaits.
           let stood = before.stands last next s fits awaits in
-          let stopped = stops_after last went.Begins run c.reach_command.new.state
+          let came = comes_after last went.Begins run c.reach_command.new.state
           (next s (outcome_of c.args.outcome))
           (stood.next stood.status (outcome_of c.commands.outcome)) stood.goes
-          (subst (λ progress. HasStopped last progress run c.reach_command.new.state
+          (subst (λ progress. HasCome last progress run c.reach_command.new.state
           (stood.next stood.status (outcome_of c.commands.outcome))) begun
           (c.in_ok-progress.ensures.stops last stood.next stood.status stood.fits stood.awaits)) in
-          done_stands last run c.reach_command.new.state c.perform.new.state c.in-Some.done
-          (next s (outcome_of c.args.outcome)) stopped
-          (subst (λ ws. IsDone (command run.spot.levels stopped.status ws) c.in-Some.done
-          c.perform.new.state) c.deref.ensures.value
-          (subst (λ done. MatchOption done (FitsState c.perform.new.state stopped.status)
-          (λ outcome. IsDone (command run.spot.levels stopped.status c.deref.result.now) outcome
+          done_stands last run c.drop_words.new.self c.reach_command.new.state c.perform.new.state
+          c.in-Some.done (next s (outcome_of c.args.outcome)) came c.drop_words.ensures.stands
+          (subst (λ ws. IsDone (command run.spot.levels came.status ws) c.in-Some.done
+          c.perform.new.state) c.words_on_top.ensures
+          (subst (λ done. MatchOption done (FitsState c.perform.new.state came.status)
+          (λ outcome. IsDone (command run.spot.levels came.status c.words_on_top.result.now) outcome
           c.perform.new.state)) c.in-Some.is
-          (c.in_ok-done.ensures.done run.spot.levels stopped.status stopped.fits)));
+          (c.in_ok-done.ensures.done run.spot.levels came.status came.fits)));
       left = omega (arith, c.in_ok-progress.ensures.left, c.perform.ensures.left, before.left);
       fewer = omega (arith, less, fewer, before.fewer);
       onward = λ same.
@@ -97,7 +98,7 @@ commands-preserved g c =
           omega (arith, same, c.in_ok-progress.ensures.left, c.perform.ensures.left, before.left) in
           let on = c.in_ok-progress.ensures.onward begun one in
           let was = before.onward other in
-          omega (arith, on, was);
+          omega (arith, on, was, c.drop_words.ensures.place);
     }
 
 pub commands-smaller : goal.commands-smaller
@@ -105,6 +106,7 @@ commands-smaller g c =
     let begun : c.in_ok-progress.progress ≡ went.Begins =
     begins c.in_ok-progress.progress (sym c.ne.ensures ∙ c.if-ne.false) in
     let less = c.in_ok-progress.ensures.falls begun in
-    let fewer = fewer_commands c.reach_command.new.self c.reach_command.new.state.left
-    c.perform.new.state.left c.perform.ensures.left in
+    let fewer = fewer_commands c.reach_command.new.self c.drop_words.new.self
+    c.reach_command.new.state.left c.perform.new.state.left c.perform.ensures.left
+    c.drop_words.ensures.place in
     omega (arith, less, fewer)
