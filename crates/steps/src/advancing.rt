@@ -18,6 +18,7 @@ use tclstate::{Procs, Scopes};
 ///
 /// # Errors
 /// `NoMemory` where memory is refused.
+#[inline(never)]
 pub fn advance<A: Allocator + Copy>(
     alloc: A,
     code: &[Instruction<A>],

@@ -32,6 +32,7 @@ use tclstate::{Procs, Scopes};
 use tcltext::Value;
 
 /// Puts the value of a variable, or of an element, on top.
+#[inline(always)]
 fn read<A: Allocator + Copy>(
     alloc: A,
     spot: &mut Spot<A>,
@@ -171,6 +172,7 @@ fn jump_unhidden<A: Allocator + Copy>(
 }
 
 /// Does what an instruction says, where the next place is at hand.
+#[inline(always)]
 fn perform<A: Allocator + Copy>(
     alloc: A,
     instruction: &Instruction<A>,
@@ -238,6 +240,7 @@ fn perform<A: Allocator + Copy>(
 ///
 /// # Errors
 /// `NoMemory` where memory is refused.
+#[inline(always)]
 pub fn step<A: Allocator + Copy>(
     alloc: A,
     code: &[Instruction<A>],
