@@ -13,6 +13,7 @@ mod operating;
 mod progress;
 mod run;
 mod spot;
+mod stack;
 mod stepping;
 mod storing;
 mod switch;

@@ -9,12 +9,14 @@ use crate::handler::{Covered, Handler};
 use crate::handling::failed;
 use crate::progress::Progress;
 use crate::spot::Spot;
+use crate::stack::put_on;
 use acts::{NoMemory, Raise};
 use operators::{Operand, truth};
 use state::{Leave, Stop};
 use std::alloc::Allocator;
 
 /// A turn begins, where a tick is left: its body is next.
+#[inline(always)]
 pub fn begin_turn<A: Allocator + Copy>(
     spot: &mut Spot<A>,
     body: usize,
@@ -32,13 +34,14 @@ pub fn begin_turn<A: Allocator + Copy>(
         return Ok(spot.end(Err(Leave::Stopped(Stop::Limit))));
     }
     *left -= 1;
-    spot.handlers.push(Handler {
+    let handler = Handler {
         covers: Covered::Body(end),
         over: spot.place,
         operands: spot.operands.len(),
         marks: spot.marks.len(),
         levels: spot.levels,
-    })?;
+    };
+    put_on(&mut spot.handlers, handler)?;
     spot.place = body;
     Ok(Progress::GoesOn)
 }
@@ -81,7 +84,7 @@ pub fn begin_step<A: Allocator + Copy>(spot: &mut Spot<A>) -> Result<Progress, N
         return Ok(Progress::Stuck);
     };
     open.covers = Covered::Step;
-    spot.handlers.push(open)?;
+    put_on(&mut spot.handlers, open)?;
     Ok(Progress::GoesOn)
 }
 

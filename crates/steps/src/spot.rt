@@ -10,6 +10,7 @@ ghost use Rattle.steps.specs.declared.progress.Progress.TheVariants as went;
 
 use crate::handler::Handler;
 use crate::progress::Progress;
+use crate::stack::put_on;
 use memory::NoMemory;
 use state::{Leave, Outcome, Stop};
 use std::alloc::Allocator;
@@ -69,12 +70,13 @@ impl<A: Allocator + Copy> Spot<A> {
     }
 
     /// Puts a value on top.
+    #[inline(always)]
     pub fn put(&mut self, value: Value<A>) -> Result<Progress, NoMemory>
         ensures does { (s : Status) → IfOk result (λ progress.
             did_of progress self.new s ≡ goes (with_top value (spot_of self.old)) s) }
         ensures place { self.new.place ≡ self.old.place }
     {
-        self.operands.push(value)?;
+        put_on(&mut self.operands, value)?;
         Ok(Progress::GoesOn)
     }
 
@@ -144,7 +146,7 @@ impl<A: Allocator + Copy> Spot<A> {
             return Ok(Progress::Stuck);
         };
         let joined = bytes.append(alloc, value.as_slice())?;
-        self.operands.push(joined)?;
+        put_on(&mut self.operands, joined)?;
         Ok(Progress::GoesOn)
     }
 
