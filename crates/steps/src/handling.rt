@@ -1,6 +1,6 @@
 //! Where the outcome of a command, or the error of an instruction, leads.
 
-ghost use Rattle.std.specs.Prelude.{◌≡◌, ◌∷◌, ◌≤◌, [], decimal, option_copied, ℕ, List, Some, IfOk, OnOk};
+ghost use Rattle.std.specs.Prelude.{◌≡◌, ◌∷◌, ◌≤◌, [], decimal, option_copied, ℕ, List, Some, Err, IfOk, OnOk};
 ghost use Rattle.bodies.specs.Catch as catch;
 ghost use Rattle.state.specs.Prelude.{Fault as Failure, Status, flaw_of, outcome_of};
 ghost use Rattle.state.specs.Stores.{IsTold};
@@ -156,12 +156,26 @@ fn leave<A: Allocator + Copy>(
     }
 }
 
+/// Goes on after a command that has no value.
+#[inline(never)]
+fn leave_by<A: Allocator + Copy>(spot: &mut Spot<A>, way: Leave<A>) -> Result<Progress, NoMemory>
+    ensures does { (s : Status) → IfOk result (λ progress. did_of progress spot.new s
+        ≡ resumed (spot_of spot.old) (outcome_of (Err way)) s) }
+    ensures place { spot.old.place ≤ spot.new.place }
+{
+    match way {
+        Leave::Coded(code, value) => Ok(leave(spot, code, value)?),
+        Leave::Stopped(stop) => Ok(spot.end(Err(Leave::Stopped(stop)))),
+    }
+}
+
 /// Goes on after a command with this outcome: its value is put on top, and each other outcome goes
 /// to what takes it of all that is open: `break` and `continue` to the turn of a loop, and each to
 /// the script of a `catch`, but for a stop of the run. Where nothing takes it the code is over.
 ///
 /// # Errors
 /// `NoMemory` where memory is refused.
+#[inline(always)]
 pub fn resume<A: Allocator + Copy>(
     spot: &mut Spot<A>,
     outcome: Outcome<A>,
@@ -172,8 +186,7 @@ pub fn resume<A: Allocator + Copy>(
 {
     match outcome {
         Ok(value) => Ok(spot.put(value)?),
-        Err(Leave::Coded(code, value)) => Ok(leave(spot, code, value)?),
-        Err(Leave::Stopped(stop)) => Ok(spot.end(Err(Leave::Stopped(stop)))),
+        Err(way) => Ok(leave_by(spot, way)?),
     }
 }
 
