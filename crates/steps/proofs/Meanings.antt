@@ -1,18 +1,22 @@
 -- The results of functions of texts.
-use Rattle.std.proofs.Common.{◌≡◌, ℕ, List, Bool, true, false, Result, Ok, Err, MatchResult, refl, sym, ap, subst}
+use Rattle.std.proofs.Common.{◌≡◌, ◌∙◌, ℕ, List, Bool, true, false, Some, None, ℤ, FitsSigned, w64, to_z, of_z, Result, Ok, Err, MatchResult, refl, sym, ap, subst}
+use Rattle.std.proofs.lemmas.Int.{to_z-of_z}
 use Rattle.std.specs.Prelude.{IfErr}
+use Rattle.acts.specs.Flaw as flaw
 use Rattle.acts.specs.declared.raise.Raise.{Raise}
 use Rattle.acts.specs.declared.raise.Raise.TheVariants as raise
 use Rattle.meanings.specs.Meaning.{Answer, Comes, Meaning, Gives, Raises, Splits, Matches, flaw_of_list, truth}
+use Rattle.operators.specs.Number.{number_of}
 use Rattle.operators.specs.Truth.{truth_of}
+use Rattle.operators.specs.Value.{spelled}
 use Rattle.operators.specs.View.{IsNoTruth}
 use Rattle.state.specs.Piece.{ListText, TestText}
 use Rattle.state.specs.Prelude.{Fault, flaw_of, Status}
 use Rattle.steps.specs.Does.{Does, reads}
-use Rattle.steps.specs.Formulas.{deciding, on_meaning, on_split, on_truth}
+use Rattle.steps.specs.Formulas.{deciding, gives, on_meaning, on_split, on_truth, putting}
 use Rattle.steps.specs.Handling.{fails}
 use Rattle.steps.specs.Moves.{jumping}
-use Rattle.steps.specs.Spot.{Spot, Did, with_top}
+use Rattle.steps.specs.Spot.{Spot, Did, Went, with_top}
 use Rattle.steps.proofs.Does.{same_does}
 use Rattle.tcltext.specs.Flaw.{Flaw}
 
@@ -66,3 +70,23 @@ no_truth test fault text spot s next is told =
     let none : truth_of text ≡ Err (flaw_of fault) =
     subst (λ t. IfErr t (IsNoTruth text)) is told in
     sym (ap (λ r. on_truth r spot s next) none)
+
+-- the value of a numeral is its spelling
+pub numeral_put : (digits : List ℕ) (n : ℤ) (spot : Spot) (s : Status) →
+    number_of digits ≡ Some n → putting digits spot s ≡ Went (with_top digits spot) s
+numeral_put digits n spot s is = ap (λ o. gives (spelled o digits) spot s) is
+
+-- and where it has no number there is none
+pub numeral_fails : (digits : List ℕ) (spot : Spot) (s : Status) →
+    number_of digits ≡ None → putting digits spot s ≡ fails flaw.OutOfRange spot s
+numeral_fails digits spot s is = ap (λ o. gives (spelled o digits) spot s) is
+
+-- the number of a text as a register holds it
+pub in_bits : (text : List ℕ) (n : ℤ) → FitsSigned w64 n → number_of text ≡ Some n →
+    number_of text ≡ Some (to_z w64 (of_z w64 n))
+in_bits text n fits is = is ∙ ap (λ m. Some m) (sym (to_z-of_z w64 n fits))
+
+-- what is done with a truth value that is known
+pub known_truth : (text : List ℕ) (holds : Bool) (spot : Spot) (s : Status) (next : Bool → Did) →
+    truth_of text ≡ Ok holds → next holds ≡ on_truth (truth_of text) spot s next
+known_truth text holds spot s next is = sym (ap (λ r. on_truth r spot s next) is)

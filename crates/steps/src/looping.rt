@@ -1,7 +1,9 @@
 //! The instructions of loops.
 
 ghost use Rattle.std.specs.Prelude.{◌≡◌, ◌≤◌, true, IfOk};
+ghost use Rattle.operators.specs.Truth.{truth_of};
 ghost use Rattle.state.specs.Prelude.{Status};
+ghost use Rattle.steps.specs.Formulas.{on_truth};
 ghost use Rattle.steps.specs.Loops.{ending, stepping, turned, turning};
 ghost use Rattle.steps.specs.View.{did_of, spot_of, with_parts};
 
@@ -11,9 +13,10 @@ use crate::progress::Progress;
 use crate::spot::Spot;
 use crate::stack::put_on;
 use acts::{NoMemory, Raise};
-use operators::{Operand, truth};
+use operators::{Operand, holds, number_in, truth};
 use state::{Leave, Stop};
 use std::alloc::Allocator;
+use tcltext::Value;
 
 /// A turn begins, where a tick is left: its body is next.
 #[inline(always)]
@@ -46,6 +49,53 @@ pub fn begin_turn<A: Allocator + Copy>(
     Ok(Progress::GoesOn)
 }
 
+/// Begins a turn where a loop's test holds.
+#[inline(always)]
+fn turn_where<A: Allocator + Copy>(
+    spot: &mut Spot<A>,
+    holds: bool,
+    body: usize,
+    end: usize,
+    left: &mut u64,
+) -> Result<Progress, NoMemory>
+    ensures does { (s : Status) → IfOk result (λ progress.
+        did_of progress spot.new (with_parts s.scopes s.procedures left.new s)
+        ≡ turned body end holds (spot_of spot.old)
+        (with_parts s.scopes s.procedures left.old s)) }
+    ensures ticks { left.new ≤ left.old }
+    ensures place { left.new ≡ left.old → spot.new.place ≡ spot.old.place }
+{
+    if holds {
+        return Ok(begin_turn(spot, body, end, left)?);
+    }
+    Ok(Progress::GoesOn)
+}
+
+/// Begins a turn where a truth value is true that is no number.
+#[inline(never)]
+fn turn_by_word<A: Allocator + Copy>(
+    alloc: A,
+    spot: &mut Spot<A>,
+    word: Value<A>,
+    body: usize,
+    end: usize,
+    left: &mut u64,
+) -> Result<Progress, NoMemory>
+    ensures does { (s : Status) → IfOk result (λ progress.
+        did_of progress spot.new (with_parts s.scopes s.procedures left.new s)
+        ≡ on_truth (truth_of word) (spot_of spot.old)
+        (with_parts s.scopes s.procedures left.old s) (λ holds. turned body end holds
+        (spot_of spot.old) (with_parts s.scopes s.procedures left.old s))) }
+    ensures ticks { left.new ≤ left.old }
+    ensures place { left.new ≡ left.old → spot.old.place ≤ spot.new.place }
+{
+    match truth(alloc, &Operand::text(word)) {
+        Ok(holds) => Ok(turn_where(spot, holds, body, end, left)?),
+        Err(Raise::Fault(fault)) => Ok(failed(alloc, spot, fault)?),
+        Err(Raise::NoMemory(refusal)) => Err(refusal),
+    }
+}
+
 /// Drops the truth value of a loop's test, and begins a turn where it is true.
 pub fn turn<A: Allocator + Copy>(
     alloc: A,
@@ -63,11 +113,9 @@ pub fn turn<A: Allocator + Copy>(
     let Some(value) = spot.operands.pop() else {
         return Ok(Progress::Stuck);
     };
-    match truth(alloc, &Operand::text(value)) {
-        Ok(true) => Ok(begin_turn(spot, body, end, left)?),
-        Ok(false) => Ok(Progress::GoesOn),
-        Err(Raise::Fault(fault)) => Ok(failed(alloc, spot, fault)?),
-        Err(Raise::NoMemory(refusal)) => Err(refusal),
+    match number_in(&value) {
+        Some(n) => Ok(turn_where(spot, holds(n), body, end, left)?),
+        None => Ok(turn_by_word(alloc, spot, value, body, end, left)?),
     }
 }
 

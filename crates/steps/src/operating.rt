@@ -1,26 +1,30 @@
 //! The instructions of formulas.
 
-ghost use Rattle.std.specs.Prelude.{◌≡◌, ◌≤◌, ◌-◌, ◌∷◌, length, map, IfOk};
+ghost use Rattle.std.specs.Prelude.{◌≡◌, ◌≤◌, ◌-◌, ◌∷◌, length, map, Err, IfOk, if◌then◌else◌};
+ghost use Rattle.acts.specs.Flaw as flaw;
 ghost use Rattle.evaluation.specs.Evaluated.{told as told_of};
 ghost use Rattle.meanings.specs.Meaning.{Meaning};
 ghost use Rattle.meanings.specs.View.{Answers};
 ghost use Rattle.operators.specs.Truth.{truth_of};
 ghost use Rattle.state.specs.Prelude.{Status};
 ghost use Rattle.steps.specs.Does.{Does};
-ghost use Rattle.steps.specs.Formulas.{calling, choosing, deciding, gives, joining_both, prefixing, putting, telling, unless as unless_of};
+ghost use Rattle.steps.specs.Formulas.{calling, choosing, deciding, gives, joining_both, on_truth, prefixing, putting, telling, unless as unless_of};
+ghost use Rattle.steps.specs.Handling.{fails};
 ghost use Rattle.steps.specs.Moves.{jumping};
+ghost use Rattle.steps.specs.Spot.{Went};
 ghost use Rattle.steps.specs.View.{did_of, spot_of};
 
 use crate::handling::failed;
 use crate::progress::Progress;
 use crate::spot::Spot;
-use acts::{NoMemory, Raise};
-use operators::{Operand, binary, call, truth, unary, written};
+use acts::{Fault, NoMemory, Raise};
+use operators::{Operand, binary, call, holds, number_in, truth, unary};
 use std::alloc::Allocator;
 use tclparse::{Binary, Function, Unary};
 use tcltext::Value;
 
 /// Puts the value of a function of texts on top, or fails with its error.
+#[inline(always)]
 fn settle<A: Allocator + Copy>(
     alloc: A,
     spot: &mut Spot<A>,
@@ -33,9 +37,38 @@ fn settle<A: Allocator + Copy>(
 {
     match value {
         Ok(value) => Ok(spot.put(value.into_text(alloc)?)?),
-        Err(Raise::Fault(fault)) => Ok(failed(alloc, spot, fault)?),
-        Err(Raise::NoMemory(refusal)) => Err(refusal),
+        Err(raise) => Ok(fail(alloc, spot, raise)?),
     }
+}
+
+/// Fails with the error of a function of texts.
+#[cold]
+#[inline(never)]
+fn fail<A: Allocator + Copy>(
+    alloc: A,
+    spot: &mut Spot<A>,
+    raise: Raise<A>,
+) -> Result<Progress, NoMemory>
+    ensures does { (meaning : Meaning) (s : Status) → Answers meaning (Err raise) →
+        IfOk result (λ progress. Does (gives meaning (spot_of spot.old) s)
+        (did_of progress spot.new s)) }
+    ensures place { spot.old.place ≤ spot.new.place }
+{
+    match raise {
+        Raise::Fault(fault) => Ok(failed(alloc, spot, fault)?),
+        Raise::NoMemory(refusal) => Err(refusal),
+    }
+}
+
+/// A numeral is refused whose number is not within 64 bits.
+#[cold]
+#[inline(never)]
+fn refuse_numeral<A: Allocator + Copy>(alloc: A, spot: &mut Spot<A>) -> Result<Progress, NoMemory>
+    ensures does { (s : Status) → IfOk result (λ progress.
+        did_of progress spot.new s ≡ fails flaw.OutOfRange (spot_of spot.old) s) }
+    ensures place { spot.old.place ≤ spot.new.place }
+{
+    Ok(failed(alloc, spot, Fault::OutOfRange)?)
 }
 
 /// Puts the value of a numeral on top.
@@ -48,9 +81,10 @@ pub fn number<A: Allocator + Copy>(
         Does (putting digits.now (spot_of spot.old) s) (did_of progress spot.new s)) }
     ensures place { spot.old.place ≤ spot.new.place }
 {
-    let digits = digits.share()?;
-    let value = written(digits);
-    Ok(settle(alloc, spot, value)?)
+    match number_in(digits) {
+        Some(_) => Ok(spot.put_shared(digits)?),
+        None => Ok(refuse_numeral(alloc, spot)?),
+    }
 }
 
 /// Replaces the operand on top by the value of a prefix operator.
@@ -167,6 +201,39 @@ pub fn choose<A: Allocator + Copy>(
     }
 }
 
+/// Where a test does not hold, this place is next.
+fn jump_where_not<A: Allocator + Copy>(spot: &mut Spot<A>, holds: bool, place: usize) -> Progress
+    ensures does { (s : Status) → did_of result spot.new s
+        ≡ (if holds then Went (spot_of spot.old) s else jumping place (spot_of spot.old) s) }
+    ensures place { spot.old.place ≤ spot.new.place }
+{
+    if holds {
+        Progress::GoesOn
+    } else {
+        jump(spot, place)
+    }
+}
+
+/// Jumps where a truth value is false that is no number.
+#[inline(never)]
+fn jump_unless_word<A: Allocator + Copy>(
+    alloc: A,
+    spot: &mut Spot<A>,
+    word: Value<A>,
+    place: usize,
+) -> Result<Progress, NoMemory>
+    ensures does { (s : Status) → IfOk result (λ progress. did_of progress spot.new s
+        ≡ on_truth (truth_of word) (spot_of spot.old) s (λ holds.
+        if holds then Went (spot_of spot.old) s else jumping place (spot_of spot.old) s)) }
+    ensures place { spot.old.place ≤ spot.new.place }
+{
+    match truth(alloc, &Operand::text(word)) {
+        Ok(holds) => Ok(jump_where_not(spot, holds, place)),
+        Err(Raise::Fault(fault)) => Ok(failed(alloc, spot, fault)?),
+        Err(Raise::NoMemory(refusal)) => Err(refusal),
+    }
+}
+
 /// Drops the truth value on top, and jumps where it is false.
 pub fn jump_unless<A: Allocator + Copy>(
     alloc: A,
@@ -180,11 +247,9 @@ pub fn jump_unless<A: Allocator + Copy>(
     let Some(value) = spot.operands.pop() else {
         return Ok(Progress::Stuck);
     };
-    match truth(alloc, &Operand::text(value)) {
-        Ok(true) => Ok(Progress::GoesOn),
-        Ok(false) => Ok(jump(spot, place)),
-        Err(Raise::Fault(fault)) => Ok(failed(alloc, spot, fault)?),
-        Err(Raise::NoMemory(refusal)) => Err(refusal),
+    match number_in(&value) {
+        Some(n) => Ok(jump_where_not(spot, holds(n), place)),
+        None => Ok(jump_unless_word(alloc, spot, value, place)?),
     }
 }
 
