@@ -36,6 +36,14 @@ pub one_on_top : {V : Type 0} (old new : List V) (taken : Option V) (v : V) →
 one_on_top old new taken v is some =
     ap reverse (is ∙ ap (λ o. new ++ option_to_list o) some) ∙ reverse-append new (v ∷ [])
 
+-- two operands were taken off
+pub two_on_top : {V : Type 0} (old more new : List V) (first second : Option V) (v w : V) →
+    old ≡ more ++ option_to_list first → first ≡ Some v → more ≡ new ++ option_to_list second →
+    second ≡ Some w → reverse old ≡ v ∷ w ∷ reverse new
+two_on_top old more new first second v w one some two other =
+    one_on_top old more first v one some
+    ∙ ap (λ os. v ∷ os) (one_on_top more new second w two other)
+
 troubled : (s : Status) (scopes : Scopes) (name : List ℕ) (index : Option (List ℕ))
     (trouble : Trouble) (flaw : acts.Flaw) (spot : Spot) → s.scopes ≡ scopes →
     read scopes name index ≡ Err trouble → flaw ≡ flaw_of_trouble trouble (spelled name index) →

@@ -1,10 +1,12 @@
 //! The instructions of formulas.
 
-ghost use Rattle.std.specs.Prelude.{◌≡◌, ◌≤◌, ◌-◌, ◌∷◌, length, map, Err, IfOk, if◌then◌else◌};
+ghost use Rattle.std.specs.Prelude.{◌≡◌, ◌≤◌, ◌-◌, ◌∷◌, ℕ, List, length, map, Err, Some, IfOk, IfSome, if◌then◌else◌};
 ghost use Rattle.acts.specs.Flaw as flaw;
 ghost use Rattle.evaluation.specs.Evaluated.{told as told_of};
-ghost use Rattle.meanings.specs.Meaning.{Meaning};
+ghost use Rattle.meanings.specs.Meaning.{Gives, Meaning, truth as truth_text};
 ghost use Rattle.meanings.specs.View.{Answers};
+ghost use Rattle.operators.specs.Binary.{binary as meant};
+ghost use Rattle.operators.specs.Number.{number_of};
 ghost use Rattle.operators.specs.Truth.{truth_of};
 ghost use Rattle.state.specs.Prelude.{Status};
 ghost use Rattle.steps.specs.Does.{Does};
@@ -104,6 +106,64 @@ pub fn prefix<A: Allocator + Copy>(
     Ok(settle(alloc, spot, value)?)
 }
 
+/// Whether a comparison of two numbers holds. `None` where the operator compares none.
+fn compared(operator: Binary, left: i64, right: i64) -> Option<bool>
+    ensures { (a b : List ℕ) → number_of a ≡ Some left → number_of b ≡ Some right →
+        IfSome result (λ holds. meant operator a b ≡ Gives (truth_text holds)) }
+{
+    match operator {
+        Binary::Less => Some(left < right),
+        Binary::Greater => Some(left > right),
+        Binary::LessEqual => Some(left <= right),
+        Binary::GreaterEqual => Some(left >= right),
+        Binary::Equal => Some(left == right),
+        Binary::NotEqual => Some(left != right),
+        Binary::Multiply
+        | Binary::Divide
+        | Binary::Remainder
+        | Binary::Add
+        | Binary::Subtract
+        | Binary::ShiftLeft
+        | Binary::ShiftRight
+        | Binary::TextEqual
+        | Binary::TextNotEqual
+        | Binary::In
+        | Binary::NotIn
+        | Binary::And
+        | Binary::Xor
+        | Binary::Or => None,
+    }
+}
+
+/// The same of two texts. `None` where one of them is no number.
+#[inline(always)]
+fn compared_in<A: Allocator>(operator: Binary, left: &Value<A>, right: &Value<A>) -> Option<bool>
+    ensures { IfSome result (λ holds. meant operator left.now right.now
+        ≡ Gives (truth_text holds)) }
+{
+    match (number_in(left), number_in(right)) {
+        (Some(x), Some(y)) => compared(operator, x, y),
+        _ => None,
+    }
+}
+
+/// Puts the value of an operator for two texts on top.
+#[inline(never)]
+fn put_joined<A: Allocator + Copy>(
+    alloc: A,
+    spot: &mut Spot<A>,
+    operator: Binary,
+    left: Value<A>,
+    right: Value<A>,
+) -> Result<Progress, NoMemory>
+    ensures does { (s : Status) → IfOk result (λ progress. Does
+        (gives (meant operator left right) (spot_of spot.old) s) (did_of progress spot.new s)) }
+    ensures place { spot.old.place ≤ spot.new.place }
+{
+    let value = binary(alloc, operator, &Operand::text(left), &Operand::text(right));
+    Ok(settle(alloc, spot, value)?)
+}
+
 /// Replaces the two upper operands by the value of an operator.
 pub fn join_both<A: Allocator + Copy>(
     alloc: A,
@@ -120,8 +180,10 @@ pub fn join_both<A: Allocator + Copy>(
     let Some(left) = spot.operands.pop() else {
         return Ok(Progress::Stuck);
     };
-    let value = binary(alloc, operator, &Operand::text(left), &Operand::text(right));
-    Ok(settle(alloc, spot, value)?)
+    match compared_in(operator, &left, &right) {
+        Some(holds) => Ok(spot.put(Operand::truth(holds).into_text(alloc)?)?),
+        None => Ok(put_joined(alloc, spot, operator, left, right)?),
+    }
 }
 
 /// The truth value of an operand as 0 or 1.
