@@ -8,7 +8,7 @@ use Rattle.variables.specs.declared.array.Subcommand.{Subcommand}
 use Rattle.variables.specs.declared.array.Subcommand.TheVariants as subcommand
 use Rattle.variables.specs.Array.Exists.{exists}
 use Rattle.variables.specs.Array.Get.{get}
-use Rattle.variables.specs.Array.Names.{names}
+use Rattle.variables.specs.Array.ArrayNames.{names}
 use Rattle.variables.specs.Array.Set.{set}
 use Rattle.variables.specs.Array.Size.{size}
 use Rattle.variables.specs.Array.Unset.{unset}
@@ -17,7 +17,7 @@ pub mod Words
 pub mod Indexes
 pub mod Exists
 pub mod Get
-pub mod Names
+pub mod ArrayNames
 pub mod Set
 pub mod Size
 pub mod Unset

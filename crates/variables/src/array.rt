@@ -6,10 +6,10 @@ ghost use Rattle.variables.specs.Array as definition;
 ghost use Rattle.variables.specs.Array.Words as asked;
 ghost use Rattle.kinds.specs.Readings.{Leaves};
 
+mod array_names;
 mod exists;
 mod get;
 mod indexes;
-mod names;
 mod set;
 mod size;
 mod unset;
@@ -65,7 +65,7 @@ impl Subcommand {
         match self {
             Subcommand::Exists => exists::exists(alloc, scopes, words),
             Subcommand::Get => get::get(alloc, scopes, words),
-            Subcommand::Names => names::names(alloc, scopes, words),
+            Subcommand::Names => array_names::names(alloc, scopes, words),
             Subcommand::Set => set::set(alloc, scopes, words),
             Subcommand::Size => size::size(alloc, scopes, words),
             Subcommand::Unset => unset::unset(alloc, scopes, words),

@@ -1,7 +1,7 @@
 //! `array names a ?w?` (array(n)).
 
 ghost use Rattle.std.specs.Prelude.{option_copied};
-ghost use Rattle.variables.specs.Array.Names as definition;
+ghost use Rattle.variables.specs.Array.ArrayNames as definition;
 ghost use Rattle.kinds.specs.Readings.{Leaves};
 
 use super::indexes::indexes;

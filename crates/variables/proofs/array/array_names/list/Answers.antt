@@ -5,7 +5,7 @@ use Rattle.kinds.specs.Readings.{Done, Found, Leaves, Reading}
 use Rattle.tclstate.specs.Scopes.{Scopes}
 use Rattle.tcltext.specs.Canonical.{canonical}
 use Rattle.variables.specs.Array.Indexes.{indexes}
-use Rattle.variables.proofs.array.names.list.Goals as goal
+use Rattle.variables.proofs.array.array_names.list.Goals as goal
 
 pub returns-in_ok-list-in-Ok : goal.returns-in_ok-list-in-Ok
 returns-in_ok-list-in-Ok g c =
