@@ -5,3 +5,6 @@ pub mod Conditional
 pub mod Repeat
 pub mod Catch
 pub mod Own
+pub mod ScriptTree
+pub mod CodeOf
+pub mod Seen

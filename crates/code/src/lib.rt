@@ -12,6 +12,7 @@ mod evaluate;
 mod formula;
 mod instruction;
 mod literal;
+mod made;
 mod nest;
 mod options;
 mod own;
@@ -20,5 +21,6 @@ mod switch;
 mod whole;
 
 pub use instruction::Instruction;
+pub use made::{Coded, Made};
 pub use options::{Flag, Options};
 pub use whole::{code_of, formula_code};
