@@ -9,10 +9,10 @@ ghost use Rattle.tclstate.specs.Scopes.{entered};
 
 use crate::arguments::wrong_args;
 use acts::{Fault, NoMemory};
+use code::Made;
 use state::outcome::raised;
 use state::{Code, Leave, Nesting, Outcome, State};
 use std::alloc::Allocator;
-use tclparse::Script;
 use tclstate::{Formal, Formals, LocalFrame};
 use tcltext::{Value, join_values};
 
@@ -65,7 +65,7 @@ fn run<A: Allocator + Copy>(
     alloc: A,
     state: &mut State<A>,
     frame: LocalFrame<A>,
-    body: Script<A>,
+    body: Made<A>,
     levels: u8,
 ) -> Result<Nesting<A, Held>, NoMemory>
     ensures nests { (s : Status) → FitsState state.old s → IfOk result (λ nesting.

@@ -12,12 +12,11 @@ ghost use Rattle.state.specs.Nesting.{course_of};
 use crate::arguments::wrong_args;
 use crate::pair::Pair;
 use acts::{Fault, NoMemory};
-use state::nesting::shared;
+use code::Made;
 use state::outcome::raised;
 use state::turn::end_after_body;
 use state::{Leave, Nesting, Outcome, State, Stop};
 use std::alloc::Allocator;
-use tclparse::Script;
 use tcltext::Value;
 
 /// What the loop holds while its body runs: the variables with their remaining elements, how many
@@ -26,7 +25,7 @@ use tcltext::Value;
 pub struct Held<A: Allocator> {
     pub pairs: Vec<Pair<A>, A>,
     pub turns: usize,
-    pub body: Script<A>,
+    pub body: Made<A>,
     pub levels: u8,
 }
 
@@ -170,5 +169,5 @@ fn run_body<A: Allocator + Copy>(alloc: A, held: Held<A>) -> Result<Nesting<A, H
     let Some(inner) = held.levels.checked_sub(1) else {
         return Ok(Nesting::Has(raised(alloc, &Fault::TooManyNested)?));
     };
-    Ok(Nesting::Runs(shared(&held.body)?, inner, held))
+    Ok(Nesting::Runs(held.body.share()?, inner, held))
 }

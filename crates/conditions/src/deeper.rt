@@ -9,6 +9,7 @@ ghost use Rattle.tclparse.specs.View.{commands_of};
 ghost use Rattle.words.specs.Words as words;
 
 use acts::{Fault, NoMemory};
+use code::Made;
 use state::Nesting;
 use state::outcome::raised;
 use std::alloc::Allocator;
@@ -18,7 +19,7 @@ use tclparse::{Command, Script};
 /// Runs a script one level deeper, with what is held meanwhile (Tcl(n), rule 7).
 pub(crate) fn deeper<A: Allocator + Copy, H: Drop>(
     alloc: A,
-    script: Script<A>,
+    script: Made<A>,
     levels: u8,
     held: H,
 ) -> Result<Nesting<A, H>, NoMemory>
@@ -50,5 +51,6 @@ pub(crate) fn nested<A: Allocator + Copy, H: Drop>(
         IfOk result (λ nesting. Advances scripts nesting new old most) }
 {
     let fault = None;
-    deeper(alloc, Script { commands, fault }, levels, held)
+    let script = Made::Tree(Script { commands, fault });
+    deeper(alloc, script, levels, held)
 }

@@ -15,15 +15,14 @@ use crate::deeper::{deeper, nested};
 use crate::step::end_after_step;
 use crate::test::{Test, of_evaluated, of_formula};
 use acts::NoMemory;
+use code::Made;
 use evaluation::OpenFormula;
 use formulas::Formula;
-use state::nesting::shared;
 use state::outcome::raised;
 use state::turn::end_after_body;
 use state::{Leave, Nesting, Outcome, State, Stop};
 use std::alloc::Allocator;
 use std::rc::Rc;
-use tclparse::Script;
 use tcltext::Value;
 
 /// A loop: its test, its body, the script that stands after each turn, if there is one, and how
@@ -31,8 +30,8 @@ use tcltext::Value;
 #[derive(Drop)]
 pub struct Loop<A: Allocator> {
     pub test: Formula<A>,
-    pub body: Script<A>,
-    pub step: Option<Script<A>>,
+    pub body: Made<A>,
+    pub step: Option<Made<A>>,
     pub levels: u8,
 }
 
@@ -115,7 +114,7 @@ fn run_body<A: Allocator + Copy>(
         return Ok(Nesting::Has(Err(Leave::Stopped(Stop::Limit))));
     }
     state.left -= 1;
-    let body = shared(&turns.body)?;
+    let body = turns.body.share()?;
     let levels = turns.levels;
     let at = At::Body;
     deeper(alloc, body, levels, Held { turns, at })
@@ -231,7 +230,7 @@ fn step<A: Allocator + Copy>(
     let Some(script) = &turns.step else {
         return turn(alloc, state, turns);
     };
-    let script = shared(script)?;
+    let script = script.share()?;
     let levels = turns.levels;
     let at = At::Step;
     deeper(alloc, script, levels, Held { turns, at })

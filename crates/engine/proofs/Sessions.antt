@@ -236,7 +236,7 @@ either_given at act (inr is) = subst (λ p. AsksFor p act) (sym is.1) refl
 -- a session that continued is at its next place
 pub went_on : {A : Type 0} (old new : Session A) (text : List ℕ) (args : List (List ℕ)) (limit : ℕ)
     (past : History) (answer : Option (Answer A)) → (at : IsAt old text args limit past) →
-    StandsOver new.running.code new.phase (stack new.running.frames) new.state new.answers
+    StandsOver new.running new.phase new.state new.answers
     (after_acts at.plan (paired (deed_in old.phase) answer)) →
     new.answers ≡ old.answers + length (paired (deed_in old.phase) answer) →
     IsAt new text args limit (past ++ paired (deed_in old.phase) answer)

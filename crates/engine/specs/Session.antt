@@ -30,7 +30,7 @@ pub record IsAt {A : Type 0} (session : Session A) (text : List ℕ) (args : Lis
   pub status : Status
   pub fits : FitsState session.state status
   pub last : Onward
-  pub below : IsBelow session.running.code last
+  pub below : IsBelow session.running last
   pub plan : Dialogue Over
   pub is_plan : IsPlan last session.phase (stack session.running.frames) status session.answers plan
   pub exact : Same (Runs plan_of IsTree plan)

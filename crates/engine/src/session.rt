@@ -70,7 +70,7 @@ impl<A: Allocator + Copy> Session<A> {
     {
         Ok(Session {
             running: Running::begin(alloc, script, in_sight)?,
-            state: beginning(alloc, args, limits)?,
+            state: beginning(alloc, args, limits, !in_sight)?,
             answers: 0,
             phase: Phase::Has(Ok(Value::empty())),
         })

@@ -26,7 +26,7 @@ use Rattle.state.specs.declared.state.State.{State}
 use Rattle.tclparse.specs.Grammar.{IsArgument, IsScript}
 use Rattle.tclparse.specs.Seen.{fault_of}
 use Rattle.tclparse.specs.View.{commands_of, words_of}
-use Rattle.tclparse.specs.declared.script.Script as coded
+use Rattle.code.specs.declared.made.Made.{Made}
 use Rattle.tclparse.specs.declared.words.Words as argument
 use Rattle.expects.proofs.Comings.{begins, over_is}
 use Rattle.expects.proofs.Selecting.{selects_reaches, settled_is, settles_is}
@@ -38,9 +38,9 @@ use Rattle.expects.specs.View.{Selected, notes, settles}
 use Rattle.expects.specs.Words.{Form, stands}
 
 -- a body that runs, or for which no level is left
-module _ {A : Type 0} (script : coded.Script A) (turn : TurnTree) (levels : ℕ) (text : List ℕ)
+module _ {A : Type 0} (script : Made A) (turn : TurnTree) (levels : ℕ) (text : List ℕ)
     (s : Status)
-    (is : IsScript (commands_of script.commands) (option_map fault_of script.fault) text) where
+    (is : IsScript (tree_of script).commands (tree_of script).fault text) where
   inside_runs : (inner : ℕ) (next : Status → Outcome → Course) → levels ≡ suc inner →
       inside levels (tree_of script) s next
       ≡ (let runs : Course = Calls (Script (tree_of script) inner) s next in runs)

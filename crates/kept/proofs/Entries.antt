@@ -1,6 +1,6 @@
 -- How the entries of a map relate to the texts that contracts see.
-use Rattle.std.proofs.Common.{◌≡◌, ℕ, ◌+◌, ◌<◌, ◌≤◌, ◌==◌, ◌⊎◌, ◌||◌, Bool, true, false, List, [], ◌∷◌, ◌++◌, length, drop, remove, Some, Result, Ok, Err, OnOk, OnErr, IfOk, refl, sym, ap, ◌∙◌, subst, inl, inr, nat_eq, if◌then◌else◌, is_some, arith}
-use Rattle.std.proofs.lemmas.Bool.{eq-eqb, ne_eqb}
+use Rattle.std.proofs.Common.{◌≡◌, ℕ, ◌+◌, ◌<◌, ◌≤◌, nat_lt, ◌==◌, ◌⊎◌, ◌||◌, Bool, true, false, List, [], ◌∷◌, ◌++◌, length, drop, Some, Result, Ok, Err, OnOk, OnErr, IfOk, refl, sym, ap, ◌∙◌, subst, inl, inr, nat_eq, if◌then◌else◌, is_some, arith}
+use Rattle.std.proofs.lemmas.Bool.{eq-eqb, ne_eqb, ltb-true, ltb-false}
 use Rattle.std.proofs.lemmas.List.{length-map, length-append, length-drop, map-append}
 use Rattle.std.proofs.lemmas.List.Elements.{All-push, All-drop, All-head, All-tail}
 use Rattle.std.specs.Cmp.Lexicographic.{pointwise, same_text}
@@ -9,8 +9,10 @@ use Rattle.std.specs.Map.{lookup, keys_of}
 use Rattle.std.specs.Str.{bytes_eq}
 use Rattle.std.specs.declared.vec.Vec.{Vec}
 use Rattle.indexmap.specs.IndexMap.{insert_entry}
-use Rattle.tclparse.specs.declared.script.Script.{Script}
-use Rattle.kept.specs.Kept.{is_among, with_newest, IsTree, Entries, texts_of, AreTrees}
+use Rattle.code.specs.Seen.{tree_of}
+use Rattle.code.specs.declared.made.Made.{Made}
+use Rattle.tclparse.specs.Grammar.{IsScript}
+use Rattle.kept.specs.Kept.{is_among, newest, with_newest, IsTree, Entries, texts_of, AreTrees}
 
 -- one of two outcomes holds
 pub either_outcome : {T E : Type 0} (P Q : Type 0) (r : Result T E) →
@@ -26,24 +28,22 @@ module _ {A : Type 0} where
   abbrev same_key : Vec ℕ A → Vec ℕ A → Bool
   same_key a b = pointwise nat_eq a.items b.items
 
-  abbrev is_entry : Vec ℕ A × Script A → Type 0
+  abbrev is_entry : Vec ℕ A × Made A → Type 0
   is_entry e = IsTree e.1 e.0.items
 
-  -- a shared tree is the tree of the same text
-  pub same_tree : (s t : Script A) (text : List ℕ) → t.commands.value ≡ s.commands.value →
-      t.fault ≡ s.fault → IsTree s text → IsTree t text
-  same_tree s t text value fault h =
-      record { tree = rw (value, fault) h.tree; normal = rw value h.normal }
+  -- a shared script is that of the same text
+  pub same_tree : (s t : Made A) (text : List ℕ) → tree_of t ≡ tree_of s → IsTree s text →
+      IsTree t text
+  same_tree s t text same is =
+      subst (λ tree. IsScript tree.commands tree.fault text) (sym same) is
 
-  pub shared_tree : {E : Type 0} (r : Result (Script A) E) (s : Script A) (text : List ℕ) →
-      IsTree s text →
-      IfOk r (λ t. (t.commands.value ≡ s.commands.value) × (t.fault ≡ s.fault)) →
-      IfOk r (λ t. IsTree t text)
-  shared_tree (Ok t) s text h same = same_tree s t text same.0 same.1 h
+  pub shared_tree : {E : Type 0} (r : Result (Made A) E) (s : Made A) (text : List ℕ) →
+      IsTree s text → IfOk r (λ t. tree_of t ≡ tree_of s) → IfOk r (λ t. IsTree t text)
+  shared_tree (Ok t) s text h same = same_tree s t text same h
   shared_tree (Err e) s text h same = same
 
-  -- a tree that is found is the text's
-  pub tree_found : (es : Entries A) (text : List ℕ) (s : Script A) → AreTrees es →
+  -- a script that is found is the text's
+  pub tree_found : (es : Entries A) (text : List ℕ) (s : Made A) → AreTrees es →
       lookup (λ k. pointwise nat_eq text k.items) es ≡ Some s → IsTree s text
   tree_found [] text s trees h = cc
   tree_found (e ∷ es) text s trees h =
@@ -71,7 +71,7 @@ module _ {A : Type 0} where
       by false rest = rest
 
   -- a new text goes last
-  pub goes_last : (es : Entries A) (k : Vec ℕ A) (s : Script A) →
+  pub goes_last : (es : Entries A) (k : Vec ℕ A) (s : Made A) →
       is_among k.items (texts_of es) ≡ false →
       insert_entry (λ a b. pointwise nat_eq a.items b.items) es k s ≡ es ++ (k, s) ∷ []
   goes_last [] k s new = refl
@@ -85,11 +85,8 @@ module _ {A : Type 0} where
       by true new rest = absurd (cc)
       by false new rest = ap (λ r. e ∷ r) (rest new)
 
-  pub trees_left : (xs ys : Entries A) → ys ≡ remove xs 0 → AreTrees xs → AreTrees ys
-  trees_left xs ys left trees = subst AreTrees (sym left) (All-drop is_entry 1 xs trees)
-
   -- the texts without the oldest, and one more
-  oldest_out : (es : Entries A) (e : Vec ℕ A × Script A) → 0 < length es →
+  oldest_out : (es : Entries A) (e : Vec ℕ A × Made A) → 0 < length es →
       texts_of (drop 1 (es ++ e ∷ [])) ≡ drop 1 (texts_of es) ++ e.0.items ∷ []
   oldest_out [] e some = absurd (omega arith)
   oldest_out (x ∷ es) e some = map-append (λ e. e.0.items) es (e ∷ [])
@@ -109,14 +106,14 @@ module _ {A : Type 0} where
   distinct_texts (e ∷ es) h = (others e.0 es h.0, distinct_texts es h.1)
 
 -- The entries of a map once a new text is put into it.
-pub record Inserted {A : Type 0} (es new : Entries A) (k : Vec ℕ A) (s : Script A)
+pub record Inserted {A : Type 0} (es new : Entries A) (k : Vec ℕ A) (s : Made A)
     (text : List ℕ) (texts : List (List ℕ)) : Type 0 where
   pub view : texts_of es ≡ texts
   pub items : k.items ≡ text
   pub fresh : is_among text texts ≡ false
   pub entries : new ≡ insert_entry (λ a b. pointwise nat_eq a.items b.items) es k s
 
-module _ {A : Type 0} (es new : Entries A) (k : Vec ℕ A) (s : Script A) (text : List ℕ)
+module _ {A : Type 0} (es new : Entries A) (k : Vec ℕ A) (s : Made A) (text : List ℕ)
     (texts : List (List ℕ)) (put : Inserted es new k s text texts) where
   last : new ≡ es ++ (k, s) ∷ []
   last = put.entries ∙ goes_last es k s (rw (put.items, put.view) put.fresh)
@@ -127,29 +124,43 @@ module _ {A : Type 0} (es new : Entries A) (k : Vec ℕ A) (s : Script A) (text 
   as_many : length texts ≡ length es
   as_many = ap length (sym put.view) ∙ length-map es (λ e. e.0.items)
 
-  pub trees_kept : AreTrees es → IsTree s text → AreTrees new
-  trees_kept trees tree =
+  pub trees_kept : (ys : Entries A) → ys ≡ newest new → AreTrees es → IsTree s text → AreTrees ys
+  trees_kept ys left trees tree =
       let pushed = All-push is_entry es (k, s) trees (subst (IsTree s) (sym put.items) tree) in
-      subst AreTrees (sym last) pushed
+      let all : AreTrees new = subst AreTrees (sym last) pushed in
+      subst AreTrees (sym left) (by (nat_lt 256 (length new)) all)
+    where
+      by : (b : Bool) → AreTrees new → AreTrees (if b then drop 1 new else new)
+      by true all = All-drop is_entry 1 new all
+      by false all = all
 
-  pub few_left : (ys : Entries A) → ys ≡ remove new 0 → length es ≤ 256 → length ys ≤ 256
-  few_left ys left most = rw left (omega (arith, length-drop 1 new, one_more))
+  pub few_left : (ys : Entries A) → ys ≡ newest new → length es ≤ 256 → length ys ≤ 256
+  few_left ys left most = rw left (by (nat_lt 256 (length new)) refl)
+    where
+      by : (b : Bool) → (nat_lt 256 (length new)) ≡ b → length (if b then drop 1 new else new) ≤ 256
+      by true full =
+          let many : 256 < length new = ltb-true 256 (length new) full in
+          omega (arith, length-drop 1 new, one_more)
+      by false few = ltb-false 256 (length new) few
 
-  -- the texts where there is room for the new one
-  pub texts_kept : length new ≤ 256 → texts_of new ≡ with_newest text texts
-  texts_kept few =
-      let is_few : (length texts == 256) ≡ false =
-      ne_eqb (length texts) 256 (λ e. omega (arith, one_more, as_many)) in
-      let behind = map-append (λ e. e.0.items) es ((k, s) ∷ []) in
-      rw is_few (ap texts_of last ∙ behind ∙ (λ i. put.view i ++ put.items i ∷ []))
-
-  -- the texts where the oldest goes out for the new one
-  pub texts_left : length es ≤ 256 → 256 < length new →
-      texts_of (drop 1 new) ≡ with_newest text texts
-  texts_left most full =
-      let is_full : (length texts == 256) ≡ true =
-      eq-eqb (length texts) 256 (omega (arith, one_more, as_many)) in
-      let out = oldest_out es (k, s) (omega (arith, one_more)) in
-      rw is_full (
-      ap (λ l. texts_of (drop 1 l)) last ∙ out ∙ (λ i. drop 1 (put.view i) ++ put.items i ∷ [])
-      )
+  -- the newest texts, the new one among them
+  pub texts_left : (ys : Entries A) → ys ≡ newest new → length es ≤ 256 →
+      texts_of ys ≡ with_newest text texts
+  texts_left ys left most = ap texts_of left ∙ by (nat_lt 256 (length new)) refl
+    where
+      by : (b : Bool) → (nat_lt 256 (length new)) ≡ b →
+          texts_of (if b then drop 1 new else new) ≡ with_newest text texts
+      by true full =
+          let many : 256 < length new = ltb-true 256 (length new) full in
+          let is_full : (length texts == 256) ≡ true =
+          eq-eqb (length texts) 256 (omega (arith, one_more, as_many)) in
+          let out = oldest_out es (k, s) (omega (arith, one_more)) in
+          rw is_full (
+          ap (λ l. texts_of (drop 1 l)) last ∙ out ∙ (λ i. drop 1 (put.view i) ++ put.items i ∷ [])
+          )
+      by false room =
+          let few : length new ≤ 256 = ltb-false 256 (length new) room in
+          let is_few : (length texts == 256) ≡ false =
+          ne_eqb (length texts) 256 (λ e. omega (arith, one_more, as_many)) in
+          let appended = map-append (λ e. e.0.items) es ((k, s) ∷ []) in
+          rw is_few (ap texts_of last ∙ appended ∙ (λ i. put.view i ++ put.items i ∷ []))

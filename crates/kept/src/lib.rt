@@ -3,31 +3,37 @@
 
 mod argument;
 
-ghost use Rattle.std.specs.Prelude.{◌≡◌, ◌≤◌, ◌⊎◌, [], length, false, IfOk, OnOk, OnErr, option_map};
+ghost use Rattle.std.specs.Prelude.{◌≡◌, ◌≤◌, ◌⊎◌, [], length, false, IfOk, OnOk, OnErr};
 ghost use Rattle.std.specs.List.{IsDistinct};
 ghost use Rattle.std.specs.Str.{bytes_eq};
-ghost use Rattle.kept.specs.Kept.{is_among, with_newest, with_text, IsTree};
+ghost use Rattle.kept.specs.Kept.{is_among, newest, with_newest, with_text, IsTree};
 
 pub use argument::{Argument, Arguments};
+use code::Made;
 use indexmap::IndexMap;
 use memory::NoMemory;
 use std::alloc::Allocator;
 use std::hash::{BuildHasherDefault, FoldHasher};
 use std::marker::Model;
 use std::rc::Rc;
-use tclparse::{Command, Script};
+use tclparse::Command;
 
 /// The most texts that are kept.
 pub const MOST_KEPT: usize = 256;
 
-/// The syntax trees of the texts that were last put here, at most [`MOST_KEPT`]. Contracts see the
-/// texts, each once, the oldest first.
+/// Scripts by their texts, the one that was put last at the end.
+type Scripts<A> = IndexMap<Vec<u8, A>, Made<A>, BuildHasherDefault<FoldHasher>, A>;
+
+/// The scripts of the texts that were last put here, at most [`MOST_KEPT`], as their trees or as
+/// their code. Contracts see the texts, each once, the oldest first.
 ///
-/// A look-up computes one hash. A tree lives as long as a frame holds it, whether it is still kept
-/// or not.
+/// A look-up computes one hash. A script lives as long as a frame holds it, whether it is still
+/// kept or not.
 #[derive(Drop)]
 pub struct Kept<A: Allocator> {
-    scripts: IndexMap<Vec<u8, A>, Script<A>, BuildHasherDefault<FoldHasher>, A>,
+    scripts: Scripts<A>,
+    /// Whether scripts are kept as their code.
+    as_code: bool,
 }
 
 impl<A: Allocator> Model for Kept<A> {
@@ -54,11 +60,11 @@ impl<A: Allocator> Kept<A> {
 }
 
 impl<A: Allocator> Kept<A> {
-    /// The text under which the tree with these commands is kept, if it is. Takes no memory. No
+    /// The text under which the script with these commands is kept, if it is. Takes no memory. No
     /// contract speaks of it: it is told to who watches a run, which text it is that runs.
     pub fn text_of(&self, commands: &Rc<Vec<Command<A>, A>, A>) -> Option<&[u8]> {
         for (text, script) in self.scripts.iter() {
-            if Rc::ptr_eq(&script.commands, commands) {
+            if Rc::ptr_eq(script.commands(), commands) {
                 return Some(text.as_slice());
             }
         }
@@ -67,60 +73,57 @@ impl<A: Allocator> Kept<A> {
 }
 
 impl<A: Allocator + Copy> Kept<A> {
-    /// Keeps no text yet. Takes no memory.
-    pub fn new(alloc: A) -> Kept<A>
+    /// Keeps no text yet, and will keep scripts as their code, or as their trees. Takes no memory.
+    pub fn new(alloc: A, as_code: bool) -> Kept<A>
         ensures { result ≡ [] }
     {
         Kept {
             scripts: IndexMap::with_hasher(alloc, BuildHasherDefault::new()),
+            as_code,
         }
     }
 
-    /// The tree of a text: the kept one, else one that is read and then kept. A new text goes last,
-    /// and where [`MOST_KEPT`] are kept already, the oldest is dropped for it.
+    /// The script of a text: the kept one, else one that is read and then kept. A new text goes
+    /// last, and where [`MOST_KEPT`] are kept already, the oldest is dropped for it.
     ///
-    /// Where memory is refused only for keeping the tree, the tree is returned all the same and the
-    /// texts are as they were.
+    /// Where memory is refused only for keeping the script, the script is returned all the same and
+    /// the texts are as they were.
     ///
     /// # Errors
-    /// `NoMemory` where the tree itself could not be made or shared. The texts are then as they
+    /// `NoMemory` where the script itself could not be made or shared. The texts are then as they
     /// were.
-    pub fn get(&mut self, text: &[u8]) -> Result<Script<A>, NoMemory>
+    pub fn get(&mut self, text: &[u8]) -> Result<Made<A>, NoMemory>
         ensures tree { IfOk result (λ script. IsTree script text.now) }
         ensures texts { (self.new ≡ self.old) ⊎ (self.new ≡ with_text text.now self.old) }
         ensures unchanged { OnErr result (self.new ≡ self.old) }
     {
         if let Some(script) = self.scripts.get(text) {
-            return share(script);
+            return script.share();
         }
-        let script = Script::read(*self.scripts.allocator(), text)?;
+        let script = Made::read(*self.scripts.allocator(), text, self.as_code)?;
         let _ = self.keep(text, &script);
         Ok(script)
     }
 
-    /// Keeps the tree of a text that is not kept yet.
-    fn keep(&mut self, text: &[u8], script: &Script<A>) -> Result<(), NoMemory>
+    /// Keeps the script of a text that is not kept yet.
+    fn keep(&mut self, text: &[u8], script: &Made<A>) -> Result<(), NoMemory>
         requires new { is_among text.now self.old ≡ false }
         requires tree { IsTree script.now text.now }
         ensures ok { OnOk result (self.new ≡ with_newest text.now self.old) }
         ensures unchanged { OnErr result (self.new ≡ self.old) }
     {
         let text = Vec::from_slice(*self.scripts.allocator(), text)?;
-        self.scripts.insert(text, share(script)?)?;
-        if MOST_KEPT < self.scripts.len() {
-            self.scripts.shift_remove_index(0);
-        }
+        self.scripts.insert(text, script.share()?)?;
+        drop_oldest(&mut self.scripts);
         Ok(())
     }
 }
 
-/// The same tree once more; nothing of it is copied.
-fn share<A: Allocator>(script: &Script<A>) -> Result<Script<A>, NoMemory>
-    ensures { IfOk result (λ same. (same.commands.value ≡ script.now.commands.value)
-        × (same.fault ≡ script.now.fault)) }
+/// Drops the oldest where there are more than [`MOST_KEPT`].
+fn drop_oldest<A: Allocator>(scripts: &mut Scripts<A>)
+    ensures { scripts.new.entries ≡ newest scripts.old.entries }
 {
-    Ok(Script {
-        commands: script.commands.clone()?,
-        fault: script.fault,
-    })
+    if MOST_KEPT < scripts.len() {
+        scripts.shift_remove_index(0);
+    }
 }

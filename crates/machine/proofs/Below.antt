@@ -1,29 +1,34 @@
--- Frames, and below them the code of the run's script.
-use Rattle.std.proofs.Common.{◌≡◌, ◌≢◌, ◌∙◌, ℕ, ◌+◌, ◌*◌, ◌<◌, ◌≤◌, List, [], ◌∷◌, length, Option, Some, None, option_map, Result, Vec, refl, sym, ap, subst, arith}
-use Rattle.std.proofs.Math.Nat.{mul-le-mul_right}
-use Rattle.machine.specs.Frames.{Onward, begun, stack}
-use Rattle.machine.specs.Phases.{Leads}
-use Rattle.machine.specs.Below.{BeginsIn, GoesOn, IsBelow, IsLess, IsWhole, StandsOver, commands_ahead}
+-- Frames, the code below them, and the parts below that.
+use Rattle.std.proofs.Common.{◌≡◌, ◌∙◌, ℕ, ◌+◌, ◌*◌, ◌<◌, ◌≤◌, List, [], ◌∷◌, Option, Some, None, option_map, Result, Vec, refl, reverse, sym, ap, subst, arith}
+use Rattle.code.specs.ScriptTree.{seen}
+use Rattle.machine.specs.Frames.{Onward, begun, left_of, onward_of, stack, weight, words_in}
+use Rattle.machine.specs.Phases.{Leads, course_of_next}
+use Rattle.machine.specs.Below.{Beneath, BeginsIn, ComesFrom, ComesOver, Falls, GoesOn, Hands, IsBack, IsBelow, IsLess, IsWhole, StandsOver, TicksFirst, Under, depth, height, one_for, parts_of, places_in, rest_of, waits_in}
 use Rattle.machine.specs.declared.frame.Frame.{Frame}
 use Rattle.machine.specs.declared.frame.Frame.TheVariants as frame
-use Rattle.plan.specs.Plan.{and_then, onward}
 use Rattle.machine.specs.declared.frame.WordsOf.TheVariants as whose
 use Rattle.machine.specs.declared.phase.Phase.{Phase}
+use Rattle.machine.specs.declared.running.Handed.{Handed}
+use Rattle.machine.specs.declared.running.Handed.TheVariants as handed
+use Rattle.machine.specs.declared.running.Part.{Part}
 use Rattle.machine.specs.declared.running.Running.{Running}
+use Rattle.machine.specs.declared.starting.Next.{Next}
 use Rattle.machine.specs.declared.starting.Next.TheVariants as next
-use Rattle.machine.specs.declared.unwinding.Unwound.{Unwound}
-use Rattle.machine.specs.declared.unwinding.Unwound.TheVariants as unwound
-use Rattle.machine.proofs.Machines.{Comes, stands_from, unwinds_from}
-use Rattle.steps.proofs.Leads.Silent.{same_goes, then_goes}
+use Rattle.machine.specs.declared.waits.Waits.{Waits}
+use Rattle.machine.proofs.Machines.{leads_from, stands_from}
+use Rattle.plan.specs.Plan.{and_then, onward}
 use Rattle.runs.specs.Closing.{closing}
 use Rattle.runs.specs.Commands.{command}
 use Rattle.runs.specs.Ending.{Over}
 use Rattle.runs.specs.Run.{most_levels}
 use Rattle.runs.specs.Scripts.{script as meant}
-use Rattle.state.specs.Prelude.{Dialogue, Outcome, ScriptText, on_value, outcome_of, tree_of}
+use Rattle.state.specs.Budget.{again_of}
+use Rattle.state.specs.Prelude.{Dialogue, FitsState, Outcome, ScriptText, Status, on_value, outcome_of}
+use Rattle.state.specs.declared.leaf.Leaf.{Leaf}
 use Rattle.state.specs.declared.leaf.Leaf.TheVariants as leaf
 use Rattle.state.specs.declared.outcome.Leave.{Leave}
 use Rattle.state.specs.declared.state.State.{State}
+use Rattle.steps.proofs.Leads.Silent.{same_goes, then_goes}
 use Rattle.steps.specs.Goes.{Goes, here, calls, reads}
 use Rattle.steps.specs.Run.{Awaits, HasStopped}
 use Rattle.steps.specs.declared.progress.Progress.{Progress}
@@ -34,46 +39,26 @@ use Rattle.tclparse.specs.Seen.{fault_of}
 use Rattle.tclparse.specs.View.{commands_of}
 use Rattle.tclparse.specs.declared.script.Script.{Script}
 
--- for some state of the definition that the code's state fits, the dialogue continues as the frames
--- and the code below them say with this outcome
-pub record ComesOver {A : Type 0} (code : Option (Run A)) (fs : List (Frame A)) (state : State A)
-    (o : Outcome) (p : Dialogue Over) : Type 0 where
-  pub last : Onward
-  pub below : IsBelow code last
-  pub comes : Comes last fs state o p
-
 module _ {A : Type 0} where
-  -- with fewer ticks no more commands may begin in the code
-  pub fewer_ahead : (code : Option (Run A)) (left now : ℕ) → now ≤ left →
-      commands_ahead code now ≤ commands_ahead code left
-  fewer_ahead None left now fewer = omega arith
-  fewer_ahead (Some run) left now fewer =
-      let product : now * (length run.code.value.items + 1)
-      ≤ left * (length run.code.value.items + 1) =
-      mul-le-mul_right (length run.code.value.items + 1) fewer in
-      omega (arith, product)
-
-  -- what is less than this is less than more
-  pub less_than_more : (u : Unwound A) (code : Option (Run A)) (fs : List (Frame A))
-      (state : State A) (few most : ℕ) → few ≤ most → IsLess u code fs state few →
-      IsLess u code fs state most
-  less_than_more (unwound.Has outcome) code fs state few most more less = tt
-  less_than_more (unwound.Begins n) code fs state few most more less = omega (arith, more, less)
-
   -- what goes on after silent steps
-  pub goes_on_from : (u : Unwound A) (code : Option (Run A)) (fs : List (Frame A))
-      (state : State A) {p q : Dialogue Over} → Goes p q → GoesOn u code fs state q →
-      GoesOn u code fs state p
-  goes_on_from u code fs state goes on = record {
-    last = on.last;
-    below = on.below;
-    unwinds = unwinds_from on.last fs state goes u on.unwinds;
+  pub hands_from : (last : Onward) (h : Handed A) (fs : List (Frame A)) (state : State A)
+      {p q : Dialogue Over} → Goes p q → Hands last h fs state q → Hands last h fs state p
+  hands_from last (handed.Over outcome) fs state goes leads =
+      let none : List (Frame A) = [] in leads_from closing none state goes leads
+  hands_from last (handed.Has outcome) fs state goes leads = leads_from last fs state goes leads
+  hands_from last (handed.Begins n) fs state goes begins = record {
+    status = begins.status;
+    fits = begins.fits;
+    goes = then_goes goes begins.goes;
   }
 
-  -- where there is no code, the run is closed
-  pub none_below : (code : Option (Run A)) (last : Onward) → code ≡ None → IsBelow code last →
-      last ≡ closing
-  none_below code last none below = subst (λ it. IsBelow it last) none below
+  pub goes_on_from : (h : Handed A) (running : Running A) (state : State A)
+      {p q : Dialogue Over} → Goes p q → GoesOn h running state q → GoesOn h running state p
+  goes_on_from h running state goes on = record {
+    last = on.last;
+    below = on.below;
+    hands = hands_from on.last h (stack running.frames) state goes on.hands;
+  }
 
   -- a command of the code begins by its words
   pub begins_in : (last : Onward) (run : Run A) (words kept : Vec (List ℕ) A) (state : State A)
@@ -93,54 +78,232 @@ module _ {A : Type 0} where
         };
       }
 
-  -- where no command begins, the code is over, with its outcome
-  pub over_in : (last : Onward) (progress : Progress) (run : Run A)
-      (outcome : Result (List ℕ) (Leave A)) (state : State A) (p : Dialogue Over) →
-      (progress ≡ went.Begins → ⊥) → HasStopped last progress run state p →
+  -- the code is over, with its outcome
+  pub over_in : (last : Onward) (run : Run A) (outcome : Result (List ℕ) (Leave A))
+      (state : State A) (p : Dialogue Over) → HasStopped last went.Over run state p →
       outcome ≡ run.spot.outcome →
       (let none : List (Frame A) = [] in Leads last (leaf.Has outcome) none state p)
-  over_in last went.GoesOn run outcome state p none stopped is = absurd (stopped.stops refl)
-  over_in last went.Begins run outcome state p none stopped is = absurd (none refl)
-  over_in last went.Over run outcome state p none stopped is = record {
+  over_in last run outcome state p stopped is = record {
     status = stopped.status;
     fits = stopped.fits;
     goes = subst (λ it. Goes p (last stopped.status (outcome_of it))) (sym is) stopped.follows;
   }
-  over_in last went.Stuck run outcome state p none stopped is = absurd stopped.follows
+
+  -- it stops for a command, or is over
+  pub never_stops : (last : Onward) (progress : Progress) (run : Run A) (state : State A)
+      (p : Dialogue Over) → (progress ≡ went.Begins → ⊥) → (progress ≡ went.Over → ⊥) →
+      HasStopped last progress run state p → ⊥
+  never_stops last went.GoesOn run state p begins over stopped = stopped.stops refl
+  never_stops last went.Begins run state p begins over stopped = begins refl
+  never_stops last went.Over run state p begins over stopped = over refl
+  never_stops last went.Stuck run state p begins over stopped = stopped.follows
+
+  -- what ended hands its outcome to the part that waits, or nothing is left
+  pub end_goes : (parts : List (Part A)) (h : Handed A) (o : Result (List ℕ) (Leave A))
+      (new : Running A) (after : Onward) (state : State A) (p : Dialogue Over) →
+      IsBack parts h o new → Beneath parts after →
+      (let none : List (Frame A) = [] in Leads after (leaf.Has o) none state p) →
+      GoesOn h new state p
+  end_goes [] h o new after state p back is leads = record {
+    last = closing;
+    below = record {
+      after = closing;
+      beneath = rw back.2 refl;
+      under = rw back.1 refl;
+    };
+    hands = rw back.0 (subst (λ last. let none : List (Frame A) = [] in
+        Leads last (leaf.Has o) none state p) is leads);
+  }
+  end_goes (part ∷ parts) h o new after state p back waits leads = record {
+    last = waits.last;
+    below = record {
+      after = waits.base;
+      beneath = rw back.3 waits.beneath;
+      under = rw back.2 waits.under;
+    };
+    hands = rw back.0 (record {
+      status = leads.status;
+      fits = leads.fits;
+      goes = then_goes leads.goes
+          (same_goes (ap (λ next. next leads.status (outcome_of o)) waits.is
+          ∙ ap (λ fs. onward_of waits.last (stack fs) leads.status (outcome_of o)) (sym back.1)));
+    });
+  }
+
+  -- no more may begin then than before
+  pub end_less : (parts : List (Part A)) (h : Handed A) (o : Result (List ℕ) (Leave A))
+      (new : Running A) (most : ℕ) → IsBack parts h o new →
+      again_of (outcome_of o) + waits_in parts ≤ most → IsLess h new most
+  end_less [] h o new most back less = rw back.0 tt
+  end_less (part ∷ parts) h o new most back less =
+      rw (back.0, back.1, back.2, back.3) (omega (arith, less))
+
+  one_at_most : (code : Option (Run A)) → one_for code ≤ 1
+  one_at_most None = omega arith
+  one_at_most (Some run) = omega arith
+
+  -- and less is left to hand an outcome to
+  pub end_falls : (parts : List (Part A)) (h : Handed A) (o : Result (List ℕ) (Leave A))
+      (old new : Running A) → IsBack parts h o new → height parts ≤ depth old → Falls h old new
+  end_falls [] h o old new back most = rw back.0 tt
+  end_falls (part ∷ parts) h o old new back most =
+      rw (back.0, back.1, back.2, back.3) (omega (arith, most, one_at_most part.code))
+
+  -- a command begins in code that is entered above the frames, which wait with the code below them
+  pub enters_over : (old : Running A) (waiting : Vec (Frame A) A) (below : Option (Run A))
+      (frames : Vec (Frame A) A) (code : Option (Run A)) (parts : Vec (Part A) A) (run : Run A)
+      (n : Next A) (state : State A) (last : Onward) {p : Dialogue Over} →
+      waiting ≡ old.frames → below ≡ old.code → stack frames ≡ [] → code ≡ Some run →
+      reverse parts.items ≡ record { frames = waiting; code = below } ∷ parts_of old →
+      IsBelow old last → BeginsIn (onward_of last (stack old.frames)) n run state p →
+      GoesOn (handed.Begins n) (record { frames = frames; code = code; parts = parts }) state p
+  enters_over old waiting below frames code parts run n state last waits was none is put lies on =
+      record {
+        last = on.onward;
+        below = record {
+          after = onward_of last (stack old.frames);
+          beneath = rw put (record {
+            base = lies.after;
+            last = last;
+            beneath = lies.beneath;
+            under = rw was lies.under;
+            is = ap (λ fs. onward_of last (stack fs)) (sym waits);
+          });
+          under = rw is on.awaits;
+        };
+        hands = rw none on.begins;
+      }
+
+  -- what is less than this is less than more
+  pub less_more : (h : Handed A) (running : Running A) (few most : ℕ) → few ≤ most →
+      IsLess h running few → IsLess h running most
+  less_more (handed.Over outcome) running few most more less = tt
+  less_more (handed.Begins n) running few most more less = omega (arith, more, less)
+  less_more (handed.Has outcome) running few most more less = omega (arith, more, less)
+
+  pub falls_more : (h : Handed A) (old mid new : Running A) → depth mid ≤ depth old →
+      Falls h mid new → Falls h old new
+  falls_more (handed.Over outcome) old mid new more falls = tt
+  falls_more (handed.Begins n) old mid new more falls = tt
+  falls_more (handed.Has outcome) old mid new more falls = omega (arith, more, falls)
+
+  -- so it is where nothing began, and nothing is there but what was
+  pub ticks_less : (h : Handed A) (running : Running A) (most : ℕ) → TicksFirst h →
+      rest_of running ≤ most → IsLess h running most
+  ticks_less (handed.Over outcome) running most ticks less = absurd ticks
+  ticks_less (handed.Begins n) running most ticks less = absurd ticks
+  ticks_less (handed.Has outcome) running most ticks less = omega (arith, ticks, less)
+
+  pub ticks_fall : (h : Handed A) (old new : Running A) → TicksFirst h → depth new < depth old →
+      Falls h old new
+  ticks_fall (handed.Over outcome) old new ticks less = absurd ticks
+  ticks_fall (handed.Begins n) old new ticks less = absurd ticks
+  ticks_fall (handed.Has outcome) old new ticks less = less
+
+  -- a session that has this outcome hands it on
+  pub leads_over : (running : Running A) {state : State A} (o : Result (List ℕ) (Leave A))
+      (last : Onward) {p : Dialogue Over} → IsBelow running last →
+      Leads last (leaf.Has o) (stack running.frames) state p →
+      ComesOver running state (outcome_of o) p
+  leads_over running o last below leads = record {
+    last = last;
+    below = below;
+    status = leads.status;
+    fits = leads.fits;
+    goes = leads.goes;
+  }
+
+  -- where nothing is done yet, the outcome is the first one
+  pub comes_first : (running : Running A) (state : State A) (o : Outcome) →
+      ComesFrom running state o running state o
+  comes_first running state o = λ last s fits below. record {
+    last = last;
+    below = below;
+    status = s;
+    fits = fits;
+    goes = here;
+  }
+
+  -- an outcome is handed on, and it is known what comes of it
+  pub handed_on : {old new : Running A} {before now : State A} {o : Outcome} {p : Dialogue Over}
+      {h known : Handed A} → h ≡ known → ComesOver old before o p →
+      ((last : Onward) (s : Status) → FitsState before s → IsBelow old last →
+      GoesOn h new now (onward_of last (stack old.frames) s o)) → GoesOn known new now p
+  handed_on {old = old} {new = new} {now = now} {o = o} {known = known} is comes goes_on =
+      goes_on_from known new now comes.goes
+      (subst (λ h. GoesOn h new now (onward_of comes.last (stack old.frames) comes.status o)) is
+      (goes_on comes.last comes.status comes.fits comes.below))
+
+  -- what began above the frames is told by what it has come to, and by what lies below them
+  pub record Started (l : Leaf A (Waits A)) (running : Running A) (state : State A)
+      (p : Dialogue Over) : Type 0 where
+    pub last : Onward
+    pub below : IsBelow running last
+    pub leads : Leads last l (stack running.frames) state p
+
+  pub started : {running : Running A} {before now : State A} {p : Dialogue Over} (n : Next A)
+      (frames : Vec (Frame A) A) {l known : Leaf A (Waits A)} → l ≡ known →
+      GoesOn (handed.Begins n) running before p →
+      ((last : Onward) (s : Status) → FitsState before s →
+      Leads last l (stack frames) now
+      (left_of last (course_of_next n s) (stack running.frames))) →
+      Started known (record running { frames = frames }) now p
+  started {running = running} {now = now} n frames is on leads = record {
+    last = on.last;
+    below = on.below;
+    leads = leads_from on.last (stack frames) now on.hands.goes
+        (subst (λ l. Leads on.last l (stack frames) now
+        (left_of on.last (course_of_next n on.hands.status) (stack running.frames))) is
+        (leads on.last on.hands.status on.hands.fits));
+  }
 
 -- what a session stands before after silent steps
-pub stands_over_from : {A : Type 0} {code : Option (Run A)} {at : Phase A}
-    {fs : List (Frame A)} {state : State A} {answers : ℕ} {p q : Dialogue Over} → Goes p q →
-    StandsOver code at fs state answers q → StandsOver code at fs state answers p
-stands_over_from {fs = fs} {state = state} goes over = record {
+pub stands_over_from : {A : Type 0} {running : Running A} {at : Phase A} {state : State A}
+    {answers : ℕ} {p q : Dialogue Over} → Goes p q → StandsOver running at state answers q →
+    StandsOver running at state answers p
+stands_over_from {running = running} {state = state} goes over = record {
   last = over.last;
   below = over.below;
-  stands = stands_from over.last fs state goes over.stands;
+  stands = stands_from over.last (stack running.frames) state goes over.stands;
+}
+
+pub comes_over_from : {A : Type 0} {running : Running A} {state : State A} {o : Outcome}
+    {p q : Dialogue Over} → Goes p q → ComesOver running state o q → ComesOver running state o p
+comes_over_from goes comes = record {
+  last = comes.last;
+  below = comes.below;
+  status = comes.status;
+  fits = comes.fits;
+  goes = then_goes goes comes.goes;
 }
 
 module _ {A : Type 0} (script : Script A) (text : List ℕ)
     (is : IsScript (commands_of script.commands) (option_map fault_of script.fault) text) where
   -- a script whose code waits is the whole of its text
   pub code_whole : (running : Running A) (run : Run A) → running.code ≡ Some run →
-      stack running.frames ≡ [] →
+      stack running.frames ≡ [] → parts_of running ≡ [] →
       ((last : Onward) → Awaits last run (λ s outcome.
-      and_then (on_value (meant most_levels (tree_of script).commands
-      (tree_of script).fault) s outcome)
+      and_then (on_value (meant most_levels (seen script).commands
+      (seen script).fault) s outcome)
       (onward last))) →
       IsWhole running text
-  code_whole running run coded none awaits = record {
+  code_whole running run coded none alone awaits = record {
     last = λ s outcome.
-        and_then (on_value (meant most_levels (tree_of script).commands (tree_of script).fault) s
+        and_then (on_value (meant most_levels (seen script).commands (seen script).fault) s
         outcome) (onward closing);
-    below = rw coded (awaits closing);
-    goes = λ args limit. reads {text = ScriptText text} (tree_of script) is (calls (rw none here));
+    below = record {
+      after = closing;
+      beneath = rw alone refl;
+      under = rw coded (awaits closing);
+    };
+    goes = λ args limit. reads {text = ScriptText text} (seen script) is (calls (rw none here));
   }
 
   -- so is a script that is the one frame
-  pub tree_whole : (running : Running A) → running.code ≡ None →
+  pub tree_whole : (running : Running A) → running.code ≡ None → parts_of running ≡ [] →
       stack running.frames ≡ frame.Script (begun script most_levels) ∷ [] → IsWhole running text
-  tree_whole running none alone = record {
+  tree_whole running none alone one = record {
     last = closing;
-    below = rw none refl;
-    goes = λ args limit. reads {text = ScriptText text} (tree_of script) is (calls (rw alone here));
+    below = record { after = closing; beneath = rw alone refl; under = rw none refl };
+    goes = λ args limit. reads {text = ScriptText text} (seen script) is (calls (rw one here));
   }

@@ -1,5 +1,7 @@
 -- Commands that run scripts, and what they hold meanwhile.
 use Rattle.std.proofs.Common.{◌≡◌, ◌∙◌, ◌-◌, ℕ, ◌≤◌, List, [], ◌∷◌, drop, get_or, length, take, Some, None, Result, Ok, refl, sym, ap}
+use Rattle.code.specs.declared.made.Made.{Made}
+use Rattle.code.specs.declared.made.Made.TheVariants as made
 use Rattle.commands.proofs.Words.{first_word, rest_words}
 use Rattle.commands.specs.Commands as leaf
 use Rattle.conditions.specs.GoesOn.{Comes}
@@ -8,7 +10,7 @@ use Rattle.control.specs.Commands.{does, named}
 use Rattle.control.specs.Control.{Control}
 use Rattle.control.specs.View as control
 use Rattle.control.specs.declared.held.Held.{Held}
-use Rattle.machine.specs.Frames.{Onward, begun, left_of, onward_of}
+use Rattle.machine.specs.Frames.{Onward, frame_of, left_of, onward_of}
 use Rattle.steps.specs.Goes.{Goes, here, calls}
 use Rattle.machine.specs.Phases.{Begins, Leads, course_of_next}
 use Rattle.machine.specs.declared.starting.Next.TheVariants as next
@@ -25,7 +27,6 @@ use Rattle.state.specs.declared.leaf.Leaf.TheVariants as at_hand
 use Rattle.state.specs.declared.nesting.Nesting.TheVariants as nesting
 use Rattle.state.specs.declared.outcome.Leave.{Leave}
 use Rattle.state.specs.declared.state.State.{State}
-use Rattle.tclparse.specs.declared.script.Script.{Script}
 use Rattle.tclstate.specs.Pairs.{found}
 use Rattle.tclstate.specs.Procs.{Procedure}
 
@@ -41,18 +42,20 @@ module _ {A : Type 0} (last : Onward) (fs : List (Frame A)) where
   }
 
   -- a script stands on the stack above the command that runs it
-  pub held_goes : (script : Script A) (levels : ℕ) (held : Held A) (new : List (Frame A))
+  pub held_goes : (script : Made A) (levels : ℕ) (held : Held A) (new : List (Frame A))
       (s : Status) →
-      new ≡ frame.Script (begun script levels) ∷ frame.Held held ∷ fs →
+      new ≡ frame_of script levels ∷ frame.Held held ∷ fs →
       Goes (left_of last (nests.course_of (control.next_of {A = A})
       (nesting.Runs script levels held) s) fs)
       (left_of last (gives [] s) new)
-  held_goes script levels held new s on =
+  held_goes (made.Tree script) levels held new s on =
+      then_goes (calls here) (same_goes (ap (λ l. left_of last (gives [] s) l) (sym on)))
+  held_goes (made.Code tree) levels held new s on =
       then_goes (calls here) (same_goes (ap (λ l. left_of last (gives [] s) l) (sym on)))
 
-  pub runs_held : (script : Script A) (levels : ℕ) (held : Held A) (new : List (Frame A))
+  pub runs_held : (script : Made A) (levels : ℕ) (held : Held A) (new : List (Frame A))
       (state : State A) (course : Course) →
-      new ≡ frame.Script (begun script levels) ∷ frame.Held held ∷ fs →
+      new ≡ frame_of script levels ∷ frame.Held held ∷ fs →
       Comes (control.next_of {A = A}) (nesting.Runs script levels held) state course →
       Begins last (course_of_next {A = A} next.Again) new state (left_of last course fs)
   runs_held script levels held new state course on shown = record {
@@ -63,9 +66,9 @@ module _ {A : Type 0} (last : Onward) (fs : List (Frame A)) where
   }
 
   -- the same, where the command took no tick
-  pub runs_on : (script : Script A) (levels : ℕ) (held : Held A) (new : List (Frame A))
+  pub runs_on : (script : Made A) (levels : ℕ) (held : Held A) (new : List (Frame A))
       (state : State A) (course : Course) (none : List ℕ) → none ≡ [] →
-      new ≡ frame.Script (begun script levels) ∷ frame.Held held ∷ fs →
+      new ≡ frame_of script levels ∷ frame.Held held ∷ fs →
       Comes (control.next_of {A = A}) (nesting.Runs script levels held) state course →
       Leads last (at_hand.Has (Ok none)) new state (left_of last course fs)
   runs_on script levels held new state course none is on shown = record {

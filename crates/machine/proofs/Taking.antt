@@ -1,11 +1,12 @@
 -- What is taken from the top frame when the part within it has ended with a value.
 use Rattle.std.proofs.Common.{◌≡◌, ◌∙◌, ℕ, suc, ◌+◌, ◌<◌, ◌≤◌, inl, inr, List, [], ◌∷◌, length, Box, MatchOption, Option, Some, None, option_map, refl, sym, ap, subst, arith}
+use Rattle.code.specs.ScriptTree.{ScriptTree}
 use Rattle.std.specs.declared.rc.Rc.{Rc}
 use Rattle.std.specs.declared.vec.Vec.{Vec}
 use Rattle.machine.specs.Frames.{Onward, left_of, next_of, onward_of, weight, weight_of, words_in, words_of_frame}
 use Rattle.control.specs.declared.held.Held.{Held}
 use Rattle.steps.specs.Goes.{Goes, here}
-use Rattle.machine.specs.Taken.{CannotMove, HasNoCommand, HasNone, IsTaken, MovesOn, course_of_taken, weight_taken, words_taken, tick_of}
+use Rattle.machine.specs.Taken.{CannotMove, HasNoCommand, IsTaken, MovesOn, course_of_taken, weight_taken, words_taken, tick_of}
 use Rattle.machine.specs.declared.frame.Frame.{Frame}
 use Rattle.machine.specs.declared.frame.Frame.TheVariants as frame
 use Rattle.machine.specs.declared.frame.Script.{Script}
@@ -32,14 +33,6 @@ kept_ticks : (s : Status) (ticks : ℕ) → s.left ≡ ticks →
 kept_ticks s ticks has = ap (λ n. let t : Status = record s { left = n } in t) has
 
 module _ {A : Type 0} where
-  -- a frame that is no script has no command
-  pub none_but_script : (f : Frame A) (rest : List (Frame A)) →
-      ((own : Script A) → f ≡ frame.Script own → ⊥) → HasNone (f ∷ rest)
-  none_but_script (frame.Script own) rest not = absurd (not own refl)
-  none_but_script (frame.Words box levels whose) rest not = tt
-  none_but_script (frame.Held held) rest not = tt
-  none_but_script (frame.Turn turn) rest not = tt
-
   -- a command of a script takes its tick, and the script stays on top
   pub moves_taken : (ws : Rc (Vec (Word A) A) A) (levels : ℕ) (old new : List (Frame A))
       (ticks left : ℕ) → MovesOn ws levels old new → ticks ≡ suc left →
@@ -102,6 +95,13 @@ module _ {A : Type 0} where
       same_left last frames
       (ap (λ cs. script own.levels cs (option_map fault_of own.fault) s value)
       (commands_over own.commands.value.items own.next le)))
+
+  -- a script that runs as its code
+  pub code_taken : (tree : ScriptTree) (levels : ℕ) (frames : List (Frame A)) (ticks : ℕ) →
+      IsTaken (it.Code tree levels) (frame.Code tree levels ∷ frames) frames ticks ticks
+  code_taken tree levels frames ticks =
+      off (frame.Code tree levels) (it.Code tree levels) frames ticks refl refl refl
+      (λ last s value has. here)
 
   -- words that wait, and a command after its script
   pub waiting_taken : (gathering : Box (Gathering A) A) (levels : ℕ) (whose : WordsOf)

@@ -1,53 +1,150 @@
--- What a session has still to do: frames, and below them the code of the run's script.
-use Rattle.std.specs.Prelude.{◌≡◌, ℕ, ◌+◌, ◌*◌, ◌<◌, List, [], Option, Some, None}
-use Rattle.machine.specs.Frames.{Onward, load, onward_of, stack}
-use Rattle.machine.specs.Phases.{Begins, Leads, Stands, Unwinds, course_of_next, more_of}
+-- What a session has still to do: frames, the code below them, and the parts below that.
+use Rattle.std.specs.Prelude.{◌≡◌, ℕ, ◌+◌, ◌*◌, ◌<◌, ◌≤◌, List, [], ◌∷◌, reverse, Option, Some, None, Result}
+use Rattle.machine.specs.Frames.{Onward, onward_of, stack, weight, words_in}
+use Rattle.machine.specs.Phases.{Begins, IsTold, Leads, Stands, course_of_next, more_of}
+use Rattle.machine.specs.declared.advancing.Settled.{Settled}
+use Rattle.machine.specs.declared.advancing.Settled.TheVariants as settled
 use Rattle.machine.specs.declared.frame.Frame.{Frame}
 use Rattle.machine.specs.declared.phase.Phase.{Phase}
+use Rattle.machine.specs.declared.running.Handed.{Handed}
+use Rattle.machine.specs.declared.running.Handed.TheVariants as handed
+use Rattle.machine.specs.declared.running.Part.{Part}
 use Rattle.machine.specs.declared.running.Running.{Running}
 use Rattle.machine.specs.declared.starting.Next.{Next}
-use Rattle.machine.specs.declared.unwinding.Unwound.{Unwound}
-use Rattle.machine.specs.declared.unwinding.Unwound.TheVariants as unwound
 use Rattle.runs.specs.Closing.{closing}
 use Rattle.runs.specs.Ending.{Over}
 use Rattle.runs.specs.Run.{initial, whole}
-use Rattle.state.specs.Prelude.{Dialogue, Gives}
+use Rattle.state.specs.Budget.{again_of}
+use Rattle.state.specs.Prelude.{Dialogue, FitsState, Gives, Outcome, Status, outcome_of}
 use Rattle.state.specs.declared.leaf.Leaf.TheVariants as leaf
+use Rattle.state.specs.declared.outcome.Leave.{Leave}
 use Rattle.state.specs.declared.state.State.{State}
 use Rattle.steps.specs.Goes.{Goes}
-use Rattle.steps.specs.Run.{Awaits, most_commands}
+use Rattle.steps.specs.Run.{Awaits, places_left}
 use Rattle.steps.specs.declared.run.Run.{Run}
 
--- what is done with the outcome of the lowest frame: the code of the run's script goes on with it,
--- and then the run is closed; where there is no code, the run is closed
-abbrev pub IsBelow : {A : Type 0} → Option (Run A) → Onward → Type 0
-IsBelow None last = last ≡ closing
-IsBelow (Some run) last = Awaits closing run last
+-- the parts that wait, the top one first
+abbrev pub parts_of : {A : Type 0} → Running A → List (Part A)
+parts_of running = reverse running.parts.items
 
--- how many commands may still begin in the code, with so many ticks left
-abbrev pub commands_ahead : {A : Type 0} → Option (Run A) → ℕ → ℕ
-commands_ahead None left = 0
-commands_ahead (Some run) left = most_commands run left
+-- what is done with the outcome of the lowest frame: the code goes on with it, and this is done
+-- after the code; where there is no code, this is done with it
+abbrev pub Under : {A : Type 0} → Option (Run A) → Onward → Onward → Type 0
+Under None after last = last ≡ after
+Under (Some run) after last = Awaits after run last
+
+-- what is done after the code, where these parts wait: the frames of the top one take the outcome,
+-- from the top down, and then what lies below them; after the last one the run is closed
+pub record Waits {A : Type 0} (Beneath : Onward → Type 0) (part : Part A) (after : Onward) :
+    Type 0 where
+  pub base : Onward
+  pub last : Onward
+  pub beneath : Beneath base
+  pub under : Under part.code base last
+  pub is : after ≡ onward_of last (stack part.frames)
+
+abbrev pub Beneath : {A : Type 0} → List (Part A) → Onward → Type 0
+Beneath [] after = after ≡ closing
+Beneath (part ∷ parts) after = Waits (Beneath parts) part after
+
+-- what is done with the outcome of the lowest frame: the code takes it, and then what waits for the
+-- code
+pub record Lies {A : Type 0} (parts : List (Part A)) (code : Option (Run A)) (last : Onward) :
+    Type 0 where
+  pub after : Onward
+  pub beneath : Beneath parts after
+  pub under : Under code after last
+
+-- what lies below the frames of a session
+abbrev pub IsBelow : {A : Type 0} → Running A → Onward → Type 0
+IsBelow running last = Lies (parts_of running) running.code last
+
+-- what a session hands an outcome to has it, or something begins, or nothing is left of it
+abbrev pub Hands : {A : Type 0} → Onward → Handed A → List (Frame A) → State A →
+    Dialogue Over → Type 0
+Hands {A} last (handed.Over outcome) frames state p =
+    let none : List (Frame A) = [] in Leads closing (leaf.Has outcome) none state p
+Hands last (handed.Has outcome) frames state p = Leads last (leaf.Has outcome) frames state p
+Hands last (handed.Begins next) frames state p =
+    Begins last (course_of_next next) frames state p
 
 -- for some state of the definition that the code's state fits, the dialogue continues with the
--- outcome, or as what begins, and then as the frames and the code below them say
-pub record GoesOn {A : Type 0} (u : Unwound A) (code : Option (Run A)) (frames : List (Frame A))
-    (state : State A) (p : Dialogue Over) : Type 0 where
+-- outcome, or as what begins, and then as the session says
+pub record GoesOn {A : Type 0} (h : Handed A) (running : Running A) (state : State A)
+    (p : Dialogue Over) : Type 0 where
   pub last : Onward
-  pub below : IsBelow code last
-  pub unwinds : Unwinds last u frames state p
+  pub below : IsBelow running last
+  pub hands : Hands last h (stack running.frames) state p
 
--- no code is left where there is an outcome
-abbrev pub IsOver : {A : Type 0} → Unwound A → Option (Run A) → Type 0
-IsOver (unwound.Has outcome) code = code ≡ None
-IsOver (unwound.Begins next) code = Unit {0}
+-- how many places the code has still before it
+abbrev pub places_in : {A : Type 0} → Option (Run A) → ℕ
+places_in None = 0
+places_in (Some run) = places_left run
 
--- where something begins, less is left that may begin
-abbrev pub IsLess : {A : Type 0} → Unwound A → Option (Run A) → List (Frame A) → State A → ℕ →
-    Type 0
-IsLess (unwound.Has outcome) code frames state most = Unit {0}
-IsLess (unwound.Begins next) code frames state most =
-    more_of next + load frames state + 2 * commands_ahead code state.left < most
+-- how much more may begin in the parts that wait, before the next tick: from their frames, and two
+-- from each place of their code, since a command may begin there, and may end by exp_continue
+abbrev pub waits_in : {A : Type 0} → List (Part A) → ℕ
+waits_in [] = 0
+waits_in (part ∷ parts) =
+    words_in (stack part.frames) + 2 * places_in part.code + waits_in parts
+
+-- how much more may begin in a session before the next tick
+abbrev pub rest_of : {A : Type 0} → Running A → ℕ
+rest_of running =
+    words_in (stack running.frames) + 2 * places_in running.code + waits_in (parts_of running)
+
+-- whether there is code
+abbrev pub one_for : {A : Type 0} → Option (Run A) → ℕ
+one_for None = 0
+one_for (Some run) = 1
+
+-- how often an outcome may be handed on in the parts that wait, before the next tick
+abbrev pub height : {A : Type 0} → List (Part A) → ℕ
+height [] = 0
+height (part ∷ parts) = 2 * weight (stack part.frames) + 2 + height parts
+
+-- how often an outcome may be handed on in a session before the next tick
+abbrev pub depth : {A : Type 0} → Running A → ℕ
+depth running =
+    2 * weight (stack running.frames) + one_for running.code + height (parts_of running)
+
+-- where an outcome is handed on without a tick, less is left to hand it to
+abbrev pub Falls : {A : Type 0} → Handed A → Running A → Running A → Type 0
+Falls (handed.Over outcome) old new = Unit {0}
+Falls (handed.Begins next) old new = Unit {0}
+Falls (handed.Has outcome) old new = depth new < depth old
+
+-- without a tick less is left that may begin, or not more where nothing begins
+abbrev pub IsLess : {A : Type 0} → Handed A → Running A → ℕ → Type 0
+IsLess (handed.Over outcome) running most = Unit {0}
+IsLess (handed.Begins next) running most = more_of next + rest_of running < most
+IsLess (handed.Has outcome) running most = again_of (outcome_of outcome) + rest_of running ≤ most
+
+-- where an outcome is handed on, a tick was taken
+abbrev pub HasTicked : {A : Type 0} → Handed A → ℕ → ℕ → Type 0
+HasTicked (handed.Over outcome) now left = Unit {0}
+HasTicked (handed.Begins next) now left = Unit {0}
+HasTicked (handed.Has outcome) now left = now < left
+
+-- nothing has begun, and what is handed on is not of exp_continue
+abbrev pub TicksFirst : {A : Type 0} → Handed A → Type 0
+TicksFirst (handed.Over outcome) = ⊥
+TicksFirst (handed.Begins next) = ⊥
+TicksFirst (handed.Has outcome) = again_of (outcome_of outcome) ≡ 0
+
+-- how much may begin by the code before the next tick, and one more where something begins
+abbrev pub left_to_run : {A : Type 0} → Handed A → Run A → ℕ
+left_to_run (handed.Over outcome) run = 0
+left_to_run (handed.Begins next) run = 1 + more_of next + 2 * places_left run
+left_to_run (handed.Has outcome) run = again_of (outcome_of outcome)
+
+-- the code is over with this outcome: the part that waits goes on, or nothing is left
+abbrev pub IsBack : {A : Type 0} → List (Part A) → Handed A → Result (List ℕ) (Leave A) →
+    Running A → Type 0
+IsBack [] h outcome new = (h ≡ handed.Over outcome) × (new.code ≡ None) × (parts_of new ≡ [])
+IsBack (part ∷ parts) h outcome new =
+    (h ≡ handed.Has outcome) × (new.frames ≡ part.frames) × (new.code ≡ part.code) ×
+    (parts_of new ≡ parts)
 
 -- for some state of the definition that the code's state fits, the dialogue continues as the
 -- command that begins, and then as the code says
@@ -58,24 +155,57 @@ pub record BeginsIn {A : Type 0} (last : Onward) (next : Next A) (run : Run A) (
   pub begins : (let none : List (Frame A) = [] in Begins onward (course_of_next next) none state p)
 
 -- the code went on with an outcome: it is over, with this outcome, or a command begins in it
-abbrev pub RunsOn : {A : Type 0} → Onward → Unwound A → Run A → State A → Dialogue Over → Type 0
-RunsOn {A} last (unwound.Has outcome) run state p =
+abbrev pub RunsOn : {A : Type 0} → Onward → Handed A → Run A → State A → Dialogue Over → Type 0
+RunsOn last (handed.Over outcome) run state p = ⊥
+RunsOn {A} last (handed.Has outcome) run state p =
     let none : List (Frame A) = [] in Leads last (leaf.Has outcome) none state p
-RunsOn last (unwound.Begins next) run state p = BeginsIn last next run state p
+RunsOn last (handed.Begins next) run state p = BeginsIn last next run state p
 
 -- for some state of the definition that the code's state fits, the dialogue continues as what the
--- session is still to do, in its frames and in the code below them
-pub record StandsOver {A : Type 0} (code : Option (Run A)) (at : Phase A)
-    (frames : List (Frame A)) (state : State A) (answers : ℕ) (p : Dialogue Over) : Type 0 where
+-- session is still to do
+pub record StandsOver {A : Type 0} (running : Running A) (at : Phase A) (state : State A)
+    (answers : ℕ) (p : Dialogue Over) : Type 0 where
   pub last : Onward
-  pub below : IsBelow code last
-  pub stands : Stands last at frames state answers p
+  pub below : IsBelow running last
+  pub stands : Stands last at (stack running.frames) state answers p
 
--- a session of which nothing is done yet: each whole run of this text continues as its frames and
--- the code below them say
+-- for some state of the definition that the code's state fits, the dialogue continues as what the
+-- session is still to do with this outcome
+pub record ComesOver {A : Type 0} (running : Running A) (state : State A) (o : Outcome)
+    (p : Dialogue Over) : Type 0 where
+  pub last : Onward
+  pub below : IsBelow running last
+  pub status : Status
+  pub fits : FitsState state status
+  pub goes : Goes p (onward_of last (stack running.frames) status o)
+
+-- what a session was to do with the first outcome it is now to do with the other
+abbrev pub ComesFrom : {A : Type 0} → Running A → State A → Outcome → Running A → State A →
+    Outcome → Type 0
+ComesFrom old before first running state outcome =
+    (last : Onward) (s : Status) → FitsState before s → IsBelow old last →
+    ComesOver running state outcome (onward_of last (stack old.frames) s first)
+
+-- silent steps led to where the session stands, or to an outcome that is handed on
+abbrev pub Settles : {A : Type 0} → Settled A → Running A → State A → ℕ → Dialogue Over → Type 0
+Settles (settled.Stands phase) running state answers p = StandsOver running phase state answers p
+Settles (settled.Has outcome) running state answers p =
+    ComesOver running state (outcome_of outcome) p
+
+-- where the session stands, an act is asked or the run is over
+abbrev pub IsSettled : {A : Type 0} → Settled A → Type 0
+IsSettled (settled.Stands phase) = IsTold phase
+IsSettled (settled.Has outcome) = Unit {0}
+
+-- where an outcome is handed on, fewer ticks are left
+abbrev pub HasFewer : {A : Type 0} → Settled A → ℕ → ℕ → Type 0
+HasFewer (settled.Stands phase) now left = Unit {0}
+HasFewer (settled.Has outcome) now left = now < left
+
+-- a session of which nothing is done yet: each whole run of this text continues as it says
 pub record IsWhole {A : Type 0} (running : Running A) (text : List ℕ) : Type 0 where
   pub last : Onward
-  pub below : IsBelow running.code last
+  pub below : IsBelow running last
   pub goes : (args : List (List ℕ)) (limit : ℕ) →
       Goes (whole text args limit)
       (onward_of last (stack running.frames) (initial args limit) (Gives []))

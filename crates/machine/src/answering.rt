@@ -32,10 +32,10 @@ pub fn forward<A: Allocator + Copy, T: Watch<A, Frame<A>, State<A>, Leaf<A, Wait
     watch: &mut T,
 ) -> Result<Phase<A>, NoMemory>
     ensures stands { (last : Onward) (s : Status) (p : Dialogue Over) → answers.old + 1 < 2 ^ 64 →
-        FitsState state.old s → IsBelow running.old.code last →
+        FitsState state.old s → IsBelow running.old last →
         IsPlan last phase (stack running.old.frames) s answers.old p →
         IfOk result (λ now.
-        StandsOver running.new.code now (stack running.new.frames) state.new answers.new
+        StandsOver running.new now state.new answers.new
         (after_acts p (paired (deed_in phase) answer))) }
     ensures counts { answers.old + 1 < 2 ^ 64 → IfOk result (λ _.
         answers.new ≡ answers.old + length (paired (deed_in phase) answer)) }
@@ -78,8 +78,8 @@ fn answered<A: Allocator + Copy, T: Watch<A, Frame<A>, State<A>, Leaf<A, Waits<A
     watch: &mut T,
 ) -> Result<Phase<A>, NoMemory>
     ensures stands { (last : Onward) (s : Status) → FitsState state.old s →
-        IsBelow running.old.code last → IfOk result (λ phase.
-        StandsOver running.new.code phase (stack running.new.frames) state.new answers
+        IsBelow running.old last → IfOk result (λ phase.
+        StandsOver running.new phase state.new answers
         (left_of last (replied (deed_of act) s (next_of waits (deed_of act)) (reply_of answer))
         (stack running.old.frames))) }
     ensures told { IfOk result IsTold }

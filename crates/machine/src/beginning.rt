@@ -19,11 +19,12 @@ use tclstate::{Procs, ScopeError, Scopes};
 use tcltext::{Value, join_list};
 
 /// The state in which a script with these arguments begins. The first argument is `argv0`, the rest
-/// are `argv`.
+/// are `argv`. Scripts that commands run are kept as their code, or as their trees.
 pub fn beginning<A: Allocator + Copy>(
     alloc: A,
     args: &[Vec<u8, A>],
     limits: Limits,
+    as_code: bool,
 ) -> Result<State<A>, NoMemory>
     ensures { IfOk result (λ state. FitsState state (initial (words_of args.now) limits.ticks)) }
 {
@@ -37,7 +38,7 @@ pub fn beginning<A: Allocator + Copy>(
             all: false,
         },
         left: limits.ticks,
-        kept: Kept::new(alloc),
+        kept: Kept::new(alloc, as_code),
         formulas: KeptFormulas::new(alloc),
         arguments: Arguments::new(alloc),
         branches: KeptBranches::new(alloc),

@@ -3,9 +3,11 @@
 ghost use Rattle.std.specs.Prelude.{◌≡◌, [], ◌∷◌, IfOk, OnOk, MatchOption};
 ghost use Rattle.machine.specs.Frames.{commands_left, stack};
 ghost use Rattle.machine.specs.Taken.{HandsOut, HasNone, MovesOn};
+ghost use Rattle.machine.specs.declared.frame.Frame.TheVariants as frame;
 ghost use Rattle.tclparse.specs.Tree.{no_commands};
 
 use acts::NoMemory;
+use code::Coded;
 use control::Held;
 use expects::form::Form;
 use expects::turn::Turn;
@@ -39,6 +41,9 @@ pub enum WordsOf {
 pub enum Frame<A: Allocator> {
     /// A script, whose remaining commands come next.
     Script(Script<A>),
+    /// A script that runs as its code, of which nothing is done yet, and how many levels may still
+    /// nest in it.
+    Code(Coded<A>, u8),
     /// Words that wait for a script in one of them, how many levels may still nest in their
     /// command, and what the words belong to.
     Words(Box<Gathering<A>, A>, u8, WordsOf),
@@ -82,9 +87,9 @@ impl<A: Allocator> Frame<A> {
         frames.pop()
     }
 
-    /// Hands out the words of the next command of the script on top, which moves past it in place,
-    /// and how many levels may still nest in it; `None` unless the top frame is a script with a
-    /// command left.
+    /// Hands out the words of the next command of the script on top, which moves past it, and how
+    /// many levels may still nest in it; `None` unless the top frame is a script with a command
+    /// left.
     pub fn next_command(
         frames: &mut Vec<Frame<A>, A>,
     ) -> Result<Option<(Rc<Vec<Word<A>, A>, A>, u8)>, NoMemory>
@@ -92,15 +97,33 @@ impl<A: Allocator> Frame<A> {
             (HasNone (stack frames.old) × (stack frames.new ≡ stack frames.old))
             (λ next. MovesOn next.0 next.1 (stack frames.old) (stack frames.new))) }
     {
-        let Some(top) = frames.last_mut() else {
-            return Ok(None);
-        };
-        match &mut *top {
-            Frame::Script(script) => match script.next_command()? {
-                Some(words) => Ok(Some((words, script.levels))),
-                None => Ok(None),
-            },
-            _ => Ok(None),
+        match Frame::pop(frames) {
+            Some(Frame::Script(script)) => Frame::move_on(frames, script),
+            Some(frame) => {
+                frame.push(frames)?;
+                Ok(None)
+            }
+            None => Ok(None),
+        }
+    }
+
+    /// Hands out the words of the next command of this script, which was on top, and puts it back.
+    fn move_on(
+        frames: &mut Vec<Frame<A>, A>,
+        mut script: Script<A>,
+    ) -> Result<Option<(Rc<Vec<Word<A>, A>, A>, u8)>, NoMemory>
+        ensures { IfOk result (λ found. MatchOption found
+            (HasNone (frame.Script script ∷ stack frames.old)
+            × (stack frames.new ≡ frame.Script script ∷ stack frames.old))
+            (λ next. MovesOn next.0 next.1 (frame.Script script ∷ stack frames.old)
+            (stack frames.new))) }
+    {
+        let levels = script.levels;
+        let found = script.next_command()?;
+        Frame::Script(script).push(frames)?;
+        match found {
+            Some(words) => Ok(Some((words, levels))),
+            None => Ok(None),
         }
     }
 }

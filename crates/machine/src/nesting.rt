@@ -2,10 +2,9 @@
 
 ghost use Rattle.std.specs.Prelude.{◌≡◌, ◌+◌, ◌*◌, ◌≤◌, [], ◌∷◌, IfOk};
 ghost use Rattle.state.specs.Prelude.{Status, FitsState, outcome_of};
-ghost use Rattle.machine.specs.Frames.{Onward, begun, call_of, left_of, onward_of, stack, weight, words_in, words_load};
+ghost use Rattle.machine.specs.Frames.{Onward, call_of, frame_of, left_of, onward_of, stack, weight, words_in, words_load};
 ghost use Rattle.machine.specs.Gathers.{Gathers, again_among};
 ghost use Rattle.steps.specs.Goes.{Goes};
-ghost use Rattle.machine.specs.declared.frame.Frame.TheVariants as frames_are;
 ghost use Rattle.state.specs.Budget.{again_of};
 ghost use Rattle.tclparse.specs.View.{commands_of, words_of};
 ghost use Rattle.words.specs.Gathering.{gathering_on};
@@ -14,6 +13,7 @@ ghost use Rattle.words.specs.Words.{nested, words as meant_words};
 
 use crate::frame::{Frame, Script, WordsOf};
 use acts::{Fault, NoMemory};
+use code::Made;
 use state::outcome::raised;
 use state::{Outcome, State};
 use std::alloc::Allocator;
@@ -89,21 +89,29 @@ pub(crate) fn nest<A: Allocator + Copy>(
 /// Puts a script on the stack, above the frame that takes its outcome.
 pub(crate) fn put_script<A: Allocator>(
     frames: &mut Vec<Frame<A>, A>,
-    script: tclparse::Script<A>,
+    script: Made<A>,
     levels: u8,
     under: Frame<A>,
 ) -> Result<(), NoMemory>
-    ensures { IfOk result (λ _. stack frames.new ≡ frames_are.Script (begun script levels)
-        ∷ under ∷ stack frames.old) }
+    ensures { IfOk result (λ _.
+        stack frames.new ≡ frame_of script levels ∷ under ∷ stack frames.old) }
 {
     under.push(frames)?;
-    let tclparse::Script { commands, fault } = script;
-    let script = Frame::Script(Script {
-        commands,
-        next: 0,
-        levels,
-        fault,
-    });
-    script.push(frames)?;
+    as_frame(script, levels).push(frames)?;
     Ok(())
+}
+
+/// A script of which nothing is done yet, as a frame.
+pub(crate) fn as_frame<A: Allocator>(script: Made<A>, levels: u8) -> Frame<A>
+    ensures { result ≡ frame_of script levels }
+{
+    match script {
+        Made::Code(coded) => Frame::Code(coded, levels),
+        Made::Tree(tclparse::Script { commands, fault }) => Frame::Script(Script {
+            commands,
+            next: 0,
+            levels,
+            fault,
+        }),
+    }
 }

@@ -1,21 +1,20 @@
-//! What a session has still to do: frames, and below them the code of the run's script.
+//! What a session has still to do: frames, below them the code that runs, and below that what waits
+//! for this code.
 
-ghost use Rattle.std.specs.Prelude.{◌≡◌, ◌+◌, ◌*◌, List, [], Some, IfOk};
-ghost use Rattle.machine.specs.Frames.{Onward, begun, load, onward_of, stack};
-ghost use Rattle.machine.specs.Phases.{IsEmptied};
-ghost use Rattle.machine.specs.Below.{GoesOn, IsBelow, IsLess, IsOver, IsWhole, RunsOn, commands_ahead};
-ghost use Rattle.machine.specs.declared.frame.Frame as framed;
-ghost use Rattle.machine.specs.declared.frame.Frame.TheVariants as frames_are;
-ghost use Rattle.runs.specs.Run.{most_levels};
+ghost use Rattle.std.specs.Prelude.{◌≡◌, ◌+◌, ◌*◌, ◌≤◌, [], ◌∷◌, Some, IfOk, OnOk};
+ghost use Rattle.machine.specs.Frames.{Onward, left_of, onward_of, stack};
+ghost use Rattle.machine.specs.Below.{Falls, GoesOn, HasTicked, IsBack, IsBelow, IsLess, IsWhole, RunsOn, TicksFirst, left_to_run, parts_of, rest_of};
+ghost use Rattle.runs.specs.Scripts.{script as meant};
 ghost use Rattle.state.specs.Budget.{again_of};
 ghost use Rattle.state.specs.Prelude.{Status, FitsState, outcome_of};
-ghost use Rattle.steps.specs.Run.{Awaits, most_commands};
+ghost use Rattle.steps.specs.Run.{Awaits, IsFresh, IsValue, places_left};
 
-use crate::frame::{Frame, Script, WordsOf};
+use crate::frame::{Frame, WordsOf};
+use crate::nesting::as_frame;
 use crate::starting::Next;
 use crate::unwinding::{Unwound, unwind};
 use acts::NoMemory;
-use code::code_of;
+use code::{Coded, Made, code_of};
 use state::{Outcome, State};
 use std::alloc::Allocator;
 use std::mem;
@@ -26,14 +25,55 @@ use tcltext::Value;
 /// How many levels of evaluation may nest in a script (interp(n), recursionlimit).
 const MOST_LEVELS: u8 = 100;
 
+/// What waits for the code of a script: the frames that take its outcome, and the code below them.
+#[derive(Drop)]
+pub struct Part<A: Allocator> {
+    pub frames: Vec<Frame<A>, A>,
+    /// `None` where the lowest of these frames is a script's, or below it nothing is left.
+    pub code: Option<Run<A>>,
+}
+
 /// What a session has still to do.
 #[derive(Drop)]
 pub struct Running<A: Allocator> {
     /// The frames, the top one last.
     pub frames: Vec<Frame<A>, A>,
-    /// The code of the run's script, which takes the outcome of the lowest frame. `None` where that
-    /// script is a frame, as its tree, or is over.
+    /// The code that runs below them, and takes the outcome of the lowest frame. `None` where that
+    /// is the frame of the run's script, or nothing is left below it.
     pub code: Option<Run<A>>,
+    /// What waits for this code, the last one first.
+    pub parts: Vec<Part<A>, A>,
+}
+
+/// Where an outcome led.
+#[derive(Drop)]
+pub enum Handed<A: Allocator> {
+    /// Nothing is left, and the run has this outcome.
+    Over(Outcome<A>),
+    /// The frames take this outcome next.
+    Has(Outcome<A>),
+    /// This begins on top of the frames.
+    Begins(Next<A>),
+}
+
+impl<A: Allocator> Running<A> {
+    /// Ends the code, or the frames where there is no code, with this outcome: the part that waits
+    /// for it goes on, where there is one.
+    fn end_part(&mut self, outcome: Outcome<A>) -> Handed<A>
+        ensures { IsBack (parts_of self.old) result outcome self.new }
+    {
+        match self.parts.pop() {
+            Some(part) => {
+                self.frames = part.frames;
+                self.code = part.code;
+                Handed::Has(outcome)
+            }
+            None => {
+                self.code = None;
+                Handed::Over(outcome)
+            }
+        }
+    }
 }
 
 impl<A: Allocator + Copy> Running<A> {
@@ -61,6 +101,7 @@ impl<A: Allocator + Copy> Running<A> {
         Ok(Running {
             frames: Vec::new(alloc),
             code: Some(Run::begin(alloc, code, MOST_LEVELS)),
+            parts: Vec::new(alloc),
         })
     }
 
@@ -70,75 +111,129 @@ impl<A: Allocator + Copy> Running<A> {
     {
         let script = tclparse::Script::read(alloc, text)?;
         let mut frames = Vec::new(alloc);
-        as_frame(script).push(&mut frames)?;
-        Ok(Running { frames, code: None })
+        as_frame(Made::Tree(script), MOST_LEVELS).push(&mut frames)?;
+        Ok(Running {
+            frames,
+            code: None,
+            parts: Vec::new(alloc),
+        })
     }
 }
 
-/// A script of which nothing is done yet, as a frame.
-fn as_frame<A: Allocator>(script: tclparse::Script<A>) -> Frame<A>
-    ensures { result ≡ frames_are.Script (begun script most_levels) }
-{
-    let tclparse::Script { commands, fault } = script;
-    Frame::Script(Script {
-        commands,
-        next: 0,
-        levels: MOST_LEVELS,
-        fault,
-    })
-}
-
-/// Hands an outcome to the frames, from the top down, and then to the code below them, until
-/// something begins or nothing is left.
+/// Hands an outcome to what is still to be done, until something begins, a tick was taken, or
+/// nothing is left.
 pub(crate) fn hand_on<A: Allocator + Copy>(
     alloc: A,
     running: &mut Running<A>,
     state: &mut State<A>,
-    outcome: Outcome<A>,
-) -> Result<Unwound<A>, NoMemory>
+    mut outcome: Outcome<A>,
+) -> Result<Handed<A>, NoMemory>
     ensures goes_on { (last : Onward) (s : Status) → FitsState state.old s →
-        IsBelow running.old.code last → IfOk result (λ unwound.
-        GoesOn unwound running.new.code (stack running.new.frames) state.new
+        IsBelow running.old last → IfOk result (λ handed. GoesOn handed running.new state.new
         (onward_of last (stack running.old.frames) s (outcome_of outcome))) }
-    ensures emptied { IfOk result (λ unwound. IsEmptied unwound (stack running.new.frames)) }
-    ensures over { IfOk result (λ unwound. IsOver unwound running.new.code) }
-    ensures less { IfOk result (λ unwound.
-        IsLess unwound running.new.code (stack running.new.frames) state.new
-        (again_of (outcome_of outcome) + load (stack running.old.frames) state.old
-        + 2 * commands_ahead running.old.code state.old.left)) }
+    ensures left { IfOk result (λ _. state.new.left ≤ state.old.left) }
+    ensures less { IfOk result (λ handed. state.new.left ≡ state.old.left →
+        IsLess handed running.new
+        (again_of (outcome_of outcome) + rest_of running.old)) }
+    ensures ticked { IfOk result (λ handed. HasTicked handed state.new.left state.old.left) }
 {
-    match unwind(alloc, &mut running.frames, state, outcome)? {
-        Unwound::Begins(next) => Ok(Unwound::Begins(next)),
-        Unwound::Has(last) => end_frames(alloc, &mut running.code, state, last),
+    let left = state.left;
+    'parts: loop {
+        match hand_once(alloc, running, state, outcome)? {
+            Handed::Has(next) => {
+                if state.left < left {
+                    return Ok(Handed::Has(next));
+                }
+                outcome = next;
+            }
+            Handed::Begins(next) => return Ok(Handed::Begins(next)),
+            Handed::Over(last) => return Ok(Handed::Over(last)),
+        }
     }
 }
 
-/// Hands an outcome to the code, once all frames are gone; where there is none, or it is over,
-/// nothing is left.
-fn end_frames<A: Allocator + Copy>(
+/// Hands an outcome to the frames, from the top down, and once all are gone to what lies below
+/// them.
+fn hand_once<A: Allocator + Copy>(
     alloc: A,
-    code: &mut Option<Run<A>>,
+    running: &mut Running<A>,
     state: &mut State<A>,
     outcome: Outcome<A>,
-) -> Result<Unwound<A>, NoMemory>
+) -> Result<Handed<A>, NoMemory>
     ensures goes_on { (last : Onward) (s : Status) → FitsState state.old s →
-        IsBelow code.old last → IfOk result (λ unwound.
-        let none : List (framed.Frame A) = [] in
-        GoesOn unwound code.new none state.new (last s (outcome_of outcome))) }
-    ensures over { IfOk result (λ unwound. IsOver unwound code.new) }
-    ensures less { IfOk result (λ unwound. let none : List (framed.Frame A) = [] in
-        IsLess unwound code.new none state.new
-        (3 * state.old.left + 2 * commands_ahead code.old state.old.left)) }
+        IsBelow running.old last → IfOk result (λ handed. GoesOn handed running.new state.new
+        (onward_of last (stack running.old.frames) s (outcome_of outcome))) }
+    ensures left { IfOk result (λ _. state.new.left ≤ state.old.left) }
+    ensures less { IfOk result (λ handed. state.new.left ≡ state.old.left →
+        IsLess handed running.new
+        (again_of (outcome_of outcome) + rest_of running.old)) }
+    ensures falls { IfOk result (λ handed. state.new.left ≡ state.old.left →
+        Falls handed running.old running.new) }
 {
-    let Some(run) = code else {
-        return Ok(Unwound::Has(outcome));
+    match unwind(alloc, &mut running.frames, state, outcome)? {
+        Unwound::Begins(next) => Ok(Handed::Begins(next)),
+        Unwound::Enters(script, levels, value) => enter(
+            alloc, running, state, script, levels, value,
+        ),
+        Unwound::Has(last) => hand_down(alloc, running, state, last),
+    }
+}
+
+/// Enters the code of a script with this value, above the frames.
+fn enter<A: Allocator + Copy>(
+    alloc: A,
+    running: &mut Running<A>,
+    state: &mut State<A>,
+    script: Coded<A>,
+    levels: u8,
+    value: Value<A>,
+) -> Result<Handed<A>, NoMemory>
+    ensures goes_on { (last : Onward) (s : Status) → FitsState state.old s →
+        IsBelow running.old last → IfOk result (λ handed. GoesOn handed running.new state.new
+        (left_of last (meant levels script.commands script.fault s value)
+        (stack running.old.frames))) }
+    ensures left { IfOk result (λ _. state.new.left ≤ state.old.left) }
+    ensures less { IfOk result (λ handed. state.new.left ≡ state.old.left →
+        TicksFirst handed × (running.new ≡ running.old)) }
+{
+    let mut run = Run::begin(alloc, script.into_code(), levels);
+    match go_on(alloc, &mut run, state, Ok(value))? {
+        Handed::Begins(next) => {
+            let frames = mem::replace(&mut running.frames, Vec::new(alloc));
+            let code = mem::replace(&mut running.code, Some(run));
+            running.parts.push(Part { frames, code })?;
+            Ok(Handed::Begins(next))
+        }
+        Handed::Has(outcome) => Ok(Handed::Has(outcome)),
+        Handed::Over(outcome) => Ok(Handed::Over(outcome)),
+    }
+}
+
+/// Hands an outcome to the code, once all frames are gone.
+fn hand_down<A: Allocator + Copy>(
+    alloc: A,
+    running: &mut Running<A>,
+    state: &mut State<A>,
+    outcome: Outcome<A>,
+) -> Result<Handed<A>, NoMemory>
+    ensures goes_on { (last : Onward) (s : Status) → FitsState state.old s →
+        stack running.old.frames ≡ [] → IsBelow running.old last →
+        IfOk result (λ handed. GoesOn handed running.new state.new
+        (last s (outcome_of outcome))) }
+    ensures left { IfOk result (λ _. state.new.left ≤ state.old.left) }
+    ensures less { IfOk result (λ handed. state.new.left ≡ state.old.left →
+        IsLess handed running.new
+        (again_of (outcome_of outcome) + rest_of running.old)) }
+    ensures falls { IfOk result (λ handed. state.new.left ≡ state.old.left →
+        Falls handed running.old running.new) }
+{
+    let Some(run) = &mut running.code else {
+        return Ok(running.end_part(outcome));
     };
     match go_on(alloc, run, state, outcome)? {
-        Unwound::Begins(next) => Ok(Unwound::Begins(next)),
-        Unwound::Has(last) => {
-            *code = None;
-            Ok(Unwound::Has(last))
-        }
+        Handed::Has(last) => Ok(running.end_part(last)),
+        Handed::Begins(next) => Ok(Handed::Begins(next)),
+        Handed::Over(last) => Ok(Handed::Over(last)),
     }
 }
 
@@ -149,23 +244,27 @@ fn go_on<A: Allocator + Copy>(
     run: &mut Run<A>,
     state: &mut State<A>,
     outcome: Outcome<A>,
-) -> Result<Unwound<A>, NoMemory>
+) -> Result<Handed<A>, NoMemory>
     ensures runs { (last next : Onward) (s : Status) → FitsState state.old s →
-        Awaits last run.old next → IfOk result (λ unwound.
-        RunsOn last unwound run.new state.new (next s (outcome_of outcome))) }
-    ensures less { IfOk result (λ unwound. let none : List (framed.Frame A) = [] in
-        IsLess unwound (Some run.new) none state.new
-        (3 * state.old.left + 2 * most_commands run.old state.old.left)) }
+        Awaits last run.old next → IfOk result (λ handed.
+        RunsOn last handed run.new state.new (next s (outcome_of outcome))) }
+    ensures left { IfOk result (λ _. state.new.left ≤ state.old.left) }
+    ensures less { IfOk result (λ handed. state.new.left ≡ state.old.left →
+        left_to_run handed run.new
+        ≤ again_of (outcome_of outcome) + 2 * places_left run.old) }
+    ensures first { IsFresh run.old → IsValue outcome → IfOk result (λ handed.
+        state.new.left ≡ state.old.left → TicksFirst handed) }
 {
     match run.go_on(alloc, state, outcome)? {
         Progress::Begins => {
             let words = mem::replace(&mut run.spot.words, Vec::new(alloc));
-            Ok(Unwound::Begins(Next::Call(words, run.spot.levels, WordsOf::Command)))
+            Ok(Handed::Begins(Next::Call(words, run.spot.levels, WordsOf::Command)))
         }
-        // It neither goes on nor lacks an operand: it is over.
-        _ => {
+        Progress::Over => {
             let outcome = mem::replace(&mut run.spot.outcome, Ok(Value::empty()));
-            Ok(Unwound::Has(outcome))
+            Ok(Handed::Has(outcome))
         }
+        // It never stops otherwise: the code of a script lacks no operand.
+        _ => Ok(Handed::Has(Ok(Value::empty()))),
     }
 }

@@ -8,6 +8,7 @@ ghost use Rattle.machine.specs.declared.taken.Taken.TheVariants as taken;
 
 use crate::frame::{Frame, WordsOf};
 use acts::NoMemory;
+use code::Coded;
 use control::Held;
 use expects::turn::Turn;
 use std::alloc::Allocator;
@@ -19,12 +20,14 @@ use words::Gathering;
 #[derive(Drop)]
 pub enum Taken<A: Allocator> {
     /// A command of a script, which has taken its tick, and how many levels may still nest in it;
-    /// the script has moved past it in place.
+    /// the script has moved past it.
     Command(Rc<Vec<Word<A>, A>, A>, u8),
     /// A command of a script for which no tick is left.
     Limit,
     /// A script without a command left, with the fault after its commands, if there is one.
     Behind(Option<Fault>),
+    /// A script that runs as its code, and how many levels may still nest in it.
+    Code(Coded<A>, u8),
     /// Words after a script in one of them, how many levels may still nest in their command, and
     /// what the words belong to.
     Words(Box<Gathering<A>, A>, u8, WordsOf),
@@ -34,7 +37,7 @@ pub enum Taken<A: Allocator> {
     Turn(Box<Turn<A>, A>),
 }
 
-/// Examines the top frame: a script that has a command and a tick left moves on in place; every
+/// Examines the top frame: a script that has a command and a tick left moves past it; every
 /// other frame is taken off. `None` where there is no frame.
 ///
 /// # Errors
@@ -57,7 +60,7 @@ pub fn take_top<A: Allocator>(
 }
 
 /// The next command of the script on top, which takes its tick, and how many levels may still nest
-/// in it; the script moves on in place. `None` where there is no such command, or no tick for it.
+/// in it; the script moves past it. `None` where there is no such command, or no tick for it.
 fn next_command<A: Allocator>(
     frames: &mut Vec<Frame<A>, A>,
     ticks: &mut u64,
@@ -91,6 +94,7 @@ fn taken_off<A: Allocator>(frame: Frame<A>) -> Taken<A>
                 Taken::Behind(script.fault)
             }
         }
+        Frame::Code(script, levels) => Taken::Code(script, levels),
         Frame::Words(gathering, levels, whose) => Taken::Words(gathering, levels, whose),
         Frame::Held(held) => Taken::Held(held),
         Frame::Turn(turn) => Taken::Turn(turn),

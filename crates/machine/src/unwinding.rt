@@ -7,7 +7,7 @@ ghost use Rattle.control.specs.View.{scripts_held};
 ghost use Rattle.machine.specs.Frames.{Onward, call_of, left_of, next_of, onward_of, stack, weight, weight_of, words_in, words_load, words_of_frame};
 ghost use Rattle.expects.specs.Turn.{behind as behind_body};
 ghost use Rattle.expects.specs.View.{turn_of};
-ghost use Rattle.machine.specs.Phases.{IsEmptied, Lightens, Unwinds};
+ghost use Rattle.machine.specs.Phases.{IsEmptied, IsLighter, Lightens, Unwinds};
 ghost use Rattle.machine.specs.Taken.{course_of_taken, tick_of, weight_taken, words_taken};
 ghost use Rattle.runs.specs.Scripts.{behind as meant_behind};
 ghost use Rattle.state.specs.Budget.{again_of};
@@ -20,6 +20,7 @@ use crate::nesting::{nest, put_script};
 use crate::starting::Next;
 use crate::taken::{Taken, take_top};
 use acts::NoMemory;
+use code::Coded;
 use control::Held;
 use expects::resuming::resumed;
 use expects::turn::{Opening, Turn};
@@ -37,6 +38,8 @@ pub enum Unwound<A: Allocator> {
     Has(Outcome<A>),
     /// This begins on top of the frames.
     Begins(Next<A>),
+    /// The code of this script is entered with this value, and so many levels may still nest in it.
+    Enters(Coded<A>, u8, Value<A>),
 }
 
 /// Hands an outcome to the frames, from the top down, until something begins or no frame is left.
@@ -53,6 +56,8 @@ pub(crate) fn unwind<A: Allocator + Copy>(
     ensures lightens { IfOk result (λ unwound.
         Lightens unwound (stack frames.new) state.new (1 + weight (stack frames.old))
         (again_of (outcome_of outcome) + words_in (stack frames.old)) state.old.left) }
+    ensures lighter { IfOk result (λ unwound.
+        IsLighter unwound (stack frames.new) (weight (stack frames.old))) }
     ensures left { IfOk result (λ _. state.new.left ≤ state.old.left) }
 {
     'frames: loop {
@@ -60,6 +65,9 @@ pub(crate) fn unwind<A: Allocator + Copy>(
             Err(last) => return Ok(Unwound::Has(last)),
             Ok(Unwound::Has(next)) => outcome = next,
             Ok(Unwound::Begins(next)) => return Ok(Unwound::Begins(next)),
+            Ok(Unwound::Enters(script, levels, value)) => {
+                return Ok(Unwound::Enters(script, levels, value));
+            }
         }
     }
 }
@@ -115,6 +123,7 @@ fn value_on<A: Allocator + Copy>(
         Taken::Command(words, levels) => Ok(Unwound::Begins(Next::Command(words, levels))),
         Taken::Limit => Ok(Unwound::Has(Err(Leave::Stopped(Stop::Limit)))),
         Taken::Behind(fault) => Ok(Unwound::Has(behind(alloc, fault, value)?)),
+        Taken::Code(script, levels) => Ok(Unwound::Enters(script, levels, value)),
         Taken::Words(gathering, levels, whose) => {
             let gathering = Box::into_inner(gathering);
             words_on(alloc, frames, state, gathering, levels, whose, value)

@@ -16,8 +16,8 @@ pub trait Watch<A: Allocator, F, S, L> {
     ghost told: { Self → History → Self → Type 0 };
 
     /// Whether it looks at the frames. Then each script that runs stands among them as its tree;
-    /// else the script of the run is run as its code, and who watches is told of none of its
-    /// commands that are over at once.
+    /// else scripts are run as their code, and who watches is told of none of their commands that
+    /// are over at once.
     fn sees_frames(&self) -> bool;
 
     /// A run of this script begins, with these arguments.

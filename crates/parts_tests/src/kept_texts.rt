@@ -1,11 +1,11 @@
 //! Texts that are kept.
 
+use code::Made;
 use kept::Kept;
 use memory::NoMemory;
 use std::alloc::Allocator;
 use std::rc::Rc;
 use tables::{Answers, number, push_shown};
-use tclparse::Script;
 
 /// The table of how many texts are kept.
 pub struct KeptTexts;
@@ -20,7 +20,7 @@ impl Answers for KeptTexts {
             return Ok(());
         };
         let (texts, most) = (number(texts) as usize, number(most) as usize);
-        let mut kept = Kept::new(*answer.allocator());
+        let mut kept = Kept::new(*answer.allocator(), true);
         let first = keep(*answer.allocator(), &mut kept, texts, most)?;
         tell_again(answer, &mut kept, &first)
     }
@@ -33,14 +33,14 @@ fn keep<A: Allocator + Copy>(
     kept: &mut Kept<A>,
     texts: usize,
     most: usize,
-) -> Result<Vec<Script<A>, A>, NoMemory> {
+) -> Result<Vec<Made<A>, A>, NoMemory> {
     let mut first = Vec::new(alloc);
     for n in 0..texts {
         let text = format!(in alloc; "set x {n}")?;
         let script = kept.get(text.as_bytes())?;
         let before = kept.len();
         let again = kept.get(text.as_bytes())?;
-        let is_same = Rc::ptr_eq(&script.commands, &again.commands);
+        let is_same = Rc::ptr_eq(script.commands(), again.commands());
         let wanted = n.saturating_add(1).min(most);
         if is_same && before == wanted && kept.len() == wanted {
             first.push(script)?;
@@ -55,7 +55,7 @@ fn keep<A: Allocator + Copy>(
 fn tell_again<A: Allocator + Copy>(
     answer: &mut Vec<u8, A>,
     kept: &mut Kept<A>,
-    first: &Vec<Script<A>, A>,
+    first: &Vec<Made<A>, A>,
 ) -> Result<(), NoMemory> {
     let mut same = 0u64;
     let mut single = 0u64;
@@ -63,12 +63,12 @@ fn tell_again<A: Allocator + Copy>(
     for (n, script) in first.iter().enumerate().rev() {
         let text = format!(in *answer.allocator(); "set x {n}")?;
         let again = kept.get(text.as_bytes())?;
-        if Rc::ptr_eq(&script.commands, &again.commands) {
+        if Rc::ptr_eq(script.commands(), again.commands()) {
             same = same.saturating_add(1);
         } else {
             gone = gone.max(n);
         }
-        if script.commands.len() == 1 {
+        if script.commands().len() == 1 {
             single = single.saturating_add(1);
         }
     }

@@ -36,7 +36,7 @@ fn read_refused<A: Allocator + Copy, B: Allocator>(
     heap: &Refusing<B>,
     n: u64,
 ) -> Option<bool> {
-    let mut kept = Kept::new(alloc);
+    let mut kept = Kept::new(alloc, true);
     let before = heap.refused();
     heap.refuse_nth(n);
     let read = kept.get(b"puts [a b]");
@@ -46,7 +46,7 @@ fn read_refused<A: Allocator + Copy, B: Allocator>(
         return None;
     }
     match read {
-        Ok(script) if script.commands.len() == 1 => Some(is_refused),
+        Ok(script) if script.commands().len() == 1 => Some(is_refused),
         Err(_) if is_refused => Some(false),
         _ => None,
     }

@@ -1,5 +1,5 @@
 -- How far a command that runs scripts has come, where it is known how it came there.
-use Rattle.std.proofs.Common.{◌≡◌, ◌∙◌, ℕ, suc, List, option_map, Result, refl, sym, ap, subst}
+use Rattle.std.proofs.Common.{◌≡◌, ◌∙◌, ℕ, suc, List, Result, refl, sym, ap, subst}
 use Rattle.acts.specs.Flaw as flaw
 use Rattle.state.specs.Prelude.{text_of, Ends, Course, inside, within, Nests, tree_of, Outcome, Leaves, Error, ScriptText, ScriptTree, Reaches, here, Status, FitsState, outcome_of}
 use Rattle.state.proofs.Reaches.{same_reaches, then_reaches}
@@ -9,9 +9,7 @@ use Rattle.state.specs.declared.outcome.Leave.{Leave}
 use Rattle.state.specs.declared.state.State.{State}
 use Rattle.state.specs.Reaches.{reads}
 use Rattle.tclparse.specs.Grammar.{IsScript}
-use Rattle.tclparse.specs.Seen.{fault_of}
-use Rattle.tclparse.specs.View.{commands_of}
-use Rattle.tclparse.specs.declared.script.Script as coded
+use Rattle.code.specs.declared.made.Made.{Made}
 
 module _ {A H : Type 0} (next : H → Status → Outcome → Course) (state : State A) where
   -- the command has ended with this outcome
@@ -40,7 +38,7 @@ module _ {A H : Type 0} (next : H → Status → Outcome → Course) (state : St
   }
 
   -- a script runs one level deeper
-  pub script_nests : (script : coded.Script A) (levels inner : ℕ) (held : H) (s : Status) →
+  pub script_nests : (script : Made A) (levels inner : ℕ) (held : H) (s : Status) →
       FitsState state s → levels ≡ suc inner →
       Nests next (nesting.Runs script inner held) state
       (inside levels (tree_of script) s (next held))
@@ -48,9 +46,9 @@ module _ {A H : Type 0} (next : H → Status → Outcome → Course) (state : St
       rw deeper (record { status = s; fits = fits; reaches = here })
 
 -- a text is read as the script that it is
-pub text_reaches : {A : Type 0} (script : coded.Script A) (levels : ℕ) (text : List ℕ) (s : Status)
+pub text_reaches : {A : Type 0} (script : Made A) (levels : ℕ) (text : List ℕ) (s : Status)
     (next : Status → Outcome → Course) →
-    IsScript (commands_of script.commands) (option_map fault_of script.fault) text →
+    IsScript (tree_of script).commands (tree_of script).fault text →
     Reaches (within levels text s next) (inside levels (tree_of script) s next)
 text_reaches script levels text s next is = reads {text = ScriptText text} (tree_of script) is here
 

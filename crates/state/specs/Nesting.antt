@@ -1,23 +1,16 @@
 -- How far a command that runs scripts has come, as a course.
-use Rattle.std.specs.Prelude.{ℕ, ◌<◌, ◌⊎◌, option_map}
+use Rattle.std.specs.Prelude.{ℕ, ◌<◌, ◌⊎◌}
+use Rattle.code.specs.Seen.{tree_of}
 use Rattle.plan.specs.Plan.{Ends, Calls}
 use Rattle.state.specs.declared.nesting.Nesting.{Nesting}
 use Rattle.state.specs.declared.nesting.Nesting.TheVariants as nesting
 use Rattle.state.specs.declared.state.State.{State}
 use Rattle.state.specs.Dialogue.{Course}
 use Rattle.state.specs.Outcome.{Outcome}
-use Rattle.state.specs.Piece.{Script, ScriptTree}
+use Rattle.state.specs.Piece.{Script}
 use Rattle.state.specs.Reaches.{Reaches}
 use Rattle.state.specs.Status.{Status}
 use Rattle.state.specs.View.{FitsState, outcome_of}
-use Rattle.tclparse.specs.Seen.{fault_of}
-use Rattle.tclparse.specs.View.{commands_of}
-use Rattle.tclparse.specs.declared.script.Script as coded
-
--- the tree that a script of the code stands for
-abbrev pub tree_of : {A : Type 0} → coded.Script A → ScriptTree
-tree_of script =
-    record { commands = commands_of script.commands; fault = option_map fault_of script.fault }
 
 -- the course of a command that has come this far: it has ended, or a script runs, and next
 -- continues with the script's outcome by what is held (Tcl(n), rule 7)

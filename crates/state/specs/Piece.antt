@@ -1,6 +1,7 @@
 -- The pieces of a run, and the texts that are read on its way.
 use Rattle.std.specs.Prelude.{◌↔◌, ℕ, ℤ, List, Option, Bool, IsTrue, Result}
 use Rattle.acts.specs.declared.act.Timer.{Timer}
+pub use Rattle.code.specs.ScriptTree.{ScriptTree}
 use Rattle.dialog.specs.Branches.{Pair}
 use Rattle.dialog.specs.Choice.{Chosen, Chooses}
 use Rattle.dialog.specs.Lines.{Line}
@@ -11,17 +12,12 @@ use Rattle.meanings.specs.Meaning.{IsSplit}
 use Rattle.tcltext.specs.Flaw.{Flaw}
 use Rattle.tcltext.specs.Pattern.Item.{Item}
 use Rattle.tcltext.specs.Pattern.Match.{Whole}
-use Rattle.tclparse.specs.Tree.{Words, Commands}
+use Rattle.tclparse.specs.Tree.{Words}
 use Rattle.tclparse.specs.Grammar.{IsScript, IsArgument}
 use Rattle.tclparse.specs.Fault.{Fault}
 use Rattle.tclparse.specs.Formula.{Formula}
 use Rattle.tclparse.specs.FormulaFault.{FormulaFault}
 use Rattle.tclparse.specs.FormulaGrammar.{IsFormula}
-
--- a script's commands, and the fault that ends its text early (Tcl(n))
-pub record ScriptTree : Type 0 where
-  pub commands : Commands
-  pub fault : Option Fault
 
 -- a loop: its test, its body, and the script that stands after each turn, if there is one
 -- (while(n); for(n))

@@ -20,8 +20,8 @@ pub struct State<A: Allocator> {
     pub log: LogState,
     /// The ticks that are left.
     pub left: u64,
-    /// The trees of the scripts that ran last within others. They say nothing that the texts of
-    /// these scripts do not, so the definition has no such field.
+    /// The scripts that ran last within others. They say nothing that the texts of these scripts do
+    /// not, so the definition has no such field.
     pub kept: Kept<A>,
     /// The formulas that were read last, with their texts. They too say nothing that the texts do
     /// not.

@@ -11,3 +11,4 @@ pub mod Strings
 pub mod Stores
 pub mod Named
 pub mod AtOnce
+pub mod First

@@ -1,5 +1,8 @@
 -- The run of a code as one value.
-use Rattle.std.specs.Prelude.{◌≢◌, ℕ, ◌+◌, ◌-◌, ◌*◌, List, Result, length}
+use Rattle.std.specs.Prelude.{◌≡◌, ◌≢◌, ℕ, ◌+◌, ◌-◌, ◌*◌, List, [], Option, Some, None, Result, Ok, Err, length, slice_get}
+use Rattle.code.specs.declared.instruction.Instruction.{Instruction}
+use Rattle.code.specs.declared.instruction.Instruction.TheVariants as i
+use Rattle.state.specs.Budget.{again_of}
 use Rattle.state.specs.Prelude.{Course, Dialogue, Ends, FitsState, Outcome, Reaches, Status, outcome_of}
 use Rattle.state.specs.declared.outcome.Leave.{Leave}
 use Rattle.state.specs.declared.state.State.{State}
@@ -9,6 +12,8 @@ use Rattle.steps.specs.View.{did_of, spot_of, stop_of}
 use Rattle.steps.specs.declared.progress.Progress.{Progress}
 use Rattle.steps.specs.declared.progress.Progress.TheVariants as went
 use Rattle.steps.specs.declared.run.Run.{Run}
+use Rattle.steps.specs.declared.spot.Spot as coded
+use Rattle.tclparse.specs.declared.fault.Fault as read
 
 -- how many places the run has still before it
 abbrev pub places_left : {A : Type 0} → Run A → ℕ
@@ -19,6 +24,29 @@ places_left run = length run.code.value.items - run.spot.place
 -- place (this project's own rule)
 abbrev pub most_commands : {A : Type 0} → Run A → ℕ → ℕ
 most_commands run left = left * (length run.code.value.items + 1) + places_left run
+
+-- before anything else a tick is taken, or the code ends (this project's own rule)
+pub data TicksFirst {A : Type 0} : Option (Instruction A) → Type 0 where
+  no_instruction : TicksFirst None
+  takes_tick : TicksFirst (Some i.Next)
+  has_fault : {fault : read.Fault} → TicksFirst (Some (i.Fault fault))
+
+-- the outcome is a value
+abbrev pub IsValue : {A : Type 0} → Result (List ℕ) (Leave A) → Type 0
+IsValue (Ok value) = Unit {0}
+IsValue (Err leave) = ⊥
+
+-- no command begins, and exp_continue has not ended the code
+abbrev pub IsIdle : {A : Type 0} → Progress → coded.Spot A → Type 0
+IsIdle went.GoesOn spot = Unit {0}
+IsIdle went.Begins spot = ⊥
+IsIdle went.Over spot = again_of (outcome_of spot.outcome) ≡ 0
+IsIdle went.Stuck spot = Unit {0}
+
+-- a run of which nothing is done yet, whose code takes a tick first
+pub record IsFresh {A : Type 0} (run : Run A) : Type 0 where
+  pub first : TicksFirst (slice_get run.code.value.items run.spot.place)
+  pub handlers : (spot_of run.spot).handlers ≡ []
 
 -- for some state of the definition that the code's state fits, the course ends with this outcome,
 -- once the texts that it reads are read

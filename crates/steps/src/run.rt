@@ -1,10 +1,11 @@
 //! The run of a code as one value: the code, which is shared, and where the run stands in it.
 
-ghost use Rattle.std.specs.Prelude.{◌≡◌, ◌<◌, ◌≤◌, length, IfOk};
+ghost use Rattle.std.specs.Prelude.{◌≡◌, ◌+◌, ◌*◌, ◌<◌, ◌≤◌, length, IfOk};
 ghost use Rattle.code.specs.Code.{ScriptAt};
 ghost use Rattle.plan.specs.Plan.{and_then, onward};
 ghost use Rattle.runs.specs.Ending.{Over};
 ghost use Rattle.runs.specs.Scripts.{script};
+ghost use Rattle.state.specs.Budget.{again_of};
 ghost use Rattle.state.specs.Piece.{ScriptTree};
 ghost use Rattle.state.specs.Prelude.{Dialogue, FitsState, Outcome as Ending, Status, on_value, outcome_of};
 
@@ -29,15 +30,18 @@ pub struct Run<A: Allocator> {
 }
 
 impl<A: Allocator + Copy> Run<A> {
-    ghost use Rattle.steps.specs.Run.{Awaits, HasCome, HasStopped, most_commands, places_left};
+    ghost use Rattle.steps.specs.Run.{Awaits, HasCome, HasStopped, IsFresh, IsIdle, IsValue, most_commands, places_left};
     ghost use Rattle.steps.specs.declared.progress.Progress.TheVariants as went;
 
     /// The run of a script's code of which nothing is done yet, in which this many levels may nest.
     pub fn begin(alloc: A, code: Rc<Vec<Instruction<A>, A>, A>, levels: u8) -> Run<A>
-        ensures { (last : Status → Ending → Dialogue Over) (tree : ScriptTree) →
+        ensures awaits { (last : Status → Ending → Dialogue Over) (tree : ScriptTree) →
             ScriptAt code.value.items 0 tree.commands tree.fault (length code.value.items) →
             Awaits last result (λ s outcome.
             and_then (on_value (script levels tree.commands tree.fault) s outcome) (onward last)) }
+        ensures fresh { (tree : ScriptTree) →
+            ScriptAt code.value.items 0 tree.commands tree.fault (length code.value.items) →
+            IsFresh result }
     {
         Run {
             code,
@@ -59,7 +63,8 @@ impl<A: Allocator + Copy> Run<A> {
     /// or to the end, whose outcome lies there. It never answers `GoesOn`.
     ///
     /// A command that begins without a tick before it stands further on in the code than the one
-    /// before, so that a run ends after so many outcomes.
+    /// before, so that a run ends after so many outcomes. A script of which nothing is done yet
+    /// takes a tick before its first command.
     ///
     /// # Errors
     /// `NoMemory` where memory is refused.
@@ -78,6 +83,13 @@ impl<A: Allocator + Copy> Run<A> {
             state.new.left ≡ state.old.left → places_left self.new < places_left self.old) }
         ensures falls { IfOk result (λ progress. progress ≡ went.Begins →
             most_commands self.new state.new.left < most_commands self.old state.old.left) }
+        ensures first { IsFresh self.old → IsValue outcome →
+            IfOk result (λ progress. state.new.left ≡ state.old.left →
+            IsIdle progress self.new.spot) }
+        ensures again { IfOk result (λ progress. progress ≡ went.Over →
+            state.new.left ≡ state.old.left →
+            again_of (outcome_of self.new.spot.outcome)
+            ≤ again_of (outcome_of outcome) + 2 * places_left self.old) }
     {
         'commands: loop {
             let progress = self.reach_command(alloc, state, outcome)?;
@@ -114,6 +126,12 @@ impl<A: Allocator + Copy> Run<A> {
             state.new.left ≡ state.old.left → places_left self.new < places_left self.old) }
         ensures falls { IfOk result (λ progress. progress ≡ went.Begins →
             most_commands self.new state.new.left < most_commands self.old state.old.left) }
+        ensures first { IsFresh self.old → IsValue outcome →
+            IfOk result (λ progress. state.new.left ≡ state.old.left →
+            IsIdle progress self.new.spot) }
+        ensures again { IfOk result (λ progress. progress ≡ went.Over →
+            again_of (outcome_of self.new.spot.outcome)
+            ≤ again_of (outcome_of outcome) + 2 * places_left self.old) }
     {
         let progress = resume(&mut self.spot, outcome)?;
         if progress != Progress::GoesOn {

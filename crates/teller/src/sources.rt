@@ -111,7 +111,7 @@ pub(crate) fn sources<A: Allocator + Copy>(
         };
         rest = below;
         match frame {
-            Frame::Script(_) => depth = depth.saturating_sub(1),
+            Frame::Script(_) | Frame::Code(_, _) => depth = depth.saturating_sub(1),
             Frame::Held(Held::Catch(_)) => sources.clear(),
             Frame::Held(_) | Frame::Words(_, _, _) | Frame::Turn(_) => {}
         }
@@ -136,7 +136,7 @@ pub(crate) fn sources<A: Allocator + Copy>(
 fn scripts_in<A: Allocator>(frames: &[Frame<A>]) -> usize {
     let mut count = 0usize;
     for frame in frames {
-        if matches!(frame, Frame::Script(_)) {
+        if matches!(frame, Frame::Script(_) | Frame::Code(_, _)) {
             count = count.saturating_add(1);
         }
     }
@@ -162,6 +162,9 @@ fn ending_of<A: Allocator>(outcome: &Outcome<A>) -> Ending {
 fn handed_on<A: Allocator>(frame: &Frame<A>, ending: Ending) -> Passage {
     match frame {
         Frame::Script(part) => on_script(part, ending),
+        // Who looks at the frames sees no code: a script is run as its tree then.
+        Frame::Code(_, _) if ending == Ending::Value => Passage::BEGINS,
+        Frame::Code(_, _) => Passage::on(ending),
         Frame::Words(_, _, _) if ending == Ending::Value => Passage::over(Raising::Words),
         Frame::Words(_, _, _) => Passage::on(ending),
         Frame::Held(held) => on_held(held, ending),

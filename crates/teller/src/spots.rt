@@ -116,7 +116,7 @@ impl<A: Allocator + Copy> Teller<A> {
                 }
                 Frame::Words(_, _, WordsOf::Command) => under = Under::Words,
                 Frame::Words(_, _, WordsOf::Argument(_)) => under = Under::Argument,
-                Frame::Held(_) | Frame::Turn(_) => under = Under::Command,
+                Frame::Held(_) | Frame::Turn(_) | Frame::Code(_, _) => under = Under::Command,
             }
         }
         Ok(scripts)

@@ -1,13 +1,11 @@
-use Rattle.std.proofs.Common.{◌≡◌, ◌∙◌, Some, None, option_map, sym, ap, subst}
+use Rattle.std.proofs.Common.{◌≡◌, ◌∙◌, Some, None, sym, ap, subst}
 use Rattle.acts.specs.Flaw as flaw
-use Rattle.state.specs.Prelude.{text_of, Leaves, Error, Status}
+use Rattle.state.specs.Prelude.{text_of, tree_of, Leaves, Error, Status}
 use Rattle.bodies.proofs.Calling.{call_refused, call_runs}
 use Rattle.bodies.specs.Calls as definition
 use Rattle.state.proofs.Fits.{kept_fits}
 use Rattle.state.proofs.Nestings.{nests_after, nests_from, over, text_reaches}
 use Rattle.tclparse.specs.Grammar.{IsScript}
-use Rattle.tclparse.specs.Seen.{fault_of}
-use Rattle.tclparse.specs.View.{commands_of}
 use Rattle.tclstate.specs.Pairs.{found}
 use Rattle.tclstate.specs.Scopes.{entered}
 use Rattle.bodies.proofs.calls.begin.Goals as goal
@@ -42,9 +40,9 @@ returns-clause-called g c = λ s fits.
     ∙ sym c.in_ok-frame.ensures ∙ c.in-Some-2.is in
     let text : c.as_slice.result.now ≡ procedure.body =
     c.as_slice.ensures ∙ ap (λ p. p.body) c.procedure.view_is in
-    let is : IsScript (commands_of body.commands) (option_map fault_of body.fault) procedure.body =
-    subst (λ t. IsScript (commands_of body.commands) (option_map fault_of body.fault) t) text
-    c.in_ok-body.ensures.tree.tree in
+    let is : IsScript (tree_of body).commands (tree_of body).fault procedure.body =
+    subst (λ t. IsScript (tree_of body).commands (tree_of body).fault t) text
+    c.in_ok-body.ensures.tree in
     record {
       procedure = procedure;
       found = ap (λ procs. found procs name) fits.procedures ∙ sym c.in-Some.ensures;

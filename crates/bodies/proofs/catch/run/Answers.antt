@@ -4,7 +4,7 @@ use Rattle.bodies.proofs.Catching.{on_ok}
 use Rattle.bodies.specs.declared.catch.Held.{Held}
 use Rattle.state.proofs.Fits.{kept_fits}
 use Rattle.state.proofs.Nestings.{inside_over, nests_after, nests_from, script_nests, text_reaches}
-use Rattle.state.specs.Nesting.{tree_of}
+use Rattle.state.specs.Prelude.{tree_of}
 use Rattle.bodies.proofs.catch.run.Goals as goal
 
 pub returns-in_default-clause-nests : goal.returns-in_default-clause-nests
@@ -15,7 +15,7 @@ returns-in_default-clause-nests g c = λ s fits.
     let zero : levels ≡ 0 = search (rules, arith) in
     on_ok c.resumed.result (λ n nests.
     nests_after definition.next_of c.resumed.new.state n _ _
-    (text_reaches script levels c.args.text.now s next c.in_ok-script.ensures.tree.tree)
+    (text_reaches script levels c.args.text.now s next c.in_ok-script.ensures.tree)
     (nests_from definition.next_of c.resumed.new.state n _ _
     (inside_over levels (tree_of script) s next zero
     ∙ ap (λ o. next s o) (sym c.in_ok-outcome.ensures))
@@ -31,5 +31,5 @@ returns-clause-nests g c = λ s fits.
     let still = kept_fits c.args.state.now s fits c.get.new.self in
     nests_after definition.next_of _ _ _ _
     (text_reaches script levels c.args.text.now s (definition.caught c.args.word)
-    c.in_ok-script.ensures.tree.tree)
+    c.in_ok-script.ensures.tree)
     (script_nests definition.next_of _ script levels c.in-Some.inner held s still deeper)

@@ -14,7 +14,7 @@ returns-in_default-clause-nests g c = λ s fits.
     let still = kept_fits c.args.state.now s fits c.get.new.self in
     let zero : levels ≡ 0 = search (rules, arith) in
     nests_after next_of _ _ _ _
-    (text_reaches script levels c.args.text.now s passed c.in_ok-script.ensures.tree.tree)
+    (text_reaches script levels c.args.text.now s passed c.in_ok-script.ensures.tree)
     (over next_of _ c.in_ok-raised.field-0
     (Leaves Error (text_of flaw.TooManyNested)) s _ still c.in_ok-raised.ensures
     (inside_over levels (tree_of script) s passed zero))
@@ -26,5 +26,5 @@ returns-clause-nests g c = λ s fits.
     let still = kept_fits c.args.state.now s fits c.get.new.self in
     let deeper : levels ≡ suc c.in-Some.inner = search (rules, arith) in
     nests_after next_of _ _ _ _
-    (text_reaches script levels c.args.text.now s passed c.in_ok-script.ensures.tree.tree)
+    (text_reaches script levels c.args.text.now s passed c.in_ok-script.ensures.tree)
     (script_nests next_of _ script levels c.in-Some.inner held.Script s still deeper)

@@ -93,7 +93,7 @@ returns-clause-nests g c = λ s fits.
     c.as_slice-2.result.now one c.body-item.is c.as_slice-2.ensures))
     (then_reaches
     (reads {text = ScriptText c.as_slice-2.result.now} (tree_of body)
-    c.in_ok-body.ensures.tree.tree here)
+    c.in_ok-body.ensures.tree here)
     (same_reaches (ap (λ n. turns levels (tree_of body) (rows n pairs) s)
     (sym c.pairs.invariant.turns))))))
     nests)

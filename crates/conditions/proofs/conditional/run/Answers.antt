@@ -11,6 +11,6 @@ returns-clause-reaches g c = λ s.
     IfOk-weaker c.deeper.result _ _
     (λ nesting runs.
     reads {text = ScriptText c.args.text.now} (tree_of c.in_ok-body.body)
-    c.in_ok-body.ensures.tree.tree
+    c.in_ok-body.ensures.tree
     (same_reaches runs))
     (c.deeper.ensures.runs next_of s (λ t text. refl))

@@ -38,7 +38,7 @@ returns-clause-comes g c = λ s fits.
       goes = then_goes
           (same_goes (for_four levels s words start test step body text four c.start-item.is
           c.test-item.is c.step-item.is c.body-item.is c.as_slice.ensures))
-          (reads {text = ScriptText text} tree c.in_ok-script.ensures.tree.tree
+          (reads {text = ScriptText text} tree c.in_ok-script.ensures.tree
           (same_goes
           (ap (λ x. by_words x step body) (sym c.in_ok-test.ensures)
           ∙ ap (λ y. by_words c.in_ok-test.test y body) (sym c.in_ok-step.ensures)

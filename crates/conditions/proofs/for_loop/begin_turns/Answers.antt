@@ -29,9 +29,9 @@ returns-in-Ok-clause-comes g c = λ s fits.
     ∙ ap (λ x. started levels test step x s []) (sym c.as_slice-in-Ok-2.ensures)))
     (then_goes (reaches_goes (read s (looped levels step body s)))
     (reads {text = ScriptText step} (tree_of c.in_ok-behind-in-Ok.behind)
-    c.in_ok-behind-in-Ok.ensures.tree.tree
+    c.in_ok-behind-in-Ok.ensures.tree
     (reads {text = ScriptText body} (tree_of c.in_ok-body-in-Ok.body)
-    c.in_ok-body-in-Ok.ensures.tree.tree
+    c.in_ok-body-in-Ok.ensures.tree
     (same_goes (ap (λ own. again (loop_of own) own.levels s)
     (sym c.in_ok-new-in-Ok.ensures.ok)))))))
     comes)

@@ -36,7 +36,7 @@ returns-in_ok-new-in-Ok-clause-comes g c = λ s fits.
     c.test-item.is c.body-item.is c.as_slice.ensures c.as_slice-in-Ok.ensures))
     (then_goes (reaches_goes (read s (looped levels body s)))
     (reads {text = ScriptText body} (tree_of c.in_ok-body-in-Ok.body)
-    c.in_ok-body-in-Ok.ensures.tree.tree
+    c.in_ok-body-in-Ok.ensures.tree
     (same_goes (ap (λ own. again (loop_of own) own.levels s)
     (sym c.in_ok-new-in-Ok.ensures.ok))))))
     comes)

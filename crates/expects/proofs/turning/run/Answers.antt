@@ -10,7 +10,7 @@ returns-in_default-clause-comes g c = λ s fits.
     let turn = c.args.turn.value in
     let at : c.deref.result.now.levels ≡ turn.levels = ap (λ t. t.levels) c.deref.ensures in
     let zero : turn.levels ≡ 0 = omega (arith, at, c.in_default.ensures) in
-    let is = rw c.as_slice.ensures at c.in_ok-script.ensures.tree.tree in
+    let is = rw c.as_slice.ensures at c.in_ok-script.ensures.tree in
     comes_reading course_of_turned _ _ s _ (kept_fits c.args.state.now s fits c.get.new.self)
     (body_over c.in_ok-script.script (turn_of turn) turn.levels c.args.body.now s is
     c.in_ok-raised.field-0 zero c.in_ok-raised.ensures)
@@ -21,7 +21,7 @@ returns-clause-comes g c = λ s fits.
     let at : c.deref.result.now.levels ≡ turn.levels = ap (λ t. t.levels) c.deref.ensures in
     let deeper : turn.levels ≡ suc c.in-Some.inner =
     omega (arith, at, c.in-Some.ensures.0, c.in-Some.ensures.1) in
-    let is = rw c.as_slice.ensures at c.in_ok-script.ensures.tree.tree in
+    let is = rw c.as_slice.ensures at c.in_ok-script.ensures.tree in
     comes_reading course_of_turned _ _ s _ (kept_fits c.args.state.now s fits c.get.new.self)
     (body_runs c.in_ok-script.script (turn_of turn) turn.levels c.args.body.now s is c.in-Some.inner
     deeper)

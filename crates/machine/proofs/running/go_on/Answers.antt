@@ -1,7 +1,9 @@
-use Rattle.std.proofs.Common.{subst}
+use Rattle.std.proofs.Common.{◌≡◌, ◌+◌, ◌*◌, ◌≤◌, refl, sym, subst}
+use Rattle.state.specs.Budget.{again_of}
 use Rattle.state.specs.Prelude.{outcome_of}
-use Rattle.steps.specs.Run.{HasStopped}
-use Rattle.machine.proofs.Below.{begins_in, over_in}
+use Rattle.steps.specs.Run.{HasStopped, IsIdle, places_left}
+use Rattle.steps.specs.declared.progress.Progress.TheVariants as went
+use Rattle.machine.proofs.Below.{begins_in, never_stops, over_in}
 use Rattle.machine.proofs.running.go_on.Goals as goal
 
 pub returns-in-Begins-clause-runs : goal.returns-in-Begins-clause-runs
@@ -14,8 +16,29 @@ returns-in-Begins-clause-runs g c = λ last next s fits awaits.
     (c.in_ok-go_on.ensures.stops last next s fits awaits))
     c.replace-words.ensures.value
 
+pub returns-in-Over-clause-runs : goal.returns-in-Over-clause-runs
+returns-in-Over-clause-runs g c = λ last next s fits awaits.
+    let run = c.go_on.new.self in
+    let state = c.go_on.new.state in
+    let p = next s (outcome_of c.args.outcome) in
+    over_in last run c.replace-outcome.result state p
+    (subst (λ progress. HasStopped last progress run state p) c.in-Over.is
+    (c.in_ok-go_on.ensures.stops last next s fits awaits)) c.replace-outcome.ensures.value
+
+pub returns-in-Over-clause-less : goal.returns-in-Over-clause-less
+returns-in-Over-clause-less g c = λ same.
+    subst (λ o. again_of (outcome_of o)
+    ≤ again_of (outcome_of c.args.outcome) + 2 * places_left c.args.run.now)
+    (sym c.replace-outcome.ensures.value) (c.in_ok-go_on.ensures.again c.in-Over.is same)
+
+pub returns-in-Over-clause-first : goal.returns-in-Over-clause-first
+returns-in-Over-clause-first g c = λ fresh value same.
+    subst (λ o. again_of (outcome_of o) ≡ 0) (sym c.replace-outcome.ensures.value)
+    (subst (λ progress. IsIdle progress c.go_on.new.self.spot) c.in-Over.is
+    (c.in_ok-go_on.ensures.first fresh value same))
+
 pub returns-in_default-clause-runs : goal.returns-in_default-clause-runs
 returns-in_default-clause-runs g c = λ last next s fits awaits.
-    over_in last c.in_ok-go_on.field-0 c.go_on.new.self c.replace-outcome.result c.go_on.new.state
-    (next s (outcome_of c.args.outcome)) c.in_default.not-Begins
-    (c.in_ok-go_on.ensures.stops last next s fits awaits) c.replace-outcome.ensures.value
+    absurd (never_stops last c.in_ok-go_on.field-0 c.go_on.new.self c.go_on.new.state
+    (next s (outcome_of c.args.outcome)) c.in_default.not-Begins c.in_default.not-Over
+    (c.in_ok-go_on.ensures.stops last next s fits awaits))

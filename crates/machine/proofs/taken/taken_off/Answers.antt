@@ -1,7 +1,7 @@
 use Rattle.std.proofs.Common.{◌<◌, ◌≤◌, ◌∷◌, length, sym, subst, rules, arith}
 use Rattle.machine.specs.Taken.{HasNoCommand, IsTaken}
 use Rattle.machine.specs.declared.taken.Taken.TheVariants as it
-use Rattle.machine.proofs.Taking.{behind_taken, held_taken, limit_taken, turn_taken, waiting_taken}
+use Rattle.machine.proofs.Taking.{behind_taken, code_taken, held_taken, limit_taken, turn_taken, waiting_taken}
 use Rattle.machine.proofs.taken.taken_off.Goals as goal
 
 pub returns-then-script-len : goal.returns-then-script-len
@@ -24,6 +24,11 @@ returns-in-Words g c = λ frames ticks none.
     subst (λ f. IsTaken (it.Words c.in-Words.gathering c.in-Words.levels c.in-Words.whose)
     (f ∷ frames) frames ticks ticks) (sym c.in-Words.is)
     (waiting_taken c.in-Words.gathering c.in-Words.levels c.in-Words.whose frames ticks)
+
+pub returns-in-Code : goal.returns-in-Code
+returns-in-Code g c = λ frames ticks none.
+    subst (λ f. IsTaken (it.Code c.in-Code.script c.in-Code.levels) (f ∷ frames) frames ticks ticks)
+    (sym c.in-Code.is) (code_taken c.in-Code.script c.in-Code.levels frames ticks)
 
 pub returns-in-Held : goal.returns-in-Held
 returns-in-Held g c = λ frames ticks none.

@@ -32,6 +32,14 @@ returns-in_ok-behind-in-Behind-clause-unwinds g c = λ last s fits. record {
       ∙ c.in_ok-behind-in-Behind.ensures.ends s);
 }
 
+pub returns-in-Code-clause-unwinds : goal.returns-in-Code-clause-unwinds
+returns-in-Code-clause-unwinds g c = λ last s fits. record {
+  status = s;
+  fits = fits;
+  goes = same_left last (stack c.args.frames.now)
+      (ap (λ taken. course_of_taken taken s c.args.value) c.in-Code.is);
+}
+
 pub returns-in-Words-clause-unwinds : goal.returns-in-Words-clause-unwinds
 returns-in-Words-clause-unwinds g c = λ last s fits.
     let levels = c.in-Words.levels in

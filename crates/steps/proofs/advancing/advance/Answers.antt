@@ -1,14 +1,22 @@
-use Rattle.std.proofs.Common.{◌≡◌, ◌∙◌, arith, length, slice_get, subst, sym}
+use Rattle.std.proofs.Common.{◌≡◌, ◌∙◌, None, ap, arith, inl, inr, length, refl, slice_get, subst, sym, ⊎_elim}
+use Rattle.std.proofs.lemmas.Option.{slice_get_past}
 use Rattle.steps.specs.Does.{Does, stays, then}
 use Rattle.steps.specs.Machine.{machine}
 use Rattle.steps.specs.View.{IsOpen, did_of, spot_of, with_parts}
 use Rattle.steps.specs.declared.progress.Progress.TheVariants as went
+use Rattle.steps.proofs.First.{Counts, Ticked, any_state, end_counts, idle, step_took}
 use Rattle.steps.proofs.Goes.{goes_on}
 use Rattle.steps.proofs.Measure.{falls, fewer_left, no_way_back}
 use Rattle.steps.proofs.advancing.advance.Goals as goal
 
 pub steps-init : goal.steps-init
-steps-init g c = ((λ s. stays), omega arith, λ same. omega arith)
+steps-init g c = (
+  (λ s. stays),
+  omega arith,
+  (λ same. omega arith),
+  (λ first none. inr (refl, refl)),
+  λ past. refl,
+)
 
 pub steps-preserved : goal.steps-preserved
 steps-preserved g c =
@@ -26,6 +34,18 @@ steps-preserved g c =
       no_way_back c.args.spot.now.place c.steps.spot.place c.step.new.spot.place c.args.left.now
           c.steps.left c.step.new.left c.step.ensures.ticks c.steps.invariant.1
           c.steps.invariant.2 onward.2,
+      (λ first none. inl (
+          ⊎_elim (λ less. omega (arith, less, c.step.ensures.ticks))
+          (λ same.
+          let took = subst (λ progress. Ticked c.steps.left
+          (did_of progress c.step.new.spot
+          (with_parts c.step.new.scopes procs c.step.new.left any_state))) goes
+          (step_took c.args.code.now c.args.spot.now c.steps.spot c.steps.scopes procs c.steps.left _
+          first none same.0 (c.in_ok-progress.ensures.does any_state)) in
+          omega (arith, took, same.1))
+          (c.steps.invariant.3 first none))),
+      λ past. absurd (let here = ap (λ spot. spot.place) (c.steps.invariant.4 past) in
+          omega (arith, past, here, onward.0)),
     )
 
 pub steps-smaller : goal.steps-smaller
@@ -46,3 +66,26 @@ returns-then-ne-clause-onward g c = λ begun same.
     fewer_left (length c.args.code.now) c.args.spot.now.place c.steps.spot.place
     c.step.new.spot.place c.args.left.now c.steps.left c.step.new.left onward.0
     c.step.ensures.ticks c.steps.invariant.1 c.steps.invariant.2 onward.2 same
+
+pub returns-then-ne-clause-first : goal.returns-then-ne-clause-first
+returns-then-ne-clause-first g c = λ first none still.
+    let procs = c.args.procs.now in
+    ⊎_elim (λ less. absurd (omega (arith, less, still, c.step.ensures.ticks)))
+    (λ same. idle c.in_ok-progress.progress c.step.new.spot
+    (with_parts c.step.new.scopes procs c.step.new.left any_state) c.steps.left
+    (step_took c.args.code.now c.args.spot.now c.steps.spot c.steps.scopes procs c.steps.left _
+    first none same.0 (c.in_ok-progress.ensures.does any_state)))
+    (c.steps.invariant.3 first none)
+
+pub returns-then-ne-clause-ended : goal.returns-then-ne-clause-ended
+returns-then-ne-clause-ended g c = λ past over.
+    let procs = c.args.procs.now in
+    let here = ap (λ spot. spot.place) (c.steps.invariant.4 past) in
+    let none : slice_get c.args.code.now c.steps.spot.place ≡ None =
+    slice_get_past c.args.code.now c.steps.spot.place (omega (arith, past, here)) in
+    let counts = subst (λ progress. Counts 0 (did_of progress c.step.new.spot
+    (with_parts c.step.new.scopes procs c.step.new.left any_state))) over
+    (end_counts (slice_get c.args.code.now c.steps.spot.place) (spot_of c.steps.spot)
+    (with_parts c.steps.scopes procs c.steps.left any_state) _ none
+    (c.in_ok-progress.ensures.does any_state)) in
+    omega (arith, counts)

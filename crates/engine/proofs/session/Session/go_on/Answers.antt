@@ -15,8 +15,8 @@ returns-in-Ok-clause-at g c = λ text args limit past at.
     IsPlan at.last phase (stack self.running.frames) at.status self.answers at.plan)
     (sym same) at.is_plan) in
     went_on self _ text args limit past c.args.answer at
-    (subst (λ phase. StandsOver c.forward.new.running.code c.in-Ok.phase
-    (stack c.forward.new.running.frames) c.forward.new.state c.forward.new.answers
+    (subst (λ phase. StandsOver c.forward.new.running c.in-Ok.phase c.forward.new.state
+    c.forward.new.answers
     (after_acts at.plan (paired (deed_in phase) c.args.answer))) same on)
     (subst (λ phase.
     c.forward.new.answers ≡ self.answers + length (paired (deed_in phase) c.args.answer)) same

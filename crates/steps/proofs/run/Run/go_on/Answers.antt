@@ -1,10 +1,11 @@
-use Rattle.std.proofs.Common.{◌≡◌, ◌≢◌, ◌∙◌, MatchOption, rules, subst, sym, arith}
+use Rattle.std.proofs.Common.{◌≡◌, ◌≢◌, ◌∙◌, ◌≤◌, ◌<◌, MatchOption, inl, inr, refl, rules, subst, sym, ⊎_elim, arith}
 use Rattle.runs.specs.Commands.{command}
 use Rattle.state.specs.Prelude.{FitsState, outcome_of}
 use Rattle.steps.specs.Goes.{here}
-use Rattle.steps.specs.Run.{HasCome, IsDone}
+use Rattle.steps.specs.Run.{HasCome, IsDone, IsFresh, IsValue}
 use Rattle.steps.specs.declared.progress.Progress.TheVariants as went
 use Rattle.steps.proofs.AtOnce.{begun_stops, comes_after, done_stands, fewer_commands, over_stops}
+use Rattle.steps.proofs.First.{again_small, ticked_by}
 use Rattle.steps.proofs.Goes.{begins}
 use Rattle.steps.proofs.run.Run.go_on.Goals as goal
 
@@ -20,6 +21,8 @@ commands-init g c = record {
   left = omega arith;
   fewer = omega arith;
   onward = λ same. omega arith;
+  first = λ fresh value. inr (refl, refl, refl);
+  again = λ same. omega arith;
 }
 
 pub returns-then-ne-clause-stops : goal.returns-then-ne-clause-stops
@@ -99,6 +102,25 @@ commands-preserved g c =
           let on = c.in_ok-progress.ensures.onward begun one in
           let was = before.onward other in
           omega (arith, on, was, c.drop_words.ensures.place);
+      first = λ fresh value. inl (
+          ⊎_elim
+          (λ less. omega (arith, less, c.in_ok-progress.ensures.left, c.perform.ensures.left))
+          (λ same.
+          let took = ticked_by c.in_ok-progress.progress run.spot c.reach_command.new.state.left
+          c.commands.state.left begun c.in_ok-progress.ensures.left
+          (c.in_ok-progress.ensures.first (subst IsFresh (sym same.0) fresh)
+          (subst IsValue (sym same.1) value)) in
+          omega (arith, took, same.2, c.perform.ensures.left))
+          (before.first fresh value));
+      again = λ same.
+          let one : c.reach_command.new.state.left ≡ c.commands.state.left =
+          omega (arith, same, c.in_ok-progress.ensures.left, c.perform.ensures.left, before.left) in
+          let other : c.commands.state.left ≡ c.args.state.now.left =
+          omega (arith, same, c.in_ok-progress.ensures.left, c.perform.ensures.left, before.left) in
+          let on = c.in_ok-progress.ensures.onward begun one in
+          let was = before.again other in
+          let small = again_small (outcome_of c.in-Some.done) in
+          omega (arith, on, was, small, c.drop_words.ensures.place);
     }
 
 pub commands-smaller : goal.commands-smaller
@@ -110,3 +132,34 @@ commands-smaller g c =
     c.reach_command.new.state.left c.perform.new.state.left c.perform.ensures.left
     c.drop_words.ensures.place in
     omega (arith, less, fewer)
+
+pub returns-then-ne-clause-again : goal.returns-then-ne-clause-again
+returns-then-ne-clause-again g c = λ over same.
+    let before = c.commands.invariant in
+    let other : c.commands.state.left ≡ c.args.state.now.left =
+    omega (arith, same, c.in_ok-progress.ensures.left, before.left) in
+    let was = before.again other in
+    let counts = c.in_ok-progress.ensures.again over in
+    omega (arith, was, counts)
+
+pub returns-then-ne-clause-first : goal.returns-then-ne-clause-first
+returns-then-ne-clause-first g c = λ fresh value still.
+    ⊎_elim (λ less. absurd (omega (arith, less, still, c.in_ok-progress.ensures.left)))
+    (λ same. c.in_ok-progress.ensures.first (subst IsFresh (sym same.0) fresh)
+    (subst IsValue (sym same.1) value) (omega (arith, still, same.2)))
+    (c.commands.invariant.first fresh value)
+
+pub returns-in-None-clause-first : goal.returns-in-None-clause-first
+returns-in-None-clause-first g c = λ fresh value still.
+    let begun : c.in_ok-progress.progress ≡ went.Begins =
+    begins c.in_ok-progress.progress (sym c.ne.ensures ∙ c.if-ne.false) in
+    ⊎_elim
+    (λ less.
+    absurd (omega (arith, less, still, c.in_ok-progress.ensures.left, c.perform.ensures.left)))
+    (λ same.
+    let took = ticked_by c.in_ok-progress.progress c.reach_command.new.self.spot
+    c.reach_command.new.state.left c.commands.state.left begun c.in_ok-progress.ensures.left
+    (c.in_ok-progress.ensures.first (subst IsFresh (sym same.0) fresh)
+    (subst IsValue (sym same.1) value)) in
+    absurd (omega (arith, took, same.2, still, c.perform.ensures.left)))
+    (c.commands.invariant.first fresh value)

@@ -1,7 +1,8 @@
-use Rattle.std.proofs.Common.{◌≡◌, ◌≤◌}
+use Rattle.std.proofs.Common.{◌≡◌, ◌+◌, ◌*◌, ◌<◌, ◌≤◌, ◌⊎◌}
 use Rattle.runs.specs.Ending.{Over}
+use Rattle.state.specs.Budget.{again_of}
 use Rattle.state.specs.Prelude.{Dialogue, FitsState, Outcome, Status, outcome_of}
-use Rattle.steps.specs.Run.{Awaits, most_commands, places_left}
+use Rattle.steps.specs.Run.{Awaits, IsFresh, IsValue, most_commands, places_left}
 use Rattle.steps.proofs.AtOnce.{Stood}
 use Rattle.steps.proofs.run.Run.go_on.Given as goal
 
@@ -13,6 +14,11 @@ invariant-commands g l = record {
   left : l.state.left ≤ l.fn.state.left;
   fewer : most_commands l.self l.state.left ≤ most_commands l.fn.self l.fn.state.left;
   onward : l.state.left ≡ l.fn.state.left → places_left l.self ≤ places_left l.fn.self;
+  first : IsFresh l.fn.self → IsValue l.fn.outcome → (l.state.left < l.fn.state.left)
+      ⊎ ((l.self ≡ l.fn.self) × (l.outcome ≡ l.fn.outcome) × (l.state.left ≡ l.fn.state.left));
+  again : l.state.left ≡ l.fn.state.left →
+      again_of (outcome_of l.outcome) + 2 * places_left l.self
+      ≤ again_of (outcome_of l.fn.outcome) + 2 * places_left l.fn.self;
 }
 
 -- each command takes a tick, or stands further on than the one before

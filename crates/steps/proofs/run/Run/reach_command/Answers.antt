@@ -1,11 +1,14 @@
-use Rattle.std.proofs.Common.{◌≡◌, ◌∙◌, ◌<◌, ◌-◌, arith, length, rules, refl, sym, subst}
+use Rattle.std.proofs.Common.{◌≡◌, ◌∙◌, ◌<◌, ◌≤◌, ◌-◌, [], arith, length, rules, refl, slice_get, sym, subst}
+use Rattle.state.specs.Budget.{again_of}
 use Rattle.state.specs.Prelude.{outcome_of}
 use Rattle.steps.specs.Does.{Arrives}
 use Rattle.steps.specs.Follows.{Follows, Resumes}
 use Rattle.steps.specs.Handling.{resumed}
+use Rattle.steps.specs.Run.{TicksFirst}
 use Rattle.steps.specs.Spot.{Went}
 use Rattle.steps.specs.View.{did_of, spot_of, with_parts}
 use Rattle.steps.specs.declared.progress.Progress.TheVariants as went
+use Rattle.steps.proofs.First.{again_small, outcome_counts, places_bound, stands_still, value_idle}
 use Rattle.steps.proofs.Goes.{goes_on}
 use Rattle.steps.proofs.Handlers.{leads_nowhere}
 use Rattle.steps.proofs.Leads.Resumed.{resumes_so}
@@ -95,3 +98,41 @@ returns-clause-falls g c = λ begun.
     subst (λ items. length items - new < length items - mid) is_code
     (c.in_ok-advance.ensures.onward begun same) in
     omega (arith, fewer, c.resume.ensures.place))
+
+pub returns-then-ne-clause-first : goal.returns-then-ne-clause-first
+returns-then-ne-clause-first g c = λ fresh value still.
+    value_idle c.in_ok-progress.progress c.resume.new.spot c.args.self.now.spot c.args.outcome value
+    c.in_ok-progress.ensures.does
+
+pub returns-then-ne-clause-again : goal.returns-then-ne-clause-again
+returns-then-ne-clause-again g c = λ over.
+    let counts = outcome_counts c.in_ok-progress.progress c.resume.new.spot
+    (spot_of c.args.self.now.spot) (outcome_of c.args.outcome) c.in_ok-progress.ensures.does over in
+    omega (arith, counts)
+
+pub returns-clause-first : goal.returns-clause-first
+returns-clause-first g c = λ fresh value left.
+    let self = c.args.self.now in
+    let mid = c.resume.new.spot in
+    let code = self.code.value.items in
+    let goes : c.in_ok-progress.progress ≡ went.GoesOn =
+    goes_on c.in_ok-progress.progress (sym c.ne.ensures ∙ c.if-ne.false) in
+    let is_code : c.deref-2.result.now ≡ code = search rules in
+    let still = stands_still c.in_ok-progress.progress mid self.spot c.args.outcome value
+    c.in_ok-progress.ensures.does goes in
+    c.in_ok-advance.ensures.first
+    (subst (λ items. TicksFirst (slice_get items mid.place)) (sym is_code)
+    (subst (λ n. TicksFirst (slice_get code n)) (sym still.0) fresh.first))
+    (still.1 ∙ fresh.handlers) left
+
+pub returns-clause-again : goal.returns-clause-again
+returns-clause-again g c = λ over.
+    let self = c.args.self.now in
+    let code = self.code.value.items in
+    let last = outcome_of c.advance.new.spot.outcome in
+    let is_code : c.deref-2.result.now ≡ code = search rules in
+    let bound = places_bound (length code) self.spot.place (again_of last) (again_small last)
+    (λ past. c.in_ok-advance.ensures.ended
+    (subst (λ items. length items ≤ c.resume.new.spot.place) (sym is_code)
+    (omega (arith, past, c.resume.ensures.place))) over) in
+    omega (arith, bound)

@@ -1,0 +1,52 @@
+use Rattle.std.proofs.Common.{◌≡◌, ◌+◌, ◌*◌, ◌≤◌, ◌<◌, [], ap, sym, subst, arith}
+use Rattle.machine.specs.Below.{Falls, GoesOn, IsLess, depth, rest_of}
+use Rattle.machine.specs.Frames.{onward_of, stack, weight, words_in}
+use Rattle.machine.specs.Phases.{IsEmptied, IsLighter, Lightens, Unwinds}
+use Rattle.machine.proofs.Machines.{on_ok}
+use Rattle.machine.proofs.Below.{falls_more, goes_on_from, less_more, ticks_fall, ticks_less}
+use Rattle.steps.proofs.Leads.Silent.{same_goes, then_goes}
+use Rattle.state.specs.Budget.{again_of}
+use Rattle.state.specs.Prelude.{outcome_of}
+use Rattle.machine.proofs.running.hand_once.Goals as goal
+
+pub returns-in-Begins-clause-goes_on : goal.returns-in-Begins-clause-goes_on
+returns-in-Begins-clause-goes_on g c = λ last s fits below.
+    let frames = stack c.unwind.new.frames in
+    record {
+      last = last;
+      below = below;
+      hands = subst (λ u. Unwinds last u frames c.unwind.new.state
+          (onward_of last (stack c.args.running.now.frames) s (outcome_of c.args.outcome)))
+          c.in-Begins.is (c.in_ok-next.ensures.unwinds last s fits);
+    }
+
+pub returns-in-Begins-clause-less : goal.returns-in-Begins-clause-less
+returns-in-Begins-clause-less g c = λ same.
+    let old = c.args.running.now in
+    let light = subst (λ u. Lightens u (stack c.unwind.new.frames) c.unwind.new.state
+    (1 + weight (stack old.frames))
+    (again_of (outcome_of c.args.outcome) + words_in (stack old.frames))
+    c.args.state.now.left) c.in-Begins.is c.in_ok-next.ensures.lightens in
+    omega (arith, light, same)
+
+pub returns-in-Enters-clause-goes_on : goal.returns-in-Enters-clause-goes_on
+returns-in-Enters-clause-goes_on g c = λ last s fits below.
+    let begins = subst (λ u. Unwinds last u (stack c.unwind.new.frames) c.unwind.new.state
+    (onward_of last (stack c.args.running.now.frames) s (outcome_of c.args.outcome)))
+    c.in-Enters.is (c.in_ok-next.ensures.unwinds last s fits) in
+    on_ok c.enter.result
+    (λ handed on. goes_on_from handed c.enter.new.running c.enter.new.state begins.goes on)
+    (c.enter.ensures.goes_on last begins.status begins.fits below)
+
+pub returns-in-Has-clause-goes_on : goal.returns-in-Has-clause-goes_on
+returns-in-Has-clause-goes_on g c = λ last s fits below.
+    let frames = stack c.unwind.new.frames in
+    let o = outcome_of c.in-Has.last in
+    let emptied = subst (λ u. IsEmptied u frames) c.in-Has.is c.in_ok-next.ensures.emptied in
+    let leads = subst (λ u. Unwinds last u frames c.unwind.new.state
+    (onward_of last (stack c.args.running.now.frames) s (outcome_of c.args.outcome)))
+    c.in-Has.is (c.in_ok-next.ensures.unwinds last s fits) in
+    on_ok c.hand_down.result
+    (λ handed on. goes_on_from handed c.hand_down.new.running c.hand_down.new.state
+    (then_goes leads.goes (same_goes (ap (λ fs. onward_of last fs leads.status o) emptied))) on)
+    (c.hand_down.ensures.goes_on last leads.status leads.fits emptied below)

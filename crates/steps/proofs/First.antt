@@ -1,0 +1,248 @@
+-- The first instruction of a script's code takes a tick, or ends it.
+use Rattle.std.proofs.Common.{◌≡◌, ℕ, zero, suc, ◌+◌, ◌-◌, ◌*◌, ◌<◌, ◌≤◌, List, [], ◌∷◌, length, None, Option, Some, Result, Ok, Err, refl, sym, ap, subst, ⊎_elim, arith}
+use Rattle.std.proofs.Math.Nat.{eq-or-lt_of_le}
+use Rattle.std.proofs.lemmas.Option.{slice_get_past}
+use Rattle.std.specs.Prelude.{nat_le, if◌then◌else◌, true, false, Bool, slice_get}
+use Rattle.code.specs.Code.{CommandsAt, FaultAt, ScriptAt}
+use Rattle.code.specs.Code as laid
+use Rattle.code.specs.declared.instruction.Instruction.{Instruction}
+use Rattle.code.specs.declared.instruction.Instruction.TheVariants as i
+use Rattle.runs.specs.Run.{initial}
+use Rattle.state.specs.Budget.{again_of}
+use Rattle.state.specs.declared.outcome.Leave.{Leave}
+use Rattle.state.specs.Prelude.{Again, AgainRunning, Break, Code, Continue, Error, Return, Gives, Leaves, Outcome, Scopes, Status, Stops, outcome_of}
+use Rattle.steps.specs.Does.{Does}
+use Rattle.steps.specs.Does as it_does
+use Rattle.steps.specs.Handling.{handled, led, outside, resumed, way_of, with_code}
+use Rattle.bodies.specs.Catch.{number_of}
+use Rattle.steps.specs.Machine.{ahead, machine}
+use Rattle.steps.specs.Moves.{jumping, on_top, ticked, with_operands}
+use Rattle.steps.specs.Run.{IsIdle, IsValue, TicksFirst, has_fault, no_instruction, takes_tick}
+use Rattle.steps.specs.Spot.{Spot, Did, Handler, Went, Reads, Begins, Over, Stuck, with_top}
+use Rattle.steps.specs.View.{did_of, spot_of, with_parts}
+use Rattle.steps.specs.declared.handler.Way.{Way}
+use Rattle.steps.specs.declared.handler.Way.TheVariants as way
+use Rattle.steps.specs.declared.progress.Progress.{Progress}
+use Rattle.steps.specs.declared.progress.Progress.TheVariants as went
+use Rattle.steps.specs.declared.spot.Spot as coded
+use Rattle.steps.proofs.Handlers.{leads_nowhere}
+use Rattle.tclparse.specs.Fault.{Fault}
+use Rattle.tclparse.specs.Tree.{Commands}
+use Rattle.tclstate.specs.Procs.{Procs}
+
+-- a tick was taken, or nothing goes on, and that not by exp_continue
+abbrev pub Ticked : ℕ → Did → Type 0
+Ticked left (Went spot s) = s.left < left
+Ticked left (Reads text next) = ⊥
+Ticked left (Begins words spot s) = ⊥
+Ticked left (Over outcome s) = again_of outcome ≡ 0
+Ticked left Stuck = Unit {0}
+
+next_ticks : (left : ℕ) (below : List (List ℕ)) (spot : Spot) (s : Status) → s.left ≡ left →
+    Ticked s.left (ticked left s (λ t. Went (with_operands below spot) t))
+next_ticks zero below spot s is = refl
+next_ticks (suc left) below spot s is = omega (arith, is)
+
+top_ticks : (left : ℕ) (operands : List (List ℕ)) (rest : List ℕ → List (List ℕ) → Did) →
+    ((value : List ℕ) (below : List (List ℕ)) → Ticked left (rest value below)) →
+    Ticked left (on_top operands rest)
+top_ticks left [] rest ticks = tt
+top_ticks left (value ∷ below) rest ticks = ticks value below
+
+first_ticks : {A : Type 0} {it : Option (Instruction A)} (spot : Spot) (s : Status) →
+    TicksFirst it → spot.handlers ≡ [] → Ticked s.left (machine it spot s)
+first_ticks spot s no_instruction none =
+    top_ticks s.left spot.operands _ (λ value below. refl)
+first_ticks spot s takes_tick none =
+    top_ticks s.left spot.operands _
+    (λ value below. next_ticks s.left below (ahead spot) s refl)
+first_ticks spot s has_fault none = rw none refl
+
+-- what reads no text did this
+does_it : (left : ℕ) (did other : Did) → Ticked left did → Does did other → Ticked left other
+does_it left did other ticked it_does.same = ticked
+does_it left (Reads text next) other ticked (it_does.reads tree is does) = absurd ticked
+
+-- the first instruction took a tick, or nothing goes on
+pub first_took : {A : Type 0} (it : Option (Instruction A)) (spot : Spot) (s : Status)
+    (did : Did) → TicksFirst it → spot.handlers ≡ [] → Does (machine it spot s) did →
+    Ticked s.left did
+first_took it spot s did first none does =
+    does_it s.left (machine it spot s) did (first_ticks spot s first none) does
+
+-- where no tick was taken, no command begins, and exp_continue has not ended the code
+pub idle : {A : Type 0} (progress : Progress) (spot : coded.Spot A) (s : Status) (left : ℕ) →
+    Ticked left (did_of progress spot s) → IsIdle progress spot
+idle went.GoesOn spot s left ticked = tt
+idle went.Begins spot s left ticked = ticked
+idle went.Over spot s left ticked = ticked
+idle went.Stuck spot s left ticked = tt
+
+-- so where a command begins a tick was taken
+pub ticked_by : {A : Type 0} (progress : Progress) (spot : coded.Spot A) (now left : ℕ) →
+    progress ≡ went.Begins → now ≤ left → (now ≡ left → IsIdle progress spot) → now < left
+ticked_by progress spot now left begun fewer unless =
+    ⊎_elim (λ same. absurd (subst (λ it. IsIdle it spot) begun (unless same))) (λ less. less)
+    (eq-or-lt_of_le fewer)
+
+-- some state of the definition
+abbrev pub any_state : Status
+any_state = initial [] 0
+
+-- where nothing was done before, so it is in the run of a code
+pub step_took : {A : Type 0} (code : List (Instruction A)) (from at : coded.Spot A)
+    (scopes : Scopes) (procs : Procs) (left : ℕ) (did : Did) →
+    TicksFirst (slice_get code from.place) → (spot_of from).handlers ≡ [] → at ≡ from →
+    Does (machine (slice_get code at.place) (spot_of at) (with_parts scopes procs left any_state))
+    did → Ticked left did
+step_took code from at scopes procs left did first none same does =
+    first_took (slice_get code at.place) (spot_of at) (with_parts scopes procs left any_state) did
+    (subst (λ spot. TicksFirst (slice_get code spot.place)) (sym same) first)
+    (subst (λ spot. (spot_of spot).handlers ≡ []) (sym same) none) does
+
+-- a script's code takes a tick first
+commands_first : {A : Type 0} (code : List (Instruction A)) (mid end : ℕ) (cs : Commands)
+    (f : Option Fault) → CommandsAt code 0 cs mid → FaultAt code f mid end → end ≡ length code →
+    TicksFirst (slice_get code 0)
+commands_first code mid end cs f laid.done laid.none over =
+    subst (λ it. TicksFirst it) (sym (slice_get_past code 0 (omega (arith, over)))) no_instruction
+commands_first code mid end cs f laid.done (laid.fault at) over =
+    subst (λ it. TicksFirst it) (sym at) has_fault
+commands_first code mid end cs f (laid.next at it rest) ends over =
+    subst (λ it. TicksFirst it) (sym at) takes_tick
+
+pub script_first : {A : Type 0} (code : List (Instruction A)) (cs : Commands)
+    (f : Option Fault) → ScriptAt code 0 cs f (length code) → TicksFirst (slice_get code 0)
+script_first code cs f at =
+    commands_first code at.mid (length code) cs f at.commands at.ends refl
+
+-- where something went on, this is where
+abbrev spot_in : Did → Spot → Spot
+spot_in (Went spot s) other = spot
+spot_in (Reads text next) other = other
+spot_in (Begins words spot s) other = other
+spot_in (Over outcome s) other = other
+spot_in Stuck other = other
+
+-- a value is put on top of a run
+pub value_put : {A : Type 0} (progress : Progress) (new old : coded.Spot A) (value : List ℕ) →
+    ((s : Status) → did_of progress new s ≡ resumed (spot_of old) (Gives value) s) →
+    progress ≡ went.GoesOn → spot_of new ≡ with_top value (spot_of old)
+value_put progress new old value does goes =
+    let s = any_state in
+    let did : did_of went.GoesOn new s ≡ resumed (spot_of old) (Gives value) s =
+    subst (λ it. did_of it new s ≡ resumed (spot_of old) (Gives value) s) goes (does s) in
+    ap (λ d. spot_in d (spot_of new)) did
+
+-- where the outcome is a value, the run stands where it stood
+pub stands_still : {A : Type 0} (progress : Progress) (new old : coded.Spot A)
+    (outcome : Result (List ℕ) (Leave A)) → IsValue outcome →
+    ((s : Status) → did_of progress new s ≡ resumed (spot_of old) (outcome_of outcome) s) →
+    progress ≡ went.GoesOn →
+    (new.place ≡ old.place) × ((spot_of new).handlers ≡ (spot_of old).handlers)
+stands_still progress new old (Ok value) is does goes =
+    let put = value_put progress new old value does goes in
+    (ap (λ spot. spot.place) put, ap (λ spot. spot.handlers) put)
+stands_still progress new old (Err leave) is does goes = absurd is
+
+-- an outcome of exp_continue counts as one
+pub again_small : (o : Outcome) → again_of o ≤ 1
+again_small (Gives value) = omega arith
+again_small (Leaves Error value) = omega arith
+again_small (Leaves Return value) = omega arith
+again_small (Leaves Break value) = omega arith
+again_small (Leaves Continue value) = omega arith
+again_small (Leaves Again value) = omega arith
+again_small (Leaves AgainRunning value) = omega arith
+again_small (Stops stop) = omega arith
+
+-- where the code is over, its outcome counts at most so much
+abbrev pub Counts : ℕ → Did → Type 0
+Counts most (Went spot s) = Unit {0}
+Counts most (Reads text next) = ⊥
+Counts most (Begins words spot s) = Unit {0}
+Counts most (Over outcome s) = again_of outcome ≤ most
+Counts most Stuck = Unit {0}
+
+jumped_counts : (b : Bool) (most : ℕ) (spot : Spot) (s : Status) →
+    Counts most (if b then Went spot s else Stuck)
+jumped_counts true most spot s = tt
+jumped_counts false most spot s = tt
+
+jumping_counts : (place most : ℕ) (spot : Spot) (s : Status) → Counts most (jumping place spot s)
+jumping_counts place most spot s =
+    jumped_counts (nat_le spot.place place) most (record spot { place = place }) s
+
+led_counts : (w : Option Way) (code : Code) (value : List ℕ) (spot : Spot) (s : Status)
+    (h : Handler) (handlers : List Handler) (around : Did) (most : ℕ) → Counts most around →
+    Counts most (led w code value spot s h handlers around)
+led_counts None code value spot s h handlers around most counts = counts
+led_counts (Some way.Out) code value spot s h handlers around most counts =
+    jumping_counts h.over most (outside h handlers spot) s
+led_counts (Some (way.End end)) code value spot s h handlers around most counts =
+    jumping_counts end most (with_top [] (outside h (h ∷ handlers) spot)) s
+led_counts (Some way.Caught) code value spot s h handlers around most counts =
+    jumping_counts h.over most (with_code (number_of code) value (outside h handlers spot)) s
+
+handled_counts : (handlers : List Handler) (code : Code) (value : List ℕ) (spot : Spot)
+    (s : Status) → Counts (again_of (Leaves code value)) (handled handlers code value spot s)
+handled_counts [] code value spot s = omega arith
+handled_counts (h ∷ handlers) code value spot s =
+    led_counts (way_of h.covers code) code value spot s h handlers
+    (handled handlers code value spot s) (again_of (Leaves code value))
+    (handled_counts handlers code value spot s)
+
+resumed_counts : (spot : Spot) (o : Outcome) (s : Status) →
+    Counts (again_of o) (resumed spot o s)
+resumed_counts spot (Gives value) s = tt
+resumed_counts spot (Leaves code value) s = handled_counts spot.handlers code value spot s
+resumed_counts spot (Stops stop) s = omega arith
+
+-- an outcome that ends the code counts what it counted before
+pub outcome_counts : {A : Type 0} (progress : Progress) (new : coded.Spot A) (spot : Spot)
+    (o : Outcome) → ((s : Status) → did_of progress new s ≡ resumed spot o s) →
+    progress ≡ went.Over → again_of (outcome_of new.outcome) ≤ again_of o
+outcome_counts progress new spot o does over =
+    let s = any_state in
+    subst (Counts (again_of o))
+    (sym (subst (λ it. did_of it new s ≡ resumed spot o s) over (does s)))
+    (resumed_counts spot o s)
+
+top_counts : (operands : List (List ℕ)) (s : Status) →
+    Counts 0 (on_top operands (λ value below. Over (Gives value) s))
+top_counts [] s = tt
+top_counts (value ∷ below) s = omega arith
+
+does_count : (most : ℕ) (did other : Did) → Counts most did → Does did other → Counts most other
+does_count most did other counts it_does.same = counts
+does_count most (Reads text next) other counts (it_does.reads tree is does) = absurd counts
+
+-- after the last instruction the value on top is the outcome
+pub end_counts : {A : Type 0} (it : Option (Instruction A)) (spot : Spot) (s : Status)
+    (did : Did) → it ≡ None → Does (machine it spot s) did → Counts 0 did
+end_counts it spot s did none does =
+    does_count 0 (machine it spot s) did
+    (subst (λ it. Counts 0 (machine it spot s)) (sym none) (top_counts spot.operands s)) does
+
+-- a value leads on
+pub value_idle : {A : Type 0} (progress : Progress) (new old : coded.Spot A)
+    (outcome : Result (List ℕ) (Leave A)) → IsValue outcome →
+    ((s : Status) → did_of progress new s ≡ resumed (spot_of old) (outcome_of outcome) s) →
+    IsIdle progress new
+value_idle went.GoesOn new old outcome is does = tt
+value_idle went.Begins new old outcome is does =
+    leads_nowhere went.Begins new (spot_of old) (outcome_of outcome) does refl
+value_idle went.Over new old (Ok value) is does =
+    let counts = outcome_counts went.Over new (spot_of old) (Gives value) does refl in
+    omega (arith, counts)
+value_idle went.Over new old (Err leave) is does = absurd is
+value_idle went.Stuck new old outcome is does = tt
+
+-- an outcome counts less than two for each place that is left, where none comes after the last one
+pub places_bound : (size place again : ℕ) → again ≤ 1 → (size ≤ place → again ≡ 0) →
+    again ≤ 2 * (size - place)
+places_bound zero place again small none = let is = none (omega arith) in omega (arith, is)
+places_bound (suc size) zero again small none = omega (arith, small)
+places_bound (suc size) (suc place) again small none =
+    let rest = places_bound size place again small (λ past. none (omega (arith, past))) in
+    omega (arith, rest)
