@@ -10,10 +10,9 @@ ghost use Rattle.kept.specs.Kept.{is_among, newest, with_newest, with_text, IsTr
 
 pub use argument::{Argument, Arguments};
 use code::Made;
-use indexmap::IndexMap;
+use hints::{Hints, Table, found_near, new_table};
 use memory::NoMemory;
 use std::alloc::Allocator;
-use std::hash::{BuildHasherDefault, FoldHasher};
 use std::marker::Model;
 use std::rc::Rc;
 use tclparse::Command;
@@ -21,17 +20,15 @@ use tclparse::Command;
 /// The most texts that are kept.
 pub const MOST_KEPT: usize = 256;
 
-/// Scripts by their texts, the one that was put last at the end.
-type Scripts<A> = IndexMap<Vec<u8, A>, Made<A>, BuildHasherDefault<FoldHasher>, A>;
-
 /// The scripts of the texts that were last put here, at most [`MOST_KEPT`], as their trees or as
 /// their code. Contracts see the texts, each once, the oldest first.
 ///
-/// A look-up computes one hash. A script lives as long as a frame holds it, whether it is still
-/// kept or not.
+/// A look-up compares one text in most cases, and else computes one hash. A script lives as long as
+/// a frame holds it, whether it is still kept or not.
 #[derive(Drop)]
 pub struct Kept<A: Allocator> {
-    scripts: Scripts<A>,
+    scripts: Table<Made<A>, A>,
+    hints: Hints<256>,
     /// Whether scripts are kept as their code.
     as_code: bool,
 }
@@ -78,7 +75,8 @@ impl<A: Allocator + Copy> Kept<A> {
         ensures { result ≡ [] }
     {
         Kept {
-            scripts: IndexMap::with_hasher(alloc, BuildHasherDefault::new()),
+            scripts: new_table(alloc),
+            hints: Hints::new(),
             as_code,
         }
     }
@@ -97,7 +95,7 @@ impl<A: Allocator + Copy> Kept<A> {
         ensures texts { (self.new ≡ self.old) ⊎ (self.new ≡ with_text text.now self.old) }
         ensures unchanged { OnErr result (self.new ≡ self.old) }
     {
-        if let Some(script) = self.scripts.get(text) {
+        if let Some(script) = found_near(&self.scripts, self.hints.place(text), text) {
             return script.share();
         }
         let script = Made::read(*self.scripts.allocator(), text, self.as_code)?;
@@ -112,15 +110,16 @@ impl<A: Allocator + Copy> Kept<A> {
         ensures ok { OnOk result (self.new ≡ with_newest text.now self.old) }
         ensures unchanged { OnErr result (self.new ≡ self.old) }
     {
-        let text = Vec::from_slice(*self.scripts.allocator(), text)?;
-        self.scripts.insert(text, script.share()?)?;
+        let key = Vec::from_slice(*self.scripts.allocator(), text)?;
+        self.scripts.insert(key, script.share()?)?;
         drop_oldest(&mut self.scripts);
+        self.hints.note(text, self.scripts.len().saturating_sub(1));
         Ok(())
     }
 }
 
 /// Drops the oldest where there are more than [`MOST_KEPT`].
-fn drop_oldest<A: Allocator>(scripts: &mut Scripts<A>)
+fn drop_oldest<A: Allocator>(scripts: &mut Table<Made<A>, A>)
     ensures { scripts.new.entries ≡ newest scripts.old.entries }
 {
     if MOST_KEPT < scripts.len() {

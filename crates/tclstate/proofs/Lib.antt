@@ -5,3 +5,4 @@ mod Keys
 mod Reach
 mod Reading
 pub mod Rewritten
+mod Slots

@@ -5,3 +5,4 @@ pub mod Stored
 pub mod Formals
 pub mod FormalsError
 pub mod Procs
+pub mod Marked

@@ -6,7 +6,8 @@ ghost use Rattle.tclstate.specs.Pairs.{keys_of};
 ghost use Rattle.tclstate.specs.Stored.{variable_of};
 
 use crate::error::ScopeError;
-use crate::table::{Table, element, keys, new_table, put_element, remove_element};
+use crate::table::{element, keys, put_element, remove_element};
+use hints::{Table, new_table};
 use memory::NoMemory;
 use std::alloc::Allocator;
 use tcltext::Value;

@@ -9,7 +9,7 @@ use crate::content::Content;
 use crate::error::ScopeError;
 use crate::globals::Globals;
 use crate::local::Local;
-use crate::table::{Table, new_table};
+use hints::{Hints, Table, found_near, new_table, place_near};
 use memory::NoMemory;
 use std::alloc::Allocator;
 use std::marker::Model;
@@ -19,6 +19,7 @@ use tcltext::Value;
 #[derive(Drop)]
 pub struct LocalFrame<A: Allocator> {
     variables: Table<Local<A>, A>,
+    hints: Hints<16>,
 }
 
 impl<A: Allocator> Model for LocalFrame<A> {
@@ -38,7 +39,7 @@ impl<A: Allocator> LocalFrame<A> {
     pub(crate) fn get(&self, name: &[u8]) -> Option<&Local<A>>
         ensures { option_map local_of (option_copied result) ≡ found self.now name.now }
     {
-        self.variables.get(name)
+        found_near(&self.variables, self.hints.place(name), name)
     }
 
     /// Whether a name is linked to the global of that name.
@@ -103,6 +104,7 @@ impl<A: Allocator + Copy> LocalFrame<A> {
     {
         LocalFrame {
             variables: new_table(alloc),
+            hints: Hints::new(),
         }
     }
 
@@ -134,8 +136,11 @@ impl<A: Allocator + Copy> LocalFrame<A> {
         ensures unchanged { OnErr result (self.new ≡ self.old) }
         ensures unchanged_globals { OnErr result (globals.new ≡ globals.old) }
     {
-        match self.variables.get_mut(name) {
-            Some(local) => local.set(globals, alloc, name, index, value),
+        match place_near(&self.variables, self.hints.place(name), name) {
+            Some(place) => match self.variables.get_index_mut(place) {
+                Some(local) => local.set(globals, alloc, name, index, value),
+                None => unreachable!(),
+            },
             None => {
                 let content = Content::new(alloc, index, value)?;
                 self.put(alloc, name, Local::Own(content))?;
@@ -194,7 +199,9 @@ impl<A: Allocator + Copy> LocalFrame<A> {
         ensures unchanged { OnErr result (self.new ≡ self.old) }
     {
         let key = Vec::from_slice(alloc, name)?;
+        let place = self.variables.len();
         self.variables.insert(key, local)?;
+        self.hints.note(name, place);
         Ok(())
     }
 }

@@ -7,7 +7,7 @@ ghost use Rattle.tclstate.specs.ScopeError.{HasTrouble, HasTroubleOrRefusal};
 
 use crate::content::Content;
 use crate::error::ScopeError;
-use crate::table::{Table, new_table};
+use hints::{Hints, Table, found_near, new_table, place_near};
 use memory::NoMemory;
 use std::alloc::Allocator;
 use std::marker::Model;
@@ -18,6 +18,7 @@ use tcltext::Value;
 #[derive(Drop)]
 pub struct Globals<A: Allocator> {
     variables: Table<Content<A>, A>,
+    hints: Hints<256>,
 }
 
 impl<A: Allocator> Model for Globals<A> {
@@ -37,7 +38,7 @@ impl<A: Allocator> Globals<A> {
     pub fn get(&self, name: &[u8]) -> Option<&Content<A>>
         ensures { option_map variable_of (option_copied result) ≡ found self.now name.now }
     {
-        self.variables.get(name)
+        found_near(&self.variables, self.hints.place(name), name)
     }
 
     /// Removes a name.
@@ -76,6 +77,7 @@ impl<A: Allocator + Copy> Globals<A> {
     {
         Globals {
             variables: new_table(alloc),
+            hints: Hints::new(),
         }
     }
 
@@ -93,8 +95,11 @@ impl<A: Allocator + Copy> Globals<A> {
             (frame_written name.now (option_copied index.entry) value self.old)) }
         ensures unchanged { OnErr result (self.new ≡ self.old) }
     {
-        match self.variables.get_mut(name) {
-            Some(content) => content.set(alloc, index, value),
+        match place_near(&self.variables, self.hints.place(name), name) {
+            Some(place) => match self.variables.get_index_mut(place) {
+                Some(content) => content.set(alloc, index, value),
+                None => unreachable!(),
+            },
             None => {
                 let content = Content::new(alloc, index, value)?;
                 self.put(alloc, name, content)?;
@@ -126,7 +131,9 @@ impl<A: Allocator + Copy> Globals<A> {
         ensures unchanged { OnErr result (self.new ≡ self.old) }
     {
         let key = Vec::from_slice(alloc, name)?;
+        let place = self.variables.len();
         self.variables.insert(key, content)?;
+        self.hints.note(name, place);
         Ok(())
     }
 }

@@ -3,7 +3,7 @@ ghost use Rattle.std.specs.Prelude.{◌≡◌, [], OnOk, OnErr, option_copied};
 ghost use Rattle.tclstate.specs.Pairs.{found, put};
 
 use crate::formals::Formals;
-use crate::table::{Table, new_table};
+use hints::{Hints, Table, found_near, new_table, slot_of};
 use memory::NoMemory;
 use std::alloc::Allocator;
 use std::marker::Model;
@@ -25,10 +25,13 @@ impl<A: Allocator> Model for Procedure<A> {
 }
 
 /// The procedures that are defined, each name once, with what was last defined for it (proc(n)).
-/// A look-up takes one hash.
+/// A look-up takes at most one hash, and none for most names that are not defined.
 #[derive(Drop)]
 pub struct Procs<A: Allocator> {
     procedures: Table<Procedure<A>, A>,
+    /// The slots of the names that are defined.
+    slots: [bool; 256],
+    hints: Hints<256>,
 }
 
 impl<A: Allocator> Model for Procs<A> {
@@ -38,6 +41,10 @@ impl<A: Allocator> Model for Procs<A> {
     ghost Value = { definition.Procs };
 
     ghost view = { λ p. procedures_of p.procedures.entries };
+
+    ghost use Rattle.tclstate.specs.Marked.{AreMarked};
+
+    ghost invariant = { λ p. AreMarked p.slots (procedures_of p.procedures.entries) };
 }
 
 impl<A: Allocator> Procs<A> {
@@ -45,7 +52,10 @@ impl<A: Allocator> Procs<A> {
     pub fn get(&self, name: &[u8]) -> Option<&Procedure<A>>
         ensures { option_copied result ≡ found self.now name.now }
     {
-        self.procedures.get(name)
+        if !self.slots[slot_of(name)] {
+            return None;
+        }
+        found_near(&self.procedures, self.hints.place(name), name)
     }
 }
 
@@ -56,6 +66,8 @@ impl<A: Allocator + Copy> Procs<A> {
     {
         Procs {
             procedures: new_table(alloc),
+            slots: [false; 256],
+            hints: Hints::new(),
         }
     }
 
@@ -66,7 +78,10 @@ impl<A: Allocator + Copy> Procs<A> {
         ensures unchanged { OnErr result (self.new ≡ self.old) }
     {
         let key = Vec::from_slice(alloc, name)?;
+        let place = self.procedures.len();
         self.procedures.insert(key, procedure)?;
+        self.slots[slot_of(name)] = true;
+        self.hints.note(name, place);
         Ok(())
     }
 }

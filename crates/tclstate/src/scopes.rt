@@ -17,8 +17,9 @@ use tcltext::Value;
 /// The variables of a script: those of the global frame, and those of each procedure that runs
 /// (Tcl(n), variables; proc(n); global(n)).
 ///
-/// The current frame is that of the innermost procedure, else the global one. A look-up takes one
-/// hash, in a procedure a second one for a name that is linked to a global.
+/// The current frame is that of the innermost procedure, else the global one. A look-up takes at
+/// most one hash, in a procedure a second one for a name that is linked to a global, and none where
+/// the name stands where it was put last.
 #[derive(Drop)]
 pub struct Scopes<A: Allocator> {
     locals: Vec<LocalFrame<A>, A>,

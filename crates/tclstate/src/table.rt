@@ -1,24 +1,13 @@
-//! Maps from texts to what stands at them, in the order of insertion.
+//! The elements of arrays, in the order of insertion.
 ghost use Rattle.std.specs.Prelude.{◌≡◌, [], None, Some, IsSome, OnOk, IfOk, OnErr, IfErr};
 ghost use Rattle.tclstate.specs.Pairs.{found, keys_of, put, without};
 ghost use Rattle.tclstate.specs.Stored.{texts_of};
 
 use crate::error::ScopeError;
-use indexmap::IndexMap;
+use hints::Table;
 use memory::NoMemory;
 use std::alloc::Allocator;
-use std::hash::{BuildHasherDefault, FoldHasher};
 use tcltext::Value;
-
-/// A map from texts.
-pub type Table<X, A> = IndexMap<Vec<u8, A>, X, BuildHasherDefault<FoldHasher>, A>;
-
-/// An empty map, which takes no memory.
-pub fn new_table<X, A: Allocator + Copy>(alloc: A) -> Table<X, A>
-    ensures { result.entries ≡ [] }
-{
-    IndexMap::with_hasher(alloc, BuildHasherDefault::new())
-}
 
 /// The element at an index.
 pub fn element<'a, A: Allocator>(

@@ -5,13 +5,13 @@ pub invariant_of-self-2 : goal.invariant_of-self-2
 invariant_of-self-2 g c =
     let es = c.self.inside.scripts.entries in
     let new = c.insert.new.self.entries in
-    let key = c.in_ok-text.text in
+    let key = c.in_ok-key.key in
     let script = c.in_ok-share.field-0 in
     let text = c.args.text.now in
     let texts = c.args.self.now in
     let put : Inserted es new key script text texts = record {
       view = c.self.view_is;
-      items = c.in_ok-text.ensures.items;
+      items = c.in_ok-key.ensures.items;
       fresh = c.requires.new;
       entries = c.in_ok-insert.ensures.entries;
     } in
@@ -26,13 +26,13 @@ pub returns-clause-ok : goal.returns-clause-ok
 returns-clause-ok g c =
     let es = c.self.inside.scripts.entries in
     let new = c.insert.new.self.entries in
-    let key = c.in_ok-text.text in
+    let key = c.in_ok-key.key in
     let script = c.in_ok-share.field-0 in
     let text = c.args.text.now in
     let texts = c.args.self.now in
     let put : Inserted es new key script text texts = record {
       view = c.self.view_is;
-      items = c.in_ok-text.ensures.items;
+      items = c.in_ok-key.ensures.items;
       fresh = c.requires.new;
       entries = c.in_ok-insert.ensures.entries;
     } in

@@ -1,10 +1,10 @@
-use Rattle.std.proofs.Common.{Some, None, refl, ap, ◌∙◌, option_copied}
+use Rattle.std.proofs.Common.{Some, None, refl, sym, ap, ◌∙◌, option_copied}
 use Rattle.std.proofs.lemmas.Result.{on_ok_weaker, on_err_weaker, IfErr-weaker, err_from_is_err_and}
 use Rattle.tclstate.specs.declared.error.ScopeError.TheVariants as error
-use Rattle.tclstate.specs.Pairs.{put}
 use Rattle.tclstate.specs.Scopes.{changed, is_link, frame_written}
-use Rattle.tclstate.specs.Stored.{variable_of, local_of, locals_of}
+use Rattle.tclstate.specs.Stored.{variable_of, local_of}
 use Rattle.tclstate.proofs.Frames.{makes, found_in, changed_absent, refusal_absent, unchanged_in_place, put_in_place}
+use Rattle.hints.proofs.Places.{lookup_at, set_at}
 use Rattle.tclstate.proofs.Reach.{changed_here, refusal_here, changed_reached, refusal_reached}
 use Rattle.tclstate.proofs.frame.LocalFrame.set.Goals as goal
 
@@ -16,10 +16,11 @@ returns-in_err-content-in-None-clause-trouble g c =
     (λ outer. refusal_here (frame_written c.args.name.now (option_copied c.args.index) c.args.value)
     c.args.self.now c.args.globals.now c.args.name.now outer (error.NoMemory _)
     (ap is_link (found_in local_of c.self.inside.variables.entries _ c.self.view_is c.args.name.now
-    None c.in-None.ensures.value))
+    None (sym c.in-None.ensures.absent)))
     (refusal_absent local_of c.self.inside.variables.entries _ c.self.view_is c.args.name.now
     (λ v. changed v (option_copied c.args.index) c.args.value)
-    c.in-None.ensures.value (error.NoMemory _) (makes (option_copied c.args.index) c.args.value)))
+    (sym c.in-None.ensures.absent) (error.NoMemory _)
+    (makes (option_copied c.args.index) c.args.value)))
 
 pub returns-in_err-put-in-None-clause-trouble : goal.returns-in_err-put-in-None-clause-trouble
 returns-in_err-put-in-None-clause-trouble g c =
@@ -29,40 +30,56 @@ returns-in_err-put-in-None-clause-trouble g c =
     (λ outer. refusal_here (frame_written c.args.name.now (option_copied c.args.index) c.args.value)
     c.args.self.now c.args.globals.now c.args.name.now outer (error.NoMemory _)
     (ap is_link (found_in local_of c.self.inside.variables.entries _ c.self.view_is c.args.name.now
-    None c.in-None.ensures.value))
+    None (sym c.in-None.ensures.absent)))
     (refusal_absent local_of c.self.inside.variables.entries _ c.self.view_is c.args.name.now
     (λ v. changed v (option_copied c.args.index) c.args.value)
-    c.in-None.ensures.value (error.NoMemory _) (makes (option_copied c.args.index) c.args.value)))
+    (sym c.in-None.ensures.absent) (error.NoMemory _)
+    (makes (option_copied c.args.index) c.args.value)))
 
-pub returns-in-Some-clause-ok : goal.returns-in-Some-clause-ok
-returns-in-Some-clause-ok g c =
+pub returns-in-Some-get_index_mut-clause-ok : goal.returns-in-Some-get_index_mut-clause-ok
+returns-in-Some-get_index_mut-clause-ok g c =
+    let es = c.self.inside.variables.entries in
+    let at = lookup_at c.args.name.now es c.in-Some.place c.get_index_mut.ensures.unique
+    c.in-Some.ensures.stands in
+    let is = set_at c.args.name.now es c.in-Some.place c.set.new.self
+    c.get_index_mut.ensures.unique c.in-Some.ensures.stands in
     on_ok_weaker c.set.result
     (λ e outer. changed_reached (λ v. changed v (option_copied c.args.index) c.args.value)
     (frame_written c.args.name.now (option_copied c.args.index) c.args.value)
     c.args.self.now c.args.globals.now c.args.name.now outer refl _ _ _ _
-    (found_in local_of c.self.inside.variables.entries _ c.self.view_is c.args.name.now (Some _)
-    c.in-Some.ensures.value)
+    (found_in local_of es _ c.self.view_is c.args.name.now (Some _)
+    (c.in-Some-get_index_mut.ensures.value ∙ at))
     e
-    (put_in_place local_of c.self.inside.variables.entries _ c.self.view_is c.args.name.now _ _
-    c.set.new.self c.in-Some.ensures.value (c.get_mut.follows.holds c.set.new.self).0))
+    (put_in_place local_of es _ c.self.view_is c.args.name.now _ _
+    c.set.new.self (c.in-Some-get_index_mut.ensures.value ∙ at) is))
     c.set.ensures.ok
 
-pub returns-in-Some-clause-trouble : goal.returns-in-Some-clause-trouble
-returns-in-Some-clause-trouble g c =
+pub returns-in-Some-get_index_mut-clause-trouble :
+    goal.returns-in-Some-get_index_mut-clause-trouble
+returns-in-Some-get_index_mut-clause-trouble g c =
+    let es = c.self.inside.variables.entries in
+    let at = lookup_at c.args.name.now es c.in-Some.place c.get_index_mut.ensures.unique
+    c.in-Some.ensures.stands in
     IfErr-weaker c.set.result _ _
     (λ e h outer. refusal_reached (λ v. changed v (option_copied c.args.index) c.args.value)
     (frame_written c.args.name.now (option_copied c.args.index) c.args.value)
     c.args.self.now c.args.globals.now c.args.name.now outer refl _ e
-    (found_in local_of c.self.inside.variables.entries _ c.self.view_is c.args.name.now (Some _)
-    c.in-Some.ensures.value)
+    (found_in local_of es _ c.self.view_is c.args.name.now (Some _)
+    (c.in-Some-get_index_mut.ensures.value ∙ at))
     h)
     c.set.ensures.trouble
 
-pub returns-in-Some-clause-unchanged : goal.returns-in-Some-clause-unchanged
-returns-in-Some-clause-unchanged g c =
+pub returns-in-Some-get_index_mut-clause-unchanged :
+    goal.returns-in-Some-get_index_mut-clause-unchanged
+returns-in-Some-get_index_mut-clause-unchanged g c =
+    let es = c.self.inside.variables.entries in
+    let at = lookup_at c.args.name.now es c.in-Some.place c.get_index_mut.ensures.unique
+    c.in-Some.ensures.stands in
+    let is = set_at c.args.name.now es c.in-Some.place c.set.new.self
+    c.get_index_mut.ensures.unique c.in-Some.ensures.stands in
     on_err_weaker c.set.result
-    (unchanged_in_place local_of c.self.inside.variables.entries _ c.self.view_is c.args.name.now
-    _ _ c.set.new.self c.in-Some.ensures.value (c.get_mut.follows.holds c.set.new.self).0)
+    (unchanged_in_place local_of es _ c.self.view_is c.args.name.now
+    _ _ c.set.new.self (c.in-Some-get_index_mut.ensures.value ∙ at) is)
     c.set.ensures.unchanged
 
 pub returns-in_ok-put-in-None-clause-ok : goal.returns-in_ok-put-in-None-clause-ok
@@ -70,12 +87,9 @@ returns-in_ok-put-in-None-clause-ok g c =
     λ outer. changed_here (frame_written c.args.name.now (option_copied c.args.index) c.args.value)
     c.args.self.now c.args.globals.now c.args.name.now outer _
     (ap is_link (found_in local_of c.self.inside.variables.entries _ c.self.view_is c.args.name.now
-    None c.in-None.ensures.value))
+    None (sym c.in-None.ensures.absent)))
     (changed_absent local_of c.self.inside.variables.entries _ c.self.view_is c.args.name.now
     (λ v. changed v (option_copied c.args.index) c.args.value)
-    c.put.new.self (variable_of c.in_ok-content-in-None.content) c.in-None.ensures.value
+    c.put.new.self (variable_of c.in_ok-content-in-None.content) (sym c.in-None.ensures.absent)
     c.in_ok-content-in-None.ensures
-    (c.in_ok-put-in-None.ensures.ok
-    ∙ ap (λ m. put (locals_of m.entries) c.args.name.now
-    (variable_of c.in_ok-content-in-None.content)) c.get_mut.follows.holds-at-none
-    ∙ ap (λ f. put f c.args.name.now (variable_of c.in_ok-content-in-None.content)) c.self.view_is))
+    c.in_ok-put-in-None.ensures.ok)

@@ -5,4 +5,4 @@ use Rattle.tclstate.proofs.globals.Globals.get.Goals as goal
 
 pub returns : goal.returns
 returns g c = sym (found_in variable_of c.self.inside.variables.entries _ c.self.view_is
-    c.args.name.now _ c.get.ensures.value)
+    c.args.name.now _ c.found_near.ensures)

@@ -11,6 +11,6 @@ map_same (Some x) = refl
 pub returns : goal.returns
 returns g c =
     let name = c.args.name.now in
-    c.get.ensures.value
+    c.found_near.ensures
     ∙ sym (ap (λ f. found f name) (sym c.self.view_is)
     ∙ found_lookup (λ p. p) c.self.inside.procedures.entries name ∙ map_same _)
