@@ -186,8 +186,9 @@ mutual
 
   -- what the command of this name does with the words after it: if; while; for, whose start runs
   -- before its turns, and has its value dropped; eval, whose only word is a script once there is no
-  -- white space at its ends; or catch, whose script may have its value taken by a variable (if(n);
-  -- while(n); for(n); eval(n); concat(n); catch(n))
+  -- white space at its ends; catch, whose script may have its value taken by a variable; or expr,
+  -- whose only word is a formula in the same way (if(n); while(n); for(n); eval(n); concat(n);
+  -- catch(n); expr(n))
   pub data OwnAt {A : Type 0} (code : List (Instruction A)) :
       List ℕ → ℕ → List (List ℕ) → ℕ → Type 0 where
     conditional : {place end : ℕ} {args : List (List ℕ)} → BranchesAt code place args end →
@@ -205,6 +206,9 @@ mutual
         {more : List (List ℕ)} → IsTaker variable more → At code place (i.Catch (mid + 1)) →
         BodyAt code (place + 1) text mid → At code mid i.EndCatch →
         TakenAt code (mid + 1) variable end → OwnAt code (codes "catch") place (text ∷ more) end
+    valued : {place mid : ℕ} {text : List ℕ} {f : Formula} →
+        IsFormula (Ok f) (concatenated (text ∷ [])) → FormulaAt code place f mid →
+        At code mid i.Result → OwnAt code (codes "expr") place (text ∷ []) (mid + 1)
 
   -- the turns of a loop with this test, this script after each turn, if there is one, and this
   -- body: the body stands before the test, with which the loop begins, and after both of them the

@@ -1,11 +1,13 @@
 -- What the words of a command that has code of its own are read as.
-use Rattle.std.specs.Prelude.{◌≡◌, ℕ, List, [], ◌∷◌, codes, None}
+use Rattle.std.specs.Prelude.{◌≡◌, ℕ, List, [], ◌∷◌, codes, None, Ok}
 use Rattle.code.specs.Catch.{IsCatch}
 use Rattle.code.specs.Conditional.{IsBody, IsConditional}
 use Rattle.code.specs.Repeat.{AreTurns, IsFor}
 use Rattle.code.specs.declared.own.Own.{Own}
 use Rattle.code.specs.declared.own.Own.TheVariants as own
+use Rattle.formulas.specs.View.{formula_of}
 use Rattle.pure.specs.Concat.{concatenated}
+use Rattle.tclparse.specs.FormulaGrammar.{IsFormula}
 
 -- the name of the command
 abbrev pub name_of : {A : Type 0} → Own A → List ℕ
@@ -14,8 +16,10 @@ name_of (own.While it) = codes "while"
 name_of (own.For it) = codes "for"
 name_of (own.Eval it) = codes "eval"
 name_of (own.Catch it) = codes "catch"
+name_of (own.Expr it) = codes "expr"
 
--- it is what the words after the name are read as (if(n); while(n); for(n); eval(n); catch(n))
+-- it is what the words after the name are read as (if(n); while(n); for(n); eval(n); catch(n);
+-- expr(n))
 abbrev pub IsOwn : {A : Type 0} → Own A → List (List ℕ) → Type 0
 IsOwn (own.If it) args = IsConditional it args
 IsOwn (own.While it) args =
@@ -27,3 +31,6 @@ IsOwn (own.Eval it) args =
     (text : List ℕ) × (args ≡ text ∷ []) × IsBody it (concatenated (text ∷ []))
 IsOwn (own.Catch it) args =
     (text : List ℕ) × (more : List (List ℕ)) × (args ≡ text ∷ more) × IsCatch it text more
+IsOwn (own.Expr it) args =
+    (text : List ℕ) × (args ≡ text ∷ []) ×
+    IsFormula (Ok (formula_of it)) (concatenated (text ∷ []))

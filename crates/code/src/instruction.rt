@@ -52,6 +52,9 @@ pub enum Instruction<A: Allocator> {
     OrElse(usize),
     /// Replaces the operand on top by its truth value, 0 or 1 (expr(n), operators).
     Truth,
+    /// Replaces the value of a formula on top by what `expr` gives: a number in decimal, all else
+    /// as it stands (expr(n)).
+    Result,
     /// Drops the truth value on top; where it is false, this place is next (expr(n), operators).
     Unless(usize),
     /// This place is next.

@@ -1,20 +1,24 @@
 //! The code that a command has of its own.
 
-ghost use Rattle.std.specs.Prelude.{◌≡◌, ◌∷◌, ℕ, List, true, IfOk, IfSome, OnOk};
+ghost use Rattle.std.specs.Prelude.{◌≡◌, [], ◌∷◌, ℕ, List, codes, true, IfOk, IfSome, Ok, OnOk};
 ghost use Rattle.code.specs.Blocks.{ItsBlock, OwnBlock};
 ghost use Rattle.code.specs.Conditional.{Are};
 ghost use Rattle.code.specs.Own.{IsOwn, name_of};
+ghost use Rattle.formulas.specs.View.{formula_of};
+ghost use Rattle.pure.specs.Concat.{concatenated as joined_of};
+ghost use Rattle.tclparse.specs.FormulaGrammar.{IsFormula};
 ghost use Rattle.tclparse.specs.Tree.{no_words};
 ghost use Rattle.tclparse.specs.View.{words_then};
 
 use crate::catch::{Catch, emit_catch, read_catch};
 use crate::conditional::{Conditional, emit_body, emit_branches};
 use crate::emit::emit_words;
-use crate::evaluate::read_eval;
-use crate::formula::fill;
+use crate::evaluate::{read_eval, read_expr};
+use crate::formula::{emit_formula, fill};
 use crate::instruction::Instruction;
 use crate::nest::{Flat, Nest};
 use crate::repeat::{For, Turns, emit_for, emit_turns, read_for, read_while};
+use formulas::Formula;
 use memory::NoMemory;
 use std::alloc::Allocator;
 use tclparse::{Script, Word};
@@ -33,6 +37,8 @@ pub(crate) enum Own<A: Allocator> {
     Eval(Script<A>),
     /// `catch`.
     Catch(Catch<A>),
+    /// `expr`, with its formula.
+    Expr(Formula<A>),
 }
 
 impl<A: Allocator + Copy> Own<A> {
@@ -53,8 +59,11 @@ impl<A: Allocator + Copy> Own<A> {
         if let Some(own) = read_eval(alloc, words)? {
             return Ok(Some(Own::Eval(own)));
         }
-        match read_catch(alloc, words)? {
-            Some(own) => Ok(Some(Own::Catch(own))),
+        if let Some(own) = read_catch(alloc, words)? {
+            return Ok(Some(Own::Catch(own)));
+        }
+        match read_expr(alloc, words)? {
+            Some(own) => Ok(Some(Own::Expr(own))),
             None => Ok(None),
         }
     }
@@ -69,8 +78,23 @@ impl<A: Allocator + Copy> Own<A> {
             Own::For(_) => b"for",
             Own::Eval(_) => b"eval",
             Own::Catch(_) => b"catch",
+            Own::Expr(_) => b"expr",
         }
     }
+}
+
+/// Puts what `expr` does: the value of its formula, as text.
+fn emit_expr<A: Allocator + Copy, N: Nest<A>>(
+    code: &mut Vec<Instruction<A>, A>,
+    formula: &Formula<A>,
+    nest: &N,
+) -> Result<(), NoMemory>
+    ensures { (text : List ℕ) → IsFormula (Ok (formula_of formula.now)) (joined_of (text ∷ [])) →
+        OnOk result (ItsBlock (codes "expr") code.old.items code.new.items (text ∷ [])) }
+{
+    emit_formula(code, formula, nest)?;
+    code.push(Instruction::Result)?;
+    Ok(())
 }
 
 /// Puts what the command does.
@@ -88,6 +112,7 @@ fn emit_its<A: Allocator + Copy, N: Nest<A>>(
         Own::For(own) => Ok(emit_for(code, own, nest)?),
         Own::Eval(own) => Ok(emit_body(code, own, nest)?),
         Own::Catch(own) => Ok(emit_catch(code, own, nest)?),
+        Own::Expr(own) => Ok(emit_expr(code, own, nest)?),
     }
 }
 

@@ -1,12 +1,12 @@
 -- What the instructions of formulas do.
-use Rattle.std.specs.Prelude.{ℕ, List, Bool, true, false, Result, Ok, Err, reverse, take, drop, if◌then◌else◌}
+use Rattle.std.specs.Prelude.{ℕ, List, ◌∷◌, Bool, true, false, Result, Ok, Err, reverse, take, drop, if◌then◌else◌}
 use Rattle.evaluation.specs.Evaluated.{told}
 use Rattle.meanings.specs.Meaning.{Meaning, Gives, Raises, Splits, Matches, flaw_of_list, truth}
 use Rattle.operators.specs.Binary.{binary}
 use Rattle.operators.specs.Function as function
 use Rattle.operators.specs.Truth.{truth_of}
 use Rattle.operators.specs.Unary.{unary}
-use Rattle.operators.specs.Value.{written}
+use Rattle.operators.specs.Value.{result, written}
 use Rattle.state.specs.Piece.{ListText, TestText}
 use Rattle.state.specs.Prelude.{Flaw, Status}
 use Rattle.steps.specs.Handling.{fails}
@@ -68,6 +68,11 @@ abbrev pub telling : Spot → Status → Did
 telling spot s =
     on_top spot.operands (λ value below.
     gives (told (truth_of value)) (with_operands below spot) s)
+
+-- the value of a formula is what expr gives: a number in decimal, all else as it stands (expr(n))
+abbrev pub resulting : Spot → Status → Did
+resulting spot s =
+    on_top spot.operands (λ value below. Went (with_operands (result value ∷ below) spot) s)
 
 -- where the left operand has the truth value that decides, that is the operator's value and the
 -- place is next (expr(n), operators)

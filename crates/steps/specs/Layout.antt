@@ -6,7 +6,7 @@ use Rattle.code.specs.declared.instruction.Instruction.TheVariants as i
 use Rattle.conditions.specs.Branches.{Branch}
 use Rattle.state.specs.Prelude.{LoopTree, ScriptTree}
 use Rattle.steps.specs.Each.{Each}
-use Rattle.steps.specs.Operand.{Outer, Prefixed, Row, Right, Holds, Argument, Test, Chosen, Condition, Turning}
+use Rattle.steps.specs.Operand.{Outer, Prefixed, Row, Right, Holds, Argument, Test, Chosen, Condition, Turning, Resulting}
 use Rattle.steps.specs.Places.{Head, Has, Part, Joins, Gathers, Evaluates, Values, Starts, Chooses, Enters, Repeats, Finishes, Deals, Takes, Sets, Drops, Compares, Runs, Frame, Rest, Bracket, Body, Skip, For, Turns, Elements, Tries, Stores, Catches}
 use Rattle.steps.specs.Word.{Around, Open, Word, Plain, Expands, Operand, Listed, Switched}
 use Rattle.tclparse.specs.Formula.{Formula}
@@ -123,6 +123,7 @@ module _ {A : Type 0} (code : List (Instruction A)) where
       ConditionAt place body more otherwise end
   OperandAt place (Turning loop ∷ outer) end =
       LoopAt loop place × (end ≡ place + 2)
+  OperandAt place (Resulting ∷ outer) end = At code place i.Result × (end ≡ place + 1)
 
   -- after the value of a word come the words after it
   abbrev pub WordAt : ℕ → Word → ℕ → Type 0

@@ -10,7 +10,7 @@ use Rattle.state.specs.Piece.{ListText}
 use Rattle.state.specs.Variables.{flaw_of_trouble, spelled}
 use Rattle.steps.specs.Catch.{catching, ending_catch, keeping}
 use Rattle.steps.specs.Foreach.{assigning, dealing, finishing, hidden, looking}
-use Rattle.steps.specs.Formulas.{calling, choosing, joining_both, prefixing, putting, telling, unless}
+use Rattle.steps.specs.Formulas.{calling, choosing, joining_both, prefixing, putting, resulting, telling, unless}
 use Rattle.steps.specs.Handling.{fails}
 use Rattle.steps.specs.Loops.{ending, stepping, turned, turning}
 use Rattle.steps.specs.Moves.{jumping, on_top, ticked, with_operands}
@@ -120,6 +120,7 @@ does (i.Call function n) spot s = calling function (length spot.operands - n) sp
 does (i.AndAlso place) spot s = choosing place false spot s
 does (i.OrElse place) spot s = choosing place true spot s
 does i.Truth spot s = telling spot s
+does i.Result spot s = resulting spot s
 does (i.Unless place) spot s = unless place spot s
 does (i.Jump place) spot s = jumping place spot s
 does (i.Unhidden name place) spot s = unhidden (found s.procedures name) place spot s

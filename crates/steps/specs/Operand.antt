@@ -8,6 +8,7 @@ use Rattle.operators.specs.Binary.{binary}
 use Rattle.operators.specs.Function as function
 use Rattle.operators.specs.Truth.{truth_of}
 use Rattle.operators.specs.Unary.{unary}
+use Rattle.operators.specs.Value.{result}
 use Rattle.state.specs.Meant.{on_meaning}
 use Rattle.state.specs.Prelude.{Course, gives, LoopTree, Status}
 use Rattle.tclparse.specs.Formula.{Formula, Formulas, Links}
@@ -19,7 +20,7 @@ use Rattle.tclparse.specs.declared.operator.Unary.{Unary}
 -- with this left operand, in a row; the truth value of && or ||, in a row; a function with these
 -- values so far, the last one first; a choice; what is chosen, after which the code goes on
 -- elsewhere; if, with the body that runs where the value is true and what is done where it is not;
--- the next turn of a loop (expr(n); if(n); while(n))
+-- the next turn of a loop; the text that expr gives (expr(n); if(n); while(n))
 pub data Outer : Type 0 where
   Prefixed : (operator : Unary) → Outer
   Row : (links : Links) → Outer
@@ -30,6 +31,7 @@ pub data Outer : Type 0 where
   Chosen : Outer
   Condition : (body : List ℕ) (more : List Branch) (otherwise : Option (List ℕ)) → Outer
   Turning : (loop : LoopTree) → Outer
+  Resulting : Outer
 
 -- what follows the value of an operand, by what it is evaluated for, the innermost first (expr(n))
 abbrev pub operand_on : ℕ → List Outer → Status → List ℕ → Course
@@ -55,6 +57,7 @@ operand_on levels (Condition body more otherwise ∷ outer) = λ s value.
     on_truth (truth_of value) s (λ holds. chosen levels body more otherwise s holds)
 operand_on levels (Turning loop ∷ outer) = λ s value.
     on_truth (truth_of value) s (λ holds. turned loop levels s holds)
+operand_on levels (Resulting ∷ outer) = λ s value. gives (result value) s
 
 -- the operands that wait, on top of these
 abbrev pub waiting : List Outer → List (List ℕ) → List (List ℕ)
@@ -68,3 +71,4 @@ waiting (Test one other ∷ outer) below = waiting outer below
 waiting (Chosen ∷ outer) below = waiting outer below
 waiting (Condition body more otherwise ∷ outer) below = below
 waiting (Turning loop ∷ outer) below = below
+waiting (Resulting ∷ outer) below = below

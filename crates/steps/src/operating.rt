@@ -7,10 +7,12 @@ ghost use Rattle.meanings.specs.Meaning.{Gives, Meaning, truth as truth_text};
 ghost use Rattle.meanings.specs.View.{Answers};
 ghost use Rattle.operators.specs.Binary.{binary as meant};
 ghost use Rattle.operators.specs.Number.{number_of};
+ghost use Rattle.operators.specs.Numeric.{GivesNumber};
 ghost use Rattle.operators.specs.Truth.{truth_of};
+ghost use Rattle.operators.specs.Unary.{unary as prefixed};
 ghost use Rattle.state.specs.Prelude.{Status};
 ghost use Rattle.steps.specs.Does.{Does};
-ghost use Rattle.steps.specs.Formulas.{calling, choosing, deciding, gives, joining_both, on_truth, prefixing, putting, telling, unless as unless_of};
+ghost use Rattle.steps.specs.Formulas.{calling, choosing, deciding, gives, joining_both, on_truth, prefixing, putting, resulting, telling, unless as unless_of};
 ghost use Rattle.steps.specs.Handling.{fails};
 ghost use Rattle.steps.specs.Moves.{jumping};
 ghost use Rattle.steps.specs.Spot.{Went};
@@ -20,7 +22,7 @@ use crate::handling::failed;
 use crate::progress::Progress;
 use crate::spot::Spot;
 use acts::{Fault, NoMemory, Raise};
-use operators::{Operand, binary, call, holds, number_in, truth, unary};
+use operators::{Operand, binary, call, holds, number_in, of_both, of_one, result, truth, unary};
 use std::alloc::Allocator;
 use tclparse::{Binary, Function, Unary};
 use tcltext::Value;
@@ -89,6 +91,31 @@ pub fn number<A: Allocator + Copy>(
     }
 }
 
+/// The number that a prefix operator gives for a text. `None` says nothing: the text may be no
+/// number, or the operator may give no number for it.
+#[inline(always)]
+fn number_of_one<A: Allocator>(operator: Unary, operand: &Value<A>) -> Option<i64>
+    ensures { IfSome result (GivesNumber (prefixed operator operand.now)) }
+{
+    of_one(operator, number_in(operand)?)
+}
+
+/// Puts the value of a prefix operator for a text on top.
+#[inline(never)]
+fn put_prefixed<A: Allocator + Copy>(
+    alloc: A,
+    spot: &mut Spot<A>,
+    operator: Unary,
+    operand: Value<A>,
+) -> Result<Progress, NoMemory>
+    ensures does { (s : Status) → IfOk result (λ progress. Does
+        (gives (prefixed operator operand) (spot_of spot.old) s) (did_of progress spot.new s)) }
+    ensures place { spot.old.place ≤ spot.new.place }
+{
+    let value = unary(alloc, operator, &Operand::text(operand));
+    Ok(settle(alloc, spot, value)?)
+}
+
 /// Replaces the operand on top by the value of a prefix operator.
 pub fn prefix<A: Allocator + Copy>(
     alloc: A,
@@ -102,47 +129,20 @@ pub fn prefix<A: Allocator + Copy>(
     let Some(value) = spot.operands.pop() else {
         return Ok(Progress::Stuck);
     };
-    let value = unary(alloc, operator, &Operand::text(value));
-    Ok(settle(alloc, spot, value)?)
-}
-
-/// Whether a comparison of two numbers holds. `None` where the operator compares none.
-fn compared(operator: Binary, left: i64, right: i64) -> Option<bool>
-    ensures { (a b : List ℕ) → number_of a ≡ Some left → number_of b ≡ Some right →
-        IfSome result (λ holds. meant operator a b ≡ Gives (truth_text holds)) }
-{
-    match operator {
-        Binary::Less => Some(left < right),
-        Binary::Greater => Some(left > right),
-        Binary::LessEqual => Some(left <= right),
-        Binary::GreaterEqual => Some(left >= right),
-        Binary::Equal => Some(left == right),
-        Binary::NotEqual => Some(left != right),
-        Binary::Multiply
-        | Binary::Divide
-        | Binary::Remainder
-        | Binary::Add
-        | Binary::Subtract
-        | Binary::ShiftLeft
-        | Binary::ShiftRight
-        | Binary::TextEqual
-        | Binary::TextNotEqual
-        | Binary::In
-        | Binary::NotIn
-        | Binary::And
-        | Binary::Xor
-        | Binary::Or => None,
+    match number_of_one(operator, &value) {
+        Some(n) => Ok(spot.put(Value::int(alloc, n)?)?),
+        None => Ok(put_prefixed(alloc, spot, operator, value)?),
     }
 }
 
-/// The same of two texts. `None` where one of them is no number.
+/// The number that an operator gives for two texts. `None` says nothing: one of them may be no
+/// number, or the operator may give no number for these.
 #[inline(always)]
-fn compared_in<A: Allocator>(operator: Binary, left: &Value<A>, right: &Value<A>) -> Option<bool>
-    ensures { IfSome result (λ holds. meant operator left.now right.now
-        ≡ Gives (truth_text holds)) }
+fn number_of_both<A: Allocator>(operator: Binary, left: &Value<A>, right: &Value<A>) -> Option<i64>
+    ensures { IfSome result (GivesNumber (meant operator left.now right.now)) }
 {
     match (number_in(left), number_in(right)) {
-        (Some(x), Some(y)) => compared(operator, x, y),
+        (Some(x), Some(y)) => of_both(operator, x, y),
         _ => None,
     }
 }
@@ -180,8 +180,8 @@ pub fn join_both<A: Allocator + Copy>(
     let Some(left) = spot.operands.pop() else {
         return Ok(Progress::Stuck);
     };
-    match compared_in(operator, &left, &right) {
-        Some(holds) => Ok(spot.put(Operand::truth(holds).into_text(alloc)?)?),
+    match number_of_both(operator, &left, &right) {
+        Some(n) => Ok(spot.put(Value::int(alloc, n)?)?),
         None => Ok(put_joined(alloc, spot, operator, left, right)?),
     }
 }
@@ -207,6 +207,19 @@ pub fn tell<A: Allocator + Copy>(alloc: A, spot: &mut Spot<A>) -> Result<Progres
     };
     let value = told(alloc, &Operand::text(value));
     Ok(settle(alloc, spot, value)?)
+}
+
+/// Replaces the value of a formula on top by what `expr` gives.
+pub fn give_result<A: Allocator + Copy>(alloc: A, spot: &mut Spot<A>) -> Result<Progress, NoMemory>
+    ensures does { (s : Status) → IfOk result (λ progress.
+        did_of progress spot.new s ≡ resulting (spot_of spot.old) s) }
+    ensures place { spot.old.place ≤ spot.new.place }
+{
+    let Some(value) = spot.operands.pop() else {
+        return Ok(Progress::Stuck);
+    };
+    let text = result(alloc, Operand::text(value))?;
+    Ok(spot.put(text)?)
 }
 
 /// This place is next; there is no way back.

@@ -17,7 +17,9 @@ use crate::catching::{begin_catch, end_catch};
 use crate::foreach::{assign, begin_foreach, deal, finish, look};
 use crate::handling::{fail_to_reach, failed};
 use crate::looping::{begin_step, begin_turn, end_turn, turn};
-use crate::operating::{apply, choose, join_both, jump, jump_unless, number, prefix, tell};
+use crate::operating::{
+    apply, choose, give_result, join_both, jump, jump_unless, number, prefix, tell,
+};
 use crate::progress::Progress;
 use crate::spot::Spot;
 use crate::storing::keep;
@@ -207,6 +209,7 @@ fn perform<A: Allocator + Copy>(
         Instruction::AndAlso(place) => Ok(choose(alloc, spot, *place, false)?),
         Instruction::OrElse(place) => Ok(choose(alloc, spot, *place, true)?),
         Instruction::Truth => Ok(tell(alloc, spot)?),
+        Instruction::Result => Ok(give_result(alloc, spot)?),
         Instruction::Unless(place) => Ok(jump_unless(alloc, spot, *place)?),
         Instruction::Jump(place) => Ok(jump(spot, *place)),
         Instruction::Unhidden(name, place) => Ok(jump_unhidden(spot, procs, name, *place)),

@@ -29,6 +29,8 @@ fn show<A: Allocator>(shown: &mut Vec<u8, A>, it: &Instruction<A>) -> Result<(),
         Instruction::AndAlso(9) => (b"and also 9", b""),
         Instruction::OrElse(10) => (b"or else 10", b""),
         Instruction::Truth => (b"truth", b""),
+        Instruction::Result => (b"result", b""),
+        Instruction::Jump(10) => (b"jump 10", b""),
         Instruction::Unless(15) => (b"unless 15", b""),
         Instruction::Jump(16) => (b"jump 16", b""),
         Instruction::Unhidden(name, 7) => (b"unhidden 7 ", name.as_slice()),
@@ -198,6 +200,20 @@ fn what_is_caught_is_kept_behind_the_script(rt: HostRuntime) -> Result<(), Fail>
     }
     let wanted: &[u8] = b"next\nunhidden 7 catch\ntext catch\ntext f\ntext r\ncommand 3\n\
         jump 15\ncatch 14\nenter\nnext\ntext f\ncommand 1\nleave\nend catch\nstore r\n";
+    assert_eq!(&rt; shown.as_slice(), wanted);
+    Ok(())
+}
+
+#[test]
+fn the_value_of_a_formula_in_a_word_is_made_its_text(rt: HostRuntime) -> Result<(), Fail> {
+    let script = Script::read(rt.alloc(), b"expr {$a + 1}")?;
+    let code = code_of(rt.alloc(), &script)?;
+    let mut shown = Vec::new(rt.alloc());
+    for it in &code {
+        show(&mut shown, it)?;
+    }
+    let wanted: &[u8] = b"next\nunhidden 6 expr\ntext expr\ntext $a + 1\ncommand 2\njump 10\n\
+        variable a\nnumeral 1\nadd\nresult\n";
     assert_eq!(&rt; shown.as_slice(), wanted);
     Ok(())
 }

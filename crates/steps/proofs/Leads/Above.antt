@@ -1,7 +1,7 @@
 -- Operands and marks that lie on others.
 use Rattle.std.proofs.Common.{◌≡◌, ◌∙◌, ℕ, List, [], ◌∷◌, ◌++◌, Bool, true, false, Option, None, Some, length, append_assoc, refl, sym, ap}
 use Rattle.steps.specs.Moves.{lowest}
-use Rattle.steps.specs.Operand.{Outer, Prefixed, Row, Right, Holds, Argument, Test, Chosen, Condition, Turning, waiting}
+use Rattle.steps.specs.Operand.{Outer, Prefixed, Row, Right, Holds, Argument, Test, Chosen, Condition, Turning, Resulting, waiting}
 use Rattle.steps.specs.Places.{marked}
 use Rattle.steps.specs.Word.{Around, Open, Word, Plain, Expands, Operand, Listed, Switched, around, before_of, operands_of, with_bytes}
 use Rattle.steps.proofs.Leads.Operands.{lowest_below}
@@ -45,6 +45,7 @@ waiting_above (Test this other ∷ outer) below = waiting_above outer below
 waiting_above (Chosen ∷ outer) below = waiting_above outer below
 waiting_above (Condition body more otherwise ∷ outer) below = those [] below
 waiting_above (Turning loop ∷ outer) below = those [] below
+waiting_above (Resulting ∷ outer) below = those [] below
 
 before_above : (word : Word) (below : List (List ℕ)) → LiesOn (before_of word below) below
 before_above (Plain counted before rest) below = those before below

@@ -1,7 +1,7 @@
 -- A command that has code of its own.
 use Rattle.std.proofs.Common.{◌≡◌, ◌∙◌, ℕ, ◌+◌, ◌≤◌, List, [], ◌∷◌, false, Option, Some, None, Ok, option_map, codes, refl, ap, subst, arith, if◌then◌else◌}
 use Rattle.std.specs.Prelude.{slice_get}
-use Rattle.code.specs.Code.{At, CommandAt, by_words, own, foreach_loop, switched, OwnAt, conditional, while_loop, for_loop, evaluated, BranchesAt, branch, BehindAt, no_else, at_last, else_if, IsBranch, without_then, with_then, IsLast, with_else, without_else, WordsAt, literals, caught}
+use Rattle.code.specs.Code.{At, CommandAt, by_words, own, foreach_loop, switched, OwnAt, conditional, while_loop, for_loop, evaluated, valued, BranchesAt, branch, BehindAt, no_else, at_last, else_if, IsBranch, without_then, with_then, IsLast, with_else, without_else, WordsAt, literals, caught}
 use Rattle.code.specs.Switch.{words_before}
 use Rattle.code.specs.declared.instruction.Instruction.{Instruction}
 use Rattle.code.specs.declared.instruction.Instruction.TheVariants as i
@@ -17,8 +17,8 @@ use Rattle.steps.specs.Follows.{Comes, Follows}
 use Rattle.steps.specs.Goes.{here, reads}
 use Rattle.steps.specs.Layout.{ChoosesAt, FramesAt}
 use Rattle.steps.specs.Machine.{machine, unhidden}
-use Rattle.steps.specs.Operand.{Condition}
-use Rattle.steps.specs.Places.{Has, Gathers, Starts, Chooses, Frame, Skip, brackets, left_of, onward_of, spot_at}
+use Rattle.steps.specs.Operand.{Condition, Resulting}
+use Rattle.steps.specs.Places.{Has, Gathers, Evaluates, Starts, Chooses, Frame, Skip, brackets, left_of, onward_of, spot_at}
 use Rattle.steps.proofs.Leads.Bodies.{body_begins, body_read, enters_leads}
 use Rattle.steps.proofs.Leads.Catches.{catch_begins}
 use Rattle.steps.proofs.Leads.Formulas.{formula_leads}
@@ -152,6 +152,15 @@ module _ {A X : Type 0} (code : List (Instruction A)) (last : Status → Outcome
       (literal_words levels (codes "eval" ∷ args) [] s (command levels)
       ∙ ap (λ procedure. called procedure levels (codes "eval") args s) none)))
       (body_begins code last place levels (concatenated (text ∷ [])) fs end s at behind fits)
+  own_begins levels fs s name place args end none (valued {mid = mid} {text = text} {f = f} is at
+      gives) behind fits =
+      sooner code last _ s
+      (same_goes (ap (λ c. and_then c (onward (onward_of last levels fs)))
+      (literal_words levels (codes "expr" ∷ args) [] s (command levels)
+      ∙ ap (λ procedure. called procedure levels (codes "expr") args s) none)))
+      (sooner code last _ s (reads {text = FormulaText (concatenated (text ∷ []))} (Ok f) is here)
+      (stands code last place levels (Evaluates f (Resulting ∷ [])) fs end s (mid, at, (gives, refl))
+      behind fits))
   own_begins levels fs s name place args end none (caught {mid = mid} {text = text}
       {variable = variable} {more = more} words begins body_at ended takes) behind fits =
       sooner code last _ s

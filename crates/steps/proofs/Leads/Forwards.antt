@@ -4,7 +4,7 @@ use Rattle.code.specs.Code.{ScriptAt}
 use Rattle.code.specs.declared.instruction.Instruction.{Instruction}
 use Rattle.state.specs.Prelude.{LoopTree, ScriptTree}
 use Rattle.steps.specs.Layout.{AroundAt, EntersAt, JoinedAt, LoopAt, OperandAt, OuterAt, PartAt, StepsAt, WordAt}
-use Rattle.steps.specs.Operand.{Outer, Prefixed, Row, Right, Holds, Argument, Test, Chosen, Condition, Turning}
+use Rattle.steps.specs.Operand.{Outer, Prefixed, Row, Right, Holds, Argument, Test, Chosen, Condition, Turning, Resulting}
 use Rattle.steps.specs.Word.{Around, Open, Word, Plain, Expands, Operand, Listed, Switched}
 use Rattle.steps.proofs.Leads.Grows.{arguments_grow, body_grows, commands_grow, fault_grows, foreach_grows, formula_grows, joins_grow, links_grow, parts_grow, switch_grows, words_grow}
 use Rattle.tclparse.specs.Fault.{Fault}
@@ -49,6 +49,7 @@ module _ {A : Type 0} (code : List (Instruction A)) where
   operand_grows place (Condition body more otherwise ∷ outer) end at =
       omega (arith, body_grows code at.2, at.4)
   operand_grows place (Turning loop ∷ outer) end at = omega (arith, at.1)
+  operand_grows place (Resulting ∷ outer) end at = omega (arith, at.1)
 
   around_grow : (place : ℕ) (os : List Around) (end : ℕ) → AroundAt code place os end → place ≤ end
   around_grow place [] end at = omega (arith, at)

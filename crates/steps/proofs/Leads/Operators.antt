@@ -1,5 +1,5 @@
 -- The value of an operand is on top: what it was evaluated for.
-use Rattle.std.proofs.Common.{◌≡◌, ℕ, suc, ◌+◌, ◌-◌, ◌≤◌, List, [], ◌∷◌, ◌++◌, true, false, length, sym, subst, arith, if◌then◌else◌}
+use Rattle.std.proofs.Common.{◌≡◌, ℕ, suc, ◌+◌, ◌-◌, ◌≤◌, List, [], ◌∷◌, ◌++◌, true, false, length, refl, sym, subst, arith, if◌then◌else◌}
 use Rattle.std.specs.Prelude.{slice_get, reverse}
 use Rattle.code.specs.Code.{At, LinksAt, no_more, both, and_also, or_else, ArgumentsAt, no_argument, argument}
 use Rattle.conditions.specs.Conditional as definition
@@ -12,14 +12,15 @@ use Rattle.operators.specs.Binary.{binary}
 use Rattle.operators.specs.Function as function
 use Rattle.operators.specs.Truth.{truth_of}
 use Rattle.operators.specs.Unary.{unary}
+use Rattle.operators.specs.Value.{result}
 use Rattle.plan.specs.Plan.{and_then, onward}
 use Rattle.state.specs.Meant.{on_meaning}
 use Rattle.state.specs.Prelude.{Dialogue, inside, Outcome, Status}
 use Rattle.steps.specs.Follows.{Follows}
 use Rattle.steps.specs.Layout.{FramesAt, OperandAt}
 use Rattle.steps.specs.Machine.{machine}
-use Rattle.steps.specs.Operand.{Outer, Prefixed, Row, Right, Holds, Argument, Test, Chosen, Condition, Turning, operand_on, waiting}
-use Rattle.steps.specs.Places.{Evaluates, Values, Chooses, Frame, Skip, beneath, brackets, handlers_beneath, left_of, marks_beneath, onward_of, spot_at}
+use Rattle.steps.specs.Operand.{Outer, Prefixed, Row, Right, Holds, Argument, Test, Chosen, Condition, Turning, Resulting, operand_on, waiting}
+use Rattle.steps.specs.Places.{Has, Evaluates, Values, Chooses, Frame, Skip, beneath, brackets, handlers_beneath, left_of, marks_beneath, onward_of, spot_at}
 use Rattle.steps.proofs.Leads.Formulas.{formula_leads}
 use Rattle.steps.proofs.Leads.Bodies.{body_begins}
 use Rattle.steps.proofs.Leads.Forwards.{operand_grows}
@@ -252,3 +253,7 @@ module _ {A X : Type 0} (code : List (Instruction A)) (last : Status → Outcome
           | false ↦ comes_here code last _ s
               (loop_over code last levels fs s loop place loop_at over fits)
         ]))
+    operand_leads place v (Resulting ∷ outer) at behind fits =
+        by code last i.Result (spot_at place levels (Values v (Resulting ∷ outer)) fs) s _ at.0
+        (stands code last (place + 1) levels (Has (result v)) fs (place + 1) s refl
+        (subst (λ n. FramesAt code n fs) at.1 behind) fits)

@@ -1,5 +1,5 @@
 use Rattle.code.proofs.Catches.{catch_own_block}
-use Rattle.code.proofs.Evals.{eval_block}
+use Rattle.code.proofs.Evals.{eval_block, expr_own_block}
 use Rattle.code.proofs.Owns.{for_block, if_block, while_block}
 use Rattle.code.proofs.own.emit_its.Goals as goal
 
@@ -27,3 +27,8 @@ pub returns-in_ok-emit_catch-in-Catch : goal.returns-in_ok-emit_catch-in-Catch
 returns-in_ok-emit_catch-in-Catch g c = λ args is.
     catch_own_block c.args.code.now.items c.emit_catch.new.code.items c.args.own.now c.in-Catch.own
     c.in-Catch.is c.in_ok-emit_catch-in-Catch.ensures args is
+
+pub returns-in_ok-emit_expr-in-Expr : goal.returns-in_ok-emit_expr-in-Expr
+returns-in_ok-emit_expr-in-Expr g c = λ args is.
+    expr_own_block c.args.code.now.items c.emit_expr.new.code.items c.args.own.now c.in-Expr.own
+    c.in-Expr.is c.in_ok-emit_expr-in-Expr.ensures args is

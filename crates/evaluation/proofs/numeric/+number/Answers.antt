@@ -42,7 +42,7 @@ number-returns-in_ok-number-in-Prefix g t c =
     let inner = c.in_ok-number-in-Prefix.ensures in
     goes_by (λ levels. evaluated levels f) c.args.scopes.now c.of_one.result
     (unary operator inner.value)
-    (c.of_one.ensures inner.value (in_bits inner.value _ (search rules) inner.number))
+    (c.of_one.ensures.means inner.value (in_bits inner.value _ (search rules) inner.number))
     (λ levels s next same.
     let on : Next = λ u v. on_meaning (unary operator v) u (λ w. next u w) in
     same_formula levels f _ s next _ is (inner.reaches levels s on same))
@@ -52,20 +52,20 @@ joined-returns-in_ok-number-in-Both g t c = λ a number.
     let right = c.in_ok-number-in-Both.ensures in
     both_join c.args.link.now c.args.scopes.now a c.of_both.result c.in_ok-number-in-Both.field-0
     right c.in-Both.operator c.in-Both.is
-    (c.of_both.ensures a right.value (in_bits a _ c.ranges.left number)
+    (c.of_both.ensures.means a right.value (in_bits a _ c.ranges.left number)
     (in_bits right.value _ (search rules) right.number))
 
 pub joined-returns-in-AndAlso-2 : goal.joined-returns-in-AndAlso-2
 joined-returns-in-AndAlso-2 g t c = λ a number.
     and_decided c.args.link.now c.args.scopes.now a c.told-in-AndAlso-2.result
     c.in-AndAlso-2.is (c.if-holds.ensures a (in_bits a _ c.ranges.left number))
-    c.told-in-AndAlso-2.ensures
+    c.told-in-AndAlso-2.ensures.means
 
 pub joined-returns-in-OrElse : goal.joined-returns-in-OrElse
 joined-returns-in-OrElse g t c = λ a number.
     or_decided c.args.link.now c.args.scopes.now a c.told-in-OrElse.result
     c.in-OrElse.is (c.if-holds-2.ensures a (in_bits a _ c.ranges.left number))
-    c.told-in-OrElse.ensures
+    c.told-in-OrElse.ensures.means
 
 pub number-returns-then-holds : goal.number-returns-then-holds
 number-returns-then-holds g t c =

@@ -133,6 +133,13 @@ returns-in_ok-tell-in-Truth-clause-does g c = λ s.
     does_so c.args.instruction.now _ spot t c.in-Truth.is
     (c.in_ok-tell-in-Truth.ensures.does t)
 
+pub returns-in_ok-give_result-in-Result-clause-does : goal.returns-in_ok-give_result-in-Result-clause-does
+returns-in_ok-give_result-in-Result-clause-does g c = λ s.
+    let spot = spot_of c.args.spot.now in
+    let t = with_parts c.args.scopes.now c.args.procs.now c.args.left.now s in
+    does_so c.args.instruction.now _ spot t c.in-Result.is
+    (same_does (c.in_ok-give_result-in-Result.ensures.does t))
+
 pub returns-in_ok-jump_unless-in-Unless-clause-does : goal.returns-in_ok-jump_unless-in-Unless-clause-does
 returns-in_ok-jump_unless-in-Unless-clause-does g c = λ s.
     let spot = spot_of c.args.spot.now in

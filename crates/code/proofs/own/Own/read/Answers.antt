@@ -1,8 +1,10 @@
-use Rattle.std.proofs.Common.{ℕ, List, [], ◌∷◌, IfSome, None, codes, refl, subst}
+use Rattle.std.proofs.Common.{ℕ, List, [], ◌∷◌, IfSome, None, Ok, codes, refl, subst}
 use Rattle.code.specs.Catch.{IsCatch}
 use Rattle.code.specs.Conditional.{Are, IsBody}
 use Rattle.code.specs.Repeat.{AreTurns, IsFor}
+use Rattle.formulas.specs.View.{formula_of}
 use Rattle.pure.specs.Concat.{concatenated}
+use Rattle.tclparse.specs.FormulaGrammar.{IsFormula}
 use Rattle.code.proofs.own.Own.read.Goals as goal
 
 pub returns-in-Some-2 : goal.returns-in-Some-2
@@ -50,3 +52,14 @@ returns-in-Some-5 g c =
     Are words (codes "catch" ∷ text ∷ more) × IsCatch it text more)) c.in-Some-5.is
     c.in_ok-own-5.ensures in
     (read.0 ∷ read.1, read.2, (read.0, read.1, refl, read.3))
+
+pub returns-in-Some-6 : goal.returns-in-Some-6
+returns-in-Some-6 g c =
+    let words = c.args.words.now in
+    let own = c.in-Some-6.own in
+    let read : (text : List ℕ) × Are words (codes "expr" ∷ text ∷ []) ×
+    IsFormula (Ok (formula_of own)) (concatenated (text ∷ [])) =
+    subst (λ r. IfSome r (λ it. (text : List ℕ) × Are words (codes "expr" ∷ text ∷ []) ×
+    IsFormula (Ok (formula_of it)) (concatenated (text ∷ [])))) c.in-Some-6.is
+    c.in_ok-own-6.ensures in
+    (read.0 ∷ [], read.1, (read.0, refl, read.2))
