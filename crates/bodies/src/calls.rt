@@ -1,6 +1,6 @@
 //! Calls of procedures (proc(n)).
 
-ghost use Rattle.std.specs.Prelude.{◌≡◌, ◌≤◌, IfOk, option_map};
+ghost use Rattle.std.specs.Prelude.{◌≡◌, ◌≤◌, [], IfOk, option_map};
 ghost use Rattle.state.specs.Prelude.{inside, Nests, tree_of, Status, FitsState, outcome_of};
 ghost use Rattle.bodies.specs.Calls as definition;
 ghost use Rattle.bodies.specs.View.{IsCalled, TicksFirst};
@@ -36,7 +36,8 @@ pub fn begin<A: Allocator + Copy>(
     let Some(procedure) = state.procs.get(name) else {
         return Ok(None);
     };
-    let Some(frame) = frame_of(alloc, &procedure.formals, words)? else {
+    let empty = state.scopes.fresh_frame(alloc);
+    let Some(frame) = frame_of(alloc, empty, &procedure.formals, words)? else {
         return Ok(Some(Nesting::Has(wrong_args(alloc, name)?)));
     };
     let body = state.kept.get(procedure.body.as_slice())?;
@@ -100,17 +101,19 @@ fn ended<A: Allocator + Copy>(alloc: A, outcome: Outcome<A>) -> Result<Outcome<A
     }
 }
 
-/// The variables of a call: each formal takes the next word, or its default where no word is left.
+/// The variables of a call, in a frame that has no names yet: each formal takes the next word, or
+/// its default where no word is left.
 /// `None` where the words are too few or too many.
 fn frame_of<A: Allocator + Copy>(
     alloc: A,
+    mut frame: LocalFrame<A>,
     formals: &Formals<A>,
     words: &[Value<A>],
 ) -> Result<Option<LocalFrame<A>>, NoMemory>
+    requires { frame ≡ [] }
     ensures { IfOk result (λ frame. frame ≡ definition.frame_of formals.now words.now) }
 {
     let (single, takes_rest) = formals.split();
-    let mut frame = LocalFrame::new(alloc);
     let mut rest = words;
     for formal in single {
         let Some(value) = taken(formal, rest)? else {

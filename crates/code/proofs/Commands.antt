@@ -100,6 +100,14 @@ module _ {A : Type 0} where
             (stands between new later last (begins_really counted count last refl) ends kept))));
       }
 
+  -- where nothing was put, what is put after that was put there
+  pub own_after : (old between new : List (Instruction A)) (ws : Words) (first second : Bool) →
+      OwnBlock first old between ws → first ≡ false → OwnBlock second between new ws →
+      OwnBlock second old new ws
+  own_after old between new ws first second block none put =
+      subst (λ code. OwnBlock second code new ws)
+      (subst (λ b. OwnBlock b old between ws) none block) put
+
   -- a command that has code of its own
   pub own_command_block : (old first new : List (Instruction A)) (ws : Words) →
       first ≡ old ++ i.Next ∷ [] → OwnBlock true first new ws → CommandBlock old new ws

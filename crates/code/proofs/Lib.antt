@@ -3,6 +3,7 @@ pub mod Forks
 pub mod Places
 pub mod Parts
 pub mod Commands
+pub mod LastWords
 pub mod Scripts
 pub mod Formulas
 pub mod Literals

@@ -118,6 +118,13 @@ pub record TestAt {A : Type 0} (code : List (Instruction A)) (globs : Bool) (pla
   pub short : IsShort globs pattern
   pub test : At code place (test_of globs pattern here other)
 
+-- an instruction that is a command with these words before its last one, whose value is on top
+-- (set(n); incr(n); return(n))
+pub data IsDirect {A : Type 0} : Instruction A → List (List ℕ) → Type 0 where
+  sets_last : {name : List ℕ} → IsDirect (i.Set name) (codes "set" ∷ name ∷ [])
+  increments_last : IsDirect i.Increment (codes "incr" ∷ [])
+  returns_last : IsDirect i.Return (codes "return" ∷ [])
+
 -- The code of the tree stands from the first place up to the second.
 mutual
   -- parts of a word, before which there is something of the word or nothing: their values are put
@@ -161,7 +168,8 @@ mutual
 
   -- a command begins by its words; or it has code of its own, which stands after that of its words
   -- and is done where no procedure hides the command; or it is foreach, whose list is put on top
-  -- before; or it is switch, whose string is (Tcl(n), rule 2; proc(n); foreach(n); switch(n))
+  -- before; or it is switch, whose string is; or one instruction is the command, and the value of
+  -- its last word is (Tcl(n), rule 2; proc(n); foreach(n); switch(n))
   pub data CommandAt {A : Type 0} (code : List (Instruction A)) : ℕ → Words → ℕ → Type 0 where
     by_words : {place end : ℕ} {ws : Words} → WordsAt code false 0 place ws end →
         CommandAt code place ws end
@@ -176,6 +184,9 @@ mutual
     switched : {place mid end : ℕ} {options : Options} {string : Parts} {after : List (List ℕ)} →
         PartsAt code false place string mid → SwitchAt code mid options after end →
         CommandAt code place (switch_words options string after) end
+    direct : {place mid : ℕ} {it : Instruction A} {before : List (List ℕ)} {last : Parts} →
+        IsDirect it before → PartsAt code false place last mid → At code mid it →
+        CommandAt code place (texts_then before (word false last no_words)) (mid + 1)
 
   -- commands one after the other, before which there is a value on top (Tcl(n), rule 1)
   pub data CommandsAt {A : Type 0} (code : List (Instruction A)) : ℕ → Commands → ℕ → Type 0 where

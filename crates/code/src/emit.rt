@@ -1,11 +1,12 @@
 //! Code is put after the code that stands there already: that of parts, of words, and of commands.
 
 ghost use Rattle.std.specs.Prelude.{option_map, IfOk, OnOk};
-ghost use Rattle.code.specs.Blocks.{CommandBlock, CommandsBlock, PartsBlock, ScriptBlock, ValueBlock, WordBlock, WordsBlock};
+ghost use Rattle.code.specs.Blocks.{CommandBlock, CommandsBlock, OwnBlock, PartsBlock, ScriptBlock, ValueBlock, WordBlock, WordsBlock};
 ghost use Rattle.tclparse.specs.Seen.{fault_of};
 ghost use Rattle.tclparse.specs.Tree.{no_commands, no_parts, no_words};
 ghost use Rattle.tclparse.specs.View.{commands_of, commands_then, part_view, parts_then, word_view, words_then};
 
+use crate::direct::{direct_of, set_name};
 use crate::instruction::Instruction;
 use crate::nest::Nest;
 use memory::NoMemory;
@@ -114,6 +115,75 @@ pub(crate) fn emit_words<A: Allocator + Copy, N: Nest<A>>(
     Ok(())
 }
 
+/// Puts the code of a `set` of three words, where the first two are literals, and says whether
+/// these words are one.
+#[cycle(emit)]
+fn emit_set<A: Allocator + Copy, N: Nest<A>>(
+    code: &mut Vec<Instruction<A>, A>,
+    words: &[Word<A>],
+    nest: &N,
+) -> Result<bool, NoMemory>
+    ensures { IfOk result (λ put. OwnBlock put code.old.items code.new.items
+        (words_then words.now no_words)) }
+{
+    let [command, name, value] = words else {
+        return Ok(false);
+    };
+    if value.expands {
+        return Ok(false);
+    }
+    let Some(name) = set_name(command, name) else {
+        return Ok(false);
+    };
+    let name = Value::from_slice(*code.allocator(), name)?;
+    emit_parts(code, &value.parts, nest)?;
+    code.push(Instruction::Set(name))?;
+    Ok(true)
+}
+
+/// Puts the code of an `incr` or a `return` of two words, and says whether these words are one.
+#[cycle(emit)]
+fn emit_of_two<A: Allocator + Copy, N: Nest<A>>(
+    code: &mut Vec<Instruction<A>, A>,
+    words: &[Word<A>],
+    nest: &N,
+) -> Result<bool, NoMemory>
+    ensures { IfOk result (λ put. OwnBlock put code.old.items code.new.items
+        (words_then words.now no_words)) }
+{
+    let [command, last] = words else {
+        return Ok(false);
+    };
+    if last.expands {
+        return Ok(false);
+    }
+    let Some(direct) = direct_of(command) else {
+        return Ok(false);
+    };
+    emit_parts(code, &last.parts, nest)?;
+    code.push(direct)?;
+    Ok(true)
+}
+
+/// Puts the code of a command that has code or an instruction of its own, and says whether it has.
+#[cycle(emit)]
+fn emit_own<A: Allocator + Copy, N: Nest<A>>(
+    code: &mut Vec<Instruction<A>, A>,
+    words: &[Word<A>],
+    nest: &N,
+) -> Result<bool, NoMemory>
+    ensures { IfOk result (λ put. OwnBlock put code.old.items code.new.items
+        (words_then words.now no_words)) }
+{
+    if nest.put(code, words)? {
+        return Ok(true);
+    }
+    if emit_set(code, words, nest)? {
+        return Ok(true);
+    }
+    Ok(emit_of_two(code, words, nest)?)
+}
+
 /// Puts the code of a command.
 #[cycle(emit)]
 fn emit_command<A: Allocator + Copy, N: Nest<A>>(
@@ -125,7 +195,7 @@ fn emit_command<A: Allocator + Copy, N: Nest<A>>(
         (words_then words.now no_words)) }
 {
     code.push(Instruction::Next)?;
-    if !nest.put(code, words)? {
+    if !emit_own(code, words, nest)? {
         emit_words(code, words, nest)?;
     }
     Ok(())

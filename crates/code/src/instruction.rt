@@ -111,6 +111,17 @@ pub enum Instruction<A: Allocator> {
     EndCatch,
     /// The variable of this name takes the value on top, which is dropped (catch(n)).
     Store(Value<A>),
+    /// The variable of this name takes the value on top, which stays there. Where a procedure has
+    /// the name of `set`, that begins by its words, of which this value is the last (set(n);
+    /// proc(n)).
+    Set(Value<A>),
+    /// Adds one to the variable of the name on top, and puts the sum in the name's place. Where a
+    /// procedure has the name of `incr`, that begins by its words, of which this name is the last
+    /// (incr(n); proc(n)).
+    Increment,
+    /// The script is left by `return` with the value on top. Where a procedure has the name of
+    /// `return`, that begins by its words, of which this value is the last (return(n); proc(n)).
+    Return,
     /// Nothing yet: a jump will stand here. No code that is whole has it.
     Hole,
 }

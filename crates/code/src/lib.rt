@@ -6,6 +6,7 @@ mod arms;
 mod branches;
 mod catch;
 mod conditional;
+mod direct;
 mod each;
 mod emit;
 mod evaluate;

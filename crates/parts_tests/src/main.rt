@@ -10,6 +10,7 @@ mod frames;
 mod ids;
 mod kept_texts;
 mod numbers;
+mod places;
 mod refusals;
 mod starved;
 mod streams;
@@ -22,6 +23,7 @@ use crate::frames::Frames;
 use crate::ids::Ids;
 use crate::kept_texts::KeptTexts;
 use crate::numbers::Numbers;
+use crate::places::Places;
 use crate::refusals::Refusals;
 use crate::starved::run_starved;
 use crate::streams::Streams;
@@ -44,6 +46,7 @@ fn main(rt: HostRuntime) -> io::Result<ExitCode> {
     is_well &= run_table(&rt, &Ids, "ids", Memory::RefusedInTurn)?;
     is_well &= run_table(&rt, &Refusals, "refusals", Memory::RefusedInTurn)?;
     is_well &= run_table(&rt, &Frames, "frames", Memory::RefusedInTurn)?;
+    is_well &= run_table(&rt, &Places, "places", Memory::Whole)?;
     is_well &= run_table(&rt, &KeptTexts, "kept", Memory::Whole)?;
     is_well &= run_starved(&rt)?;
     Ok(ExitCode::from(if is_well { 0 } else { 1 }))

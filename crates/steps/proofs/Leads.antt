@@ -21,6 +21,7 @@ pub mod Literals
 pub mod Lists
 pub mod Switch
 pub mod Strings
+pub mod LastWords
 pub mod Conditionals
 pub mod Opened
 pub mod Each

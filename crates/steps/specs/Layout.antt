@@ -1,6 +1,6 @@
 -- Where the code of what is left to be done stands.
 use Rattle.std.specs.Prelude.{◌≡◌, ℕ, suc, ◌+◌, ◌<◌, ◌≤◌, List, [], ◌∷◌, Bool, true, false, Option, Some, None, Ok, is_some, length, slice_get}
-use Rattle.code.specs.Code.{At, JoinsAt, PartsAt, WordsAt, CommandAt, ScriptAt, BodyAt, TurnsAt, AssignsAt, ForeachAt, DealAt, SwitchAt, RestAt, FormulaAt, LinksAt, ArgumentsAt, TakenAt}
+use Rattle.code.specs.Code.{At, IsDirect, JoinsAt, PartsAt, WordsAt, CommandAt, ScriptAt, BodyAt, TurnsAt, AssignsAt, ForeachAt, DealAt, SwitchAt, RestAt, FormulaAt, LinksAt, ArgumentsAt, TakenAt}
 use Rattle.code.specs.declared.instruction.Instruction.{Instruction}
 use Rattle.code.specs.declared.instruction.Instruction.TheVariants as i
 use Rattle.conditions.specs.Branches.{Branch}
@@ -8,7 +8,7 @@ use Rattle.state.specs.Prelude.{LoopTree, ScriptTree}
 use Rattle.steps.specs.Each.{Each}
 use Rattle.steps.specs.Operand.{Outer, Prefixed, Row, Right, Holds, Argument, Test, Chosen, Condition, Turning, Resulting}
 use Rattle.steps.specs.Places.{Head, Has, Part, Joins, Gathers, Evaluates, Values, Starts, Chooses, Enters, Repeats, Finishes, Deals, Takes, Sets, Drops, Compares, Runs, Frame, Rest, Bracket, Body, Skip, For, Turns, Elements, Tries, Stores, Catches}
-use Rattle.steps.specs.Word.{Around, Open, Word, Plain, Expands, Operand, Listed, Switched}
+use Rattle.steps.specs.Word.{Around, Open, Word, Plain, Expands, Operand, Listed, Switched, Last}
 use Rattle.tclparse.specs.Formula.{Formula}
 use Rattle.tclparse.specs.FormulaGrammar.{IsFormula}
 
@@ -135,6 +135,8 @@ module _ {A : Type 0} (code : List (Instruction A)) where
   WordAt place (Operand outer) end = OperandAt place outer end
   WordAt place (Listed variables body) end = ForeachAt code place variables body end
   WordAt place (Switched options after) end = SwitchAt code place options after end
+  WordAt place (Last before) end =
+      (it : Instruction A) × IsDirect it before × At code place it × (end ≡ place + 1)
 
   -- what is around the parts that are left of an open word
   pub record OuterAt (place : ℕ) (outer : List Around) (word : Word) (end : ℕ) : Type 0 where

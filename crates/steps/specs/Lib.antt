@@ -2,6 +2,7 @@ pub mod Spot
 pub mod Moves
 pub mod Handling
 pub mod Storing
+pub mod Direct
 pub mod Formulas
 pub mod Loops
 pub mod Foreach

@@ -9,6 +9,7 @@ use Rattle.state.specs.Faults.{flaw_of_fault}
 use Rattle.state.specs.Piece.{ListText}
 use Rattle.state.specs.Variables.{flaw_of_trouble, spelled}
 use Rattle.steps.specs.Catch.{catching, ending_catch, keeping}
+use Rattle.steps.specs.Direct as direct
 use Rattle.steps.specs.Foreach.{assigning, dealing, finishing, hidden, looking}
 use Rattle.steps.specs.Formulas.{calling, choosing, joining_both, prefixing, putting, resulting, telling, unless}
 use Rattle.steps.specs.Handling.{fails}
@@ -142,6 +143,9 @@ does (i.Matches pattern taken other) spot s = switch.matching pattern taken othe
 does (i.Catch place) spot s = catching place spot s
 does i.EndCatch spot s = ending_catch spot s
 does (i.Store name) spot s = keeping name spot s
+does (i.Set name) spot s = direct.setting (found s.procedures (codes "set")) name spot s
+does i.Increment spot s = direct.incrementing (found s.procedures (codes "incr")) spot s
+does i.Return spot s = direct.returning (found s.procedures (codes "return")) spot s
 does i.Hole spot s = Stuck
 
 -- the next place

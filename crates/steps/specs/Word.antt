@@ -8,7 +8,7 @@ use Rattle.state.specs.Listed.{with_list}
 use Rattle.state.specs.Prelude.{Course, Status}
 use Rattle.state.specs.Variables.{reads}
 use Rattle.steps.specs.Operand.{Outer, operand_on, waiting}
-use Rattle.tclparse.specs.Tree.{Parts, Words}
+use Rattle.tclparse.specs.Tree.{Parts, Words, no_words}
 use Rattle.words.specs.Words.{parts, words}
 
 -- an array whose index is open, and the word or the index around its element: the bytes before the
@@ -21,13 +21,15 @@ pub record Around : Type 0 where
 -- where a word stands: after these words of its command, the last one first, and before the rest;
 -- the words are counted or not, and after {*} they are (Tcl(n), rules 2 and 5); or it is an operand
 -- of a formula (expr(n)); or the list of a foreach with these variables and this body (foreach(n));
--- or the string of a switch with these options and these words after it (switch(n))
+-- or the string of a switch with these options and these words after it (switch(n)); or the last
+-- word of a command, after these words, that is one instruction (set(n); incr(n); return(n))
 pub data Word : Type 0 where
   Plain : (counted : Bool) (before : List (List ℕ)) (rest : Words) → Word
   Expands : (before : List (List ℕ)) (rest : Words) → Word
   Operand : (outer : List Outer) → Word
   Listed : (variables body : List ℕ) → Word
   Switched : (options : Options) (after : List (List ℕ)) → Word
+  Last : (before : List (List ℕ)) → Word
 
 -- a word that is open: its bytes so far, where there is something of it, its parts that are left,
 -- the indexes in which these stand, the innermost first, and where it stands (Tcl(n), rules 7, 8
@@ -64,6 +66,8 @@ word_on levels (Listed variables body) = λ s value.
     (command levels)
 word_on levels (Switched options after) = λ s value.
     words levels (literals after) (words_before options ++ value ∷ []) s (command levels)
+word_on levels (Last before) = λ s value.
+    words levels no_words (before ++ value ∷ []) s (command levels)
 
 -- the course of an open word with these bytes so far
 abbrev pub course_with : ℕ → Open → List ℕ → Status → Course
@@ -87,6 +91,7 @@ before_of (Expands before rest) below = before ++ below
 before_of (Operand outer) below = waiting outer below
 before_of (Listed variables body) below = below
 before_of (Switched options after) below = below
+before_of (Last before) below = below
 
 -- whether the words are counted
 abbrev pub is_counted : Word → Bool
@@ -95,6 +100,7 @@ is_counted (Expands before rest) = true
 is_counted (Operand outer) = false
 is_counted (Listed variables body) = false
 is_counted (Switched options after) = false
+is_counted (Last before) = false
 
 -- the operands of an open word
 abbrev pub operands_of : Open → List (List ℕ) → List (List ℕ)

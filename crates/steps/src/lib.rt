@@ -4,6 +4,7 @@
 mod advancing;
 mod at_once;
 mod catching;
+mod direct;
 mod foreach;
 mod handler;
 mod handling;

@@ -10,7 +10,7 @@ use tcltext::Value;
 #[test]
 fn an_outcome_is_caught_as_tclsh_catches_it(rt: HostRuntime) -> Result<(), Fail> {
     // tclsh 8.6.13, with these variables, where each command that it has not prints its words and
-    // has the value `v`, and `break`, `continue`, `error` and `return` print theirs too
+    // has the value `v`, and `break`, `continue` and `error` print theirs too
     let scripts: [(&[u8], &[u8]); 12] = [
         (b"catch {f; g $i}", b"<f>\n<g><2>\n0\n"),
         (b"catch {f; g $i} r; h $r", b"<f>\n<g><2>\n<h><v>\nv\n"),
@@ -18,10 +18,10 @@ fn an_outcome_is_caught_as_tclsh_catches_it(rt: HostRuntime) -> Result<(), Fail>
         (b"catch {} r; f <$r>", b"<f><<>>\nv\n"),
         (b"catch {error e} r; f $r", b"<error><e>\n<f><e>\nv\n"),
         (b"f a[catch {error e}]b", b"<error><e>\n<f><a1b>\nv\n"),
-        (b"catch {return r} x; f $x", b"<return><r>\n<f><r>\nv\n"),
+        (b"catch {return r} x; f $x", b"<f><r>\nv\n"),
         (
             b"f [catch {return r}] [catch break] [catch continue]",
-            b"<return><r>\n<break>\n<continue>\n<f><2><3><4>\nv\n",
+            b"<break>\n<continue>\n<f><2><3><4>\nv\n",
         ),
         (
             b"catch {catch {error e} r; f $r; error $r$r} s; g $r $s",

@@ -10,7 +10,7 @@ use tcltext::Value;
 #[test]
 fn a_string_chooses_the_body_that_tclsh_runs(rt: HostRuntime) -> Result<(), Fail> {
     // tclsh 8.6.13, with these variables, where each command that it has not prints its words and
-    // has the value `v`, and `break`, `continue`, `error` and `return` print theirs too
+    // has the value `v`, and `break`, `continue` and `error` print theirs too
     let scripts: [(&[u8], &[u8]); 16] = [
         (b"switch a {a {f; g $i} b h}", b"<f>\n<g><2>\nv\n"),
         (b"switch $t(x2) {1 f 2 g}; k", b"<k>\nv\n"),

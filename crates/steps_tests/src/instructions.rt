@@ -61,6 +61,9 @@ fn show<A: Allocator>(shown: &mut Vec<u8, A>, it: &Instruction<A>) -> Result<(),
         Instruction::Catch(14) => (b"catch 14", b""),
         Instruction::EndCatch => (b"end catch", b""),
         Instruction::Store(name) => (b"store ", name.as_slice()),
+        Instruction::Set(name) => (b"set ", name.as_slice()),
+        Instruction::Increment => (b"increment", b""),
+        Instruction::Return => (b"return", b""),
         _ => (b"another", b""),
     };
     shown.extend_from_slice(name)?;
@@ -214,6 +217,24 @@ fn the_value_of_a_formula_in_a_word_is_made_its_text(rt: HostRuntime) -> Result<
     }
     let wanted: &[u8] = b"next\nunhidden 6 expr\ntext expr\ntext $a + 1\ncommand 2\njump 10\n\
         variable a\nnumeral 1\nadd\nresult\n";
+    assert_eq!(&rt; shown.as_slice(), wanted);
+    Ok(())
+}
+
+#[test]
+fn a_command_that_is_one_instruction_follows_its_last_word(rt: HostRuntime) -> Result<(), Fail> {
+    let script = Script::read(
+        rt.alloc(),
+        b"set a $b; incr i; return \"x[set j 1]\"; set {*}$l b",
+    )?;
+    let code = code_of(rt.alloc(), &script)?;
+    let mut shown = Vec::new(rt.alloc());
+    for it in &code {
+        show(&mut shown, it)?;
+    }
+    let wanted: &[u8] = b"next\nvariable b\nset a\nnext\ntext i\nincrement\n\
+        next\ntext x\nenter\nnext\ntext 1\nset j\nleave\njoin\nreturn\n\
+        next\ntext set\ncount 1\nvariable l\nspread\ntext b\ncounted\n";
     assert_eq!(&rt; shown.as_slice(), wanted);
     Ok(())
 }

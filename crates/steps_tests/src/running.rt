@@ -187,8 +187,8 @@ fn words_are_those_of_the_rules(rt: HostRuntime) -> Result<(), Fail> {
     compare(
         &rt,
         rt.alloc(),
-        b"set y $a$t(x$i)[f \"$a b\"]z\nset {}",
-        b"<f><1 b>\n<set><y><13vz>\n<set><>\nv\n",
+        b"g y $a$t(x$i)[f \"$a b\"]z\ng {}",
+        b"<f><1 b>\n<g><y><13vz>\n<g><>\nv\n",
     )?;
     Ok(())
 }

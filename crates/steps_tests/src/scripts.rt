@@ -6,7 +6,7 @@ use std::test::Fail;
 #[test]
 fn a_script_in_a_word_runs_as_tclsh_runs_it(rt: HostRuntime) -> Result<(), Fail> {
     // tclsh 8.6.13, with these variables, where each command that it has not prints its words and
-    // has the value `v`, and `break`, `continue`, `error` and `return` print theirs too
+    // has the value `v`, and `break`, `continue` and `error` print theirs too
     let scripts: [(&[u8], &[u8]); 11] = [
         (b"eval {f; g $i}", b"<f>\n<g><2>\nv\n"),
         (b"eval { f $i }; g", b"<f><2>\n<g>\nv\n"),
@@ -15,7 +15,7 @@ fn a_script_in_a_word_runs_as_tclsh_runs_it(rt: HostRuntime) -> Result<(), Fail>
         (b"f a[eval {g $i; h}]b", b"<g><2>\n<h>\n<f><avb>\nv\n"),
         (b"eval {eval {eval f}}; g", b"<f>\n<g>\nv\n"),
         (b"eval {if {$a < 2} {f} else {g}}", b"<f>\nv\n"),
-        (b"eval {f; return r; g}; h", b"<f>\n<return><r>\nr\n"),
+        (b"eval {f; return r; g}; h", b"<f>\nr\n"),
         (b"eval {f; error e; g}; h", b"<f>\n<error><e>\ne\n"),
         (
             b"eval {f $no; g}; h",

@@ -42,6 +42,18 @@ impl<A: Allocator> LocalFrame<A> {
         found_near(&self.variables, self.hints.place(name), name)
     }
 
+    /// Whether it has room for few names alone.
+    pub(crate) fn is_small(&self) -> bool {
+        self.variables.capacity() <= 64
+    }
+
+    /// Removes all names.
+    pub(crate) fn clear(&mut self)
+        ensures { self.new ≡ [] }
+    {
+        self.variables.clear();
+    }
+
     /// Whether a name is linked to the global of that name.
     fn is_link(&self, name: &[u8]) -> bool
         ensures { result ≡ spec.is_link (found self.now name.now) }
@@ -189,7 +201,9 @@ impl<A: Allocator + Copy> LocalFrame<A> {
         let key = Vec::from_slice(alloc, name)?;
         self.variables.reserve(1)?;
         self.variables.shift_remove(name);
+        let place = self.variables.len();
         self.variables.insert(key, Local::Link)?;
+        self.hints.note(name, place);
         Ok(())
     }
 

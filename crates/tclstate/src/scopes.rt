@@ -24,6 +24,8 @@ use tcltext::Value;
 pub struct Scopes<A: Allocator> {
     locals: Vec<LocalFrame<A>, A>,
     globals: Globals<A>,
+    /// Frames without names, whose room later procedures use again.
+    spares: Vec<LocalFrame<A>, A>,
 }
 
 impl<A: Allocator> Model for Scopes<A> {
@@ -33,6 +35,11 @@ impl<A: Allocator> Model for Scopes<A> {
     ghost Value = { definition.Scopes };
 
     ghost view = { λ s. definition.scopes (reverse s.locals.items) s.globals };
+
+    ghost use Rattle.std.specs.Prelude.{◌≡◌, []};
+    ghost use Rattle.std.specs.List.{All};
+
+    ghost invariant = { λ s. All (λ frame. frame ≡ []) s.spares.items };
 }
 
 impl<A: Allocator> Scopes<A> {
@@ -148,6 +155,8 @@ impl<A: Allocator> Scopes<A> {
         ensures ok { OnOk result (self.new ≡ spec.entered frame self.old) }
         ensures unchanged { OnErr result (self.new ≡ self.old) }
     {
+        // There is room for each frame that is in use now, once it has ended.
+        self.spares.reserve(self.locals.len().saturating_add(1))?;
         self.locals.push(frame)?;
         Ok(())
     }
@@ -157,7 +166,20 @@ impl<A: Allocator> Scopes<A> {
     pub fn pop_frame(&mut self)
         ensures { self.new ≡ spec.popped self.old }
     {
-        self.locals.pop();
+        if let Some(frame) = self.locals.pop() {
+            self.keep(frame);
+        }
+    }
+
+    /// Keeps a frame, without its names, for a later procedure, where there is room for it. Takes
+    /// no memory.
+    fn keep(&mut self, mut frame: LocalFrame<A>)
+        ensures { self.new ≡ self.old }
+    {
+        if frame.is_small() && self.spares.len() < self.spares.capacity() {
+            frame.clear();
+            self.spares.push_reserved(frame);
+        }
     }
 }
 
@@ -169,6 +191,7 @@ impl<A: Allocator + Copy> Scopes<A> {
         Scopes {
             locals: Vec::new(alloc),
             globals: Globals::new(alloc),
+            spares: Vec::new(alloc),
         }
     }
 
@@ -263,6 +286,18 @@ impl<A: Allocator + Copy> Scopes<A> {
             Some(content) => content.names(alloc),
             None => Ok(Vec::new(alloc)),
         }
+    }
+
+    /// A frame without names, with the room of one that has ended, where there is one. Takes no
+    /// memory.
+    pub fn fresh_frame(&mut self, alloc: A) -> LocalFrame<A>
+        ensures frame { result ≡ [] }
+        ensures unchanged { self.new ≡ self.old }
+    {
+        let Some(frame) = self.spares.pop() else {
+            return LocalFrame::new(alloc);
+        };
+        frame
     }
 
     /// Begins the frame of a procedure, which has no names yet (proc(n)). Where memory is refused

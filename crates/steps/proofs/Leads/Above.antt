@@ -3,7 +3,7 @@ use Rattle.std.proofs.Common.{◌≡◌, ◌∙◌, ℕ, List, [], ◌∷◌, �
 use Rattle.steps.specs.Moves.{lowest}
 use Rattle.steps.specs.Operand.{Outer, Prefixed, Row, Right, Holds, Argument, Test, Chosen, Condition, Turning, Resulting, waiting}
 use Rattle.steps.specs.Places.{marked}
-use Rattle.steps.specs.Word.{Around, Open, Word, Plain, Expands, Operand, Listed, Switched, around, before_of, operands_of, with_bytes}
+use Rattle.steps.specs.Word.{Around, Open, Word, Plain, Expands, Operand, Listed, Switched, Last, around, before_of, operands_of, with_bytes}
 use Rattle.steps.proofs.Leads.Operands.{lowest_below}
 
 -- these, of which the lowest are those
@@ -53,6 +53,7 @@ before_above (Expands before rest) below = those before below
 before_above (Operand outer) below = waiting_above outer below
 before_above (Listed variables body) below = those [] below
 before_above (Switched options after) below = those [] below
+before_above (Last before) below = those [] below
 
 bytes_above : (so_far : Option (List ℕ)) (all below : List (List ℕ)) → LiesOn all below →
     LiesOn (with_bytes so_far all) below

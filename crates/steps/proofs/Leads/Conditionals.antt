@@ -1,7 +1,7 @@
 -- A command that has code of its own.
 use Rattle.std.proofs.Common.{◌≡◌, ◌∙◌, ℕ, ◌+◌, ◌≤◌, List, [], ◌∷◌, false, Option, Some, None, Ok, option_map, codes, refl, ap, subst, arith, if◌then◌else◌}
 use Rattle.std.specs.Prelude.{slice_get}
-use Rattle.code.specs.Code.{At, CommandAt, by_words, own, foreach_loop, switched, OwnAt, conditional, while_loop, for_loop, evaluated, valued, BranchesAt, branch, BehindAt, no_else, at_last, else_if, IsBranch, without_then, with_then, IsLast, with_else, without_else, WordsAt, literals, caught}
+use Rattle.code.specs.Code.{At, CommandAt, by_words, own, foreach_loop, switched, direct, OwnAt, conditional, while_loop, for_loop, evaluated, valued, BranchesAt, branch, BehindAt, no_else, at_last, else_if, IsBranch, without_then, with_then, IsLast, with_else, without_else, WordsAt, literals, caught}
 use Rattle.code.specs.Switch.{words_before}
 use Rattle.code.specs.declared.instruction.Instruction.{Instruction}
 use Rattle.code.specs.declared.instruction.Instruction.TheVariants as i
@@ -30,8 +30,8 @@ use Rattle.steps.proofs.Leads.Parts.{start_leads}
 use Rattle.steps.proofs.Leads.Silent.{same_goes}
 use Rattle.steps.proofs.Leads.Standing.{by, silently, sooner, stands}
 use Rattle.steps.proofs.Leads.Words.{words_lead}
-use Rattle.steps.specs.Word.{Listed, Switched}
-use Rattle.tclparse.specs.Tree.{Words, bytes_then, no_parts, word}
+use Rattle.steps.specs.Word.{Last, Listed, Switched}
+use Rattle.tclparse.specs.Tree.{Words, bytes_then, no_parts, no_words, word}
 use Rattle.tclstate.specs.Pairs.{found}
 use Rattle.tclstate.specs.Procs.{Procedure}
 use Rattle.words.proofs.Steps.{literal}
@@ -224,3 +224,10 @@ module _ {A X : Type 0} (code : List (Instruction A)) (last : Status → Outcome
       (command levels))))
       (start_leads code last levels end [] (Switched options after) fs s place string mid string_at
       (record { stop = mid; around = refl; word_at = at }) behind fits)
+  starts_leads levels fs s place ws end (direct {mid = mid} {it = it} {before = before} {last = ps} is
+      parts_at at) behind fits =
+      silently code last _
+      (same_goes (ap (λ c. and_then c (onward (onward_of last levels fs)))
+      (text_words levels before [] (word false ps no_words) s (command levels))))
+      (start_leads code last levels (mid + 1) [] (Last before) fs s place ps mid parts_at
+      (record { stop = mid; around = refl; word_at = (it, is, at, refl) }) behind fits)

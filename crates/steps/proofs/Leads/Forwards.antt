@@ -5,7 +5,7 @@ use Rattle.code.specs.declared.instruction.Instruction.{Instruction}
 use Rattle.state.specs.Prelude.{LoopTree, ScriptTree}
 use Rattle.steps.specs.Layout.{AroundAt, EntersAt, JoinedAt, LoopAt, OperandAt, OuterAt, PartAt, StepsAt, WordAt}
 use Rattle.steps.specs.Operand.{Outer, Prefixed, Row, Right, Holds, Argument, Test, Chosen, Condition, Turning, Resulting}
-use Rattle.steps.specs.Word.{Around, Open, Word, Plain, Expands, Operand, Listed, Switched}
+use Rattle.steps.specs.Word.{Around, Open, Word, Plain, Expands, Operand, Listed, Switched, Last}
 use Rattle.steps.proofs.Leads.Grows.{arguments_grow, body_grows, commands_grow, fault_grows, foreach_grows, formula_grows, joins_grow, links_grow, parts_grow, switch_grows, words_grow}
 use Rattle.tclparse.specs.Fault.{Fault}
 use Rattle.tclparse.specs.Tree.{Commands}
@@ -67,6 +67,7 @@ module _ {A : Type 0} (code : List (Instruction A)) where
   word_grows place (Operand outer) end at = operand_grows place outer end at
   word_grows place (Listed variables body) end at = foreach_grows code at
   word_grows place (Switched options after) end at = switch_grows code at
+  word_grows place (Last before) end at = omega (arith, at.3)
 
   -- what is around the parts of a word
   pub outer_grows : (place : ℕ) (outer : List Around) (word : Word) (end : ℕ) →

@@ -1,6 +1,6 @@
 -- Code ends at its beginning, or after it.
 use Rattle.std.proofs.Common.{ℕ, ◌≤◌, List, Bool, Option, arith}
-use Rattle.code.specs.Code.{JoinsAt, first, joined, PartsAt, over, empty, text, value, item, bracket, WordsAt, begins, begins_counted, one, counts, spread, CommandAt, by_words, own, foreach_loop, CommandsAt, done, next, FaultAt, none, fault, OwnAt, conditional, while_loop, for_loop, evaluated, valued, TurnsAt, turns, StepAt, no_step, steps, AssignsAt, all_set, sets, NextAt, next_turn, ForeachAt, with_names, DealAt, deals, switched, SwitchAt, with_arms, RestAt, no_match, some_arms, ArmsAt, otherwise, shares, takes, BranchesAt, branch, BehindAt, no_else, at_last, else_if, BodyAt, deeper, FormulaAt, number, parts, called, prefixed, in_row, chosen, LinksAt, no_more, both, and_also, or_else, ArgumentsAt, no_argument, argument, caught, TakenAt, dropped, taken}
+use Rattle.code.specs.Code.{JoinsAt, first, joined, PartsAt, over, empty, text, value, item, bracket, WordsAt, begins, begins_counted, one, counts, spread, CommandAt, by_words, own, foreach_loop, direct, CommandsAt, done, next, FaultAt, none, fault, OwnAt, conditional, while_loop, for_loop, evaluated, valued, TurnsAt, turns, StepAt, no_step, steps, AssignsAt, all_set, sets, NextAt, next_turn, ForeachAt, with_names, DealAt, deals, switched, SwitchAt, with_arms, RestAt, no_match, some_arms, ArmsAt, otherwise, shares, takes, BranchesAt, branch, BehindAt, no_else, at_last, else_if, BodyAt, deeper, FormulaAt, number, parts, called, prefixed, in_row, chosen, LinksAt, no_more, both, and_also, or_else, ArgumentsAt, no_argument, argument, caught, TakenAt, dropped, taken}
 use Rattle.code.specs.declared.instruction.Instruction.{Instruction}
 use Rattle.code.specs.declared.options.Options.{Options}
 use Rattle.tclparse.specs.Fault.{Fault}
@@ -55,6 +55,7 @@ module _ {A : Type 0} (code : List (Instruction A)) where
     command_grows (own hides ws jump it) = omega (arith, words_grow ws, own_grows it)
     command_grows (foreach_loop list it) = omega (arith, parts_grow list, foreach_grows it)
     command_grows (switched string it) = omega (arith, parts_grow string, switch_grows it)
+    command_grows (direct is ps at) = omega (arith, parts_grow ps)
 
     pub commands_grow : {place : ℕ} {cs : Commands} {end : ℕ} → CommandsAt code place cs end →
         place ≤ end

@@ -15,7 +15,7 @@ use Rattle.steps.specs.Layout.{FramesAt, JoinedAt, OpenAt, OuterAt, WordAt}
 use Rattle.steps.specs.Machine.{machine, spread}
 use Rattle.steps.specs.Places.{Part, Joins, Gathers, Frame, beneath, brackets, handlers_beneath, course_of, left_of, marks_beneath, onward_of, spot_at}
 use Rattle.steps.specs.Spot.{Went}
-use Rattle.steps.specs.Word.{Around, Open, Word, Plain, Expands, Operand, Listed, Switched, word_on}
+use Rattle.steps.specs.Word.{Around, Open, Word, Plain, Expands, Operand, Listed, Switched, Last, word_on}
 use Rattle.steps.proofs.Leads.Above.{those}
 use Rattle.steps.proofs.Leads.Forwards.{outer_grows}
 use Rattle.steps.proofs.Leads.Grows.{joins_grow, parts_grow, words_grow}
@@ -26,6 +26,7 @@ use Rattle.steps.proofs.Leads.Parts.{PartLeads, enter_leads, opened, start_leads
 use Rattle.steps.proofs.Leads.Resumed.{amid_word, failure_leads}
 use Rattle.steps.proofs.Leads.Silent.{same_goes}
 use Rattle.steps.proofs.Leads.Standing.{by, silently, sooner, stands}
+use Rattle.steps.proofs.Leads.LastWords.{last_leads}
 use Rattle.steps.proofs.Leads.Strings.{switched_leads}
 use Rattle.steps.proofs.Leads.Words.{words_lead}
 use Rattle.tclparse.specs.Tree.{Parts, no_parts, Words}
@@ -107,6 +108,8 @@ module _ {A X : Type 0} (code : List (Instruction A)) (last : Status → Outcome
         listed_leads code last levels end fs s bytes variables body place at behind fits
     word_leads bytes (Switched options after) place at behind fits =
         switched_leads code last levels end fs s bytes options after place at behind fits
+    word_leads bytes (Last before) place at behind fits =
+        last_leads code last levels end fs s bytes before place at.0 at.1 at.2 at.3 behind fits
     word_leads bytes (Expands before rest) place at behind fits =
         by code last i.Spread (spot_at place levels (Part (opened (Some bytes) no_parts [] (Expands
         before rest))) fs) s _ at.0

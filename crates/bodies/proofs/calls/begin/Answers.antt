@@ -1,6 +1,6 @@
 use Rattle.std.proofs.Common.{◌≡◌, ◌∙◌, Some, None, sym, ap, subst}
 use Rattle.acts.specs.Flaw as flaw
-use Rattle.state.specs.Prelude.{text_of, tree_of, Leaves, Error, Status}
+use Rattle.state.specs.Prelude.{text_of, tree_of, FitsState, Leaves, Error, Status}
 use Rattle.bodies.proofs.Calling.{call_refused, call_runs}
 use Rattle.bodies.specs.Calls as definition
 use Rattle.state.proofs.Fits.{kept_fits}
@@ -18,11 +18,15 @@ returns-in_default-2-clause-called g c = λ s fits.
     let none : definition.frame_of procedure.formals words ≡ None =
     ap (λ p. definition.frame_of p.formals words) (sym c.procedure.view_is)
     ∙ sym c.in_ok-frame.ensures ∙ c.in_default-2.is in
+    let state = record c.args.state.now { scopes = c.fresh_frame-empty.new.self } in
+    let still : FitsState state s =
+    subst (λ scopes. FitsState (record c.args.state.now { scopes = scopes }) s)
+    (sym c.fresh_frame-empty.ensures.unchanged) fits in
     record {
       procedure = procedure;
       found = ap (λ procs. found procs name) fits.procedures ∙ sym c.in-Some.ensures;
-      nests = over definition.next_of c.args.state.now c.in_ok-wrong_args.field-0
-          (Leaves Error (text_of (flaw.WrongArgs name))) s _ fits c.in_ok-wrong_args.ensures
+      nests = over definition.next_of state c.in_ok-wrong_args.field-0
+          (Leaves Error (text_of (flaw.WrongArgs name))) s _ still c.in_ok-wrong_args.ensures
           (call_refused c.args.levels name procedure words s none);
     }
 
@@ -43,6 +47,10 @@ returns-clause-called g c = λ s fits.
     let is : IsScript (tree_of body).commands (tree_of body).fault procedure.body =
     subst (λ t. IsScript (tree_of body).commands (tree_of body).fault t) text
     c.in_ok-body.ensures.tree in
+    let state = record c.args.state.now { scopes = c.fresh_frame-empty.new.self } in
+    let still : FitsState state s =
+    subst (λ scopes. FitsState (record c.args.state.now { scopes = scopes }) s)
+    (sym c.fresh_frame-empty.ensures.unchanged) fits in
     record {
       procedure = procedure;
       found = ap (λ procs. found procs name) fits.procedures ∙ sym c.in-Some.ensures;
@@ -51,5 +59,5 @@ returns-clause-called g c = λ s fits.
           (nests_after definition.next_of c.run.new.state c.in_ok-run.field-0 _ _
           (text_reaches body levels procedure.body there definition.returned is)
           (c.in_ok-run.ensures.nests s
-          (kept_fits c.args.state.now s fits c.get-2.new.self)));
+          (kept_fits state s still c.get-2.new.self)));
     }

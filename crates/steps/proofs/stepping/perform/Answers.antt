@@ -289,3 +289,27 @@ returns-in-Hole-clause-does g c = λ s.
     let t = with_parts c.args.scopes.now c.args.procs.now c.args.left.now s in
     does_so c.args.instruction.now _ spot t c.in-Hole.is
     (same_does refl)
+
+pub returns-in_ok-set-in-Set-clause-does :
+    goal.returns-in_ok-set-in-Set-clause-does
+returns-in_ok-set-in-Set-clause-does g c = λ s.
+    let spot = spot_of c.args.spot.now in
+    let t = with_parts c.args.scopes.now c.args.procs.now c.args.left.now s in
+    does_so c.args.instruction.now _ spot t c.in-Set.is
+    (same_does (c.in_ok-set-in-Set.ensures.does t refl))
+
+pub returns-in_ok-increment-in-Increment-clause-does :
+    goal.returns-in_ok-increment-in-Increment-clause-does
+returns-in_ok-increment-in-Increment-clause-does g c = λ s.
+    let spot = spot_of c.args.spot.now in
+    let t = with_parts c.args.scopes.now c.args.procs.now c.args.left.now s in
+    does_so c.args.instruction.now _ spot t c.in-Increment.is
+    (same_does (c.in_ok-increment-in-Increment.ensures.does t refl))
+
+pub returns-in_ok-leave_by_return-in-Return-clause-does :
+    goal.returns-in_ok-leave_by_return-in-Return-clause-does
+returns-in_ok-leave_by_return-in-Return-clause-does g c = λ s.
+    let spot = spot_of c.args.spot.now in
+    let t = with_parts c.args.scopes.now c.args.procs.now c.args.left.now s in
+    does_so c.args.instruction.now _ spot t c.in-Return.is
+    (same_does (c.in_ok-leave_by_return-in-Return.ensures.does t refl))
