@@ -7,4 +7,4 @@ pub mod laws;
 mod list;
 
 pub use boolean::truth;
-pub use list::{element_at, elements, list_len, list_of, no_list, range_of};
+pub use list::{element_at, elements, joined, list_len, list_of, no_list, range_of};

@@ -5,6 +5,7 @@ ghost use Rattle.meanings.specs.Meaning.{flaw_of_list};
 ghost use Rattle.meanings.specs.View.{Tells, IsNoList};
 ghost use Rattle.tcltext.specs.Canonical.{IsListOf, canonical};
 ghost use Rattle.tcltext.specs.Elements.{IsList};
+ghost use Rattle.tcltext.specs.Joined.{joined};
 ghost use Rattle.tcltext.specs.Seen.{flaw_of};
 
 use acts::{Fault, Raise};
@@ -91,6 +92,26 @@ pub fn range_of<A: Allocator + Copy>(
 {
     match text.range(alloc, from, most) {
         Ok(list) => Ok(list),
+        Err(fault) => Err(no_list(fault)),
+    }
+}
+
+/// The elements of the list that a text spells as one text, with a separator between them
+/// (join(n)).
+///
+/// # Errors
+/// Those of [`elements`].
+pub fn joined<A: Allocator + Copy>(
+    alloc: A,
+    text: &Value<A>,
+    separator: &[u8],
+) -> Result<Value<A>, Raise<A>>
+    ensures joined { IfOk result (λ whole. (v : List (List ℕ))
+        × IsList v text.now × (whole ≡ joined separator.now v)) }
+    ensures fault { IfErr result (IsNoList text.now) }
+{
+    match text.joined(alloc, separator) {
+        Ok(whole) => Ok(whole),
         Err(fault) => Err(no_list(fault)),
     }
 }

@@ -2,7 +2,7 @@
 use Rattle.std.proofs.Common.{◌≡◌, ℕ, ◌+◌, ◌<◌, ◌==◌, Bool, false, cond, not, List, [], ◌∷◌, ◌++◌, length, get_or, drop, suc, if◌then◌else◌, refl, sym, ap, ◌∙◌, append_assoc, add-one}
 use Rattle.std.proofs.Math.Seq.{drop-cons}
 use Rattle.pure.specs.Concat.{kept}
-use Rattle.pure.specs.Joined.{separated}
+use Rattle.tcltext.specs.Joined.{separated}
 use Rattle.pure.specs.Trim.{trim, white}
 use Rattle.tcltext.specs.Canonical.{is_empty}
 

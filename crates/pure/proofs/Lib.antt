@@ -4,3 +4,4 @@ pub mod Kept
 pub mod Stands
 pub mod Places
 pub mod KeptLists
+pub mod Fixed

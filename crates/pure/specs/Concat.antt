@@ -1,6 +1,6 @@
 -- What concat does.
 use Rattle.std.specs.Prelude.{ℕ, List, map, filter, not, codes}
-use Rattle.pure.specs.Joined.{joined}
+use Rattle.tcltext.specs.Joined.{joined}
 use Rattle.meanings.specs.Meaning.{Meaning, Gives}
 use Rattle.pure.specs.Trim.{trim, white}
 use Rattle.tcltext.specs.Canonical.{is_empty}

@@ -1,7 +1,7 @@
 -- What join does.
 use Rattle.std.specs.Prelude.{ℕ, List, [], ◌∷◌, codes}
 use Rattle.acts.specs.Flaw as flaw
-use Rattle.pure.specs.Joined.{joined}
+use Rattle.tcltext.specs.Joined.{joined}
 use Rattle.meanings.specs.Meaning.{Meaning, Gives, Raises, Splits}
 
 -- the elements with a separator between them (join(n))

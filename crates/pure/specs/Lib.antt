@@ -1,6 +1,5 @@
 pub mod Place
 pub mod Trim
-pub mod Joined
 pub mod Llength
 pub mod Lindex
 pub mod Lrange

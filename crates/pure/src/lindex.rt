@@ -1,13 +1,14 @@
 //! `lindex l ?i?` (lindex(n)).
 
-ghost use Rattle.std.specs.Prelude.{[], ◌∷◌};
+ghost use Rattle.std.specs.Prelude.{◌≡◌, ℕ, List, [], ◌∷◌, Some, pos};
 ghost use Rattle.pure.specs.Lindex as meant;
+ghost use Rattle.pure.specs.Place.{place_of};
 ghost use Rattle.meanings.specs.View.{Answers};
 
-use crate::place::{item_at, place_of, within};
+use crate::place::{fixed_place, place_of, within};
 use crate::words::{bad_argument, wrong_args};
 use acts::Raise;
-use meanings::{element_at, elements, list_len};
+use meanings::{element_at, list_len};
 use std::alloc::Allocator;
 use tcltext::Value;
 
@@ -17,7 +18,7 @@ pub fn lindex<A: Allocator + Copy>(alloc: A, words: &[Value<A>]) -> Result<Value
 {
     match words {
         [list] => whole(alloc, list),
-        [list, index] => at(alloc, list, index.as_slice()),
+        [list, index] => at(alloc, list, index),
         _ => wrong_args(alloc, b"lindex"),
     }
 }
@@ -26,48 +27,42 @@ pub fn lindex<A: Allocator + Copy>(alloc: A, words: &[Value<A>]) -> Result<Value
 fn whole<A: Allocator + Copy>(alloc: A, list: &Value<A>) -> Result<Value<A>, Raise<A>>
     ensures { Answers (meant.lindex (list.now ∷ [])) result }
 {
-    elements(alloc, list.as_slice())?;
+    list_len(alloc, list)?;
     Ok(list.share()?)
 }
 
 /// The element at the place that an index word names.
-fn at<A: Allocator + Copy>(alloc: A, list: &Value<A>, index: &[u8]) -> Result<Value<A>, Raise<A>>
+fn at<A: Allocator + Copy>(
+    alloc: A,
+    list: &Value<A>,
+    index: &Value<A>,
+) -> Result<Value<A>, Raise<A>>
     ensures { Answers (meant.lindex (list.now ∷ index.now ∷ [])) result }
 {
-    if list.is_in_place() {
-        read_at(alloc, list.as_slice(), index)
-    } else {
-        kept_at(alloc, list, index)
+    match fixed_place(index) {
+        Some(number) => at_number(alloc, list, number),
+        None => at_word(alloc, list, index.as_slice()),
     }
 }
 
-/// The element at the place that an index word names, of a list whose text is read for this alone.
-fn read_at<A: Allocator + Copy>(alloc: A, list: &[u8], index: &[u8]) -> Result<Value<A>, Raise<A>>
-    ensures { Answers (meant.lindex (list.now ∷ index.now ∷ [])) result }
-{
-    let elements = elements(alloc, list)?;
-    element(alloc, index, &elements)
-}
-
-/// One of the elements, or the empty text where the index lies outside.
-fn element<A: Allocator + Copy>(
+/// The element at the place that an index word names however many elements there are, or the empty
+/// text where that lies behind the last one.
+fn at_number<A: Allocator + Copy>(
     alloc: A,
-    index: &[u8],
-    elements: &[Value<A>],
+    list: &Value<A>,
+    number: usize,
 ) -> Result<Value<A>, Raise<A>>
-    ensures { Answers (meant.element index.now elements.now) result }
+    ensures { (index : List ℕ) → ((n : ℕ) → place_of index n ≡ Some (pos number)) →
+        Answers (meant.lindex (list.now ∷ index ∷ [])) result }
 {
-    let Some(place) = place_of(index, elements.len()) else {
-        return bad_argument(alloc, index, b"lindex");
-    };
-    match item_at(elements, place) {
-        Some(element) => Ok(element.share()?),
+    match element_at(alloc, list, number)? {
+        Some(element) => Ok(element),
         None => Ok(Value::empty()),
     }
 }
 
-/// The element at the place that an index word names, of a list that keeps its elements.
-fn kept_at<A: Allocator + Copy>(
+/// The element at the place that an index word names among all elements.
+fn at_word<A: Allocator + Copy>(
     alloc: A,
     list: &Value<A>,
     index: &[u8],

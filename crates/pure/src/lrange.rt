@@ -4,10 +4,10 @@ ghost use Rattle.std.specs.Prelude.{[], ◌∷◌};
 ghost use Rattle.pure.specs.Lrange as meant;
 ghost use Rattle.meanings.specs.View.{Answers};
 
-use crate::place::{behind, items_from, place_of, up_to};
+use crate::place::{behind, fixed_place, place_of, up_to};
 use crate::words::{bad_argument, wrong_args};
 use acts::Raise;
-use meanings::{elements, list_len, range_of};
+use meanings::{list_len, range_of};
 use std::alloc::Allocator;
 use tcltext::Value;
 
@@ -16,7 +16,7 @@ pub fn lrange<A: Allocator + Copy>(alloc: A, words: &[Value<A>]) -> Result<Value
     ensures { Answers (meant.lrange words.now) result }
 {
     match words {
-        [list, first, last] => { part_of(alloc, list, first.as_slice(), last.as_slice()) }
+        [list, first, last] => part_of(alloc, list, first, last),
         _ => wrong_args(alloc, b"lrange"),
     }
 }
@@ -25,51 +25,21 @@ pub fn lrange<A: Allocator + Copy>(alloc: A, words: &[Value<A>]) -> Result<Value
 fn part_of<A: Allocator + Copy>(
     alloc: A,
     list: &Value<A>,
-    first: &[u8],
-    last: &[u8],
+    first: &Value<A>,
+    last: &Value<A>,
 ) -> Result<Value<A>, Raise<A>>
     ensures { Answers (meant.lrange (list.now ∷ first.now ∷ last.now ∷ [])) result }
 {
-    if list.is_in_place() {
-        read_part(alloc, list.as_slice(), first, last)
-    } else {
-        kept_part(alloc, list, first, last)
+    match (fixed_place(first), fixed_place(last)) {
+        (Some(from), Some(to)) => {
+            Ok(range_of(alloc, list, from, (to + 1).saturating_sub(from))?)
+        }
+        _ => part_by_words(alloc, list, first.as_slice(), last.as_slice()),
     }
 }
 
-/// The part of a list whose text is read for this alone.
-fn read_part<A: Allocator + Copy>(
-    alloc: A,
-    list: &[u8],
-    first: &[u8],
-    last: &[u8],
-) -> Result<Value<A>, Raise<A>>
-    ensures { Answers (meant.lrange (list.now ∷ first.now ∷ last.now ∷ [])) result }
-{
-    let elements = elements(alloc, list)?;
-    part(alloc, first, last, &elements)
-}
-
-/// The list of the elements from one place up to and including another.
-fn part<A: Allocator + Copy>(
-    alloc: A,
-    first: &[u8],
-    last: &[u8],
-    elements: &[Value<A>],
-) -> Result<Value<A>, Raise<A>>
-    ensures { Answers (meant.part first.now last.now elements.now) result }
-{
-    let Some(from) = place_of(first, elements.len()) else {
-        return bad_argument(alloc, first, b"lrange");
-    };
-    let Some(to) = place_of(last, elements.len()) else {
-        return bad_argument(alloc, last, b"lrange");
-    };
-    Ok(Value::list(alloc, items_from(elements, from, to))?)
-}
-
-/// The part of a list that keeps its elements.
-fn kept_part<A: Allocator + Copy>(
+/// The part between the places that two words name among all elements.
+fn part_by_words<A: Allocator + Copy>(
     alloc: A,
     list: &Value<A>,
     first: &[u8],

@@ -1,9 +1,10 @@
 //! The places that index words name in lists and strings.
 
-ghost use Rattle.std.specs.Prelude.{◌≡◌, ◌+ℤ◌, ◌-ℤ◌, pos, min, option_copied, option_map};
+ghost use Rattle.std.specs.Prelude.{◌≡◌, ◌<◌, ◌^◌, ℕ, ◌+ℤ◌, ◌-ℤ◌, pos, min, Some, IfSome, option_copied, option_map};
 ghost use Rattle.pure.specs.Place as meant;
 
-use tcltext::read_int;
+use std::alloc::Allocator;
+use tcltext::{Value, read_int};
 
 /// The place that an index word names among `len` elements, which may lie before or after them all;
 /// `None` where the word is not an index (string(n), string index).
@@ -13,6 +14,19 @@ pub fn place_of(word: &[u8], len: usize) -> Option<i128>
     match word.strip_prefix(b"end".as_slice()) {
         Some(rest) => behind_end(rest, len),
         None => Some(i128::from(whole_of(word)?)),
+    }
+}
+
+/// The place that an index word names however many elements there are: the word is a number and not
+/// negative (string(n), string index). `None` where it is another word.
+pub fn fixed_place<A: Allocator>(word: &Value<A>) -> Option<usize>
+    ensures place { IfSome result (λ place.
+        (n : ℕ) → meant.place_of word.now n ≡ Some (pos place)) }
+    ensures small { IfSome result (λ place. place < 2 ^ 63) }
+{
+    match usize::try_from(word.number()?) {
+        Ok(place) => Some(place),
+        Err(_) => None,
     }
 }
 

@@ -43,7 +43,7 @@ fn pieces<A: Allocator>(alloc: A, bytes: &[u8], text: &[u8]) -> Result<Vec<u8, A
 fn each_byte<A: Allocator>(alloc: A, text: &[u8]) -> Result<Vec<u8, A>, NoMemory>
     ensures { IfOk result (λ list. list.items ≡ canonical (map (λ b. b ∷ []) text.now)) }
 {
-    let mut list = Vec::new(alloc);
+    let mut list = Vec::with_capacity(alloc, text.len().saturating_mul(2))?;
     let mut first = true;
     for byte in text {
         push_next(&mut list, first, &[*byte])?;
@@ -58,7 +58,7 @@ fn cut_at<A: Allocator>(alloc: A, bytes: &[u8], text: &[u8]) -> Result<Vec<u8, A
     ensures { IfOk result (λ list.
         list.items ≡ canonical (slice_split (is_among bytes.now) text.now)) }
 {
-    let mut list = Vec::new(alloc);
+    let mut list = Vec::with_capacity(alloc, text.len())?;
     let mut first = true;
     let mut rest = text;
     while let Some((piece, behind)) = first_piece(bytes, rest) {
@@ -78,11 +78,21 @@ fn first_piece<'a>(bytes: &[u8], text: &'a [u8]) -> Option<(&'a [u8], &'a [u8])>
     ensures shorter { IfSome result (λ found. length found.1.now < length text.now) }
 {
     for (place, byte) in text.iter().enumerate() {
-        if bytes.contains(byte) {
+        if is_among(bytes, *byte) {
             return Some((&text[..place], &text[place + 1..]));
         }
     }
     None
+}
+
+/// Whether a byte is one of these.
+fn is_among(bytes: &[u8], byte: u8) -> bool
+    ensures { result ≡ is_among bytes.now byte }
+{
+    match bytes {
+        [one] => *one == byte,
+        _ => bytes.contains(&byte),
+    }
 }
 
 /// Appends an element to a list, with a blank before it where it is not the first.

@@ -17,3 +17,5 @@ pub mod Tests
 pub mod Grown
 pub mod Room
 pub mod Decimals
+pub mod Taken
+pub mod Walks

@@ -15,3 +15,4 @@ pub mod Pattern
 pub mod Value
 pub mod Both
 pub mod KeptElement
+pub mod Joined

@@ -9,7 +9,8 @@ use Rattle.tcltext.specs.declared.list.element.Piece.TheVariants as piece
 use Rattle.tcltext.specs.declared.list.element.Opening as opened
 use Rattle.tcltext.specs.declared.list.element.Opening.TheVariants as opens
 use Rattle.tcltext.specs.Elements.{Next, at_end, a_stop, a_byte, no_escape, next, IsSpelled, Opening, IsOpened}
-use Rattle.tcltext.specs.Seen.{flaw_of}
+use Rattle.tcltext.specs.declared.list.taken.Taken.{Taken}
+use Rattle.tcltext.specs.Seen.{flaw_of, bytes_of}
 
 -- Neither a byte of the element nor a flaw stands next (Tcl_SplitList(3)).
 abbrev pub Halts : Next → Type 0
@@ -46,3 +47,10 @@ abbrev pub ReadsElement : {A : Type 0}
     → Opening → Result (Vec ℕ A × Bor (List ℕ)) ListFault → Type 0
 ReadsElement o (Ok r) = IsOpened o (Ok (r.0.items, r.1.now))
 ReadsElement o (Err f) = IfSome (flaw_of f) (λ flaw. IsOpened o (Err flaw))
+
+-- An element and the text after it, or its flaw, wherever the element's bytes lie
+-- (Tcl_SplitList(3)).
+abbrev pub TakesElement : {A : Type 0}
+    → Opening → Result (Taken A × Bor (List ℕ)) ListFault → Type 0
+TakesElement o (Ok r) = IsOpened o (Ok (bytes_of r.0, r.1.now))
+TakesElement o (Err f) = IfSome (flaw_of f) (λ flaw. IsOpened o (Err flaw))

@@ -12,6 +12,8 @@ use Rattle.tcltext.specs.declared.list.element.Piece.{Piece}
 use Rattle.tcltext.specs.declared.list.element.Piece.TheVariants as piece
 use Rattle.tcltext.specs.declared.list.element.Opening.{Opening}
 use Rattle.tcltext.specs.declared.list.element.Opening.TheVariants as opens
+use Rattle.tcltext.specs.declared.list.taken.Taken.{Taken}
+use Rattle.tcltext.specs.declared.list.taken.Taken.TheVariants as taken
 
 -- The bytes of each element, without where they lie in memory (this project's own rule).
 abbrev pub texts : {A : Type 0} → List (Vec ℕ A) → List (List ℕ)
@@ -48,3 +50,8 @@ abbrev pub seen_opening : Opening → Opens
 seen_opening (opens.Braces x) = in_braces x.now
 seen_opening (opens.Quotes x) = in_quotes x.now
 seen_opening (opens.Bare x) = bare x.now
+
+-- The bytes of an element, wherever they lie (this project's own rule).
+abbrev pub bytes_of : {A : Type 0} → Taken A → List ℕ
+bytes_of (taken.Here bytes) = bytes.now
+bytes_of (taken.Apart bytes) = bytes.items

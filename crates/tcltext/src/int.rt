@@ -27,6 +27,19 @@ impl<A: Allocator> Value<A> {
         }
     }
 
+    /// The text of a number of one digit together with that number; `None` where it is another.
+    fn digit(n: i64) -> Option<Value<A>>
+        ensures { IfSome result (λ value. value ≡ signed_decimal n) }
+    {
+        let Ok(digit) = u8::try_from(n) else {
+            return None;
+        };
+        if digit > 9 {
+            return None;
+        }
+        Value::with_number(&[b'0' + digit], n)
+    }
+
     /// A value of this text together with its number. `None` where the text is no number, or where
     /// the two are too large to lie in place.
     pub fn read_number(text: &[u8]) -> Option<Value<A>>
@@ -55,6 +68,9 @@ impl<A: Allocator + Copy> Value<A> {
     pub fn int(alloc: A, n: i64) -> Result<Value<A>, NoMemory>
         ensures { IfOk result (λ value. value ≡ signed_decimal n) }
     {
+        if let Some(value) = Value::digit(n) {
+            return Ok(value);
+        }
         if let Some(value) = Value::int_in_place(n) {
             return Ok(value);
         }

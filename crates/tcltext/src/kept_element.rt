@@ -3,6 +3,7 @@
 ghost use Rattle.std.specs.Prelude.{◌≡◌, IfOk};
 
 use crate::short::{IN_PLACE, Short};
+use crate::value::Value;
 use memory::NoMemory;
 use std::alloc::Allocator;
 use std::marker::Model;
@@ -60,6 +61,16 @@ impl<A: Allocator + Copy> Element<A> {
         Ok(Element {
             form: Form::Long(bytes),
         })
+    }
+
+    /// A value of the bytes.
+    pub(crate) fn value(&self, alloc: A) -> Result<Value<A>, NoMemory>
+        ensures { IfOk result (λ value. value ≡ self.now) }
+    {
+        match &self.form {
+            Form::Short(short) => Ok(Value::short(short.copied())),
+            Form::Long(bytes) => Value::from_slice(alloc, bytes.as_slice()),
+        }
     }
 
     /// An element with these bytes.

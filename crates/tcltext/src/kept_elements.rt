@@ -2,11 +2,13 @@
 
 ghost use Rattle.std.specs.Prelude.{◌≡◌, ◌++◌, take, drop, length, IfOk, IfErr, IfSome, OnOk, slice_get};
 ghost use Rattle.tcltext.specs.Elements.{IsList, HasFlaw};
-ghost use Rattle.tcltext.specs.Seen.{texts, flaw_of};
+ghost use Rattle.tcltext.specs.Seen.{flaw_of};
 
 use crate::kept_element::Element;
-use crate::list::{ListFault, split_list};
+use crate::list::ListFault;
+use crate::list::taken::take;
 use crate::value::Value;
+use crate::white::skip_white;
 use counted_slot::Fits;
 use memory::NoMemory;
 use std::alloc::Allocator;
@@ -47,17 +49,12 @@ impl<A: Allocator + Copy> Elements<A> {
         ensures list { IfOk result (λ elements. IsList elements text.now) }
         ensures fault { IfErr result (λ f. IfSome (flaw_of f) (λ flaw. HasFlaw flaw text.now)) }
     {
-        let list = split_list(alloc, text)?;
-        Ok(Elements::kept(alloc, list)?)
-    }
-
-    /// Elements with these bytes.
-    fn kept(alloc: A, list: Vec<Vec<u8, A>, A>) -> Result<Elements<A>, NoMemory>
-        ensures { IfOk result (λ elements. elements ≡ texts list.items) }
-    {
         let mut items = Vec::new(alloc);
-        for bytes in list {
-            items.push(Element::new(alloc, bytes)?)?;
+        let mut rest = skip_white(text);
+        while !rest.is_empty() {
+            let (element, behind) = take(alloc, rest)?;
+            items.push(element.kept(alloc)?)?;
+            rest = skip_white(behind);
         }
         Ok(Elements { items })
     }
@@ -67,7 +64,7 @@ impl<A: Allocator + Copy> Elements<A> {
         ensures { IfOk result (λ element. element ≡ slice_get self.now place) }
     {
         match self.items.get(place) {
-            Some(element) => Ok(Some(Value::from_slice(alloc, element.as_slice())?)),
+            Some(element) => Ok(Some(element.value(alloc)?)),
             None => Ok(None),
         }
     }
@@ -110,7 +107,7 @@ fn values_of<A: Allocator + Copy>(
 {
     let mut values = Vec::with_capacity(alloc, elements.len())?;
     for element in elements {
-        values.push(Value::from_slice(alloc, element.as_slice())?)?;
+        values.push(element.value(alloc)?)?;
     }
     Ok(values)
 }

@@ -4,7 +4,9 @@ mod element;
 mod fault;
 mod join;
 mod split;
+pub(crate) mod taken;
 mod values;
+mod walk;
 
 pub use fault::ListFault;
 pub use join::{join_list, join_values, push_element};

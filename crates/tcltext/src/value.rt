@@ -79,6 +79,15 @@ impl<A: Allocator> Value<A> {
         })
     }
 
+    /// A value of a few bytes.
+    pub(crate) fn short(short: Short<IN_PLACE>) -> Value<A>
+        ensures { result ≡ short }
+    {
+        Value {
+            form: Form::Short(short),
+        }
+    }
+
     /// A value of the text of a number together with that number, or `None` where the two are too
     /// large to lie in place.
     pub(crate) fn with_number(text: &[u8], n: i64) -> Option<Value<A>>

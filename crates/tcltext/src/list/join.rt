@@ -53,8 +53,8 @@ pub(crate) fn push_values<A: Allocator>(
     Ok(())
 }
 
-// Writes an element after a text, and a blank before it where it is not the first.
-fn push_next<A: Allocator>(
+/// Writes an element after a text, and a blank before it where it is not the first.
+pub(crate) fn push_next<A: Allocator>(
     text: &mut Vec<u8, A>,
     first: bool,
     element: &[u8],

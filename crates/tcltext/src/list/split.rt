@@ -4,6 +4,7 @@ ghost use Rattle.std.specs.Prelude.{IfOk, IfErr, IfSome};
 ghost use Rattle.tcltext.specs.Elements.{IsList, HasFlaw};
 ghost use Rattle.tcltext.specs.Seen.{texts, flaw_of};
 
+use super::taken::take;
 use super::{ListFault, element};
 use crate::value::Value;
 use crate::white::skip_white;
@@ -44,8 +45,8 @@ pub fn split_values<A: Allocator + Copy>(
     let mut elements = Vec::new(alloc);
     let mut rest = skip_white(text);
     while !rest.is_empty() {
-        let (bytes, behind) = element::read(alloc, rest)?;
-        elements.push(Value::new(alloc, bytes)?)?;
+        let (element, behind) = take(alloc, rest)?;
+        elements.push(element.value(alloc)?)?;
         rest = skip_white(behind);
     }
     Ok(elements)

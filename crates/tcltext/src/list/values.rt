@@ -3,10 +3,12 @@
 ghost use Rattle.std.specs.Prelude.{◌≡◌, ◌++◌, ℕ, List, length, take, drop, slice_get, IfOk, IfErr, IfSome};
 ghost use Rattle.tcltext.specs.Canonical.{canonical, IsCanonical, IsListOf};
 ghost use Rattle.tcltext.specs.Elements.{IsList, HasFlaw};
+ghost use Rattle.tcltext.specs.Joined.{joined};
 ghost use Rattle.tcltext.specs.Seen.{flaw_of};
 
 use super::ListFault;
 use super::join::push_values;
+use super::walk::{count, joined, nth, range};
 use crate::kept::{read_at, read_len, read_part};
 use crate::kept_elements::Elements;
 use crate::value::{Form, Value};
@@ -14,11 +16,18 @@ use memory::NoMemory;
 use std::alloc::Allocator;
 
 impl<A: Allocator + Copy> Value<A> {
-    /// The canonical text of a list (list(n)).
+    /// The canonical text of a list (list(n)). One request for memory is for all its bytes, where
+    /// the elements are bare.
     pub fn list(alloc: A, elements: &[Value<A>]) -> Result<Value<A>, NoMemory>
         ensures { IfOk result (λ list. list ≡ canonical elements.now) }
     {
-        let mut text = Vec::new(alloc);
+        let mut room = 0usize;
+        for element in elements {
+            room = room
+                .saturating_add(element.as_slice().len())
+                .saturating_add(1);
+        }
+        let mut text = Vec::with_capacity(alloc, room)?;
         push_values(&mut text, true, elements)?;
         Value::marked(alloc, text, true)
     }
@@ -65,7 +74,7 @@ impl<A: Allocator + Copy> Value<A> {
     {
         match &self.form {
             Form::Long(text) => read_len(alloc, text.bytes.as_slice(), &text.kept),
-            _ => Ok(Elements::read(alloc, self.as_slice())?.len()),
+            _ => count(alloc, self.as_slice()),
         }
     }
 
@@ -78,7 +87,7 @@ impl<A: Allocator + Copy> Value<A> {
     {
         match &self.form {
             Form::Long(text) => read_at(alloc, text.bytes.as_slice(), &text.kept, place),
-            _ => Ok(Elements::read(alloc, self.as_slice())?.at(alloc, place)?),
+            _ => nth(alloc, self.as_slice(), place),
         }
     }
 
@@ -100,7 +109,21 @@ impl<A: Allocator + Copy> Value<A> {
             × IsList v self.now × (list ≡ canonical (take most (drop from v)))) }
         ensures fault { IfErr result (λ f. IfSome (flaw_of f) (λ flaw. HasFlaw flaw self.now)) }
     {
+        if self.is_in_place() {
+            return range(alloc, self.as_slice(), from, most);
+        }
         let part = self.part(alloc, from, most)?;
         Ok(Value::list(alloc, &part)?)
+    }
+
+    /// The elements of the list that the text is as one text, with a separator between them
+    /// (join(n)).
+    pub fn joined(&self, alloc: A, separator: &[u8]) -> Result<Value<A>, ListFault>
+        ensures joined { IfOk result (λ whole. (v : List (List ℕ))
+            × IsList v self.now × (whole ≡ joined separator.now v)) }
+        ensures fault { IfErr result (λ f. IfSome (flaw_of f) (λ flaw. HasFlaw flaw self.now)) }
+    {
+        let whole = joined(alloc, self.as_slice(), separator)?;
+        Ok(Value::new(alloc, whole)?)
     }
 }

@@ -1,6 +1,6 @@
 use Rattle.std.proofs.Common.{◌∙◌, [], ◌∷◌, ap, sym}
 use Rattle.pure.specs.Concat.{kept}
-use Rattle.pure.specs.Joined.{joined}
+use Rattle.tcltext.specs.Joined.{joined}
 use Rattle.pure.specs.Trim.{trim, white}
 use Rattle.pure.proofs.Kept.{added}
 use Rattle.pure.proofs.concat.concatenated.Goals as goal

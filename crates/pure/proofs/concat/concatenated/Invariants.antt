@@ -1,6 +1,6 @@
 use Rattle.std.proofs.Common.{◌≡◌, ◌++◌, ◌∷◌, [], drop}
 use Rattle.pure.specs.Concat.{kept}
-use Rattle.pure.specs.Joined.{separated, joined}
+use Rattle.tcltext.specs.Joined.{separated, joined}
 use Rattle.pure.proofs.concat.concatenated.Given as goal
 
 abbrev pub invariant-loop-word : goal.invariant-loop-word

@@ -1,21 +1,12 @@
-use Rattle.std.proofs.Common.{Ok, subst, rules}
+use Rattle.std.proofs.Common.{Ok, rules}
 use Rattle.pure.specs.Lindex.{as_it_stands}
-use Rattle.meanings.specs.View.{IsNoList}
 use Rattle.meanings.proofs.Splits.{no_list}
 use Rattle.pure.proofs.lindex.whole.Goals as goal
-use Rattle.tcltext.specs.Elements.{IsList}
 
-pub returns-in_err-elements : goal.returns-in_err-elements
-returns-in_err-elements g c =
-    let why = c.in_err-elements.field-0.0 in
-    no_list c.args.list.now (as_it_stands c.args.list.now) c.from_residual.result why
-    (subst (λ text. IsNoList text why) c.as_slice.ensures c.in_err-elements.ensures.fault)
-    c.from_residual.ensures.1
+pub returns-in_err-list_len : goal.returns-in_err-list_len
+returns-in_err-list_len g c =
+    no_list c.args.list.now (as_it_stands c.args.list.now) c.from_residual.result
+    c.in_err-list_len.field-0.0 c.in_err-list_len.ensures.fault c.from_residual.ensures.1
 
 pub returns : goal.returns
-returns g c =
-    let elements = c.in_ok-elements.field-0.items in (
-      Ok elements,
-      subst (λ text. IsList elements text) c.as_slice.ensures c.in_ok-elements.ensures.list,
-      search rules,
-    )
+returns g c = let read = c.in_ok-list_len.ensures.len in (Ok read.0, read.1, search rules)

@@ -5,8 +5,8 @@ use Rattle.pure.specs.Trim.{is_among}
 use Rattle.pure.proofs.Cuts.{cut_here, cut_nowhere}
 use Rattle.pure.proofs.split.first_piece.Goals as goal
 
-pub returns-then-contains-clause-pieces : goal.returns-then-contains-clause-pieces
-returns-then-contains-clause-pieces c =
+pub returns-then-is_among-clause-pieces : goal.returns-then-is_among-clause-pieces
+returns-then-is_among-clause-pieces c =
     let text = c.args.text.now in
     let i = c.loop-place.place in
     let p = is_among c.args.bytes.now in

@@ -1,5 +1,6 @@
 use Rattle.std.proofs.Common.{ℕ, List, [], ◌∷◌, ◌++◌, ◌∙◌, ap, sym, subst}
-use Rattle.tcltext.proofs.Elements.{ListSoFar, list_begins, after_element, list_ends, skipped_is, passed_on, split_fault, none_left, some_left}
+use Rattle.tcltext.specs.Seen.{bytes_of}
+use Rattle.tcltext.proofs.Elements.{ListSoFar, list_begins, after_element, list_ends, skipped_is, passed_on, split_fault, none_left}
 use Rattle.tcltext.proofs.list.split.split_values.Goals as goal
 
 pub loop-rest-init : goal.loop-rest-init
@@ -11,24 +12,21 @@ loop-rest-init g c = record {
   begins = c.skip_white-rest.ensures.begins;
 }
 
-pub read-requires : goal.read-requires
-read-requires g c = c.loop-rest.invariant.begins (some_left _ c.loop-rest-test.ensures)
-
-pub returns-in_err-bytes-clause-fault : goal.returns-in_err-bytes-clause-fault
-returns-in_err-bytes-clause-fault g c =
+pub returns-in_err-element-clause-fault : goal.returns-in_err-element-clause-fault
+returns-in_err-element-clause-fault g c =
     split_fault c.args.text.now c.loop-rest.rest.now c.loop-rest.elements.items _ _
-    c.loop-rest.invariant.list c.loop-rest.invariant.skipped c.in_err-bytes.ensures.element
+    c.loop-rest.invariant.list c.loop-rest.invariant.skipped c.in_err-element.ensures.element
     (passed_on c.from_residual.result _ c.from_residual.ensures.1)
 
 pub loop-rest-preserved : goal.loop-rest-preserved
 loop-rest-preserved g c = record {
-  list = after_element c.args.text.now c.loop-rest.rest.now c.in_ok-bytes.behind.now _
-      c.loop-rest.elements.items _ c.in_ok-bytes.bytes.items c.loop-rest.invariant.list
+  list = after_element c.args.text.now c.loop-rest.rest.now c.in_ok-element.behind.now _
+      c.loop-rest.elements.items _ (bytes_of c.in_ok-element.element) c.loop-rest.invariant.list
       c.loop-rest.invariant.skipped
-      c.in_ok-bytes.ensures.element (c.in_ok-push.ensures.items
-      ∙ ap (λ (b : List ℕ). c.loop-rest.elements.items ++ b ∷ []) c.in_ok-new.ensures)
+      c.in_ok-element.ensures.element (c.in_ok-push.ensures.items
+      ∙ ap (λ (b : List ℕ). c.loop-rest.elements.items ++ b ∷ []) c.in_ok-value.ensures)
       c.skip_white-rest-in-loop-rest.ensures.rest;
-  skipped = skipped_is c.in_ok-bytes.behind.now _ c.skip_white-rest-in-loop-rest.ensures.rest;
+  skipped = skipped_is c.in_ok-element.behind.now _ c.skip_white-rest-in-loop-rest.ensures.rest;
   begins = c.skip_white-rest-in-loop-rest.ensures.begins;
 }
 

@@ -2,7 +2,7 @@ use Rattle.std.proofs.Common.{◌≡◌, ◌∙◌, length, codes, Some, Ok, sym
 use Rattle.meanings.proofs.Splits.{follows, no_list}
 use Rattle.meanings.specs.Meaning.{Gives}
 use Rattle.pure.proofs.KeptLists.{as_many, part_same, placed_none, placed_some}
-use Rattle.pure.proofs.lrange.kept_part.Goals as goal
+use Rattle.pure.proofs.lrange.part_by_words.Goals as goal
 use Rattle.pure.specs.Lrange.{part}
 use Rattle.pure.specs.Place.{items_from, on_place, place_of}
 use Rattle.tcltext.specs.Canonical.{canonical}

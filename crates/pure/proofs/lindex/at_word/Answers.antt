@@ -3,7 +3,7 @@ use Rattle.std.specs.Int.{w128}
 use Rattle.meanings.proofs.Splits.{follows, no_list}
 use Rattle.meanings.specs.Meaning.{Gives}
 use Rattle.pure.proofs.KeptLists.{as_many, item_there, none_there, placed_none}
-use Rattle.pure.proofs.lindex.kept_at.Goals as goal
+use Rattle.pure.proofs.lindex.at_word.Goals as goal
 use Rattle.pure.specs.Lindex.{element}
 use Rattle.pure.specs.Place.{item_at, place_of, within}
 

@@ -1,0 +1,46 @@
+use Rattle.std.proofs.Common.{[], ◌∷◌, ◌++◌, ◌<◌, length, refl, arith}
+use Rattle.tcltext.specs.Seen.{bytes_of}
+use Rattle.tcltext.proofs.Elements.{list_begins, list_ends, skipped_is, passed_on, split_fault, none_left}
+use Rattle.tcltext.proofs.Walks.{one_more, counted, found}
+use Rattle.tcltext.proofs.list.walk.nth.Goals as goal
+
+pub loop-rest-init : goal.loop-rest-init
+loop-rest-init g c = record {
+  read = ([], list_begins c.args.text.now _ c.skip_white-rest.ensures.rest, refl, refl);
+  fewer = omega arith;
+  skipped = skipped_is c.args.text.now _ c.skip_white-rest.ensures.rest;
+  begins = c.skip_white-rest.ensures.begins;
+}
+
+pub returns-in_err-element-clause-fault : goal.returns-in_err-element-clause-fault
+returns-in_err-element-clause-fault g c =
+    split_fault c.args.text.now c.loop-rest.rest.now c.loop-rest.invariant.read.0 _ _
+    c.loop-rest.invariant.read.1 c.loop-rest.invariant.skipped c.in_err-element.ensures.element
+    (passed_on c.from_residual.result _ c.from_residual.ensures.1)
+
+pub loop-rest-preserved : goal.loop-rest-preserved
+loop-rest-preserved g c =
+    let read = c.loop-rest.invariant.read in
+    let e = bytes_of c.in_ok-element.element in
+    let less : length c.in_ok-element.behind.now < length c.loop-rest.rest.now =
+    c.in_ok-element.ensures.shorter in record {
+      read = (
+        read.0 ++ e ∷ [],
+        one_more c.args.text.now c.loop-rest.rest.now c.in_ok-element.behind.now _ read.0 e read.1
+            c.loop-rest.invariant.skipped c.in_ok-element.ensures.element
+            c.skip_white-rest-in-loop-rest.ensures.rest,
+        counted read.0 e c.loop-rest.before read.2,
+        found read.0 e c.loop-rest.before c.args.place c.loop-rest.found c.in_ok-found.found read.2
+            read.3 c.in_ok-found.ensures,
+      );
+      fewer = omega arith;
+      skipped = skipped_is c.in_ok-element.behind.now _ c.skip_white-rest-in-loop-rest.ensures.rest;
+      begins = c.skip_white-rest-in-loop-rest.ensures.begins;
+    }
+
+pub returns-clause-element : goal.returns-clause-element
+returns-clause-element g c =
+    let read = c.loop-rest.invariant.read in
+    let is = list_ends c.args.text.now c.loop-rest.rest.now read.0 read.1
+    (none_left _ c.loop-rest-test.ensures) in
+    (read.0, is, read.3)
