@@ -1,7 +1,7 @@
 -- The code of a command that is one instruction, after the value of its last word.
 use Rattle.std.proofs.Common.{◌≡◌, ◌∙◌, ℕ, ◌+◌, ◌≤◌, ◌<◌, true, false, List, [], ◌∷◌, ◌++◌, length, get_or, sym, ap, subst, arith}
 use Rattle.code.specs.Blocks.{Block, IsReal, OwnBlock, PartsBlock}
-use Rattle.code.specs.Code.{CommandAt, IsDirect, PartsAt, direct, increments_last, returns_last, sets_last}
+use Rattle.code.specs.Code.{CommandAt, IsDirect, adds_last, appends_last, direct, increments_last, returns_last, sets_last}
 use Rattle.code.specs.Conditional.{IsLiteral}
 use Rattle.code.specs.Switch.{texts_then}
 use Rattle.code.specs.declared.instruction.Instruction.{Instruction}
@@ -15,6 +15,8 @@ module _ {A : Type 0} where
   -- such an instruction stands for good
   direct_is_real : (it : Instruction A) (before : List (List ℕ)) → IsDirect it before → IsReal it
   direct_is_real it before sets_last = tt
+  direct_is_real it before appends_last = tt
+  direct_is_real it before adds_last = tt
   direct_is_real it before increments_last = tt
   direct_is_real it before returns_last = tt
 

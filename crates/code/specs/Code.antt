@@ -119,9 +119,11 @@ pub record TestAt {A : Type 0} (code : List (Instruction A)) (globs : Bool) (pla
   pub test : At code place (test_of globs pattern here other)
 
 -- an instruction that is a command with these words before its last one, whose value is on top
--- (set(n); incr(n); return(n))
+-- (set(n); append(n); incr(n); return(n))
 pub data IsDirect {A : Type 0} : Instruction A → List (List ℕ) → Type 0 where
   sets_last : {name : List ℕ} → IsDirect (i.Set name) (codes "set" ∷ name ∷ [])
+  appends_last : {name : List ℕ} → IsDirect (i.Append name) (codes "append" ∷ name ∷ [])
+  adds_last : {name : List ℕ} → IsDirect (i.Add name) (codes "incr" ∷ name ∷ [])
   increments_last : IsDirect i.Increment (codes "incr" ∷ [])
   returns_last : IsDirect i.Return (codes "return" ∷ [])
 

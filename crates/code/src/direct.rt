@@ -1,26 +1,42 @@
 //! Commands with an instruction of their own, which takes the value of their last word.
 
-ghost use Rattle.std.specs.Prelude.{ℕ, List, [], ◌∷◌, codes, IfSome};
+ghost use Rattle.std.specs.Prelude.{ℕ, List, [], ◌∷◌, IfOk, IfSome};
 ghost use Rattle.code.specs.Code.{IsDirect};
 ghost use Rattle.code.specs.Conditional.{IsLiteral};
 
 use crate::instruction::Instruction;
 use crate::literal::literal_of;
+use memory::NoMemory;
 use std::alloc::Allocator;
 use tclparse::Word;
+use tcltext::Value;
 
-/// The name of the variable that a `set` with these two words before its value writes (set(n)).
-pub(crate) fn set_name<'a, A: Allocator>(command: &Word<A>, name: &'a Word<A>) -> Option<&'a [u8]>
-    ensures { IfSome result (λ text.
-        IsLiteral command.now (codes "set") × IsLiteral name.now text.now) }
+/// The instruction of a command that has the name of a variable and one word after its own name
+/// (set(n); append(n); incr(n)).
+pub(crate) fn direct_on<A: Allocator + Copy>(
+    alloc: A,
+    command: &Word<A>,
+    name: &Word<A>,
+) -> Result<Option<Instruction<A>>, NoMemory>
+    ensures { IfOk result (λ read. IfSome read (λ it. (own text : List ℕ) ×
+        IsLiteral command.now own × IsLiteral name.now text × IsDirect it (own ∷ text ∷ []))) }
 {
-    let command = literal_of(command)?;
-    let name = literal_of(name)?;
-    if command == b"set".as_slice() {
-        Some(name)
-    } else {
-        None
+    let Some(own) = literal_of(command) else {
+        return Ok(None);
+    };
+    let Some(text) = literal_of(name) else {
+        return Ok(None);
+    };
+    if own == b"set".as_slice() {
+        return Ok(Some(Instruction::Set(Value::from_slice(alloc, text)?)));
     }
+    if own == b"append".as_slice() {
+        return Ok(Some(Instruction::Append(Value::from_slice(alloc, text)?)));
+    }
+    if own == b"incr".as_slice() {
+        return Ok(Some(Instruction::Add(Value::from_slice(alloc, text)?)));
+    }
+    Ok(None)
 }
 
 /// The instruction of a command that has one word after its name (incr(n); return(n)).

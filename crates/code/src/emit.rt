@@ -6,7 +6,7 @@ ghost use Rattle.tclparse.specs.Seen.{fault_of};
 ghost use Rattle.tclparse.specs.Tree.{no_commands, no_parts, no_words};
 ghost use Rattle.tclparse.specs.View.{commands_of, commands_then, part_view, parts_then, word_view, words_then};
 
-use crate::direct::{direct_of, set_name};
+use crate::direct::{direct_of, direct_on};
 use crate::instruction::Instruction;
 use crate::nest::Nest;
 use memory::NoMemory;
@@ -115,10 +115,10 @@ pub(crate) fn emit_words<A: Allocator + Copy, N: Nest<A>>(
     Ok(())
 }
 
-/// Puts the code of a `set` of three words, where the first two are literals, and says whether
-/// these words are one.
+/// Puts the code of a `set`, an `append` or an `incr` of three words, where the first two are
+/// literals, and says whether these words are one.
 #[cycle(emit)]
-fn emit_set<A: Allocator + Copy, N: Nest<A>>(
+fn emit_of_three<A: Allocator + Copy, N: Nest<A>>(
     code: &mut Vec<Instruction<A>, A>,
     words: &[Word<A>],
     nest: &N,
@@ -132,12 +132,11 @@ fn emit_set<A: Allocator + Copy, N: Nest<A>>(
     if value.expands {
         return Ok(false);
     }
-    let Some(name) = set_name(command, name) else {
+    let Some(direct) = direct_on(*code.allocator(), command, name)? else {
         return Ok(false);
     };
-    let name = Value::from_slice(*code.allocator(), name)?;
     emit_parts(code, &value.parts, nest)?;
-    code.push(Instruction::Set(name))?;
+    code.push(direct)?;
     Ok(true)
 }
 
@@ -178,7 +177,7 @@ fn emit_own<A: Allocator + Copy, N: Nest<A>>(
     if nest.put(code, words)? {
         return Ok(true);
     }
-    if emit_set(code, words, nest)? {
+    if emit_of_three(code, words, nest)? {
         return Ok(true);
     }
     Ok(emit_of_two(code, words, nest)?)

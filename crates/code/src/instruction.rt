@@ -115,6 +115,14 @@ pub enum Instruction<A: Allocator> {
     /// the name of `set`, that begins by its words, of which this value is the last (set(n);
     /// proc(n)).
     Set(Value<A>),
+    /// The text on top is put after that of the variable of this name, whose new text takes its
+    /// place. Where a procedure has the name of `append`, that begins by its words, of which this
+    /// text is the last (append(n); proc(n)).
+    Append(Value<A>),
+    /// The number on top is added to the variable of this name, and the sum takes its place. Where
+    /// a procedure has the name of `incr`, that begins by its words, of which this number is the
+    /// last (incr(n); proc(n)).
+    Add(Value<A>),
     /// Adds one to the variable of the name on top, and puts the sum in the name's place. Where a
     /// procedure has the name of `incr`, that begins by its words, of which this name is the last
     /// (incr(n); proc(n)).

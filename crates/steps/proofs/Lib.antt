@@ -9,6 +9,7 @@ pub mod Rounds
 pub mod Runs
 pub mod Strings
 pub mod Stores
+pub mod Changes
 pub mod Named
 pub mod AtOnce
 pub mod First

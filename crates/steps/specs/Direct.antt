@@ -7,6 +7,7 @@ use Rattle.steps.specs.Spot.{Spot, Did, Went, Begins, with_top}
 use Rattle.steps.specs.Storing.{storing}
 use Rattle.tclparse.specs.Variable.{named}
 use Rattle.tclstate.specs.Procs.{Procedure}
+use Rattle.variables.specs.Append.{append}
 use Rattle.variables.specs.Incr.{incr}
 
 -- the command begins by its words, which are these and the value on top (Tcl(n), rule 2)
@@ -27,13 +28,29 @@ abbrev pub changed : Result (Scopes × List ℕ) Flaw → Spot → Status → Di
 changed (Ok done) spot s = Went (with_top done.1 spot) (record s { scopes = done.0 })
 changed (Err flaw) spot s = fails flaw spot s
 
--- where a procedure hides incr it begins by its words; else one is added to the variable of the
--- name on top, whose place the sum takes (incr(n); proc(n))
+-- where a procedure hides the command it begins by these words and the value on top; else it
+-- changes the variables with that value, whose place its own value takes (proc(n))
+abbrev pub changing : Option Procedure → (List ℕ → Scopes → Result (Scopes × List ℕ) Flaw) →
+    List (List ℕ) → Spot → Status → Did
+changing None change before spot s =
+    on_top spot.operands (λ value below.
+    changed (change value s.scopes) (with_operands below spot) s)
+changing (Some procedure) change before spot s = by_words before spot s
+
+-- one is added to the variable of the name on top (incr(n))
 abbrev pub incrementing : Option Procedure → Spot → Status → Did
-incrementing None spot s =
-    on_top spot.operands (λ name below.
-    changed (incr (name ∷ []) s.scopes) (with_operands below spot) s)
-incrementing (Some procedure) spot s = by_words (codes "incr" ∷ []) spot s
+incrementing procedure spot s =
+    changing procedure (λ name v. incr (name ∷ []) v) (codes "incr" ∷ []) spot s
+
+-- the number on top is added to the variable of this name (incr(n))
+abbrev pub adding : Option Procedure → List ℕ → Spot → Status → Did
+adding procedure name spot s =
+    changing procedure (λ by v. incr (name ∷ by ∷ []) v) (codes "incr" ∷ name ∷ []) spot s
+
+-- the text on top is put after that of the variable of this name (append(n))
+abbrev pub appending : Option Procedure → List ℕ → Spot → Status → Did
+appending procedure name spot s =
+    changing procedure (λ text v. append (name ∷ text ∷ []) v) (codes "append" ∷ name ∷ []) spot s
 
 -- where a procedure hides return it begins by its words; else the script is left by it with the
 -- value on top (return(n); proc(n))

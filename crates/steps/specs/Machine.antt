@@ -144,6 +144,9 @@ does (i.Catch place) spot s = catching place spot s
 does i.EndCatch spot s = ending_catch spot s
 does (i.Store name) spot s = keeping name spot s
 does (i.Set name) spot s = direct.setting (found s.procedures (codes "set")) name spot s
+does (i.Append name) spot s =
+    direct.appending (found s.procedures (codes "append")) name spot s
+does (i.Add name) spot s = direct.adding (found s.procedures (codes "incr")) name spot s
 does i.Increment spot s = direct.incrementing (found s.procedures (codes "incr")) spot s
 does i.Return spot s = direct.returning (found s.procedures (codes "return")) spot s
 does i.Hole spot s = Stuck

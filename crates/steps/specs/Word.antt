@@ -22,7 +22,8 @@ pub record Around : Type 0 where
 -- the words are counted or not, and after {*} they are (Tcl(n), rules 2 and 5); or it is an operand
 -- of a formula (expr(n)); or the list of a foreach with these variables and this body (foreach(n));
 -- or the string of a switch with these options and these words after it (switch(n)); or the last
--- word of a command, after these words, that is one instruction (set(n); incr(n); return(n))
+-- word of a command, after these words, that is one instruction (set(n); append(n); incr(n);
+-- return(n))
 pub data Word : Type 0 where
   Plain : (counted : Bool) (before : List (List ℕ)) (rest : Words) → Word
   Expands : (before : List (List ℕ)) (rest : Words) → Word

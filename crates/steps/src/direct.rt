@@ -1,15 +1,15 @@
-//! Instructions that are commands, with the value of their last word on top (set(n); incr(n);
-//! return(n)).
+//! Instructions that are commands, with the value of their last word on top (set(n); append(n);
+//! incr(n); return(n)).
 
-ghost use Rattle.std.specs.Prelude.{◌≡◌, ◌≤◌, ◌∷◌, [], codes, IfOk};
-ghost use Rattle.state.specs.Prelude.{Status};
-ghost use Rattle.steps.specs.Direct.{by_words, changed, incrementing, returning, setting};
-ghost use Rattle.steps.specs.Moves.{on_top, with_operands};
+ghost use Rattle.std.specs.Prelude.{◌≡◌, ◌≤◌, ◌∷◌, [], ℕ, List, Result as Meant, codes, IfOk};
+ghost use Rattle.kinds.specs.Answers.{Keeps};
+ghost use Rattle.state.specs.Prelude.{Flaw, Scopes as Variables, Status};
+ghost use Rattle.steps.specs.Direct.{adding, appending, by_words, changed, incrementing, returning, setting};
+ghost use Rattle.steps.specs.Moves.{on_top};
 ghost use Rattle.steps.specs.Storing.{storing};
 ghost use Rattle.steps.specs.View.{did_of, spot_of, with_parts};
 ghost use Rattle.tclparse.specs.Variable.{named};
 ghost use Rattle.tclstate.specs.Pairs.{found};
-ghost use Rattle.variables.specs.Incr as increments;
 
 use crate::handling::{failed, resume};
 use crate::progress::Progress;
@@ -20,7 +20,7 @@ use state::{Code, Leave};
 use std::alloc::Allocator;
 use tclstate::{Procs, Scopes};
 use tcltext::Value;
-use variables::incr;
+use variables::{append, incr};
 
 /// A command begins by its words, which are these and the value on top.
 fn begin_by_words<A: Allocator + Copy>(
@@ -54,19 +54,20 @@ fn begin_named<A: Allocator + Copy>(
     Ok(begin_by_words(spot, words)?)
 }
 
-/// A `set` of this name and the value on top begins by its words.
+/// A command of this name, with the name of a variable and the value on top, begins by its words.
 #[cold]
 #[inline(never)]
-fn begin_set<A: Allocator + Copy>(
+fn begin_on<A: Allocator + Copy>(
     alloc: A,
     spot: &mut Spot<A>,
+    command: &[u8],
     name: &Value<A>,
 ) -> Result<Progress, NoMemory>
     ensures does { (s : Status) → IfOk result (λ progress. did_of progress spot.new s
-        ≡ by_words (codes "set" ∷ name.now ∷ []) (spot_of spot.old) s) }
+        ≡ by_words (command.now ∷ name.now ∷ []) (spot_of spot.old) s) }
     ensures place { spot.old.place ≤ spot.new.place }
 {
-    let words = Vec::from_array(alloc, [Value::from_slice(alloc, b"set")?, name.share()?])?;
+    let words = Vec::from_array(alloc, [Value::from_slice(alloc, command)?, name.share()?])?;
     Ok(begin_by_words(spot, words)?)
 }
 
@@ -108,30 +109,26 @@ pub fn set<A: Allocator + Copy>(
     ensures place { spot.old.place ≤ spot.new.place }
 {
     match procs.get(b"set") {
-        Some(_) => Ok(begin_set(alloc, spot, name)?),
+        Some(_) => Ok(begin_on(alloc, spot, b"set", name)?),
         None => Ok(store_top(alloc, spot, scopes, name)?),
     }
 }
 
-/// Adds one to the variable of the name on top, whose place the sum takes.
+/// Puts the value of a change of the variables on top, or fails with its error.
 #[inline(always)]
-fn add_one<A: Allocator + Copy>(
+fn give_change<A: Allocator + Copy>(
     alloc: A,
     spot: &mut Spot<A>,
-    scopes: &mut Scopes<A>,
+    answer: Result<Value<A>, Raise<A>>,
 ) -> Result<Progress, NoMemory>
-    ensures does { (s : Status) → IfOk result (λ progress.
-        did_of progress spot.new (with_parts scopes.new s.procedures s.left s)
-        ≡ on_top (spot_of spot.old).operands (λ name below.
-        changed (increments.incr (name ∷ []) scopes.old) (with_operands below (spot_of spot.old))
-        (with_parts scopes.old s.procedures s.left s))) }
+    ensures does { (meant : Meant (Variables × List ℕ) Flaw) (old new : Variables) (s : Status) →
+        Keeps meant old answer new → IfOk result (λ progress.
+        did_of progress spot.new (with_parts new s.procedures s.left s)
+        ≡ changed meant (spot_of spot.old) (with_parts old s.procedures s.left s)) }
     ensures place { spot.old.place ≤ spot.new.place }
 {
-    let Some(name) = spot.operands.pop() else {
-        return Ok(Progress::Stuck);
-    };
-    match incr::begin(alloc, scopes, &[name]) {
-        Ok(sum) => Ok(spot.put(sum)?),
+    match answer {
+        Ok(value) => Ok(spot.put(value)?),
         Err(Raise::Fault(fault)) => Ok(failed(alloc, spot, fault)?),
         Err(Raise::NoMemory(refusal)) => Err(refusal),
     }
@@ -151,10 +148,64 @@ pub fn increment<A: Allocator + Copy>(
         (with_parts scopes.old s.procedures s.left s)) }
     ensures place { spot.old.place ≤ spot.new.place }
 {
-    match procs.get(b"incr") {
-        Some(_) => Ok(begin_named(alloc, spot, b"incr")?),
-        None => Ok(add_one(alloc, spot, scopes)?),
+    if procs.get(b"incr").is_some() {
+        return Ok(begin_named(alloc, spot, b"incr")?);
     }
+    let Some(name) = spot.operands.pop() else {
+        return Ok(Progress::Stuck);
+    };
+    let sum = incr::begin(alloc, scopes, &[name]);
+    Ok(give_change(alloc, spot, sum)?)
+}
+
+/// Adds the number on top to the variable of this name, whose sum takes its place; where a
+/// procedure hides `incr`, that begins by its words.
+pub fn add<A: Allocator + Copy>(
+    alloc: A,
+    spot: &mut Spot<A>,
+    scopes: &mut Scopes<A>,
+    procs: &Procs<A>,
+    name: &Value<A>,
+) -> Result<Progress, NoMemory>
+    ensures does { (s : Status) → s.procedures ≡ procs.now → IfOk result (λ progress.
+        did_of progress spot.new (with_parts scopes.new s.procedures s.left s)
+        ≡ adding (found s.procedures (codes "incr")) name.now (spot_of spot.old)
+        (with_parts scopes.old s.procedures s.left s)) }
+    ensures place { spot.old.place ≤ spot.new.place }
+{
+    if procs.get(b"incr").is_some() {
+        return Ok(begin_on(alloc, spot, b"incr", name)?);
+    }
+    let Some(by) = spot.operands.pop() else {
+        return Ok(Progress::Stuck);
+    };
+    let sum = incr::begin(alloc, scopes, &[name.share()?, by]);
+    Ok(give_change(alloc, spot, sum)?)
+}
+
+/// Puts the text on top after that of the variable of this name, whose new text takes its place;
+/// where a procedure hides `append`, that begins by its words.
+pub fn append<A: Allocator + Copy>(
+    alloc: A,
+    spot: &mut Spot<A>,
+    scopes: &mut Scopes<A>,
+    procs: &Procs<A>,
+    name: &Value<A>,
+) -> Result<Progress, NoMemory>
+    ensures does { (s : Status) → s.procedures ≡ procs.now → IfOk result (λ progress.
+        did_of progress spot.new (with_parts scopes.new s.procedures s.left s)
+        ≡ appending (found s.procedures (codes "append")) name.now (spot_of spot.old)
+        (with_parts scopes.old s.procedures s.left s)) }
+    ensures place { spot.old.place ≤ spot.new.place }
+{
+    if procs.get(b"append").is_some() {
+        return Ok(begin_on(alloc, spot, b"append", name)?);
+    }
+    let Some(text) = spot.operands.pop() else {
+        return Ok(Progress::Stuck);
+    };
+    let whole = append::begin(alloc, scopes, &[name.share()?, text]);
+    Ok(give_change(alloc, spot, whole)?)
 }
 
 /// The script is left by `return` with the value on top; where a procedure hides `return`, that

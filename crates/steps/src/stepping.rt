@@ -14,7 +14,7 @@ ghost use Rattle.tclparse.specs.Seen.{fault_of};
 ghost use Rattle.tclstate.specs.Pairs.{found};
 
 use crate::catching::{begin_catch, end_catch};
-use crate::direct::{increment, leave_by_return, set};
+use crate::direct::{add, append, increment, leave_by_return, set};
 use crate::foreach::{assign, begin_foreach, deal, finish, look};
 use crate::handling::{fail_to_reach, failed};
 use crate::looping::{begin_step, begin_turn, end_turn, turn};
@@ -237,6 +237,8 @@ fn perform<A: Allocator + Copy>(
         Instruction::EndCatch => Ok(end_catch(spot)?),
         Instruction::Store(name) => Ok(keep(alloc, spot, scopes, name)?),
         Instruction::Set(name) => Ok(set(alloc, spot, scopes, procs, name)?),
+        Instruction::Append(name) => Ok(append(alloc, spot, scopes, procs, name)?),
+        Instruction::Add(name) => Ok(add(alloc, spot, scopes, procs, name)?),
         Instruction::Increment => Ok(increment(alloc, spot, scopes, procs)?),
         Instruction::Return => Ok(leave_by_return(alloc, spot, procs)?),
         Instruction::Hole => Ok(Progress::Stuck),

@@ -62,6 +62,8 @@ fn show<A: Allocator>(shown: &mut Vec<u8, A>, it: &Instruction<A>) -> Result<(),
         Instruction::EndCatch => (b"end catch", b""),
         Instruction::Store(name) => (b"store ", name.as_slice()),
         Instruction::Set(name) => (b"set ", name.as_slice()),
+        Instruction::Append(name) => (b"append ", name.as_slice()),
+        Instruction::Add(name) => (b"add to ", name.as_slice()),
         Instruction::Increment => (b"increment", b""),
         Instruction::Return => (b"return", b""),
         _ => (b"another", b""),
@@ -235,6 +237,19 @@ fn a_command_that_is_one_instruction_follows_its_last_word(rt: HostRuntime) -> R
     let wanted: &[u8] = b"next\nvariable b\nset a\nnext\ntext i\nincrement\n\
         next\ntext x\nenter\nnext\ntext 1\nset j\nleave\njoin\nreturn\n\
         next\ntext set\ncount 1\nvariable l\nspread\ntext b\ncounted\n";
+    assert_eq!(&rt; shown.as_slice(), wanted);
+    Ok(())
+}
+
+#[test]
+fn a_text_is_appended_and_a_number_added_by_one_instruction(rt: HostRuntime) -> Result<(), Fail> {
+    let script = Script::read(rt.alloc(), b"append a $b; incr i 2")?;
+    let code = code_of(rt.alloc(), &script)?;
+    let mut shown = Vec::new(rt.alloc());
+    for it in &code {
+        show(&mut shown, it)?;
+    }
+    let wanted: &[u8] = b"next\nvariable b\nappend a\nnext\ntext 2\nadd to i\n";
     assert_eq!(&rt; shown.as_slice(), wanted);
     Ok(())
 }

@@ -1,7 +1,7 @@
 -- The value of the last word of a command that is one instruction is on top.
 use Rattle.std.proofs.Common.{◌≡◌, ◌∙◌, ℕ, ◌+◌, ◌≤◌, List, [], ◌∷◌, ◌++◌, codes, Option, Some, None, Result, Ok, Err, refl, ap, subst, arith}
 use Rattle.acts.specs.Flaw.{Flaw}
-use Rattle.code.specs.Code.{At, IsDirect, increments_last, returns_last, sets_last}
+use Rattle.code.specs.Code.{At, IsDirect, adds_last, appends_last, increments_last, returns_last, sets_last}
 use Rattle.code.specs.declared.instruction.Instruction.{Instruction}
 use Rattle.kinds.specs.Kinds.{leaves, with_scopes}
 use Rattle.kinds.specs.Readings.{Found, kept}
@@ -10,7 +10,7 @@ use Rattle.plan.specs.Plan.{and_then, onward}
 use Rattle.runs.specs.Commands.{called, command}
 use Rattle.state.specs.Prelude.{bind, Dialogue, gives, Leaves, Outcome, Return, Scopes, Status}
 use Rattle.state.specs.Variables.{on_name, spelled, stored, writes}
-use Rattle.steps.specs.Direct.{by_words, changed, incrementing, returning, setting}
+use Rattle.steps.specs.Direct.{adding, appending, by_words, changed, incrementing, returning, setting}
 use Rattle.steps.specs.Follows.{Follows}
 use Rattle.steps.specs.Layout.{FramesAt}
 use Rattle.steps.specs.Places.{Has, Part, Frame, beneath, brackets, handlers_beneath, marks_beneath, onward_of, spot_at}
@@ -27,6 +27,7 @@ use Rattle.tclparse.specs.Variable.{named}
 use Rattle.tclstate.specs.Pairs.{found}
 use Rattle.tclstate.specs.Procs.{Procedure}
 use Rattle.tclstate.specs.Scopes.{Trouble, written}
+use Rattle.variables.specs.Append.{append}
 use Rattle.variables.specs.Incr.{incr}
 use Rattle.variables.specs.Values.{puts}
 use Rattle.words.specs.Words.{words}
@@ -118,6 +119,34 @@ module _ {A X : Type 0} (code : List (Instruction A)) (last : Status → Outcome
         (changed_leads (incr (name ∷ []) s.scopes))
     increments_lead (Some procedure) name is = hidden_leads (codes "incr" ∷ []) name
 
+    -- incr with a number
+    adds_lead : (procedure : Option Procedure) (name by : List ℕ) →
+        found s.procedures (codes "incr") ≡ procedure →
+        Follows code last
+        (adding procedure name (put_on (place + 1) levels (by ∷ beneath fs) fs) s)
+        (and_then (words levels no_words (codes "incr" ∷ name ∷ by ∷ []) s (command levels))
+        (onward (onward_of last levels fs)))
+    adds_lead None name by is =
+        silently code last _
+        (same_goes (ap (λ c. and_then c (onward (onward_of last levels fs)))
+        (ap (λ p. called p levels (codes "incr") (name ∷ by ∷ []) s) is)))
+        (changed_leads (incr (name ∷ by ∷ []) s.scopes))
+    adds_lead (Some procedure) name by is = hidden_leads (codes "incr" ∷ name ∷ []) by
+
+    -- append
+    appends_lead : (procedure : Option Procedure) (name text : List ℕ) →
+        found s.procedures (codes "append") ≡ procedure →
+        Follows code last
+        (appending procedure name (put_on (place + 1) levels (text ∷ beneath fs) fs) s)
+        (and_then (words levels no_words (codes "append" ∷ name ∷ text ∷ []) s (command levels))
+        (onward (onward_of last levels fs)))
+    appends_lead None name text is =
+        silently code last _
+        (same_goes (ap (λ c. and_then c (onward (onward_of last levels fs)))
+        (ap (λ p. called p levels (codes "append") (name ∷ text ∷ []) s) is)))
+        (changed_leads (append (name ∷ text ∷ []) s.scopes))
+    appends_lead (Some procedure) name text is = hidden_leads (codes "append" ∷ name ∷ []) text
+
     -- return
     returns_lead : (procedure : Option Procedure) (value : List ℕ) →
         found s.procedures (codes "return") ≡ procedure →
@@ -141,6 +170,14 @@ module _ {A X : Type 0} (code : List (Instruction A)) (last : Status → Outcome
         by code last it (spot_at place levels (Part (opened (Some value) no_parts []
         (Last before))) fs) s _ at
         (sets_lead (found s.procedures (codes "set")) name value refl)
+    direct_leads value before it (appends_last {name = name}) at =
+        by code last it (spot_at place levels (Part (opened (Some value) no_parts []
+        (Last before))) fs) s _ at
+        (appends_lead (found s.procedures (codes "append")) name value refl)
+    direct_leads value before it (adds_last {name = name}) at =
+        by code last it (spot_at place levels (Part (opened (Some value) no_parts []
+        (Last before))) fs) s _ at
+        (adds_lead (found s.procedures (codes "incr")) name value refl)
     direct_leads value before it increments_last at =
         by code last it (spot_at place levels (Part (opened (Some value) no_parts []
         (Last before))) fs) s _ at

@@ -1,4 +1,4 @@
-use Rattle.std.proofs.Common.{false, true, codes, [], ◌∷◌, rules, arith, ◌≡◌, ◌∙◌, ◌+◌, drop, sym, ap, subst}
+use Rattle.std.proofs.Common.{false, true, ℕ, List, IfSome, [], ◌∷◌, rules, arith, ◌≡◌, ◌∙◌, ◌+◌, drop, sym, ap, subst}
 use Rattle.std.proofs.Math.ListN.{drop_of_length-le}
 use Rattle.std.proofs.lemmas.List.{nil_from_length}
 use Rattle.code.proofs.Commands.{command_block, own_after, own_command_block, words_block, command_left, commands_block, counting_block, plain_block, spread_block, word_left}
@@ -6,9 +6,9 @@ use Rattle.code.proofs.LastWords.{direct_block, three_words, two_words}
 use Rattle.code.proofs.Parts.{bracket_block, element_block, empty_block, first_left, next_left, text_block, variable_block, word_block}
 use Rattle.code.proofs.Places.{command_at, part_at, word_at}
 use Rattle.code.specs.Blocks.{OwnBlock, PartsBlock, WordBlock, WordsBlock}
-use Rattle.code.specs.Code.{sets_last}
+use Rattle.code.specs.Code.{IsDirect}
+use Rattle.code.specs.Conditional.{IsLiteral}
 use Rattle.code.specs.Switch.{texts_then}
-use Rattle.code.specs.declared.instruction.Instruction.TheVariants as i
 use Rattle.tclparse.proofs.Trees.{view_Bracket, view_Command, view_Element, view_Literal, view_Variable, view_Word}
 use Rattle.tclparse.specs.Tree.{Words, no_commands, no_parts, no_words, command, word}
 use Rattle.tclparse.specs.declared.tree.Command.{out-Command}
@@ -154,20 +154,24 @@ emit_word-returns g t c =
           (subst (λ code. WordBlock true true n code new (word_view w)) (search rules) block)
     ]
 
-pub emit_set-returns : goal.emit_set-returns
-emit_set-returns g t c =
+pub emit_of_three-returns : goal.emit_of_three-returns
+emit_of_three-returns g t c =
     let words = c.args.words.now in
-    let name = c.in-Some.name.now in
-    let value = c.value-item.result in
-    let before = codes "set" ∷ name ∷ [] in
+    let command = c.command-item.result in
+    let variable = c.name-item.result in
+    let its =
+    subst (λ read. IfSome read (λ it. (own : List ℕ) × (text : List ℕ) × IsLiteral command own ×
+    IsLiteral variable text × IsDirect it (own ∷ text ∷ []))) c.in-Some.is c.in_ok-direct.ensures in
+    let last = c.value-item.result in
     let are : words_then words no_words
-    ≡ texts_then before (word false (parts_of value.parts) no_words) =
-    three_words words c.command-item.result c.name-item.result value (codes "set") name
+    ≡ texts_then (its.0 ∷ its.1 ∷ []) (word false (parts_of last.parts) no_words) =
+    three_words words command variable last its.0 its.1
     c.in-len3.len_at_least c.in-len3.len_below c.command-item.is c.name-item.is c.value-item.is
-    c.in-Some.ensures.0 c.in-Some.ensures.1 (search rules) in
+    its.2 its.3 (search rules) in
     subst (λ ws. OwnBlock true c.args.code.now.items c.push.new.self.items ws) (sym are)
     (direct_block c.args.code.now.items c.emit_parts.new.code.items c.push.new.self.items
-    (i.Set name) before (parts_of value.parts) sets_last (search rules) (search rules))
+    c.in-Some.direct (its.0 ∷ its.1 ∷ []) (parts_of last.parts) its.4 (search rules)
+    (search rules))
 
 pub emit_of_two-returns : goal.emit_of_two-returns
 emit_of_two-returns g t c =
@@ -193,22 +197,22 @@ emit_own-returns-then-branch g t c =
 pub emit_own-returns-then-branch-2 : goal.emit_own-returns-then-branch-2
 emit_own-returns-then-branch-2 g t c =
     let ws = words_then c.args.words.now no_words in
-    let some : c.in_ok-emit_set.field-0 ≡ true = search rules in
+    let some : c.in_ok-emit_of_three.field-0 ≡ true = search rules in
     let none : c.in_ok-put.field-0 ≡ false = search rules in
-    own_after c.args.code.now.items c.put.new.code.items c.emit_set.new.code.items ws _ true
+    own_after c.args.code.now.items c.put.new.code.items c.emit_of_three.new.code.items ws _ true
     c.in_ok-put.ensures none
-    (subst (λ put. OwnBlock put c.put.new.code.items c.emit_set.new.code.items ws) some
-    c.in_ok-emit_set.ensures)
+    (subst (λ put. OwnBlock put c.put.new.code.items c.emit_of_three.new.code.items ws) some
+    c.in_ok-emit_of_three.ensures)
 
 pub emit_own-returns : goal.emit_own-returns
 emit_own-returns g t c =
     let ws = words_then c.args.words.now no_words in
     let none : c.in_ok-put.field-0 ≡ false = search rules in
-    let none_set : c.in_ok-emit_set.field-0 ≡ false = search rules in
+    let none_three : c.in_ok-emit_of_three.field-0 ≡ false = search rules in
     own_after c.args.code.now.items c.put.new.code.items c.emit_of_two.new.code.items ws _ _
     c.in_ok-put.ensures none
-    (own_after c.put.new.code.items c.emit_set.new.code.items c.emit_of_two.new.code.items ws _ _
-    c.in_ok-emit_set.ensures none_set c.in_ok-emit_of_two.ensures)
+    (own_after c.put.new.code.items c.emit_of_three.new.code.items c.emit_of_two.new.code.items ws _ _
+    c.in_ok-emit_of_three.ensures none_three c.in_ok-emit_of_two.ensures)
 
 pub emit_command-returns-in_ok-emit_words : goal.emit_command-returns-in_ok-emit_words
 emit_command-returns-in_ok-emit_words g t c =

@@ -313,3 +313,19 @@ returns-in_ok-leave_by_return-in-Return-clause-does g c = λ s.
     let t = with_parts c.args.scopes.now c.args.procs.now c.args.left.now s in
     does_so c.args.instruction.now _ spot t c.in-Return.is
     (same_does (c.in_ok-leave_by_return-in-Return.ensures.does t refl))
+
+pub returns-in_ok-append-in-Append-clause-does :
+    goal.returns-in_ok-append-in-Append-clause-does
+returns-in_ok-append-in-Append-clause-does g c = λ s.
+    let spot = spot_of c.args.spot.now in
+    let t = with_parts c.args.scopes.now c.args.procs.now c.args.left.now s in
+    does_so c.args.instruction.now _ spot t c.in-Append.is
+    (same_does (c.in_ok-append-in-Append.ensures.does t refl))
+
+pub returns-in_ok-add-in-Add-clause-does :
+    goal.returns-in_ok-add-in-Add-clause-does
+returns-in_ok-add-in-Add-clause-does g c = λ s.
+    let spot = spot_of c.args.spot.now in
+    let t = with_parts c.args.scopes.now c.args.procs.now c.args.left.now s in
+    does_so c.args.instruction.now _ spot t c.in-Add.is
+    (same_does (c.in_ok-add-in-Add.ensures.does t refl))
