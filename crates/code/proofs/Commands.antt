@@ -109,22 +109,24 @@ module _ {A : Type 0} where
       (subst (λ b. OwnBlock b old between ws) none block) put
 
   -- a command that has code of its own
-  pub own_command_block : (old first new : List (Instruction A)) (ws : Words) →
-      first ≡ old ++ i.Next ∷ [] → OwnBlock true first new ws → CommandBlock old new ws
-  own_command_block old first new ws put block = record {
-    extends = onward (extended old first i.Next put) block.extends;
-    lies = λ later kept. (
-      stands old first later i.Next tt put (kept_on block.extends kept),
-      subst (λ n. CommandAt later n ws (length new)) (longer old first i.Next put)
-          (block.lies later kept),
-    );
-  }
+  pub own_command_block : (old first new : List (Instruction A)) (from_end : ℕ) (ws : Words) →
+      first ≡ old ++ i.Next from_end ∷ [] → OwnBlock true first new ws → CommandBlock old new ws
+  own_command_block old first new from_end ws put block =
+      let it : Instruction A = i.Next from_end in record {
+        extends = onward (extended old first it put) block.extends;
+        lies = λ later kept. (
+          from_end,
+          stands old first later it tt put (kept_on block.extends kept),
+          subst (λ n. CommandAt later n ws (length new)) (longer old first it put)
+              (block.lies later kept),
+        );
+      }
 
   -- a command that has none
-  pub command_block : (old first new : List (Instruction A)) (ws : Words) →
-      first ≡ old ++ i.Next ∷ [] → WordsBlock first new ws → CommandBlock old new ws
-  command_block old first new ws put block =
-      own_command_block old first new ws put (record {
+  pub command_block : (old first new : List (Instruction A)) (from_end : ℕ) (ws : Words) →
+      first ≡ old ++ i.Next from_end ∷ [] → WordsBlock first new ws → CommandBlock old new ws
+  command_block old first new from_end ws put block =
+      own_command_block old first new from_end ws put (record {
         extends = block.extends;
         lies = λ later kept. by_words (block.lies later kept);
       })
@@ -150,7 +152,7 @@ module _ {A : Type 0} where
         let lain = block.lies later kept in
         left.lies later (kept_on block.extends kept) end
         (subst (λ c. CommandsAt later (length before) c end) (sym is)
-        (next lain.0 lain.1 lies));
+        (next lain.1 lain.2 lies));
   }
 
   -- no command is left

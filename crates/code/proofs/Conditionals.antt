@@ -18,18 +18,20 @@ use Rattle.tclparse.specs.declared.script.Script.{Script}
 module _ {A : Type 0} where
   -- a body, between the instructions that enter and leave it
   pub body_block : (old entered between new : List (Instruction A)) (cs : Commands)
-      (f : Option Fault) (text : List ℕ) → IsScript cs f text → entered ≡ old ++ i.Enter ∷ [] →
+      (f : Option Fault) (text : List ℕ) (after : ℕ) → IsScript cs f text →
+      entered ≡ old ++ i.Body after ∷ [] →
       ScriptBlock entered between cs f → new ≡ between ++ i.Leave ∷ [] → BodyBlock old new text
-  body_block old entered between new cs f text is enters inside put =
-      let entering = extended old entered i.Enter enters in
+  body_block old entered between new cs f text after is enters inside put =
+      let enter : Instruction A = i.Body after in
+      let entering = extended old entered enter enters in
       let leaving = extended between new i.Leave put in record {
         extends = onward entering (onward inside.extends leaving);
         lies = λ later kept.
             let on = kept_on leaving kept in
             let script = inside.lies later on in
             subst (λ n. BodyAt later (length old) text n) (sym (longer between new i.Leave put))
-            (deeper is (stands old entered later i.Enter tt enters (kept_on inside.extends on))
-            (subst (λ n. CommandsAt later n cs script.mid) (longer old entered i.Enter enters)
+            (deeper is (stands old entered later enter tt enters (kept_on inside.extends on))
+            (subst (λ n. CommandsAt later n cs script.mid) (longer old entered enter enters)
             script.commands)
             script.ends (stands between new later i.Leave tt put kept));
       }

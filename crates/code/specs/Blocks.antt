@@ -59,8 +59,8 @@ OwnBlock true old new ws = Block old new (λ later. CommandAt later (length old)
 -- a command, which begins with its tick
 abbrev pub CommandBlock : {A : Type 0} → List (Instruction A) → List (Instruction A) → Words →
     Type 0
-CommandBlock old new ws = Block old new (λ later.
-    At later (length old) i.Next × CommandAt later (length old + 1) ws (length new))
+CommandBlock old new ws = Block old new (λ later. (from_end : ℕ) ×
+    At later (length old) (i.Next from_end) × CommandAt later (length old + 1) ws (length new))
 
 -- commands one after the other
 abbrev pub CommandsBlock : {A : Type 0} → List (Instruction A) → List (Instruction A) → Commands →

@@ -193,8 +193,9 @@ mutual
   -- commands one after the other, before which there is a value on top (Tcl(n), rule 1)
   pub data CommandsAt {A : Type 0} (code : List (Instruction A)) : ℕ → Commands → ℕ → Type 0 where
     done : {place : ℕ} → CommandsAt code place no_commands place
-    next : {place mid end : ℕ} {ws : Words} {cs : Commands} → At code place i.Next →
-        CommandAt code (place + 1) ws mid → CommandsAt code mid cs end →
+    next : {place mid end from_end : ℕ} {ws : Words} {cs : Commands} →
+        At code place (i.Next from_end) → CommandAt code (place + 1) ws mid →
+        CommandsAt code mid cs end →
         CommandsAt code place (command ws cs) end
 
   -- what the command of this name does with the words after it: if; while; for, whose start runs
@@ -321,8 +322,8 @@ mutual
 
   -- what a text is read as, as a script that runs one level deeper
   pub data BodyAt {A : Type 0} (code : List (Instruction A)) : ℕ → List ℕ → ℕ → Type 0 where
-    deeper : {place mid leave : ℕ} {body : List ℕ} {cs : Commands} {f : Option Fault} →
-        IsScript cs f body → At code place i.Enter → CommandsAt code (place + 1) cs mid →
+    deeper : {place mid leave after : ℕ} {body : List ℕ} {cs : Commands} {f : Option Fault} →
+        IsScript cs f body → At code place (i.Body after) → CommandsAt code (place + 1) cs mid →
         FaultAt code f mid leave → At code leave i.Leave → BodyAt code place body (leave + 1)
 
   -- a formula: its value is put on top (expr(n))

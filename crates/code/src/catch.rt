@@ -126,7 +126,8 @@ pub(crate) fn emit_catch<A: Allocator + Copy, N: Nest<A>>(
 {
     let catch = code.len();
     code.push(Instruction::Hole)?;
-    emit_body(code, &own.body, nest)?;
+    let after = usize::from(own.variable.is_some());
+    emit_body(code, &own.body, after, nest)?;
     code.push(Instruction::EndCatch)?;
     fill(code, catch, Instruction::Catch(code.len()));
     emit_taker(code, &own.variable)?;

@@ -24,6 +24,8 @@ const MOST_BRANCHES: u32 = 100;
 pub(crate) struct Branch<A: Allocator> {
     pub test: Formula<A>,
     pub body: Script<A>,
+    /// How many words stand after the body.
+    pub after: usize,
 }
 
 /// The branches, the last one first, and the last body, if there is one.
@@ -33,18 +35,19 @@ pub(crate) struct Conditional<A: Allocator> {
     otherwise: Option<Script<A>>,
 }
 
-/// Reads a test and its body; `None` where the test is no formula.
+/// Reads a test and its body, after which so many words stand; `None` where the test is no formula.
 pub(crate) fn read_branch<A: Allocator + Copy>(
     alloc: A,
     test: &[u8],
     body: &[u8],
+    after: usize,
 ) -> Result<Option<Branch<A>>, NoMemory>
     ensures { IfOk result (λ read. IfSome read (λ own. IsRead own test.now body.now)) }
 {
     match Formula::read(alloc, test) {
         Ok(test) => {
             let body = Script::read(alloc, body)?;
-            Ok(Some(Branch { test, body }))
+            Ok(Some(Branch { test, body, after }))
         }
         Err(ReadError::Fault(_)) => Ok(None),
         Err(ReadError::Memory(refusal)) => Err(refusal),
@@ -67,7 +70,7 @@ fn read_branches<A: Allocator + Copy>(
     let Some(front) = front_of(words) else {
         return Ok(None);
     };
-    let Some(branch) = read_branch(alloc, front.test, front.body)? else {
+    let Some(branch) = read_branch(alloc, front.test, front.body, front.behind.len())? else {
         return Ok(None);
     };
     let Some(mut own) = read_behind(alloc, most - 1, front.behind)? else {
@@ -125,16 +128,17 @@ impl<A: Allocator + Copy> Conditional<A> {
     }
 }
 
-/// Puts the code of a body, which runs one level deeper.
+/// Puts the code of a body, which runs one level deeper, and after which so many words stand.
 pub(crate) fn emit_body<A: Allocator + Copy, N: Nest<A>>(
     code: &mut Vec<Instruction<A>, A>,
     body: &Script<A>,
+    after: usize,
     nest: &N,
 ) -> Result<(), NoMemory>
     ensures { (text : List ℕ) → IsBody body.now text →
         OnOk result (BodyBlock code.old.items code.new.items text) }
 {
-    code.push(Instruction::Enter)?;
+    code.push(Instruction::Body(after))?;
     emit_script(code, body, nest)?;
     code.push(Instruction::Leave)?;
     Ok(())
@@ -150,7 +154,7 @@ fn emit_otherwise<A: Allocator + Copy, N: Nest<A>>(
         OnOk result (BehindBlock code.old.items code.new.items args) }
 {
     match otherwise {
-        Some(body) => emit_body(code, body, nest)?,
+        Some(body) => emit_body(code, body, 0, nest)?,
         None => code.push(Instruction::Text(Value::empty()))?,
     }
     Ok(())
@@ -172,7 +176,7 @@ fn emit_branch<A: Allocator + Copy, N: Nest<A>>(
     emit_formula(code, &own.test, nest)?;
     let unless = code.len();
     code.push(Instruction::Hole)?;
-    emit_body(code, &own.body, nest)?;
+    emit_body(code, &own.body, own.after, nest)?;
     let jump = code.len();
     code.push(Instruction::Hole)?;
     fill(code, unless, Instruction::Unless(code.len()));

@@ -127,7 +127,7 @@ fn emit_deal<A: Allocator + Copy, N: Nest<A>>(
     let deal = code.len();
     code.push(Instruction::Hole)?;
     let first = code.len();
-    emit_body(code, body, nest)?;
+    emit_body(code, body, 0, nest)?;
     let end = code.len();
     code.push(Instruction::EndTurn)?;
     fill(code, deal, Instruction::Deal(code.len()));

@@ -183,17 +183,18 @@ fn emit_own<A: Allocator + Copy, N: Nest<A>>(
     Ok(emit_of_two(code, words, nest)?)
 }
 
-/// Puts the code of a command.
+/// Puts the code of a command, which begins so many bytes before the end of its text.
 #[cycle(emit)]
 fn emit_command<A: Allocator + Copy, N: Nest<A>>(
     code: &mut Vec<Instruction<A>, A>,
+    from_end: usize,
     words: &[Word<A>],
     nest: &N,
 ) -> Result<(), NoMemory>
     ensures { OnOk result (CommandBlock code.old.items code.new.items
         (words_then words.now no_words)) }
 {
-    code.push(Instruction::Next)?;
+    code.push(Instruction::Next(from_end))?;
     if !emit_own(code, words, nest)? {
         emit_words(code, words, nest)?;
     }
@@ -211,7 +212,7 @@ fn emit_commands<A: Allocator + Copy, N: Nest<A>>(
         (commands_then commands.now no_commands)) }
 {
     for command in commands {
-        emit_command(code, &command.words, nest)?;
+        emit_command(code, command.from_end, &command.words, nest)?;
     }
     Ok(())
 }

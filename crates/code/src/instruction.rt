@@ -8,9 +8,9 @@ use tcltext::{Pattern, Value};
 /// What is done at one place of the code. The operands are a stack of texts.
 #[derive(Drop)]
 pub enum Instruction<A: Allocator> {
-    /// A command begins: the value of the command before it, which is on top, is dropped, and a
-    /// tick is taken (Tcl(n), rule 1).
-    Next,
+    /// A command begins, so many bytes before the end of the text that it stands in: the value of
+    /// the command before it, which is on top, is dropped, and a tick is taken (Tcl(n), rule 1).
+    Next(usize),
     /// Puts a text on top.
     Text(Value<A>),
     /// Puts the value of the variable of this name on top (Tcl(n), rule 8).
@@ -23,6 +23,9 @@ pub enum Instruction<A: Allocator> {
     /// A script in brackets begins, one level deeper; the empty text, its value so far, is put on
     /// top (Tcl(n), rule 7).
     Enter,
+    /// A script that is a word of a command begins, one level deeper, in the same way; so many
+    /// words stand after it (if(n)).
+    Body(usize),
     /// That script is over; its value is on top (Tcl(n), rule 7).
     Leave,
     /// From here on the words of a command are counted, since one is after `{*}`; this many of them

@@ -51,7 +51,12 @@ impl<A: Allocator> Coded<A> {
         &self.tree.commands
     }
 
-    /// The instructions.
+    /// The instructions. No contract speaks of them: who watches a run is told which code it is.
+    pub fn code(&self) -> &Rc<Vec<Instruction<A>, A>, A> {
+        &self.code
+    }
+
+    /// The instructions alone.
     pub fn into_code(self) -> Rc<Vec<Instruction<A>, A>, A>
         ensures { IsCodeOf result.value.items self }
     {

@@ -110,7 +110,7 @@ fn emit_its<A: Allocator + Copy, N: Nest<A>>(
         Own::If(own) => Ok(emit_branches(code, own, nest)?),
         Own::While(own) => Ok(emit_turns(code, own, nest)?),
         Own::For(own) => Ok(emit_for(code, own, nest)?),
-        Own::Eval(own) => Ok(emit_body(code, own, nest)?),
+        Own::Eval(own) => Ok(emit_body(code, own, 0, nest)?),
         Own::Catch(own) => Ok(emit_catch(code, own, nest)?),
         Own::Expr(own) => Ok(emit_expr(code, own, nest)?),
     }

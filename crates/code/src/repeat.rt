@@ -88,7 +88,7 @@ pub(crate) fn read_while<A: Allocator + Copy>(
     let Some((test, body)) = while_words(words) else {
         return Ok(None);
     };
-    let Some(turn) = read_branch(alloc, test, body)? else {
+    let Some(turn) = read_branch(alloc, test, body, 0)? else {
         return Ok(None);
     };
     Ok(Some(Turns { turn, step: None }))
@@ -108,7 +108,7 @@ pub(crate) fn read_for<A: Allocator + Copy>(
     let Some(found) = for_words(words) else {
         return Ok(None);
     };
-    let Some(turn) = read_branch(alloc, found.test, found.body)? else {
+    let Some(turn) = read_branch(alloc, found.test, found.body, 0)? else {
         return Ok(None);
     };
     let start = Script::read(alloc, found.start)?;
@@ -130,7 +130,7 @@ fn emit_step<A: Allocator + Copy, N: Nest<A>>(
         OnOk result (StepBlock code.old.items code.new.items (Some text)) }
 {
     code.push(Instruction::Step)?;
-    emit_body(code, step, nest)?;
+    emit_body(code, step, 1, nest)?;
     code.push(Instruction::EndTurn)?;
     Ok(())
 }
@@ -164,7 +164,7 @@ pub(crate) fn emit_turns<A: Allocator + Copy, N: Nest<A>>(
     let jump = code.len();
     code.push(Instruction::Hole)?;
     let body = code.len();
-    emit_body(code, &own.turn.body, nest)?;
+    emit_body(code, &own.turn.body, own.turn.after, nest)?;
     let end = code.len();
     emit_end(code, &own.step, nest)?;
     fill(code, jump, Instruction::Jump(code.len()));
@@ -184,7 +184,7 @@ pub(crate) fn emit_for<A: Allocator + Copy, N: Nest<A>>(
         IsFor own.now start test step body → OnOk result (ItsBlock (codes "for")
         code.old.items code.new.items (start ∷ test ∷ step ∷ body ∷ [])) }
 {
-    emit_body(code, &own.start, nest)?;
+    emit_body(code, &own.start, 3, nest)?;
     code.push(Instruction::Discard)?;
     emit_turns(code, &own.turns, nest)?;
     Ok(())

@@ -42,17 +42,18 @@ fn test_of<A: Allocator + Copy>(
     }
 }
 
-/// Puts the code of a body, before which the string is dropped.
+/// Puts the code of a body, before which the string is dropped, and after which so many words stand.
 fn emit_chosen<A: Allocator + Copy, N: Nest<A>>(
     code: &mut Vec<Instruction<A>, A>,
     body: &Value<A>,
+    after: usize,
     nest: &N,
 ) -> Result<(), NoMemory>
     ensures { OnOk result (ChosenBlock code.old.items code.new.items body.now) }
 {
     let script = Script::read(*code.allocator(), body.as_slice())?;
     code.push(Instruction::Discard)?;
-    emit_body(code, &script, nest)?;
+    emit_body(code, &script, after, nest)?;
     Ok(())
 }
 
@@ -98,7 +99,7 @@ fn emit_arm<A: Allocator + Copy, N: Nest<A>>(
     let test = code.len();
     code.push(Instruction::Hole)?;
     let taken = code.len();
-    emit_chosen(code, body, nest)?;
+    emit_chosen(code, body, more.len(), nest)?;
     let over = code.len();
     code.push(Instruction::Hole)?;
     let it = test_of(*code.allocator(), globs, pattern, taken, code.len())?;
@@ -124,7 +125,7 @@ fn emit_arms<A: Allocator + Copy, N: Nest<A>>(
         return Ok(taken);
     };
     if is_last_default(pattern.as_slice(), more) {
-        emit_chosen(code, body, nest)?;
+        emit_chosen(code, body, 0, nest)?;
         return Ok(taken);
     }
     if body.as_slice() == b"-".as_slice() {

@@ -4,8 +4,7 @@
 mod running;
 mod session;
 
-pub use machine::frame::Frame;
-pub use machine::{End, Unwatched, Watch};
+pub use machine::{End, Running, Unwatched, Watch};
 pub use running::{run, run_watched};
 pub use runs::laws::answers_decide;
 pub use session::{Session, Step};

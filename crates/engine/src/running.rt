@@ -8,8 +8,7 @@ ghost use Rattle.runs.specs.Run.{Began, Ran};
 use crate::Lead;
 use crate::session::{Session, Step};
 use acts::{Limits, NoMemory, World};
-use machine::frame::Frame;
-use machine::{End, Unwatched, Watch};
+use machine::{End, Running, Unwatched, Watch};
 use state::State;
 use std::alloc::Allocator;
 
@@ -37,7 +36,7 @@ pub fn run<A: Allocator + Copy, W: World<A>>(
 
 /// The same, while someone watches it, who is told of each act with its answer and has no part in
 /// the run.
-pub fn run_watched<A: Allocator + Copy, W: World<A>, T: Watch<A, Frame<A>, State<A>, Lead<A>>>(
+pub fn run_watched<A: Allocator + Copy, W: World<A>, T: Watch<A, Running<A>, State<A>, Lead<A>>>(
     alloc: A,
     script: &[u8],
     args: &[Vec<u8, A>],
@@ -55,7 +54,7 @@ pub fn run_watched<A: Allocator + Copy, W: World<A>, T: Watch<A, Frame<A>, State
         script.now (words_of args.now) limits.ticks) }
 {
     watch.starts(script, args);
-    let mut session = Session::begin(alloc, script, args, limits, watch.sees_frames())?;
+    let mut session = Session::start(alloc, script, args, limits)?;
     session.go_on(None, watch)?;
     'acts: loop {
         let answer = match session.step() {

@@ -11,7 +11,6 @@ use crate::Lead;
 use acts::{Act, Answer, Limits, NoMemory};
 use machine::answering::forward;
 use machine::beginning::beginning;
-use machine::frame::Frame;
 use machine::{End, Phase, Running, Unwatched, Watch};
 use state::State;
 use std::alloc::Allocator;
@@ -54,23 +53,9 @@ impl<A: Allocator + Copy> Session<A> {
         ensures { IfOk result (λ session.
             IsAt session script.now (words_of args.now) limits.ticks []) }
     {
-        Session::begin(alloc, script, args, limits, false)
-    }
-
-    /// The same; where someone looks at the frames, the script stands among them as its tree.
-    pub(crate) fn begin(
-        alloc: A,
-        script: &[u8],
-        args: &[Vec<u8, A>],
-        limits: Limits,
-        in_sight: bool,
-    ) -> Result<Session<A>, NoMemory>
-        ensures { IfOk result (λ session.
-            IsAt session script.now (words_of args.now) limits.ticks []) }
-    {
         Ok(Session {
-            running: Running::begin(alloc, script, in_sight)?,
-            state: beginning(alloc, args, limits, !in_sight)?,
+            running: Running::begin(alloc, script)?,
+            state: beginning(alloc, args, limits)?,
             answers: 0,
             phase: Phase::Has(Ok(Value::empty())),
         })
@@ -95,7 +80,7 @@ impl<A: Allocator + Copy> Session<A> {
     }
 
     /// Continues to the next act or to the end, and tells who watches what is done on the way.
-    pub(crate) fn go_on<T: Watch<A, Frame<A>, State<A>, Lead<A>>>(
+    pub(crate) fn go_on<T: Watch<A, Running<A>, State<A>, Lead<A>>>(
         &mut self,
         answer: Option<Answer<A>>,
         watch: &mut T,

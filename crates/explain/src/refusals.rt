@@ -4,7 +4,7 @@ ghost use Rattle.std.specs.Prelude.{◌≡◌};
 ghost use Rattle.worlds.specs.Runs.{Heard, RunsRecorded};
 
 use acts::{Act, Answer, Limits, NoMemory, World};
-use engine::{End, Frame, Lead, State, Watch};
+use engine::{End, Lead, Running, State, Watch};
 use records::Sink;
 use std::alloc::Allocator;
 use teller::Refusal;
@@ -52,7 +52,7 @@ pub(crate) fn run_heeded<
     A: Allocator + Copy,
     W: World<A> + Refuses<A>,
     S: Sink,
-    T: Watch<A, Frame<A>, State<A>, Lead<A>>,
+    T: Watch<A, Running<A>, State<A>, Lead<A>>,
 >(
     alloc: A,
     script: &[u8],

@@ -7,12 +7,13 @@ ghost use Rattle.records.specs.Sink.{Takes};
 
 use crate::refusals::{Heeded, run_heeded};
 use acts::{Act, Answer, Limits, NoMemory, World};
+use code::Instruction;
 use engine::End;
-use machine::frame::Frame;
-use machine::{Waits, Watch};
+use machine::{Running, Waits, Watch};
 use records::{Sink, put_all};
-use state::{Leaf, State};
+use state::{Leaf, Outcome, State};
 use std::alloc::Allocator;
+use std::rc::Rc;
 use tcltext::Value;
 use teller::{Detail, Teller};
 use worlds::recorded::{Refuses, Runner};
@@ -87,7 +88,8 @@ impl<A: Allocator + Copy, S: Sink> Story<A, S> {
     }
 }
 
-impl<A: Allocator + Copy, S: Sink> Watch<A, Frame<A>, State<A>, Leaf<A, Waits<A>>> for Story<A, S> {
+impl<A: Allocator + Copy, S: Sink> Watch<A, Running<A>, State<A>, Leaf<A, Waits<A>>>
+    for Story<A, S> {
     ghost use Rattle.explain.specs.Stories.{GoesOn, joined, rests};
     ghost use Rattle.explain.specs.View.{told_of};
 
@@ -100,17 +102,18 @@ impl<A: Allocator + Copy, S: Sink> Watch<A, Frame<A>, State<A>, Leaf<A, Waits<A>
     ghost joins = { λ x y z h k.
         joined S.adds S.has_failed (told_of x) (told_of y) (told_of z) h k };
 
-    fn sees_frames(&self) -> bool {
-        true
-    }
-
     fn starts(&mut self, script: &[u8], args: &[Vec<u8, A>]) {
         let noted = self.teller.starts(script, args);
         self.note(noted);
     }
 
-    fn begins(&mut self, frames: &[Frame<A>], state: &State<A>, words: &[Value<A>]) {
-        let noted = self.teller.begins(frames, state, words);
+    fn stands(&mut self, running: &Running<A>, state: &State<A>) {
+        let noted = self.teller.stands(running, state);
+        self.note(noted);
+    }
+
+    fn begins(&mut self, state: &State<A>, words: &[Value<A>]) {
+        let noted = self.teller.begins(state, words);
         self.note(noted);
     }
 
@@ -119,9 +122,20 @@ impl<A: Allocator + Copy, S: Sink> Watch<A, Frame<A>, State<A>, Leaf<A, Waits<A>
         self.note(noted);
     }
 
-    fn leads(&mut self, frames: &[Frame<A>], state: &State<A>, leaf: &Leaf<A, Waits<A>>) {
-        let told = self.teller.leads(frames, state, leaf, self.detail);
+    fn leads(&mut self, running: &Running<A>, state: &State<A>, leaf: &Leaf<A, Waits<A>>) {
+        let told = self.teller.leads(running, state, leaf, self.detail);
         self.tell(told);
+    }
+
+    fn ends(
+        &mut self,
+        code: &Rc<Vec<Instruction<A>, A>, A>,
+        place: usize,
+        state: &State<A>,
+        outcome: &Outcome<A>,
+    ) {
+        let noted = self.teller.ends(code, place, state, outcome);
+        self.note(noted);
     }
 
     fn answers(&mut self, act: &Act<A>, answer: &Answer<A>) {

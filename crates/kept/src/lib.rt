@@ -9,7 +9,7 @@ ghost use Rattle.std.specs.Str.{bytes_eq};
 ghost use Rattle.kept.specs.Kept.{is_among, newest, with_newest, with_text, IsTree};
 
 pub use argument::{Argument, Arguments};
-use code::Made;
+use code::{Instruction, Made};
 use hints::{Hints, Table, found_near, new_table};
 use memory::NoMemory;
 use std::alloc::Allocator;
@@ -62,6 +62,19 @@ impl<A: Allocator> Kept<A> {
     pub fn text_of(&self, commands: &Rc<Vec<Command<A>, A>, A>) -> Option<&[u8]> {
         for (text, script) in self.scripts.iter() {
             if Rc::ptr_eq(script.commands(), commands) {
+                return Some(text.as_slice());
+            }
+        }
+        None
+    }
+
+    /// The text under which the script with this code is kept, if it is. Takes no memory. No
+    /// contract speaks of it, as of the one above.
+    pub fn text_of_code(&self, code: &Rc<Vec<Instruction<A>, A>, A>) -> Option<&[u8]> {
+        for (text, script) in self.scripts.iter() {
+            if let Made::Code(coded) = script
+                && Rc::ptr_eq(coded.code(), code)
+            {
                 return Some(text.as_slice());
             }
         }

@@ -298,12 +298,3 @@ module _ {A : Type 0} (script : Script A) (text : List ℕ)
     };
     goes = λ args limit. reads {text = ScriptText text} (seen script) is (calls (rw none here));
   }
-
-  -- so is a script that is the one frame
-  pub tree_whole : (running : Running A) → running.code ≡ None → parts_of running ≡ [] →
-      stack running.frames ≡ frame.Script (begun script most_levels) ∷ [] → IsWhole running text
-  tree_whole running none alone one = record {
-    last = closing;
-    below = record { after = closing; beneath = rw alone refl; under = rw none refl };
-    goes = λ args limit. reads {text = ScriptText text} (seen script) is (calls (rw one here));
-  }

@@ -7,7 +7,6 @@ ghost use Rattle.machine.specs.Below.{HasFewer, IsBelow, IsSettled, Settles, Sta
 ghost use Rattle.machine.specs.Phases.{IsTold};
 
 use crate::closing::close_run;
-use crate::frame::Frame;
 use crate::phase::Phase;
 use crate::running::{Handed, Running, hand_on};
 use crate::starting::start;
@@ -28,7 +27,7 @@ pub enum Settled<A: Allocator> {
 
 /// Takes silent steps from the outcome of a part up to the next act or the end of the run, and
 /// tells who watches.
-pub fn advance<A: Allocator + Copy, T: Watch<A, Frame<A>, State<A>, Leaf<A, Waits<A>>>>(
+pub fn advance<A: Allocator + Copy, T: Watch<A, Running<A>, State<A>, Leaf<A, Waits<A>>>>(
     alloc: A,
     running: &mut Running<A>,
     state: &mut State<A>,
@@ -52,7 +51,7 @@ pub fn advance<A: Allocator + Copy, T: Watch<A, Frame<A>, State<A>, Leaf<A, Wait
 }
 
 /// Takes silent steps until a tick is taken, an act waits for its answer, or the run ends.
-fn settle<A: Allocator + Copy, T: Watch<A, Frame<A>, State<A>, Leaf<A, Waits<A>>>>(
+fn settle<A: Allocator + Copy, T: Watch<A, Running<A>, State<A>, Leaf<A, Waits<A>>>>(
     alloc: A,
     running: &mut Running<A>,
     state: &mut State<A>,
@@ -70,7 +69,7 @@ fn settle<A: Allocator + Copy, T: Watch<A, Frame<A>, State<A>, Leaf<A, Waits<A>>
 {
     let left = state.left;
     'commands: loop {
-        let handed = hand_on(alloc, running, state, outcome)?;
+        let handed = hand_on(alloc, running, state, outcome, watch)?;
         let next = match handed {
             Handed::Over(last) => {
                 return Ok(Settled::Stands(close_run(alloc, state, answers, last)?));
@@ -78,8 +77,9 @@ fn settle<A: Allocator + Copy, T: Watch<A, Frame<A>, State<A>, Leaf<A, Waits<A>>
             Handed::Has(next) => return Ok(Settled::Has(next)),
             Handed::Begins(next) => next,
         };
+        watch.stands(running, state);
         let leaf = start(alloc, &mut running.frames, state, next, watch)?;
-        watch.leads(&running.frames, state, &leaf);
+        watch.leads(running, state, &leaf);
         match leaf {
             Leaf::Asks(act, waits) => return Ok(Settled::Stands(Phase::Asks(act, waits))),
             Leaf::Has(next) => {

@@ -22,7 +22,7 @@ use state::{Leaf, Leave, State, Stop};
 use std::alloc::Allocator;
 
 /// Takes a session from where it stands, with the answer to its act, to the next act or the end.
-pub fn forward<A: Allocator + Copy, T: Watch<A, Frame<A>, State<A>, Leaf<A, Waits<A>>>>(
+pub fn forward<A: Allocator + Copy, T: Watch<A, Running<A>, State<A>, Leaf<A, Waits<A>>>>(
     alloc: A,
     running: &mut Running<A>,
     state: &mut State<A>,
@@ -67,7 +67,7 @@ pub fn forward<A: Allocator + Copy, T: Watch<A, Frame<A>, State<A>, Leaf<A, Wait
 
 /// Continues with the answer to the act of a command, up to the next act or the end. Without an
 /// answer, or with one that does not fit, the whole run stops.
-fn answered<A: Allocator + Copy, T: Watch<A, Frame<A>, State<A>, Leaf<A, Waits<A>>>>(
+fn answered<A: Allocator + Copy, T: Watch<A, Running<A>, State<A>, Leaf<A, Waits<A>>>>(
     alloc: A,
     running: &mut Running<A>,
     state: &mut State<A>,
@@ -94,7 +94,7 @@ fn answered<A: Allocator + Copy, T: Watch<A, Frame<A>, State<A>, Leaf<A, Waits<A
         return advance(alloc, running, state, answers, stopped, watch);
     }
     let leaf = go_on(alloc, &mut running.frames, state, act, waits, answer)?;
-    watch.leads(&running.frames, state, &leaf);
+    watch.leads(running, state, &leaf);
     match leaf {
         Leaf::Has(outcome) => advance(alloc, running, state, answers, outcome, watch),
         Leaf::Asks(act, waits) => Ok(Phase::Asks(act, waits)),

@@ -19,12 +19,11 @@ use tclstate::{Procs, ScopeError, Scopes};
 use tcltext::{Value, join_list};
 
 /// The state in which a script with these arguments begins. The first argument is `argv0`, the rest
-/// are `argv`. Scripts that commands run are kept as their code, or as their trees.
+/// are `argv`.
 pub fn beginning<A: Allocator + Copy>(
     alloc: A,
     args: &[Vec<u8, A>],
     limits: Limits,
-    as_code: bool,
 ) -> Result<State<A>, NoMemory>
     ensures { IfOk result (λ state. FitsState state (initial (words_of args.now) limits.ticks)) }
 {
@@ -38,7 +37,7 @@ pub fn beginning<A: Allocator + Copy>(
             all: false,
         },
         left: limits.ticks,
-        kept: Kept::new(alloc, as_code),
+        kept: Kept::new(alloc, true),
         formulas: KeptFormulas::new(alloc),
         arguments: Arguments::new(alloc),
         branches: KeptBranches::new(alloc),

@@ -10,12 +10,13 @@ ghost use Rattle.state.specs.Prelude.{Status, FitsState, outcome_of};
 ghost use Rattle.steps.specs.Run.{Awaits, IsFresh, IsValue, places_left};
 
 use crate::frame::{Frame, WordsOf};
-use crate::nesting::as_frame;
 use crate::starting::Next;
 use crate::unwinding::{Unwound, unwind};
+use crate::waits::Waits;
+use crate::watch::Watch;
 use acts::NoMemory;
-use code::{Coded, Made, code_of};
-use state::{Outcome, State};
+use code::{Coded, code_of};
+use state::{Leaf, Outcome, State};
 use std::alloc::Allocator;
 use std::mem;
 use std::rc::Rc;
@@ -77,23 +78,11 @@ impl<A: Allocator> Running<A> {
 }
 
 impl<A: Allocator + Copy> Running<A> {
-    /// The script of a run, of which nothing is done yet: as its code, or, where someone looks at
-    /// the frames, as its tree, which is a frame.
+    /// The script of a run, of which nothing is done yet.
     ///
     /// # Errors
     /// `NoMemory` where memory is refused.
-    pub fn begin(alloc: A, text: &[u8], in_sight: bool) -> Result<Running<A>, NoMemory>
-        ensures { IfOk result (λ running. IsWhole running text.now) }
-    {
-        if in_sight {
-            Running::by_tree(alloc, text)
-        } else {
-            Running::by_code(alloc, text)
-        }
-    }
-
-    /// As its code.
-    fn by_code(alloc: A, text: &[u8]) -> Result<Running<A>, NoMemory>
+    pub fn begin(alloc: A, text: &[u8]) -> Result<Running<A>, NoMemory>
         ensures { IfOk result (λ running. IsWhole running text.now) }
     {
         let script = tclparse::Script::read(alloc, text)?;
@@ -104,29 +93,16 @@ impl<A: Allocator + Copy> Running<A> {
             parts: Vec::new(alloc),
         })
     }
-
-    /// As its tree, which is the one frame.
-    fn by_tree(alloc: A, text: &[u8]) -> Result<Running<A>, NoMemory>
-        ensures { IfOk result (λ running. IsWhole running text.now) }
-    {
-        let script = tclparse::Script::read(alloc, text)?;
-        let mut frames = Vec::new(alloc);
-        as_frame(Made::Tree(script), MOST_LEVELS).push(&mut frames)?;
-        Ok(Running {
-            frames,
-            code: None,
-            parts: Vec::new(alloc),
-        })
-    }
 }
 
 /// Hands an outcome to what is still to be done, until something begins, a tick was taken, or
 /// nothing is left.
-pub(crate) fn hand_on<A: Allocator + Copy>(
+pub(crate) fn hand_on<A: Allocator + Copy, T: Watch<A, Running<A>, State<A>, Leaf<A, Waits<A>>>>(
     alloc: A,
     running: &mut Running<A>,
     state: &mut State<A>,
     mut outcome: Outcome<A>,
+    watch: &mut T,
 ) -> Result<Handed<A>, NoMemory>
     ensures goes_on { (last : Onward) (s : Status) → FitsState state.old s →
         IsBelow running.old last → IfOk result (λ handed. GoesOn handed running.new state.new
@@ -136,10 +112,11 @@ pub(crate) fn hand_on<A: Allocator + Copy>(
         IsLess handed running.new
         (again_of (outcome_of outcome) + rest_of running.old)) }
     ensures ticked { IfOk result (λ handed. HasTicked handed state.new.left state.old.left) }
+    ensures watched { T.told watch.old [] watch.new }
 {
     let left = state.left;
     'parts: loop {
-        match hand_once(alloc, running, state, outcome)? {
+        match hand_once(alloc, running, state, outcome, watch)? {
             Handed::Has(next) => {
                 if state.left < left {
                     return Ok(Handed::Has(next));
@@ -154,11 +131,12 @@ pub(crate) fn hand_on<A: Allocator + Copy>(
 
 /// Hands an outcome to the frames, from the top down, and once all are gone to what lies below
 /// them.
-fn hand_once<A: Allocator + Copy>(
+fn hand_once<A: Allocator + Copy, T: Watch<A, Running<A>, State<A>, Leaf<A, Waits<A>>>>(
     alloc: A,
     running: &mut Running<A>,
     state: &mut State<A>,
     outcome: Outcome<A>,
+    watch: &mut T,
 ) -> Result<Handed<A>, NoMemory>
     ensures goes_on { (last : Onward) (s : Status) → FitsState state.old s →
         IsBelow running.old last → IfOk result (λ handed. GoesOn handed running.new state.new
@@ -169,24 +147,26 @@ fn hand_once<A: Allocator + Copy>(
         (again_of (outcome_of outcome) + rest_of running.old)) }
     ensures falls { IfOk result (λ handed. state.new.left ≡ state.old.left →
         Falls handed running.old running.new) }
+    ensures watched { T.told watch.old [] watch.new }
 {
     match unwind(alloc, &mut running.frames, state, outcome)? {
         Unwound::Begins(next) => Ok(Handed::Begins(next)),
         Unwound::Enters(script, levels, value) => enter(
-            alloc, running, state, script, levels, value,
+            alloc, running, state, script, levels, value, watch,
         ),
-        Unwound::Has(last) => hand_down(alloc, running, state, last),
+        Unwound::Has(last) => hand_down(alloc, running, state, last, watch),
     }
 }
 
 /// Enters the code of a script with this value, above the frames.
-fn enter<A: Allocator + Copy>(
+fn enter<A: Allocator + Copy, T: Watch<A, Running<A>, State<A>, Leaf<A, Waits<A>>>>(
     alloc: A,
     running: &mut Running<A>,
     state: &mut State<A>,
     script: Coded<A>,
     levels: u8,
     value: Value<A>,
+    watch: &mut T,
 ) -> Result<Handed<A>, NoMemory>
     ensures goes_on { (last : Onward) (s : Status) → FitsState state.old s →
         IsBelow running.old last → IfOk result (λ handed. GoesOn handed running.new state.new
@@ -195,9 +175,10 @@ fn enter<A: Allocator + Copy>(
     ensures left { IfOk result (λ _. state.new.left ≤ state.old.left) }
     ensures less { IfOk result (λ handed. state.new.left ≡ state.old.left →
         TicksFirst handed × (running.new ≡ running.old)) }
+    ensures watched { T.told watch.old [] watch.new }
 {
     let mut run = Run::begin(alloc, script.into_code(), levels);
-    match go_on(alloc, &mut run, state, Ok(value))? {
+    match go_on(alloc, &mut run, state, Ok(value), watch)? {
         Handed::Begins(next) => {
             let frames = mem::replace(&mut running.frames, Vec::new(alloc));
             let code = mem::replace(&mut running.code, Some(run));
@@ -210,11 +191,12 @@ fn enter<A: Allocator + Copy>(
 }
 
 /// Hands an outcome to the code, once all frames are gone.
-fn hand_down<A: Allocator + Copy>(
+fn hand_down<A: Allocator + Copy, T: Watch<A, Running<A>, State<A>, Leaf<A, Waits<A>>>>(
     alloc: A,
     running: &mut Running<A>,
     state: &mut State<A>,
     outcome: Outcome<A>,
+    watch: &mut T,
 ) -> Result<Handed<A>, NoMemory>
     ensures goes_on { (last : Onward) (s : Status) → FitsState state.old s →
         stack running.old.frames ≡ [] → IsBelow running.old last →
@@ -226,11 +208,12 @@ fn hand_down<A: Allocator + Copy>(
         (again_of (outcome_of outcome) + rest_of running.old)) }
     ensures falls { IfOk result (λ handed. state.new.left ≡ state.old.left →
         Falls handed running.old running.new) }
+    ensures watched { T.told watch.old [] watch.new }
 {
     let Some(run) = &mut running.code else {
         return Ok(running.end_part(outcome));
     };
-    match go_on(alloc, run, state, outcome)? {
+    match go_on(alloc, run, state, outcome, watch)? {
         Handed::Has(last) => Ok(running.end_part(last)),
         Handed::Begins(next) => Ok(Handed::Begins(next)),
         Handed::Over(last) => Ok(Handed::Over(last)),
@@ -239,11 +222,12 @@ fn hand_down<A: Allocator + Copy>(
 
 /// Hands an outcome to the code of a script, up to the next command, which begins by its words, or
 /// to the end.
-fn go_on<A: Allocator + Copy>(
+fn go_on<A: Allocator + Copy, T: Watch<A, Running<A>, State<A>, Leaf<A, Waits<A>>>>(
     alloc: A,
     run: &mut Run<A>,
     state: &mut State<A>,
     outcome: Outcome<A>,
+    watch: &mut T,
 ) -> Result<Handed<A>, NoMemory>
     ensures runs { (last next : Onward) (s : Status) → FitsState state.old s →
         Awaits last run.old next → IfOk result (λ handed.
@@ -254,6 +238,7 @@ fn go_on<A: Allocator + Copy>(
         ≤ again_of (outcome_of outcome) + 2 * places_left run.old) }
     ensures first { IsFresh run.old → IsValue outcome → IfOk result (λ handed.
         state.new.left ≡ state.old.left → TicksFirst handed) }
+    ensures watched { T.told watch.old [] watch.new }
 {
     match run.go_on(alloc, state, outcome)? {
         Progress::Begins => {
@@ -262,6 +247,7 @@ fn go_on<A: Allocator + Copy>(
         }
         Progress::Over => {
             let outcome = mem::replace(&mut run.spot.outcome, Ok(Value::empty()));
+            watch.ends(&run.code, run.spot.place, state, &outcome);
             Ok(Handed::Has(outcome))
         }
         // It never stops otherwise: the code of a script lacks no operand.

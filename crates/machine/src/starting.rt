@@ -26,6 +26,7 @@ ghost use Rattle.words.specs.Words.{words as meant_words};
 
 use crate::frame::{Frame, WordsOf};
 use crate::nesting::{gather, put_script};
+use crate::running::Running;
 use crate::turns::{say, take_turn, wait};
 use crate::waits::{Waits, plainly};
 use crate::watch::Watch;
@@ -78,7 +79,7 @@ pub enum Begun<A: Allocator> {
 
 /// Begins what comes next, up to its first act or a script in it.
 #[inline(always)]
-pub(crate) fn start<A: Allocator + Copy, T: Watch<A, Frame<A>, State<A>, Leaf<A, Waits<A>>>>(
+pub(crate) fn start<A: Allocator + Copy, T: Watch<A, Running<A>, State<A>, Leaf<A, Waits<A>>>>(
     alloc: A,
     frames: &mut Vec<Frame<A>, A>,
     state: &mut State<A>,
@@ -100,7 +101,7 @@ pub(crate) fn start<A: Allocator + Copy, T: Watch<A, Frame<A>, State<A>, Leaf<A,
 }
 
 /// Begins what comes next, up to an outcome or to what may ask for acts.
-fn begin_next<A: Allocator + Copy, T: Watch<A, Frame<A>, State<A>, Leaf<A, Waits<A>>>>(
+fn begin_next<A: Allocator + Copy, T: Watch<A, Running<A>, State<A>, Leaf<A, Waits<A>>>>(
     alloc: A,
     frames: &mut Vec<Frame<A>, A>,
     state: &mut State<A>,
@@ -127,7 +128,7 @@ fn begin_next<A: Allocator + Copy, T: Watch<A, Frame<A>, State<A>, Leaf<A, Waits
 
 /// Continues with words that are all substituted: they begin a command, or give its branches.
 #[inline(never)]
-fn go_on<A: Allocator + Copy, T: Watch<A, Frame<A>, State<A>, Leaf<A, Waits<A>>>>(
+fn go_on<A: Allocator + Copy, T: Watch<A, Running<A>, State<A>, Leaf<A, Waits<A>>>>(
     alloc: A,
     frames: &mut Vec<Frame<A>, A>,
     state: &mut State<A>,
@@ -154,7 +155,7 @@ fn go_on<A: Allocator + Copy, T: Watch<A, Frame<A>, State<A>, Leaf<A, Waits<A>>>
 }
 
 /// Begins a command by its tree, or a script in one of its words.
-fn begin<A: Allocator + Copy, T: Watch<A, Frame<A>, State<A>, Leaf<A, Waits<A>>>>(
+fn begin<A: Allocator + Copy, T: Watch<A, Running<A>, State<A>, Leaf<A, Waits<A>>>>(
     alloc: A,
     frames: &mut Vec<Frame<A>, A>,
     state: &mut State<A>,
@@ -178,7 +179,7 @@ fn begin<A: Allocator + Copy, T: Watch<A, Frame<A>, State<A>, Leaf<A, Waits<A>>>
 }
 
 /// Begins a command by its words.
-fn call<A: Allocator + Copy, T: Watch<A, Frame<A>, State<A>, Leaf<A, Waits<A>>>>(
+fn call<A: Allocator + Copy, T: Watch<A, Running<A>, State<A>, Leaf<A, Waits<A>>>>(
     alloc: A,
     frames: &mut Vec<Frame<A>, A>,
     state: &mut State<A>,
@@ -197,7 +198,7 @@ fn call<A: Allocator + Copy, T: Watch<A, Frame<A>, State<A>, Leaf<A, Waits<A>>>>
     if words.is_empty() {
         return Ok(Begun::Has(Ok(Value::empty())));
     }
-    watch.begins(frames, state, words.as_slice());
+    watch.begins(state, words.as_slice());
     match call_control(alloc, frames, state, words.as_slice(), levels)? {
         Some(outcome) => Ok(Begun::Has(outcome)),
         None => call_other(alloc, state, words, levels),

@@ -1,12 +1,15 @@
 //! Who watches a session: told what begins and what follows, with no part in the run.
 
 use acts::{Act, Answer};
+use code::Instruction;
+use state::Outcome;
 use std::alloc::Allocator;
+use std::rc::Rc;
 use tcltext::Value;
 
 /// One who watches a session. It is told each act with its answer, once and in order; what it keeps
 /// of that it says by `told`. What it does with what it is told has no part in the run.
-pub trait Watch<A: Allocator, F, S, L> {
+pub trait Watch<A: Allocator, R, S, L> {
     ghost use Rattle.std.specs.Prelude.{[], ◌∷◌, ◌++◌};
     ghost use Rattle.acts.specs.Deed.{deed_of, reply_of};
     ghost use Rattle.acts.specs.History.{History};
@@ -15,18 +18,17 @@ pub trait Watch<A: Allocator, F, S, L> {
     /// answers, in this order.
     ghost told: { Self → History → Self → Type 0 };
 
-    /// Whether it looks at the frames. Then each script that runs stands among them as its tree;
-    /// else scripts are run as their code, and who watches is told of none of their commands that
-    /// are over at once.
-    fn sees_frames(&self) -> bool;
-
     /// A run of this script begins, with these arguments.
     fn starts(&mut self, script: &[u8], args: &[Vec<u8, A>])
         ensures { told self.old [] self.new };
 
-    /// A command begins with these words, all substituted. The script on top of the frames has
-    /// moved past it.
-    fn begins(&mut self, frames: &[F], state: &S, words: &[Value<A>])
+    /// Something begins next, and this is what the session has still to do. Who watches is told of
+    /// no command that is over at once.
+    fn stands(&mut self, running: &R, state: &S)
+        ensures { told self.old [] self.new };
+
+    /// A command begins with these words, all substituted.
+    fn begins(&mut self, state: &S, words: &[Value<A>])
         ensures { told self.old [] self.new };
 
     /// These words of an argument in braces give the branches of the command that began, after a
@@ -36,7 +38,17 @@ pub trait Watch<A: Allocator, F, S, L> {
 
     /// What began, or went on with an answer, has come so far: to an outcome, or to an act that
     /// waits for its answer. Where it runs a script, that stands on top of the frames.
-    fn leads(&mut self, frames: &[F], state: &S, leaf: &L)
+    fn leads(&mut self, running: &R, state: &S, leaf: &L)
+        ensures { told self.old [] self.new };
+
+    /// This code has ended right before this place, with this outcome.
+    fn ends(
+        &mut self,
+        code: &Rc<Vec<Instruction<A>, A>, A>,
+        place: usize,
+        state: &S,
+        outcome: &Outcome<A>,
+    )
         ensures { told self.old [] self.new };
 
     /// The world was asked for this act, and has answered.
@@ -55,7 +67,7 @@ pub trait Watch<A: Allocator, F, S, L> {
 #[derive(Clone, Copy, Debug)]
 pub struct Unwatched;
 
-impl<A: Allocator, F, S, L> Watch<A, F, S, L> for Unwatched {
+impl<A: Allocator, R, S, L> Watch<A, R, S, L> for Unwatched {
     ghost use Rattle.std.specs.Prelude.{⊤};
 
     // Nothing is kept.
@@ -66,21 +78,28 @@ impl<A: Allocator, F, S, L> Watch<A, F, S, L> for Unwatched {
     ghost joins = { λ _ _ _ _ _ _ _. tt };
 
     #[inline(always)]
-    fn sees_frames(&self) -> bool {
-        false
-    }
-
-    #[inline(always)]
     fn starts(&mut self, _script: &[u8], _args: &[Vec<u8, A>]) {}
 
     #[inline(always)]
-    fn begins(&mut self, _frames: &[F], _state: &S, _words: &[Value<A>]) {}
+    fn stands(&mut self, _running: &R, _state: &S) {}
+
+    #[inline(always)]
+    fn begins(&mut self, _state: &S, _words: &[Value<A>]) {}
 
     #[inline(always)]
     fn says(&mut self, _words: &[Value<A>]) {}
 
     #[inline(always)]
-    fn leads(&mut self, _frames: &[F], _state: &S, _leaf: &L) {}
+    fn leads(&mut self, _running: &R, _state: &S, _leaf: &L) {}
+
+    #[inline(always)]
+    fn ends(
+        &mut self,
+        _code: &Rc<Vec<Instruction<A>, A>, A>,
+        _place: usize,
+        _state: &S,
+        _outcome: &Outcome<A>,
+    ) {}
 
     #[inline(always)]
     fn answers(&mut self, _act: &Act<A>, _answer: &Answer<A>) {}

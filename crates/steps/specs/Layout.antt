@@ -28,7 +28,8 @@ module _ {A : Type 0} (code : List (Instruction A)) where
 
   -- the body that a script is, one level deeper
   pub record EntersAt (place : ℕ) (tree : ScriptTree) (end : ℕ) : Type 0 where
-    pub enters : At code place i.Enter
+    pub after : ℕ
+    pub enters : At code place (i.Body after)
     pub stop : ℕ
     pub script : ScriptAt code (place + 1) tree.commands tree.fault stop
     pub leaves : At code stop i.Leave

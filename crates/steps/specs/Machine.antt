@@ -102,12 +102,13 @@ discarding spot s = on_top spot.operands (λ value below. Went (with_operands be
 
 -- what an instruction does, where the next place is at hand
 abbrev pub does : {A : Type 0} → Instruction A → Spot → Status → Did
-does i.Next spot s = ticking spot s
+does (i.Next from_end) spot s = ticking spot s
 does (i.Text bytes) spot s = Went (with_top bytes spot) s
 does (i.Variable name) spot s = reading name None spot s
 does (i.Element name) spot s = indexing name spot s
 does i.Join spot s = joining spot s
 does i.Enter spot s = entering spot.levels spot s
+does (i.Body after) spot s = entering spot.levels spot s
 does i.Leave spot s = leaving spot s
 does (i.Count n) spot s = counting n spot s
 does i.Spread spot s = spreading spot s

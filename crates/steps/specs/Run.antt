@@ -28,7 +28,7 @@ most_commands run left = left * (length run.code.value.items + 1) + places_left 
 -- before anything else a tick is taken, or the code ends (this project's own rule)
 pub data TicksFirst {A : Type 0} : Option (Instruction A) → Type 0 where
   no_instruction : TicksFirst None
-  takes_tick : TicksFirst (Some i.Next)
+  takes_tick : {from_end : ℕ} → TicksFirst (Some (i.Next from_end))
   has_fault : {fault : read.Fault} → TicksFirst (Some (i.Fault fault))
 
 -- the outcome is a value

@@ -96,7 +96,7 @@ fn refuse_level<A: Allocator + Copy>(alloc: A, spot: &mut Spot<A>) -> Result<Pro
     Ok(failed(alloc, spot, acts::Fault::TooManyNested)?)
 }
 
-/// A script in brackets begins, where a level is left.
+/// A script in brackets or in a word begins, where a level is left.
 fn enter<A: Allocator + Copy>(alloc: A, spot: &mut Spot<A>) -> Result<Progress, NoMemory>
     ensures does { (s : Status) → IfOk result (λ progress.
         did_of progress spot.new s
@@ -191,12 +191,13 @@ fn perform<A: Allocator + Copy>(
     ensures place { left.new ≡ left.old → spot.old.place ≤ spot.new.place }
 {
     match instruction {
-        Instruction::Next => Ok(spot.tick(left)),
+        Instruction::Next(_) => Ok(spot.tick(left)),
         Instruction::Text(text) => Ok(spot.put_shared(text)?),
         Instruction::Variable(name) => Ok(read_variable(alloc, spot, scopes, name)?),
         Instruction::Element(name) => Ok(read_element(alloc, spot, scopes, name)?),
         Instruction::Join => Ok(spot.join(alloc)?),
         Instruction::Enter => Ok(enter(alloc, spot)?),
+        Instruction::Body(_) => Ok(enter(alloc, spot)?),
         Instruction::Leave => Ok(spot.leave()),
         Instruction::Count(n) => Ok(spot.count(*n)?),
         Instruction::Spread => Ok(spread(alloc, spot)?),

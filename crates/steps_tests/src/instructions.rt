@@ -9,12 +9,15 @@ use tclparse::{Binary, Function, Script, Unary};
 /// Puts the name of an instruction, with what it holds, after a text.
 fn show<A: Allocator>(shown: &mut Vec<u8, A>, it: &Instruction<A>) -> Result<(), Fail> {
     let (name, text): (&[u8], &[u8]) = match it {
-        Instruction::Next => (b"next", b""),
+        Instruction::Next(_) => (b"next", b""),
         Instruction::Text(text) => (b"text ", text.as_slice()),
         Instruction::Variable(name) => (b"variable ", name.as_slice()),
         Instruction::Element(name) => (b"element ", name.as_slice()),
         Instruction::Join => (b"join", b""),
         Instruction::Enter => (b"enter", b""),
+        Instruction::Body(0) => (b"body 0", b""),
+        Instruction::Body(1) => (b"body 1", b""),
+        Instruction::Body(3) => (b"body 3", b""),
         Instruction::Leave => (b"leave", b""),
         Instruction::Count(1) => (b"count 1", b""),
         Instruction::Spread => (b"spread", b""),
@@ -115,7 +118,7 @@ fn a_condition_has_code_of_its_own_after_that_of_its_words(rt: HostRuntime) -> R
         show(&mut shown, it)?;
     }
     let wanted: &[u8] = b"next\nunhidden 7 if\ntext if\ntext 1\ntext f\ncommand 3\njump 16\n\
-        numeral 1\nunless 15\nenter\nnext\ntext f\ncommand 1\nleave\njump 16\ntext \n";
+        numeral 1\nunless 15\nbody 0\nnext\ntext f\ncommand 1\nleave\njump 16\ntext \n";
     assert_eq!(&rt; shown.as_slice(), wanted);
     Ok(())
 }
@@ -129,7 +132,7 @@ fn a_loop_begins_with_its_test_behind_its_body(rt: HostRuntime) -> Result<(), Fa
         show(&mut shown, it)?;
     }
     let wanted: &[u8] = b"next\nunhidden 7 while\ntext while\ntext 1\ntext f\ncommand 3\n\
-        jump 17\njump 14\nenter\nnext\ntext f\ncommand 1\nleave\nend turn\nnumeral 1\n\
+        jump 17\njump 14\nbody 0\nnext\ntext f\ncommand 1\nleave\nend turn\nnumeral 1\n\
         turn 8 13\ntext \n";
     assert_eq!(&rt; shown.as_slice(), wanted);
     Ok(())
@@ -146,8 +149,8 @@ fn a_script_before_the_turns_and_one_after_each_stand_around_the_body(
         show(&mut shown, it)?;
     }
     let wanted: &[u8] = b"next\nunhidden 9 for\ntext for\ntext f\ntext 1\ntext g\ntext h\n\
-        command 5\njump 31\nenter\nnext\ntext f\ncommand 1\nleave\ndiscard\njump 28\n\
-        enter\nnext\ntext h\ncommand 1\nleave\nstep\nenter\nnext\ntext g\ncommand 1\nleave\n\
+        command 5\njump 31\nbody 3\nnext\ntext f\ncommand 1\nleave\ndiscard\njump 28\n\
+        body 0\nnext\ntext h\ncommand 1\nleave\nstep\nbody 1\nnext\ntext g\ncommand 1\nleave\n\
         end turn\nnumeral 1\nturn 16 21\ntext \n";
     assert_eq!(&rt; shown.as_slice(), wanted);
     Ok(())
@@ -161,7 +164,7 @@ fn the_variables_of_a_list_are_set_behind_its_body(rt: HostRuntime) -> Result<()
     for it in &code {
         show(&mut shown, it)?;
     }
-    let wanted: &[u8] = b"next\nvariable l\nforeach 15 x y\ndeal 10\nenter\nnext\ntext f\n\
+    let wanted: &[u8] = b"next\nvariable l\nforeach 15 x y\ndeal 10\nbody 0\nnext\ntext f\n\
         command 1\nleave\nend turn\nmore 14\nassign x\nassign y\nbegin 4 9\ndone\n";
     assert_eq!(&rt; shown.as_slice(), wanted);
     Ok(())
@@ -176,7 +179,7 @@ fn a_script_in_a_word_stands_without_white_space_around_it(rt: HostRuntime) -> R
         show(&mut shown, it)?;
     }
     let wanted: &[u8] = b"next\nunhidden 6 eval\ntext eval\ntext  f \ncommand 2\njump 11\n\
-        enter\nnext\ntext f\ncommand 1\nleave\n";
+        body 0\nnext\ntext f\ncommand 1\nleave\n";
     assert_eq!(&rt; shown.as_slice(), wanted);
     Ok(())
 }
@@ -190,7 +193,7 @@ fn the_body_of_a_pattern_stands_behind_what_compares_it(rt: HostRuntime) -> Resu
         show(&mut shown, it)?;
     }
     let wanted: &[u8] = b"next\nvariable l\nswitch 14\nequals 5 4 a\nequals 5 12 b\ndiscard\n\
-        enter\nnext\ntext f\ncommand 1\nleave\njump 14\ndiscard\ntext \n";
+        body 0\nnext\ntext f\ncommand 1\nleave\njump 14\ndiscard\ntext \n";
     assert_eq!(&rt; shown.as_slice(), wanted);
     Ok(())
 }
@@ -204,7 +207,7 @@ fn what_is_caught_is_kept_behind_the_script(rt: HostRuntime) -> Result<(), Fail>
         show(&mut shown, it)?;
     }
     let wanted: &[u8] = b"next\nunhidden 7 catch\ntext catch\ntext f\ntext r\ncommand 3\n\
-        jump 15\ncatch 14\nenter\nnext\ntext f\ncommand 1\nleave\nend catch\nstore r\n";
+        jump 15\ncatch 14\nbody 1\nnext\ntext f\ncommand 1\nleave\nend catch\nstore r\n";
     assert_eq!(&rt; shown.as_slice(), wanted);
     Ok(())
 }
@@ -251,5 +254,22 @@ fn a_text_is_appended_and_a_number_added_by_one_instruction(rt: HostRuntime) -> 
     }
     let wanted: &[u8] = b"next\nvariable b\nappend a\nnext\ntext 2\nadd to i\n";
     assert_eq!(&rt; shown.as_slice(), wanted);
+    Ok(())
+}
+
+#[test]
+fn a_command_knows_where_it_stands(rt: HostRuntime) -> Result<(), Fail> {
+    // so many bytes before the end of the text: that of the script, also in brackets, or that of a
+    // word
+    let script = Script::read(rt.alloc(), b"f a; g [h]\nif 1 {k}")?;
+    let code = code_of(rt.alloc(), &script)?;
+    let mut places = Vec::new(rt.alloc());
+    for it in &code {
+        if let Instruction::Next(from_end) = it {
+            places.push(*from_end)?;
+        }
+    }
+    let wanted: &[usize] = &[19, 14, 11, 8, 1];
+    assert_eq!(&rt; places.as_slice(), wanted);
     Ok(())
 }

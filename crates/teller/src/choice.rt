@@ -7,11 +7,10 @@ use acts::decimal::push_decimal;
 use acts::{Id, NoMemory};
 use dialog::{Keyword, Pair};
 use expects::turn::Turn;
-use machine::frame::Frame;
 use state::State;
 use std::alloc::Allocator;
 use story::{Difference, Ending, Vain, Why, push_line, push_sought, push_why, why_in_vain};
-use tcltext::{Found, Value};
+use tcltext::Found;
 
 impl<A: Allocator + Copy> Teller<A> {
     /// The wait of a turn that begins.
@@ -20,11 +19,10 @@ impl<A: Allocator + Copy> Teller<A> {
     /// `NoMemory`.
     pub(crate) fn wait_of(
         &mut self,
-        frames: &[Frame<A>],
         state: &State<A>,
         turn: &Turn<A>,
     ) -> Result<Wait<A>, NoMemory> {
-        let spots = self.in_progress(frames, &state.kept)?;
+        let spots = self.in_progress()?;
         Ok(Wait {
             spot: spots.last().copied(),
             branches: self.branches.of_pairs(self.alloc, turn.effective.pairs())?,
@@ -41,13 +39,12 @@ impl<A: Allocator + Copy> Teller<A> {
     pub(crate) fn choose(
         &mut self,
         out: &mut Vec<u8, A>,
-        frames: &[Frame<A>],
         state: &State<A>,
         turn: &Turn<A>,
         detail: Detail,
     ) -> Result<(), NoMemory> {
         if self.wait.is_none() {
-            let wait = self.wait_of(frames, state, turn)?;
+            let wait = self.wait_of(state, turn)?;
             if detail == Detail::Whole {
                 self.tell_command(out, wait.spot, b"looks at what has come")?;
             }
@@ -55,11 +52,10 @@ impl<A: Allocator + Copy> Teller<A> {
         }
         match state.ids.table.last_found() {
             Some((place, found)) => {
-                self.choose_pattern(out, turn.effective.pairs(), place, found, detail)?;
+                self.choose_pattern(out, turn.effective.pairs(), place, found, detail)
             }
-            None => self.choose_keyword(out, detail)?,
+            None => self.choose_keyword(out, detail),
         }
-        self.see(frames, state, &Ok(Value::empty()))
     }
 
     /// Tells that the pattern of the pair at this place was chosen, and where it was found.

@@ -2,17 +2,17 @@
 //! sought.
 #![tactic(auto)]
 
-mod blame;
 mod bounds;
 mod branches;
 mod choice;
+mod ended;
 mod grounds;
 mod lines;
+mod nested;
 mod outcome;
 mod refusal;
 mod said;
 mod shown;
-mod sources;
 mod spots;
 pub mod telling;
 mod told;

@@ -1,48 +1,18 @@
 //! Errors, and the commands that were in progress when they came.
 
-use crate::blame::{Raised, raiser};
 use crate::bounds::faulty_start;
-use crate::sources::{Raising, sources};
-use crate::spots::{Running, Spot};
+use crate::ended::{Ended, Placed};
+use crate::spots::{Progressing, Spot, commands_of};
 use crate::telling::Teller;
 use acts::NoMemory;
 use acts::decimal::push_decimal;
-use machine::frame::Frame;
-use state::{Leave, Outcome, State};
+use code::Instruction;
 use std::alloc::Allocator;
 
 /// How many commands around that of an error are told at most.
 const MOST_AROUND: usize = 20;
 
 impl<A: Allocator + Copy> Teller<A> {
-    /// Takes note of an outcome of what began: of the commands that may raise an error before
-    /// anything else begins.
-    ///
-    /// # Errors
-    /// `NoMemory`.
-    pub(crate) fn see(
-        &mut self,
-        frames: &[Frame<A>],
-        state: &State<A>,
-        outcome: &Outcome<A>,
-    ) -> Result<(), NoMemory> {
-        self.raised = None;
-        if goes_on(frames, outcome) {
-            return Ok(());
-        }
-        if matches!(outcome, Err(Leave::Stopped(_))) {
-            self.report.clear();
-        }
-        let sources = sources(self.alloc, frames, outcome)?;
-        if !sources.is_empty() {
-            self.raised = Some(Raised {
-                scripts: self.scripts_running(frames, &state.kept)?,
-                sources,
-            });
-        }
-        Ok(())
-    }
-
     /// Takes note of what is written to standard error.
     ///
     /// # Errors
@@ -59,11 +29,10 @@ impl<A: Allocator + Copy> Teller<A> {
     /// # Errors
     /// `NoMemory`.
     pub(crate) fn tell_raised(&mut self, out: &mut Vec<u8, A>) -> Result<(), NoMemory> {
-        let spots = match self.raised.take() {
-            Some(raised) => self.spots_of(&raised)?,
-            None if self.report.is_empty() => return Ok(()),
-            None => self.first_spot()?,
-        };
+        if self.ended.is_empty() && self.report.is_empty() {
+            return Ok(());
+        }
+        let spots = self.ended_spots()?;
         let mut detail = Vec::new(self.alloc);
         detail.extend_from_slice(b"error: ")?;
         detail.extend_from_slice(&self.report)?;
@@ -76,40 +45,26 @@ impl<A: Allocator + Copy> Teller<A> {
         self.tell_around(out, outer)
     }
 
-    /// Where the first command of the script stands, which is at fault where none has begun.
-    fn first_spot(&self) -> Result<Vec<Spot, A>, NoMemory> {
-        let mut spots = Vec::new(self.alloc);
-        spots.push(Spot {
-            start: faulty_start(self.alloc, &self.script, None)?,
-            end: self.script.len(),
-            in_word: false,
-        })?;
-        Ok(spots)
-    }
-
     /// Where the command stands that has raised the error, and before it those around it, the
-    /// outermost first.
-    fn spots_of(&self, raised: &Raised<A>) -> Result<Vec<Spot, A>, NoMemory> {
-        let mut spots = Vec::new(self.alloc);
-        let Some(source) = raiser(self.alloc, &self.script, raised, &self.report)? else {
-            return Ok(spots);
-        };
-        for one in raised.scripts.iter().take(source.depth) {
-            if let Some(spot) = one.command {
-                spots.push(spot)?;
+    /// outermost first. Where none has begun, the first command of the script is at fault.
+    fn ended_spots(&self) -> Result<Vec<Spot, A>, NoMemory> {
+        let mut scripts = Vec::new(self.alloc);
+        for one in self.ended.iter().rev() {
+            self.add_code(&mut scripts, &one.placed)?;
+        }
+        if self.ended.first().is_some_and(is_faulty) {
+            let last = scripts.pop();
+            let mut spots = commands_of(self.alloc, &scripts)?;
+            if let Some(script) = last {
+                self.push_faulty(&mut spots, script)?;
             }
+            return Ok(spots);
         }
-        if let (Raising::Faulty(_), Some(one)) = (
-            source.raising,
-            raised.scripts.get(source.depth),
-        ) {
-            self.push_faulty(&mut spots, *one)?;
-        }
-        Ok(spots)
+        commands_of(self.alloc, &scripts)
     }
 
     /// Adds where the faulty command stands of a script whose whole commands have run.
-    fn push_faulty(&self, spots: &mut Vec<Spot, A>, script: Running) -> Result<(), NoMemory> {
+    fn push_faulty(&self, spots: &mut Vec<Spot, A>, script: Progressing) -> Result<(), NoMemory> {
         let Some(ground) = script.ground else {
             return Ok(());
         };
@@ -141,10 +96,9 @@ impl<A: Allocator + Copy> Teller<A> {
     }
 }
 
-/// Whether the script on top of the frames has a command left, which begins after a value.
-fn goes_on<A: Allocator>(frames: &[Frame<A>], outcome: &Outcome<A>) -> bool {
-    match (frames, outcome) {
-        ([.., Frame::Script(part)], Ok(_)) => part.next < part.commands.len(),
-        (_, Ok(_) | Err(_)) => false,
-    }
+/// Whether a code has ended by the fault of a text.
+fn is_faulty<A: Allocator>(ended: &Ended<A>) -> bool {
+    let Placed { code, place, .. } = &ended.placed;
+    let last = place.checked_sub(1).and_then(|at| code.get(at));
+    matches!(last, Some(Instruction::Fault(_)))
 }

@@ -1,9 +1,10 @@
 //! Where the commands in progress stand in the text of a script.
 
+use crate::ended::Placed;
+use crate::grounds::found_in;
+use crate::nested::{Level, Stands, levels_at};
 use crate::telling::Teller;
 use acts::NoMemory;
-use kept::Kept;
-use machine::frame::{Frame, Script, WordsOf};
 use std::alloc::Allocator;
 
 /// A part of a script's text, from one byte up to another.
@@ -51,23 +52,10 @@ fn up_to_bracket(text: &[u8]) -> &[u8] {
     text
 }
 
-/// What stands right under a script on the frames.
+/// A script in progress: where its text stands in that of the run, and where its command in
+/// progress does; `None` where that is not known.
 #[derive(Clone, Copy)]
-enum Under {
-    /// Nothing: it is the script of the run.
-    Nothing,
-    /// The words of a command, in one of which it stands.
-    Words,
-    /// The words of an argument in braces.
-    Argument,
-    /// A command that runs it.
-    Command,
-}
-
-/// A script on the frames: where its text stands in that of the run, and where the command of it
-/// does that is in progress; `None` where that is not known.
-#[derive(Clone, Copy)]
-pub(crate) struct Running {
+pub(crate) struct Progressing {
     pub ground: Option<Spot>,
     pub command: Option<Spot>,
 }
@@ -79,79 +67,92 @@ impl<A: Allocator + Copy> Teller<A> {
     ///
     /// # Errors
     /// `NoMemory`.
-    pub(crate) fn in_progress(
-        &mut self,
-        frames: &[Frame<A>],
-        kept: &Kept<A>,
-    ) -> Result<Vec<Spot, A>, NoMemory> {
-        let mut spots = Vec::new(self.alloc);
-        for one in self.scripts_running(frames, kept)?.iter() {
-            if let Some(spot) = one.command {
-                spots.push(spot)?;
-            }
+    pub(crate) fn in_progress(&self) -> Result<Vec<Spot, A>, NoMemory> {
+        let mut scripts = Vec::new(self.alloc);
+        for one in &self.waiting {
+            self.add_code(&mut scripts, one)?;
         }
-        Ok(spots)
+        commands_of(self.alloc, &scripts)
     }
 
-    /// The scripts on the frames, the outermost first.
+    /// Adds the scripts that are in progress at the place to which a code has come, which is that
+    /// of the run's script where none is in progress yet.
     ///
     /// # Errors
     /// `NoMemory`.
-    pub(crate) fn scripts_running(
-        &mut self,
-        frames: &[Frame<A>],
-        kept: &Kept<A>,
-    ) -> Result<Vec<Running, A>, NoMemory> {
-        let mut scripts = Vec::new(self.alloc);
-        let mut ground = None;
-        let mut around = None;
-        let mut under = Under::Nothing;
-        for frame in frames {
-            match frame {
-                Frame::Script(part) => {
-                    ground = self.ground_of(part, under, ground, around, kept)?;
-                    let command = spot_in(part, under, ground);
-                    around = command.or(around);
-                    scripts.push(Running { ground, command })?;
+    pub(crate) fn add_code(
+        &self,
+        scripts: &mut Vec<Progressing, A>,
+        placed: &Placed<A>,
+    ) -> Result<(), NoMemory> {
+        let mut ground = match &placed.text {
+            _ if scripts.is_empty() => Some(Spot::whole(&self.script)),
+            Some(text) => found_in(&self.script, text, innermost(scripts)),
+            None => None,
+        };
+        let mut in_word = false;
+        for level in levels_at(self.alloc, &placed.code, placed.place)?.iter() {
+            match &level.stands {
+                Stands::Whole => {}
+                Stands::Bracket => in_word = true,
+                Stands::Formula => ground = None,
+                Stands::Body(text, is_trimmed) => {
+                    in_word = false;
+                    ground = match text {
+                        Some(text) => self.body_spot(text.as_slice(), *is_trimmed, scripts),
+                        None => None,
+                    };
                 }
-                Frame::Words(_, _, WordsOf::Command) => under = Under::Words,
-                Frame::Words(_, _, WordsOf::Argument(_)) => under = Under::Argument,
-                Frame::Held(_) | Frame::Turn(_) | Frame::Code(_, _) => under = Under::Command,
             }
+            let command = spot_of(level, ground, in_word);
+            scripts.push(Progressing { ground, command })?;
         }
-        Ok(scripts)
+        Ok(())
     }
 
-    /// Where the text of a script on the frames stands in that of the run, by what is right under
-    /// it: the text in which the script under it stands, and the command of that script.
-    fn ground_of(
-        &mut self,
-        part: &Script<A>,
-        under: Under,
-        ground: Option<Spot>,
-        around: Option<Spot>,
-        kept: &Kept<A>,
-    ) -> Result<Option<Spot>, NoMemory> {
-        match under {
-            Under::Nothing => Ok(Some(Spot::whole(&self.script))),
-            Under::Words => Ok(ground),
-            Under::Argument => Ok(None),
-            Under::Command => {
-                self.grounds
-                    .find(&self.script, &part.commands, around, kept)
-            }
+    /// Where a body stands, without the white space around it where that is left out.
+    fn body_spot(&self, text: &[u8], is_trimmed: bool, scripts: &[Progressing]) -> Option<Spot> {
+        let spot = found_in(&self.script, text, innermost(scripts))?;
+        if !is_trimmed {
+            return Some(spot);
         }
+        let after = text.len().saturating_sub(text.trim_ascii_end().len());
+        Some(Spot {
+            start: spot.start,
+            end: spot.end.saturating_sub(after),
+            in_word: spot.in_word,
+        })
     }
 }
 
-/// Where the command in progress of a script on the frames stands, by where the text of the script
-/// does.
-fn spot_in<A: Allocator>(part: &Script<A>, under: Under, ground: Option<Spot>) -> Option<Spot> {
+/// The innermost command of these scripts of which it is known where it stands.
+fn innermost(scripts: &[Progressing]) -> Option<Spot> {
+    scripts.iter().rev().find_map(|one| one.command)
+}
+
+/// Where the commands of these scripts stand, of which that is known.
+///
+/// # Errors
+/// `NoMemory`.
+pub(crate) fn commands_of<A: Allocator>(
+    alloc: A,
+    scripts: &[Progressing],
+) -> Result<Vec<Spot, A>, NoMemory> {
+    let mut spots = Vec::new(alloc);
+    for one in scripts {
+        if let Some(spot) = one.command {
+            spots.push(spot)?;
+        }
+    }
+    Ok(spots)
+}
+
+/// Where the command in progress of a script stands, by where the text of the script does.
+fn spot_of<A: Allocator>(level: &Level<A>, ground: Option<Spot>, in_word: bool) -> Option<Spot> {
     let ground = ground?;
-    let command = part.commands.get(part.next.checked_sub(1)?)?;
-    let start = ground.end.checked_sub(command.from_end)?;
-    let end = match part.commands.get(part.next) {
-        Some(next) => ground.end.checked_sub(next.from_end)?,
+    let start = ground.end.checked_sub(level.command?)?;
+    let end = match level.next {
+        Some(next) => ground.end.checked_sub(next)?,
         None => ground.end,
     };
     if start < ground.start {
@@ -160,6 +161,6 @@ fn spot_in<A: Allocator>(part: &Script<A>, under: Under, ground: Option<Spot>) -
     Some(Spot {
         start,
         end,
-        in_word: matches!(under, Under::Words | Under::Argument),
+        in_word,
     })
 }

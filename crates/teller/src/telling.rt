@@ -7,10 +7,9 @@ ghost use Rattle.story.specs.Line.{line};
 ghost use Rattle.teller.specs.Told.{IsDone, IsHeard, IsTold, over_text, sized};
 ghost use Rattle.teller.specs.declared.telling.Detail.TheVariants.{Brief, Whole};
 
-use crate::blame::Raised;
 use crate::branches::Branches;
 use crate::choice::keyword_for;
-use crate::grounds::Grounds;
+use crate::ended::{Ended, Placed};
 use crate::lines::Lines;
 use crate::refusal::Refusal;
 use crate::shown::push_command;
@@ -51,7 +50,6 @@ pub struct Teller<A: Allocator> {
     pub(crate) commands: usize,
     pub(crate) script: Vec<u8, A>,
     pub(crate) lines: Option<Lines<A>>,
-    pub(crate) grounds: Grounds<A>,
     pub(crate) heard: Heard<A>,
     pub(crate) branches: Branches<A>,
     /// Whether the words that were read last are those of branches that stand.
@@ -60,7 +58,12 @@ pub struct Teller<A: Allocator> {
     /// The command whose act waits for its answer, where the whole is told.
     pub(crate) asked: Option<Asker>,
     pub(crate) vains: Vains<A>,
-    pub(crate) raised: Option<Raised<A>>,
+    /// The codes that wait for what began last, the outermost first.
+    pub(crate) waiting: Vec<Placed<A>, A>,
+    /// Whether what began last did so within a turn of `expect`.
+    pub(crate) in_turn: bool,
+    /// The codes that an error has ended since, the innermost first.
+    pub(crate) ended: Vec<Ended<A>, A>,
     /// What was written to standard error last: where an error ended the run, its text.
     pub(crate) report: Vec<u8, A>,
     /// The number of the act that was answered last, until something has come of that.
@@ -82,14 +85,15 @@ impl<A: Allocator + Copy> Teller<A> {
             commands,
             script: Vec::new(alloc),
             lines: None,
-            grounds: Grounds::new(alloc),
             heard: Heard::new(alloc),
             branches: Branches::new(alloc),
             stands: false,
             wait: None,
             asked: None,
             vains: Vains::new(alloc),
-            raised: None,
+            waiting: Vec::new(alloc),
+            in_turn: false,
+            ended: Vec::new(alloc),
             report: Vec::new(alloc),
             answered: None,
             failed_at: None,

@@ -4,16 +4,16 @@ ghost use Rattle.std.specs.Prelude.{◌≡◌, true, None, IfOk, is_some};
 ghost use Rattle.teller.specs.Asked.{is_asked, is_of_command};
 ghost use Rattle.teller.specs.declared.telling.Detail.TheVariants.{Whole};
 
+use crate::ended::chosen;
 use crate::lines::Lines;
 use crate::telling::{Asker, Detail, Teller};
 use crate::told::push_act;
 use acts::{Act, NoMemory};
 use dialog::Trigger;
 use expects::form::Form;
-use expects::turn::{Turn, Waits as TurnWaits};
-use machine::Waits;
-use machine::frame::Frame;
-use state::{Leaf, Outcome, State};
+use expects::turn::Waits as TurnWaits;
+use machine::{Running, Waits};
+use state::{Leaf, State};
 use std::alloc::Allocator;
 use tclparse::Words;
 use tcltext::Value;
@@ -38,19 +38,14 @@ impl<A: Allocator + Copy> Teller<A> {
     ///
     /// # Errors
     /// `NoMemory`.
-    pub fn begins(
-        &mut self,
-        frames: &[Frame<A>],
-        state: &State<A>,
-        words: &[Value<A>],
-    ) -> Result<(), NoMemory> {
+    pub fn begins(&mut self, state: &State<A>, words: &[Value<A>]) -> Result<(), NoMemory> {
         let [name, args @ ..] = words else {
             return Ok(());
         };
         let Some(form) = Form::read(name.as_slice()) else {
             return Ok(());
         };
-        if !has_turn(frames) {
+        if !self.in_turn {
             self.branches.clear();
         }
         self.stands = matches!(form, Form::Stands(_));
@@ -74,7 +69,7 @@ impl<A: Allocator + Copy> Teller<A> {
     /// `NoMemory`.
     pub fn leads(
         &mut self,
-        frames: &[Frame<A>],
+        running: &Running<A>,
         state: &State<A>,
         leaf: &Leaf<A, Waits<A>>,
         detail: Detail,
@@ -85,8 +80,8 @@ impl<A: Allocator + Copy> Teller<A> {
     {
         self.note_lead(matches!(leaf, Leaf::Has(Err(_))));
         match leaf {
-            Leaf::Has(outcome) => self.outcome_lines(frames, state, outcome, detail),
-            Leaf::Asks(act, waits) => self.act_lines(frames, state, act, waits, detail),
+            Leaf::Has(_) => self.outcome_lines(running, state, detail),
+            Leaf::Asks(act, waits) => self.act_lines(state, act, waits, detail),
         }
     }
 
@@ -104,15 +99,14 @@ impl<A: Allocator + Copy> Teller<A> {
     /// The lines of an outcome of what began, or of a choice whose body stands on top.
     fn outcome_lines(
         &mut self,
-        frames: &[Frame<A>],
+        running: &Running<A>,
         state: &State<A>,
-        outcome: &Outcome<A>,
         detail: Detail,
     ) -> Result<Vec<u8, A>, NoMemory>
         ensures { IfOk result (λ _. self.new.asked ≡ None) }
     {
         let mut out = Vec::new(self.alloc);
-        self.has(&mut out, frames, state, outcome, detail)?;
+        self.has(&mut out, running, state, detail)?;
         self.asked = None;
         Ok(out)
     }
@@ -120,7 +114,6 @@ impl<A: Allocator + Copy> Teller<A> {
     /// The lines of an act that waits for its answer.
     fn act_lines(
         &mut self,
-        frames: &[Frame<A>],
         state: &State<A>,
         act: &Act<A>,
         waits: &Waits<A>,
@@ -130,15 +123,14 @@ impl<A: Allocator + Copy> Teller<A> {
             is_some self.new.asked ≡ is_of_command waits.now) }
     {
         match waits {
-            Waits::Command(_) => self.ask(frames, state, detail),
-            Waits::Turn(waits) => self.turn_lines(frames, state, act, waits, detail),
+            Waits::Command(_) => self.ask(detail),
+            Waits::Turn(waits) => self.turn_lines(state, act, waits, detail),
         }
     }
 
     /// The lines of an act of a turn.
     fn turn_lines(
         &mut self,
-        frames: &[Frame<A>],
         state: &State<A>,
         act: &Act<A>,
         waits: &TurnWaits<A>,
@@ -147,21 +139,16 @@ impl<A: Allocator + Copy> Teller<A> {
         ensures { IfOk result (λ _. self.new.asked ≡ None) }
     {
         let mut out = Vec::new(self.alloc);
-        self.await_turn(&mut out, frames, state, act, waits, detail)?;
+        self.await_turn(&mut out, state, act, waits, detail)?;
         self.asked = None;
         Ok(out)
     }
 
     /// Keeps in mind the command that asks for an act, which has its line once it is answered.
-    fn ask(
-        &mut self,
-        frames: &[Frame<A>],
-        state: &State<A>,
-        detail: Detail,
-    ) -> Result<Vec<u8, A>, NoMemory>
+    fn ask(&mut self, detail: Detail) -> Result<Vec<u8, A>, NoMemory>
         ensures { detail ≡ Whole → IfOk result (λ _. is_some self.new.asked ≡ true) }
     {
-        let asked = self.asker(frames, state, detail)?;
+        let asked = self.asker(detail)?;
         self.asked = asked;
         Ok(Vec::new(self.alloc))
     }
@@ -170,13 +157,12 @@ impl<A: Allocator + Copy> Teller<A> {
     fn has(
         &mut self,
         out: &mut Vec<u8, A>,
-        frames: &[Frame<A>],
+        running: &Running<A>,
         state: &State<A>,
-        outcome: &Outcome<A>,
         detail: Detail,
     ) -> Result<(), NoMemory> {
-        if let Some(turn) = chosen(frames) {
-            return self.choose(out, frames, state, turn, detail);
+        if let Some(turn) = chosen(&running.frames) {
+            return self.choose(out, state, turn, detail);
         }
         if self.wait.is_some() {
             self.tell_vain(out, None, detail)?;
@@ -187,22 +173,17 @@ impl<A: Allocator + Copy> Teller<A> {
             self.branches
                 .stand(standing.pairs_before(), standing.pairs_after())?;
         }
-        self.see(frames, state, outcome)
+        Ok(())
     }
 
     /// The command that asks for an act; none where only what led to the end is told.
-    fn asker(
-        &mut self,
-        frames: &[Frame<A>],
-        state: &State<A>,
-        detail: Detail,
-    ) -> Result<Option<Asker>, NoMemory>
+    fn asker(&mut self, detail: Detail) -> Result<Option<Asker>, NoMemory>
         ensures { detail ≡ Whole → IfOk result (λ asked. is_some asked ≡ true) }
     {
         if detail == Detail::Brief {
             return Ok(None);
         }
-        let spots = self.in_progress(frames, &state.kept)?;
+        let spots = self.in_progress()?;
         Ok(Some(Asker {
             spot: spots.last().copied(),
         }))
@@ -212,7 +193,6 @@ impl<A: Allocator + Copy> Teller<A> {
     fn await_turn(
         &mut self,
         out: &mut Vec<u8, A>,
-        frames: &[Frame<A>],
         state: &State<A>,
         act: &Act<A>,
         waits: &TurnWaits<A>,
@@ -224,7 +204,7 @@ impl<A: Allocator + Copy> Teller<A> {
         if turn.trigger != Trigger::Entry {
             return Ok(());
         }
-        let wait = self.wait_of(frames, state, turn)?;
+        let wait = self.wait_of(state, turn)?;
         for one in wait.awaited.iter() {
             self.heard.resize(one.id, one.max)?;
         }
@@ -238,28 +218,10 @@ impl<A: Allocator + Copy> Teller<A> {
     }
 }
 
-/// The turn whose body stands on top of the frames and has not begun.
-fn chosen<A: Allocator>(frames: &[Frame<A>]) -> Option<&Turn<A>> {
-    match frames {
-        [.., Frame::Turn(turn), Frame::Script(body)] if body.next == 0 => Some(turn),
-        _ => None,
-    }
-}
-
 /// Whether the first byte of an argument that is not white is a newline, so that the argument is
 /// one in braces (expect(1), expect).
 fn is_braced(text: &[u8]) -> bool {
     text.iter()
         .find(|byte| !matches!(byte, b' ' | b'\t' | b'\r' | 0x0b | 0x0c))
         .is_some_and(|byte| *byte == b'\n')
-}
-
-/// Whether one of the frames is that of a turn.
-fn has_turn<A: Allocator>(frames: &[Frame<A>]) -> bool {
-    for frame in frames {
-        if matches!(frame, Frame::Turn(_)) {
-            return true;
-        }
-    }
-    false
 }

@@ -5,7 +5,7 @@ ghost use Rattle.recorders.specs.Recorder.{MayRecord};
 ghost use Rattle.worlds.specs.Runs.{Heard, Runs, RunsRecorded, unheard};
 
 use acts::{Limits, NoMemory, World};
-use engine::{End, Frame, Lead, State, Unwatched, Watch, run_watched};
+use engine::{End, Lead, Running, State, Unwatched, Watch, run_watched};
 use recorders::{LentRecorder, begin};
 use records::Sink;
 use std::alloc::Allocator;
@@ -86,7 +86,7 @@ pub fn run_seen<
     A: Allocator + Copy,
     W: World<A>,
     S: Sink,
-    T: Watch<A, Frame<A>, State<A>, Lead<A>>,
+    T: Watch<A, Running<A>, State<A>, Lead<A>>,
 >(
     alloc: A,
     script: &[u8],
@@ -106,7 +106,7 @@ pub fn run_seen<
 }
 
 /// Runs a script in a recorder, which still borrows the same world and sink afterwards.
-fn run_lent<A: Allocator + Copy, W: World<A>, S: Sink, T: Watch<A, Frame<A>, State<A>, Lead<A>>>(
+fn run_lent<A: Allocator + Copy, W: World<A>, S: Sink, T: Watch<A, Running<A>, State<A>, Lead<A>>>(
     alloc: A,
     script: &[u8],
     args: &[Vec<u8, A>],

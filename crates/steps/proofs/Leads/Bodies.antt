@@ -36,12 +36,13 @@ pub record Read {A : Type 0} (code : List (Instruction A)) (place : ℕ) (body :
 
 pub body_read : {A : Type 0} (code : List (Instruction A)) {place : ℕ} {body : List ℕ} {end : ℕ} →
     BodyAt code place body end → Read code place body end
-body_read code (deeper {mid = mid} {leave = leave} {cs = cs} {f = f} is enters commands ends
-    leaves) =
+body_read code (deeper {mid = mid} {leave = leave} {after = after} {cs = cs} {f = f} is enters
+    commands ends leaves) =
     record {
       tree = record { commands = cs; fault = f };
       is = is;
       at = record {
+        after = after;
         enters = enters;
         stop = leave;
         script = record { mid = mid; commands = commands; ends = ends };
@@ -74,12 +75,12 @@ module _ {A X : Type 0} (code : List (Instruction A)) (last : Status → Outcome
       (machine (slice_get code place) (spot_at place levels (Enters tree) fs) s)
       (left_of last levels (Enters tree) fs s)
   enters_leads zero tree fs s place end at behind fits =
-      by code last i.Enter (spot_at place zero (Enters tree) fs) s _ at.enters
+      by code last (i.Body at.after) (spot_at place zero (Enters tree) fs) s _ at.enters
       (failure_leads code last flaw.TooManyNested (spot_below code last (place + 1) zero fs) zero fs s
       (amid_operands code last (place + 1) zero end (beneath fs) fs (those [] (beneath fs))
       (omega (arith, enters_grow code place tree end at)) behind fits))
   enters_leads (suc levels) tree fs s place end at behind fits =
-      by code last i.Enter (spot_at place (suc levels) (Enters tree) fs) s _ at.enters
+      by code last (i.Body at.after) (spot_at place (suc levels) (Enters tree) fs) s _ at.enters
       (sooner code last _ s (calls here)
       (stands code last (place + 1) levels (Has []) (Rest tree.commands tree.fault ∷ Body ∷ fs)
       (place + 1) s refl

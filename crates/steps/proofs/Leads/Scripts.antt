@@ -45,9 +45,9 @@ module _ {A X : Type 0} (code : List (Instruction A)) (last : Status → Outcome
       (failure_leads code last (flaw_of_fault (fault_of why)) (spot_at (place + 1) levels (Has v) (Rest cs f ∷ fs)) levels fs s
       (amid_operands code last (place + 1) levels (place + 1) (v ∷ beneath fs) fs
       (those (v ∷ []) (beneath fs)) (omega arith) behind fits))
-  rest_leads place mid end levels cs f fs v s over (next {mid = behind_words} {ws = ws} {cs = more}
-      at words_at rest) ends behind fits =
-      by code last i.Next (spot_at place levels (Has v) (Rest cs f ∷ fs)) s _ at
+  rest_leads place mid end levels cs f fs v s over (next {mid = behind_words} {from_end = from_end}
+      {ws = ws} {cs = more} at words_at rest) ends behind fits =
+      by code last (i.Next from_end) (spot_at place levels (Has v) (Rest cs f ∷ fs)) s _ at
       (silently code last _ (calls here)
       (tick_leads code last s.left levels (Rest more f ∷ fs) s _ (λ t. words levels ws [] t (command
       levels))

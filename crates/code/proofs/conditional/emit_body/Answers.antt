@@ -8,5 +8,5 @@ pub returns : goal.returns
 returns g c = λ text is.
     let body = c.args.body.now in
     body_block c.args.code.now.items c.push.new.self.items c.emit_script.new.code.items
-    c.push-2.new.self.items (commands_of body.commands) (option_map fault_of body.fault) text is
-    (search rules) c.in_ok-emit_script.ensures (search rules)
+    c.push-2.new.self.items (commands_of body.commands) (option_map fault_of body.fault) text
+    c.args.after is (search rules) c.in_ok-emit_script.ensures (search rules)

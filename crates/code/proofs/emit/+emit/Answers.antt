@@ -221,7 +221,8 @@ emit_command-returns-in_ok-emit_words g t c =
     let none : c.in_ok-emit_own.field-0 ≡ false = search rules in
     let unchanged : c.emit_own.new.code.items ≡ first =
     subst (λ put. OwnBlock put first c.emit_own.new.code.items ws) none c.in_ok-emit_own.ensures in
-    command_block c.args.code.now.items first c.emit_words.new.code.items ws (search rules)
+    command_block c.args.code.now.items first c.emit_words.new.code.items c.args.from_end ws
+    (search rules)
     (subst (λ code. WordsBlock code c.emit_words.new.code.items ws) unchanged
     c.in_ok-emit_words.ensures)
 
@@ -230,5 +231,6 @@ emit_command-returns-else-not-branch g t c =
     let ws = words_then c.args.words.now no_words in
     let first = c.push.new.self.items in
     let some : c.in_ok-emit_own.field-0 ≡ true = search rules in
-    own_command_block c.args.code.now.items first c.emit_own.new.code.items ws (search rules)
+    own_command_block c.args.code.now.items first c.emit_own.new.code.items c.args.from_end ws
+    (search rules)
     (subst (λ put. OwnBlock put first c.emit_own.new.code.items ws) some c.in_ok-emit_own.ensures)

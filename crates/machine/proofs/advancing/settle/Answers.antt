@@ -50,17 +50,23 @@ returns-in-Asks-clause-settles g c = λ last s fits below.
 
 pub returns-in_err-leaf-clause-watched : goal.returns-in_err-leaf-clause-watched
 returns-in_err-leaf-clause-watched g c =
-    g.met.T.Watch.joins _ _ _ [] [] c.commands.invariant.watched c.start.ensures.watched
+    g.met.T.Watch.joins _ _ _ [] [] c.commands.invariant.watched
+    (g.met.T.Watch.joins _ _ _ [] [] c.hand_on.ensures.watched
+    (g.met.T.Watch.joins _ _ _ [] [] c.stands.ensures c.start.ensures.watched))
 
 pub returns-in-Asks-clause-watched : goal.returns-in-Asks-clause-watched
 returns-in-Asks-clause-watched g c =
     g.met.T.Watch.joins _ _ _ [] [] c.commands.invariant.watched
-    (g.met.T.Watch.joins _ _ _ [] [] c.start.ensures.watched c.leads.ensures)
+    (g.met.T.Watch.joins _ _ _ [] [] c.hand_on.ensures.watched
+    (g.met.T.Watch.joins _ _ _ [] [] c.stands.ensures
+    (g.met.T.Watch.joins _ _ _ [] [] c.start.ensures.watched c.leads.ensures)))
 
 pub returns-then-state-left-clause-watched : goal.returns-then-state-left-clause-watched
 returns-then-state-left-clause-watched g c =
     g.met.T.Watch.joins _ _ _ [] [] c.commands.invariant.watched
-    (g.met.T.Watch.joins _ _ _ [] [] c.start.ensures.watched c.leads.ensures)
+    (g.met.T.Watch.joins _ _ _ [] [] c.hand_on.ensures.watched
+    (g.met.T.Watch.joins _ _ _ [] [] c.stands.ensures
+    (g.met.T.Watch.joins _ _ _ [] [] c.start.ensures.watched c.leads.ensures)))
 
 pub returns-then-state-left-clause-settles : goal.returns-then-state-left-clause-settles
 returns-then-state-left-clause-settles g c = λ last s fits below.
@@ -90,7 +96,9 @@ commands-preserved g c = record {
     c.commands.invariant.left,
   );
   watched = g.met.T.Watch.joins _ _ _ [] [] c.commands.invariant.watched
-      (g.met.T.Watch.joins _ _ _ [] [] c.start.ensures.watched c.leads.ensures);
+      (g.met.T.Watch.joins _ _ _ [] [] c.hand_on.ensures.watched
+      (g.met.T.Watch.joins _ _ _ [] [] c.stands.ensures
+      (g.met.T.Watch.joins _ _ _ [] [] c.start.ensures.watched c.leads.ensures)));
 }
 
 pub commands-smaller : goal.commands-smaller
@@ -122,3 +130,20 @@ commands-smaller g c =
     ≤ more_of c.in-Begins.next + load frames c.hand_on.new.state)
     c.in-Has-leaf.is c.in_ok-leaf.ensures.load in
     omega (arith, less, more, same)
+
+pub returns-in_err-handed-clause-watched : goal.returns-in_err-handed-clause-watched
+returns-in_err-handed-clause-watched g c =
+    g.met.T.Watch.joins _ _ _ [] [] c.commands.invariant.watched c.hand_on.ensures.watched
+
+pub returns-in-Over-clause-watched : goal.returns-in-Over-clause-watched
+returns-in-Over-clause-watched g c =
+    g.met.T.Watch.joins _ _ _ [] [] c.commands.invariant.watched c.hand_on.ensures.watched
+
+pub returns-in-Has-clause-watched : goal.returns-in-Has-clause-watched
+returns-in-Has-clause-watched g c =
+    g.met.T.Watch.joins _ _ _ [] [] c.commands.invariant.watched c.hand_on.ensures.watched
+
+pub returns-in_err-close_run-in-Over-clause-watched :
+    goal.returns-in_err-close_run-in-Over-clause-watched
+returns-in_err-close_run-in-Over-clause-watched g c =
+    g.met.T.Watch.joins _ _ _ [] [] c.commands.invariant.watched c.hand_on.ensures.watched

@@ -42,3 +42,6 @@ returns-in_default-clause-runs g c = λ last next s fits awaits.
     absurd (never_stops last c.in_ok-go_on.field-0 c.go_on.new.self c.go_on.new.state
     (next s (outcome_of c.args.outcome)) c.in_default.not-Begins c.in_default.not-Over
     (c.in_ok-go_on.ensures.stops last next s fits awaits))
+
+pub returns-in-Begins-clause-watched : goal.returns-in-Begins-clause-watched
+returns-in-Begins-clause-watched g c = g.met.T.Watch.stays c.args.watch.now

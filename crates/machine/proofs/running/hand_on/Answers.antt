@@ -1,4 +1,4 @@
-use Rattle.std.proofs.Common.{◌≡◌, ◌+◌, ◌≤◌, refl, subst, arith}
+use Rattle.std.proofs.Common.{◌≡◌, ◌+◌, ◌≤◌, [], refl, subst, arith}
 use Rattle.machine.specs.Below.{Falls, IsLess, rest_of}
 use Rattle.state.specs.Budget.{again_of}
 use Rattle.state.specs.Prelude.{outcome_of}
@@ -11,6 +11,7 @@ parts-init g c = record {
   left = refl;
   same = refl;
   less = omega arith;
+  watched = g.met.T.Watch.stays c.args.watch.now;
 }
 
 pub returns-then-state-left-clause-goes_on : goal.returns-then-state-left-clause-goes_on
@@ -45,6 +46,7 @@ parts-preserved g c =
       left = refl;
       same = omega (arith, still, before.same);
       less = omega (arith, less, before.less);
+      watched = g.met.T.Watch.joins _ _ _ [] [] before.watched c.hand_once.ensures.watched;
     }
 
 pub parts-smaller : goal.parts-smaller
@@ -55,3 +57,19 @@ parts-smaller g c =
     omega (arith, before.same, before.left, c.in_ok-next.ensures.left, c.if-state-left.false) in
     subst (λ h. Falls h c.parts.running c.hand_once.new.running) c.in-Has.is
     (c.in_ok-next.ensures.falls still)
+
+pub returns-in_err-next-clause-watched : goal.returns-in_err-next-clause-watched
+returns-in_err-next-clause-watched g c =
+    g.met.T.Watch.joins _ _ _ [] [] c.parts.invariant.watched c.hand_once.ensures.watched
+
+pub returns-then-state-left-clause-watched : goal.returns-then-state-left-clause-watched
+returns-then-state-left-clause-watched g c =
+    g.met.T.Watch.joins _ _ _ [] [] c.parts.invariant.watched c.hand_once.ensures.watched
+
+pub returns-in-Begins-clause-watched : goal.returns-in-Begins-clause-watched
+returns-in-Begins-clause-watched g c =
+    g.met.T.Watch.joins _ _ _ [] [] c.parts.invariant.watched c.hand_once.ensures.watched
+
+pub returns-in-Over-clause-watched : goal.returns-in-Over-clause-watched
+returns-in-Over-clause-watched g c =
+    g.met.T.Watch.joins _ _ _ [] [] c.parts.invariant.watched c.hand_once.ensures.watched

@@ -1,4 +1,4 @@
-use Rattle.std.proofs.Common.{◌≡◌, ◌+◌, ◌≤◌}
+use Rattle.std.proofs.Common.{◌≡◌, ◌+◌, ◌≤◌, []}
 use Rattle.machine.specs.Below.{ComesFrom, depth, rest_of}
 use Rattle.state.specs.Budget.{again_of}
 use Rattle.state.specs.Prelude.{outcome_of}
@@ -12,6 +12,7 @@ invariant-parts g l = record {
   same : l.state.left ≡ l.fn.state.left;
   less : again_of (outcome_of l.outcome) + rest_of l.running
       ≤ again_of (outcome_of l.fn.outcome) + rest_of l.fn.running;
+  watched : g.T.Watch.told l.fn.watch [] l.watch;
 }
 
 -- each part that is over leaves less to hand an outcome to

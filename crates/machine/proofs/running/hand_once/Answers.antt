@@ -50,3 +50,6 @@ returns-in-Has-clause-goes_on g c = λ last s fits below.
     (λ handed on. goes_on_from handed c.hand_down.new.running c.hand_down.new.state
     (then_goes leads.goes (same_goes (ap (λ fs. onward_of last fs leads.status o) emptied))) on)
     (c.hand_down.ensures.goes_on last leads.status leads.fits emptied below)
+
+pub returns-in-Begins-clause-watched : goal.returns-in-Begins-clause-watched
+returns-in-Begins-clause-watched g c = g.met.T.Watch.stays c.args.watch.now

@@ -48,6 +48,13 @@ returns-in_ok-enter-in-Enter-clause-does g c = λ s.
     does_so c.args.instruction.now _ spot t c.in-Enter.is
     (same_does (c.in_ok-enter-in-Enter.ensures.does t))
 
+pub returns-in_ok-enter-in-Body-clause-does : goal.returns-in_ok-enter-in-Body-clause-does
+returns-in_ok-enter-in-Body-clause-does g c = λ s.
+    let spot = spot_of c.args.spot.now in
+    let t = with_parts c.args.scopes.now c.args.procs.now c.args.left.now s in
+    does_so c.args.instruction.now _ spot t c.in-Body.is
+    (same_does (c.in_ok-enter-in-Body.ensures.does t))
+
 pub returns-in-Leave-clause-does : goal.returns-in-Leave-clause-does
 returns-in-Leave-clause-does g c = λ s.
     let spot = spot_of c.args.spot.now in

@@ -1,6 +1,6 @@
 use Rattle.explain.specs.View.{told_of}
 use Rattle.explain.proofs.Stories.{goes_on_by}
-use Rattle.explain.proofs.watched.StoryWatchFrameStateLeafWaits.leads.Goals as goal
+use Rattle.explain.proofs.watched.StoryWatchRunningStateLeafWaits.leads.Goals as goal
 
 pub returns : goal.returns
 returns g c =

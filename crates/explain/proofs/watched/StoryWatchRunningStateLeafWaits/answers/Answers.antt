@@ -2,7 +2,7 @@ use Rattle.std.proofs.Common.{◌∙◌, sym, arith}
 use Rattle.acts.specs.Deed.{deed_of, reply_of}
 use Rattle.explain.specs.View.{told_of}
 use Rattle.explain.proofs.Stories.{goes_on_with, tells_lines}
-use Rattle.explain.proofs.watched.StoryWatchFrameStateLeafWaits.answers.Goals as goal
+use Rattle.explain.proofs.watched.StoryWatchRunningStateLeafWaits.answers.Goals as goal
 
 pub returns : goal.returns
 returns g c =

@@ -4,7 +4,7 @@ use Rattle.code.specs.Code.{ScriptAt}
 use Rattle.code.specs.declared.instruction.Instruction.{Instruction}
 use Rattle.code.specs.ScriptTree.{seen}
 use Rattle.machine.proofs.Below.{code_whole}
-use Rattle.machine.proofs.running.Running.by_code.Goals as goal
+use Rattle.machine.proofs.running.Running.begin.Goals as goal
 
 pub returns : goal.returns
 returns g c =

@@ -5,7 +5,7 @@ use Rattle.runs.specs.Run.{initial}
 use Rattle.state.specs.Outcome.{Outcome, Gives}
 use Rattle.machine.proofs.Silent.{goes_exact}
 use Rattle.steps.proofs.Leads.Silent.{same_goes, then_goes}
-use Rattle.engine.proofs.session.Session.begin.Goals as goal
+use Rattle.engine.proofs.session.Session.start.Goals as goal
 
 pub returns : goal.returns
 returns g c =
