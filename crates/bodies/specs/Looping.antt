@@ -1,6 +1,6 @@
 -- What the parts of foreach do in the code.
 use Rattle.std.specs.Prelude.{◌≡◌, map, Option, Some, None, Result, Ok, Err}
-use Rattle.state.specs.Prelude.{Fault, flaw_of, Course, raises, tree_of, Outcome, Reaches, Status, FitsState}
+use Rattle.state.specs.Prelude.{Fault, flaw_of, Course, raises, Outcome, Reaches, Status, FitsState}
 use Rattle.bodies.specs.Foreach.{Pair, rows, turns}
 use Rattle.state.specs.Turn.{on_turn}
 use Rattle.bodies.specs.declared.foreach.Held.{Held}
@@ -13,7 +13,7 @@ pair_of p = record { names = p.names.items; elements = p.elements.items }
 
 -- the turns that a loop is still to take
 abbrev pub turns_left : {A : Type 0} → Held A → Status → Course
-turns_left held = turns held.levels (tree_of held.body)
+turns_left held = turns held.levels held.body
     (rows held.turns (map (λ p. pair_of p) held.pairs.items))
 
 -- what follows the body of a turn (foreach(n))

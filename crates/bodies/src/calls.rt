@@ -1,7 +1,7 @@
 //! Calls of procedures (proc(n)).
 
 ghost use Rattle.std.specs.Prelude.{◌≡◌, ◌≤◌, [], IfOk, option_map};
-ghost use Rattle.state.specs.Prelude.{inside, Nests, tree_of, Status, FitsState, outcome_of};
+ghost use Rattle.state.specs.Prelude.{inside, Nests, Status, FitsState, outcome_of};
 ghost use Rattle.bodies.specs.Calls as definition;
 ghost use Rattle.bodies.specs.View.{IsCalled, TicksFirst};
 ghost use Rattle.tclstate.specs.Pairs.{found};
@@ -9,7 +9,7 @@ ghost use Rattle.tclstate.specs.Scopes.{entered};
 
 use crate::arguments::wrong_args;
 use acts::{Fault, NoMemory};
-use code::Made;
+use code::{CodedScript, Made};
 use state::outcome::raised;
 use state::{Code, Leave, Nesting, Outcome, State};
 use std::alloc::Allocator;
@@ -66,12 +66,12 @@ fn run<A: Allocator + Copy>(
     alloc: A,
     state: &mut State<A>,
     frame: LocalFrame<A>,
-    body: Made<A>,
+    body: CodedScript<A>,
     levels: u8,
 ) -> Result<Nesting<A, Held>, NoMemory>
     ensures nests { (s : Status) → FitsState state.old s → IfOk result (λ nesting.
         Nests definition.next_of nesting state.new
-        (inside levels (tree_of body) (record s { scopes = entered frame s.scopes })
+        (inside levels body (record s { scopes = entered frame s.scopes })
         definition.returned)) }
     ensures left { state.new.left ≤ state.old.left }
 {
@@ -80,7 +80,7 @@ fn run<A: Allocator + Copy>(
         let outcome = raised(alloc, &Fault::TooManyNested)?;
         return resumed(alloc, state, outcome);
     };
-    Ok(Nesting::Runs(body, inner, Held))
+    Ok(Nesting::Runs(Made::Script(body), inner, Held))
 }
 
 /// How a call ends, given how its body ended.

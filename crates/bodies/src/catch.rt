@@ -8,6 +8,7 @@ ghost use Rattle.state.specs.View.{code_of};
 
 use crate::arguments::wrong_args;
 use acts::{Fault, NoMemory};
+use code::Made;
 use state::outcome::raised;
 use state::variables::store;
 use state::{Code, Leave, Nesting, Outcome, State};
@@ -101,7 +102,7 @@ fn run<A: Allocator + Copy>(
         let outcome = raised(alloc, &Fault::TooManyNested)?;
         return resumed(alloc, state, held, outcome);
     };
-    Ok(Nesting::Runs(script, inner, held))
+    Ok(Nesting::Runs(Made::Script(script), inner, held))
 }
 
 /// Gives a code's number, after the value that came with the code is stored.

@@ -7,6 +7,7 @@ ghost use Rattle.bodies.specs.View.{TicksFirst};
 
 use crate::arguments::wrong_args;
 use acts::{Fault, NoMemory};
+use code::Made;
 use pure::concatenated;
 use state::outcome::raised;
 use state::{Nesting, Outcome, State};
@@ -70,5 +71,5 @@ pub(crate) fn run<A: Allocator + Copy>(
     let Some(inner) = levels.checked_sub(1) else {
         return Ok(Nesting::Has(raised(alloc, &Fault::TooManyNested)?));
     };
-    Ok(Nesting::Runs(script, inner, Held::Script))
+    Ok(Nesting::Runs(Made::Script(script), inner, Held::Script))
 }

@@ -1,7 +1,7 @@
 //! `foreach vars list ?vars list ..? body` (foreach(n)).
 
 ghost use Rattle.std.specs.Prelude.{◌≡◌, ◌≤◌, [], map, IfOk, IfNone};
-ghost use Rattle.state.specs.Prelude.{inside, Nests, tree_of, Status, FitsState, outcome_of};
+ghost use Rattle.state.specs.Prelude.{inside, Nests, Status, FitsState, outcome_of};
 ghost use Rattle.bodies.specs.Foreach as definition;
 ghost use Rattle.bodies.specs.Foreach.{assigns, behind, row};
 ghost use Rattle.bodies.specs.Looping.{Assigned, next_of, pair_of, turns_left};
@@ -12,7 +12,7 @@ ghost use Rattle.state.specs.Nesting.{course_of};
 use crate::arguments::wrong_args;
 use crate::pair::Pair;
 use acts::{Fault, NoMemory};
-use code::Made;
+use code::{CodedScript, Made};
 use state::outcome::raised;
 use state::turn::end_after_body;
 use state::{Leave, Nesting, Outcome, State, Stop};
@@ -25,7 +25,7 @@ use tcltext::Value;
 pub struct Held<A: Allocator> {
     pub pairs: Vec<Pair<A>, A>,
     pub turns: usize,
-    pub body: Made<A>,
+    pub body: CodedScript<A>,
     pub levels: u8,
 }
 
@@ -163,11 +163,12 @@ fn assign_all<A: Allocator + Copy>(
 /// Runs the body, one level deeper.
 fn run_body<A: Allocator + Copy>(alloc: A, held: Held<A>) -> Result<Nesting<A, Held<A>>, NoMemory>
     ensures { (s : Status) → IfOk result (λ nesting.
-        inside held.levels (tree_of held.body) s (on_turn (turns_left held))
+        inside held.levels held.body s (on_turn (turns_left held))
         ≡ course_of next_of nesting s) }
 {
     let Some(inner) = held.levels.checked_sub(1) else {
         return Ok(Nesting::Has(raised(alloc, &Fault::TooManyNested)?));
     };
-    Ok(Nesting::Runs(held.body.share()?, inner, held))
+    let body = Made::Script(held.body.share()?);
+    Ok(Nesting::Runs(body, inner, held))
 }

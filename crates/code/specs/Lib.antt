@@ -6,5 +6,7 @@ pub mod Repeat
 pub mod Catch
 pub mod Own
 pub mod ScriptTree
+pub mod StoredFormula
 pub mod CodeOf
-pub mod Seen
+pub mod Made
+pub mod ReadsCode

@@ -22,6 +22,6 @@ mod switch;
 mod whole;
 
 pub use instruction::Instruction;
-pub use made::{Coded, Made};
+pub use made::{CodedFormula, CodedScript, Made};
 pub use options::{Flag, Options};
 pub use whole::{code_of, formula_code};

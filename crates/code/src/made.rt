@@ -1,24 +1,27 @@
-//! A script that a command runs by its text: as its tree, or as the code that is made of it.
+//! What a command runs by its text, as the code that is made of it: a script, or a formula.
 
 ghost use Rattle.std.specs.Prelude.{◌≡◌, IfOk};
 ghost use Rattle.code.specs.ScriptTree.{seen};
+ghost use Rattle.formulas.specs.View.{formula_of};
 
 use crate::instruction::Instruction;
-use crate::whole::code_of;
+use crate::whole::{code_of, formula_code};
+use formulas::{Formula, ReadError};
 use memory::NoMemory;
+use recent::{Readable, Shared};
 use std::alloc::Allocator;
 use std::marker::Model;
 use std::rc::Rc;
-use tclparse::{Command, Script};
+use tclparse::Script;
 
 /// A script's code, with the tree that it is made of. Contracts see the tree.
 #[derive(Drop)]
-pub struct Coded<A: Allocator> {
+pub struct CodedScript<A: Allocator> {
     tree: Script<A>,
     code: Rc<Vec<Instruction<A>, A>, A>,
 }
 
-impl<A: Allocator> Model for Coded<A> {
+impl<A: Allocator> Model for CodedScript<A> {
     ghost use Rattle.code.specs.ScriptTree.{ScriptTree, stored, seen};
     ghost use Rattle.code.specs.CodeOf.{IsCodeOf};
 
@@ -31,24 +34,19 @@ impl<A: Allocator> Model for Coded<A> {
     ghost invariant = { λ c. IsCodeOf c.code.value.items (seen c.tree) };
 }
 
-impl<A: Allocator> Coded<A> {
+impl<A: Allocator> CodedScript<A> {
     ghost use Rattle.code.specs.CodeOf.{IsCodeOf};
 
     /// The same code once more; nothing of it is copied.
     ///
     /// # Errors
     /// `NoMemory` where the handles cannot be counted.
-    pub fn share(&self) -> Result<Coded<A>, NoMemory>
+    pub fn share(&self) -> Result<CodedScript<A>, NoMemory>
         ensures { IfOk result (λ same. same ≡ self.now) }
     {
         let tree = share_tree(&self.tree)?;
         let code = self.code.clone()?;
-        Ok(Coded { tree, code })
-    }
-
-    /// The commands of the tree.
-    pub fn commands(&self) -> &Rc<Vec<Command<A>, A>, A> {
-        &self.tree.commands
+        Ok(CodedScript { tree, code })
     }
 
     /// The instructions. No contract speaks of them: who watches a run is told which code it is.
@@ -60,75 +58,121 @@ impl<A: Allocator> Coded<A> {
     pub fn into_code(self) -> Rc<Vec<Instruction<A>, A>, A>
         ensures { IsCodeOf result.value.items self }
     {
-        let Coded { tree: _, code } = self;
+        let CodedScript { tree: _, code } = self;
         code
     }
 }
 
-impl<A: Allocator + Copy> Coded<A> {
+impl<A: Allocator + Copy> CodedScript<A> {
     /// The code of a script.
     ///
     /// # Errors
     /// `NoMemory`, after which nothing stays allocated.
-    pub fn new(alloc: A, tree: Script<A>) -> Result<Coded<A>, NoMemory>
+    pub fn new(alloc: A, tree: Script<A>) -> Result<CodedScript<A>, NoMemory>
         ensures { IfOk result (λ coded. coded ≡ seen tree) }
     {
         let code = Rc::new(alloc, code_of(alloc, &tree)?)?;
-        Ok(Coded { tree, code })
+        Ok(CodedScript { tree, code })
     }
 }
 
-/// A script that a command runs by its text.
+/// A formula's code, with the formula that it is made of. Contracts see the formula.
 #[derive(Drop)]
-pub enum Made<A: Allocator> {
-    /// As its tree.
-    Tree(Script<A>),
-    /// As its code.
-    Code(Coded<A>),
+pub struct CodedFormula<A: Allocator> {
+    formula: Formula<A>,
+    code: Rc<Vec<Instruction<A>, A>, A>,
 }
 
-impl<A: Allocator> Made<A> {
-    ghost use Rattle.code.specs.Seen.{tree_of};
+impl<A: Allocator> Model for CodedFormula<A> {
+    ghost use Rattle.formulas.specs.View.{formula_of};
+    ghost use Rattle.tclparse.specs.Formula.{Formula};
+    ghost use Rattle.code.specs.StoredFormula.{stored};
+    ghost use Rattle.code.specs.CodeOf.{IsCodeOfFormula};
 
-    /// The same script once more; nothing of it is copied.
+    ghost Value = { Formula };
+
+    ghost coded = { stored };
+
+    ghost view = { λ c. formula_of c.formula };
+
+    ghost invariant = { λ c. IsCodeOfFormula c.code.value.items (formula_of c.formula) };
+}
+
+impl<A: Allocator> CodedFormula<A> {
+    ghost use Rattle.code.specs.CodeOf.{IsCodeOfFormula};
+
+    /// The same code once more; nothing of it is copied.
     ///
     /// # Errors
     /// `NoMemory` where the handles cannot be counted.
-    pub fn share(&self) -> Result<Made<A>, NoMemory>
-        ensures { IfOk result (λ same. tree_of same ≡ tree_of self.now) }
+    pub fn share(&self) -> Result<CodedFormula<A>, NoMemory>
+        ensures { IfOk result (λ same. same ≡ self.now) }
     {
-        match self {
-            Made::Tree(tree) => Ok(Made::Tree(share_tree(tree)?)),
-            Made::Code(coded) => Ok(Made::Code(coded.share()?)),
-        }
+        let formula = self.formula.share()?;
+        let code = self.code.clone()?;
+        Ok(CodedFormula { formula, code })
     }
 
-    /// The commands of the tree.
-    pub fn commands(&self) -> &Rc<Vec<Command<A>, A>, A> {
-        match self {
-            Made::Tree(tree) => &tree.commands,
-            Made::Code(coded) => coded.commands(),
-        }
+    /// The instructions alone.
+    pub fn into_code(self) -> Rc<Vec<Instruction<A>, A>, A>
+        ensures { IsCodeOfFormula result.value.items self }
+    {
+        let CodedFormula { formula: _, code } = self;
+        code
     }
 }
 
-impl<A: Allocator + Copy> Made<A> {
-    ghost use Rattle.code.specs.Seen.{tree_of};
-    ghost use Rattle.tclparse.specs.Grammar.{IsScript};
-
-    /// Reads a text as a script (Tcl(n)), and makes its code where that is asked for.
+impl<A: Allocator + Copy> CodedFormula<A> {
+    /// The code of a formula.
     ///
     /// # Errors
     /// `NoMemory`, after which nothing stays allocated.
-    pub fn read(alloc: A, text: &[u8], as_code: bool) -> Result<Made<A>, NoMemory>
-        ensures { IfOk result (λ made.
-            IsScript (tree_of made).commands (tree_of made).fault text.now) }
+    pub fn new(alloc: A, formula: Formula<A>) -> Result<CodedFormula<A>, NoMemory>
+        ensures { IfOk result (λ coded. coded ≡ formula_of formula) }
     {
-        let tree = Script::read(alloc, text)?;
-        if as_code {
-            Ok(Made::Code(Coded::new(alloc, tree)?))
-        } else {
-            Ok(Made::Tree(tree))
+        let code = Rc::new(alloc, formula_code(alloc, &formula)?)?;
+        Ok(CodedFormula { formula, code })
+    }
+}
+
+impl<A: Allocator> Shared for CodedFormula<A> {
+    ghost use Rattle.code.specs.ReadsCode.{ReadsCode};
+
+    type Error = ReadError;
+
+    ghost reads = { ReadsCode };
+
+    fn share(&self) -> Result<CodedFormula<A>, ReadError> {
+        Ok(CodedFormula::share(self)?)
+    }
+}
+
+impl<A: Allocator + Copy> Readable<A> for CodedFormula<A> {
+    fn read_from(alloc: A, text: &[u8]) -> Result<CodedFormula<A>, ReadError> {
+        let formula = Formula::read(alloc, text)?;
+        Ok(CodedFormula::new(alloc, formula)?)
+    }
+}
+
+/// What a command runs by its text.
+#[derive(Drop)]
+pub enum Made<A: Allocator> {
+    /// A script.
+    Script(CodedScript<A>),
+    /// A formula, whose value the command takes.
+    Formula(CodedFormula<A>),
+}
+
+impl<A: Allocator> Made<A> {
+    ghost use Rattle.code.specs.Made.{IsCodeOfMade};
+
+    /// The instructions alone.
+    pub fn into_code(self) -> Rc<Vec<Instruction<A>, A>, A>
+        ensures { IsCodeOfMade result.value.items self }
+    {
+        match self {
+            Made::Script(script) => script.into_code(),
+            Made::Formula(formula) => formula.into_code(),
         }
     }
 }

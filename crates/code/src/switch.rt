@@ -42,7 +42,8 @@ fn test_of<A: Allocator + Copy>(
     }
 }
 
-/// Puts the code of a body, before which the string is dropped, and after which so many words stand.
+/// Puts the code of a body, before which the string is dropped, and after which so many words
+/// stand.
 fn emit_chosen<A: Allocator + Copy, N: Nest<A>>(
     code: &mut Vec<Instruction<A>, A>,
     body: &Value<A>,

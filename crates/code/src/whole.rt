@@ -1,7 +1,8 @@
 //! The code of a whole script, and of a whole formula.
 
 ghost use Rattle.std.specs.Prelude.{length, option_map, IfOk};
-ghost use Rattle.code.specs.Code.{FormulaAt, ScriptAt};
+ghost use Rattle.code.specs.Code.{ScriptAt};
+ghost use Rattle.code.specs.CodeOf.{IsCodeOfFormula};
 ghost use Rattle.formulas.specs.View.{formula_of};
 ghost use Rattle.tclparse.specs.Seen.{fault_of};
 ghost use Rattle.tclparse.specs.View.{commands_of};
@@ -31,7 +32,8 @@ pub fn code_of<A: Allocator + Copy>(
     Ok(code)
 }
 
-/// The code of a formula, after which its value is on top.
+/// The code of a formula that is run by itself: what is on top is dropped, and then the formula's
+/// value is put there.
 ///
 /// # Errors
 /// `NoMemory`, after which nothing stays allocated.
@@ -39,10 +41,10 @@ pub fn formula_code<A: Allocator + Copy>(
     alloc: A,
     formula: &Formula<A>,
 ) -> Result<Vec<Instruction<A>, A>, NoMemory>
-    ensures { IfOk result (λ code.
-        FormulaAt code.items 0 (formula_of formula.now) (length code.items)) }
+    ensures { IfOk result (λ code. IsCodeOfFormula code.items (formula_of formula.now)) }
 {
     let mut code = Vec::new(alloc);
+    code.push(Instruction::Discard)?;
     emit_formula(&mut code, formula, &NESTED)?;
     Ok(code)
 }

@@ -10,7 +10,7 @@ use Rattle.conditions.specs.ForLoop.{for_loop, started}
 use Rattle.conditions.specs.Formulas.{flaw_of_formula, on_formula, with_formula}
 use Rattle.conditions.specs.Loop.{again, behind_body, on_step, steps, turned, turns}
 use Rattle.conditions.specs.WhileLoop.{while_loop}
-use Rattle.evaluation.proofs.Closed.{tested_closed, valued_closed}
+use Rattle.conditions.proofs.Formulas.{tested_closed, valued_closed}
 use Rattle.pure.specs.Concat.{concatenated}
 use Rattle.state.proofs.Closed.{Closed, Loops, Ticks, inside_closed, raises_closed, tick_closed, turn_closed, value_closed, within_closed}
 use Rattle.state.specs.Prelude.{Course, within, Outcome, Gives, Leaves, Stops, Error, Return, Break, Continue, Again, AgainRunning, LoopTree, ScriptText, ScriptTree, Status}

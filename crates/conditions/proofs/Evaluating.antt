@@ -5,7 +5,7 @@ use Rattle.std.proofs.lemmas.Bool.Decides.{nat_tests}
 use Rattle.acts.specs.Flaw as flaw
 use Rattle.conditions.specs.Expr.{expr, told}
 use Rattle.conditions.specs.Formulas.{with_formula}
-use Rattle.evaluation.specs.Evaluated.{evaluated}
+use Rattle.state.specs.Evaluated.{evaluated}
 use Rattle.pure.specs.Concat.{concatenated}
 use Rattle.state.specs.Prelude.{raises, Status}
 

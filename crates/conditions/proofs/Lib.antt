@@ -1,10 +1,11 @@
 pub mod Advancing
+pub mod Asked
 pub mod Beginning
 pub mod Branching
 pub mod Closed
 pub mod Comings
 pub mod Evaluating
+pub mod Formulas
 pub mod Passing
 pub mod Reading
-pub mod Tested
 pub mod Turns

@@ -1,11 +1,11 @@
 -- How the branches of the code, and what the command if holds, correspond to those of the
 -- definition.
-use Rattle.std.specs.Prelude.{◌≡◌, ℕ, ◌+◌, ◌<◌, length, map, option_map, sum_by, Option, Some, None}
+use Rattle.std.specs.Prelude.{◌≡◌, ℕ, ◌+◌, ◌<◌, List, length, map, option_map, Option, Some, None}
 use Rattle.state.specs.Prelude.{Course, on_value, Outcome, Status}
 use Rattle.conditions.specs.Branches.{Branch, Branches, branches, no_branch, with_branch, behind as after_body}
 use Rattle.conditions.specs.Conditional.{chooses, chosen, passes}
+use Rattle.conditions.specs.Formulas.{with_formula}
 use Rattle.conditions.specs.Test.{on_tested}
-use Rattle.conditions.specs.Weight.{scripts_in_text}
 use Rattle.conditions.specs.declared.branches.Behind.{Behind}
 use Rattle.conditions.specs.declared.branches.Behind.TheVariants as behind
 use Rattle.conditions.specs.declared.branches.Branch as coded
@@ -14,8 +14,7 @@ use Rattle.conditions.specs.declared.branches.Front.{Front}
 use Rattle.conditions.specs.declared.conditional.Held.{Held}
 use Rattle.conditions.specs.declared.conditional.Held.TheVariants as held
 use Rattle.conditions.specs.declared.conditional.Tested.{Tested}
-use Rattle.evaluation.specs.Scripts.{scripts_behind}
-use Rattle.evaluation.specs.View.{resumed}
+use Rattle.state.specs.Evaluated.{evaluated}
 
 -- the branch that one of the code's stands for
 abbrev pub branch_of : {A : Type 0} → coded.Branch A → Branch
@@ -50,26 +49,30 @@ IsFront (Some front) found =
 abbrev pub chosen_of : {A : Type 0} → ℕ → all.Branches A → Status → Course
 chosen_of levels all s = chooses levels (branches_of all).tests (branches_of all).otherwise s
 
--- what follows a script in a test (if(n))
-abbrev pub behind_test : {A : Type 0} → Tested A → Status → Outcome → Course
-behind_test own = on_value (resumed own.levels own.formula (on_tested
-    (chosen own.levels own.body (branches_of own.branches).tests own.branches.otherwise)))
+-- what follows the truth value of a test (if(n))
+abbrev pub after_test : {A : Type 0} → Tested A → Status → List ℕ → Course
+after_test own = on_tested
+    (chosen own.levels own.body (branches_of own.branches).tests own.branches.otherwise)
 
--- what follows a script of if (if(n))
+-- a text is read as a test and evaluated (if(n))
+abbrev pub asked_of : {A : Type 0} → Tested A → List ℕ → Status → Course
+asked_of own text s =
+    with_formula text s (λ formula. evaluated own.levels formula s (after_test own))
+
+-- what follows a test (if(n))
+abbrev pub behind_test : {A : Type 0} → Tested A → Status → Outcome → Course
+behind_test own = on_value (after_test own)
+
+-- what follows a test or a body of if (if(n))
 abbrev pub next_of : {A : Type 0} → Held A → Status → Outcome → Course
 next_of (held.Test own) = behind_test own.value
 next_of held.Body = passes
 
--- the scripts that stand in the tests of branches
-abbrev pub scripts_in_tests : {A : Type 0} → all.Branches A → ℕ
-scripts_in_tests all = sum_by (λ b. scripts_in_text b.test) all.tests.items
+-- what if may still run after a test: the tests after it, and a body (this project's own rule)
+abbrev pub runs_tested : {A : Type 0} → Tested A → ℕ
+runs_tested own = 1 + length own.branches.tests.items
 
--- the scripts that if may still run after a script in a test: those in the rest of that test, those
--- in the tests after it, and a body
-abbrev pub scripts_tested : {A : Type 0} → Tested A → ℕ
-scripts_tested own = 1 + scripts_behind own.formula + scripts_in_tests own.branches
-
--- the scripts that if may still run
-abbrev pub scripts_held : {A : Type 0} → Held A → ℕ
-scripts_held (held.Test own) = scripts_tested own.value
-scripts_held held.Body = 0
+-- what if may still run (this project's own rule)
+abbrev pub runs_held : {A : Type 0} → Held A → ℕ
+runs_held (held.Test own) = runs_tested own.value
+runs_held held.Body = 0

@@ -4,7 +4,7 @@ use Rattle.state.specs.Prelude.{Ends, Course, gives, raises, within, Outcome, St
 use Rattle.acts.specs.Flaw as flaw
 use Rattle.conditions.specs.Branches.{Branch, Branches, branches}
 use Rattle.conditions.specs.Formulas.{with_formula}
-use Rattle.evaluation.specs.Evaluated.{tested}
+use Rattle.state.specs.Evaluated.{tested}
 
 -- the outcome of a body is that of the command if (if(n))
 abbrev pub passes : Status → Outcome → Course

@@ -4,9 +4,7 @@ use Rattle.state.specs.Prelude.{Course, gives, on_value, raises, Outcome, Status
 use Rattle.acts.specs.Flaw as flaw
 use Rattle.conditions.specs.Formulas.{with_formula}
 use Rattle.conditions.specs.declared.expr.Held.{Held}
-use Rattle.evaluation.specs.Evaluated.{valued}
-use Rattle.evaluation.specs.Scripts.{scripts_behind}
-use Rattle.evaluation.specs.View.{resumed}
+use Rattle.state.specs.Evaluated.{valued}
 use Rattle.operators.specs.Value.{result}
 use Rattle.pure.specs.Concat.{concatenated}
 
@@ -21,10 +19,10 @@ expr levels (first ∷ more) s =
 abbrev pub told : Status → List ℕ → Course
 told s value = gives (result value) s
 
--- what follows a script in the formula (expr(n))
-abbrev pub next_of : {A : Type 0} → Held A → Status → Outcome → Course
-next_of held = on_value (resumed held.levels held.formula.value told)
+-- what follows the formula (expr(n))
+abbrev pub next_of : Held → Status → Outcome → Course
+next_of held = on_value told
 
--- the scripts in the rest of the formula
-abbrev pub scripts_held : {A : Type 0} → Held A → ℕ
-scripts_held held = scripts_behind held.formula.value
+-- nothing runs after the formula (this project's own rule)
+abbrev pub runs_held : Held → ℕ
+runs_held held = 0

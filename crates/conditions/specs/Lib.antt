@@ -1,6 +1,5 @@
 pub mod Formulas
 pub mod Deeper
-pub mod Weight
 pub mod View
 pub mod Test
 pub mod Expr

@@ -1,7 +1,7 @@
 -- What a loop does from a turn on.
 use Rattle.std.specs.Prelude.{ℕ, [], Bool, Option, Some, None, if◌then◌else◌}
 use Rattle.state.specs.Prelude.{Course, gives, leaves, stops, inside, Outcome, Gives, Leaves, Stops, Break, LoopTree, ScriptTree, Status}
-use Rattle.evaluation.specs.Evaluated.{tested}
+use Rattle.state.specs.Evaluated.{tested}
 use Rattle.plan.specs.Plan.{goes}
 use Rattle.state.specs.Dialogue.{tick}
 use Rattle.state.specs.Piece.{Loop}

@@ -3,7 +3,6 @@ use Rattle.std.specs.Prelude.{◌≡◌, ℕ}
 use Rattle.state.specs.Prelude.{Course, on_value, Outcome, Status}
 use Rattle.conditions.specs.ForLoop.{started}
 use Rattle.conditions.specs.Turning as turning
-use Rattle.conditions.specs.Weight.{scripts_in_text}
 use Rattle.conditions.specs.declared.for_loop.Held.{Held}
 use Rattle.conditions.specs.declared.for_loop.Held.TheVariants as held
 use Rattle.conditions.specs.declared.turning.Held as turns
@@ -16,10 +15,10 @@ next_of (held.Start start) =
     on_value (started start.value.levels start.value.test start.value.step start.value.body)
 next_of (held.Turns own) = turning.next_of own
 
--- the scripts that for may still run without a tick before them
-abbrev pub scripts_held : {A : Type 0} → Held A → ℕ
-scripts_held (held.Start start) = scripts_in_text start.value.test
-scripts_held (held.Turns own) = turning.scripts_held own
+-- what for may still run without a tick before it: after its start the test
+abbrev pub runs_held : {A : Type 0} → Held A → ℕ
+runs_held (held.Start start) = 1
+runs_held (held.Turns own) = turning.runs_held own
 
 -- what is at hand of a loop's turns has the same course when it is handed on as what is at hand of
 -- for

@@ -4,9 +4,8 @@ ghost use Rattle.std.specs.Prelude.{◌≡◌, ◌≤◌, ℕ, [], IfOk};
 ghost use Rattle.state.specs.Prelude.{Status, FitsState, outcome_of};
 ghost use Rattle.conditions.specs.ForLoop as definition;
 ghost use Rattle.conditions.specs.GoesOn.{Comes};
-ghost use Rattle.conditions.specs.Starting.{IsLifted, next_of, scripts_held};
+ghost use Rattle.conditions.specs.Starting.{IsLifted, next_of, runs_held};
 ghost use Rattle.conditions.specs.Turning as turning_as;
-ghost use Rattle.conditions.specs.Weight.{scripts_in_text};
 ghost use Rattle.state.specs.Nesting.{Advances};
 
 use crate::arguments::wrong_args;
@@ -81,7 +80,7 @@ pub fn resumed<A: Allocator + Copy>(
         Comes next_of nesting state.new (next_of held s (outcome_of outcome))) }
     ensures left { state.new.left ≤ state.old.left }
     ensures advances { IfOk result (λ nesting.
-        Advances scripts_held nesting state.new.left state.old.left (scripts_held held)) }
+        Advances runs_held nesting state.new.left state.old.left (runs_held held)) }
 {
     match held {
         Held::Start(start) => match outcome {
@@ -102,8 +101,8 @@ fn begin_turns<A: Allocator + Copy>(
         Comes turning_as.next_of nesting state.new
         (definition.started start.levels start.test start.step start.body s [])) }
     ensures left { state.new.left ≤ state.old.left }
-    ensures advances { IfOk result (λ nesting. Advances turning_as.scripts_held nesting
-        state.new.left state.old.left (scripts_in_text start.test)) }
+    ensures advances { IfOk result (λ nesting.
+        Advances turning_as.runs_held nesting state.new.left state.old.left 1) }
 {
     let Start {
         test,
@@ -122,7 +121,7 @@ fn begin_turns<A: Allocator + Copy>(
                 step,
                 levels,
             };
-            turn(alloc, state, Rc::new(alloc, turns)?)
+            turn(Rc::new(alloc, turns)?)
         }
         Err(fault) => Ok(Nesting::Has(raised(alloc, &fault)?)),
     }
@@ -132,11 +131,11 @@ fn begin_turns<A: Allocator + Copy>(
 fn lifted<A: Allocator>(nesting: Nesting<A, turning::Held<A>>) -> Nesting<A, Held<A>>
     ensures lifted { IsLifted nesting result }
     ensures advances { (new old most : ℕ) →
-        Advances turning_as.scripts_held nesting new old most →
-        Advances scripts_held result new old most }
+        Advances turning_as.runs_held nesting new old most →
+        Advances runs_held result new old most }
 {
     match nesting {
         Nesting::Has(outcome) => Nesting::Has(outcome),
-        Nesting::Runs(script, levels, held) => Nesting::Runs(script, levels, Held::Turns(held)),
+        Nesting::Runs(it, levels, held) => Nesting::Runs(it, levels, Held::Turns(held)),
     }
 }

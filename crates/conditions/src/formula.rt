@@ -1,26 +1,27 @@
 //! Words of commands that are formulas.
 
-ghost use Rattle.std.specs.Prelude.{◌≡◌, ℕ, IfOk};
+ghost use Rattle.std.specs.Prelude.{◌≡◌, IfOk};
 ghost use Rattle.state.specs.Prelude.{flaw_of, Course, Reaches, Status};
 ghost use Rattle.conditions.specs.Formulas.{flaw_of_formula, with_formula};
-ghost use Rattle.conditions.specs.View.{IsWeighed, course_of_read};
+ghost use Rattle.conditions.specs.View.{course_of_read};
 ghost use Rattle.formulas.specs.Seen.{fault_of};
 ghost use Rattle.tclparse.specs.Formula as tree;
 
 use acts::{Fault, NoMemory};
-use formulas::{Formula, KeptFormulas, ReadError};
+use code::CodedFormula;
+use formulas::ReadError;
+use kept::KeptFormulas;
 use state::faults::no_script;
 use std::alloc::Allocator;
 
-/// Reads a word as a formula, or gives the formula that is kept with it; or answers the script's
-/// error (expr(n)).
+/// Reads a word as a formula, of which it gives the code, or that which is kept with the word; or
+/// answers the script's error (expr(n)).
 pub(crate) fn read<A: Allocator + Copy>(
     formulas: &mut KeptFormulas<A>,
     text: &[u8],
-) -> Result<Result<Formula<A>, Fault<A>>, NoMemory>
-    ensures reaches { (s : Status) (next : tree.Formula → Course) → IfOk result (λ read.
+) -> Result<Result<CodedFormula<A>, Fault<A>>, NoMemory>
+    ensures { (s : Status) (next : tree.Formula → Course) → IfOk result (λ read.
         Reaches (with_formula text.now s next) (course_of_read read s next)) }
-    ensures weighs { IfOk result (λ read. IsWeighed read text.now) }
 {
     match formulas.read(text) {
         Ok(formula) => Ok(Ok(formula)),

@@ -43,7 +43,7 @@ pub fn begin<A: Allocator + Copy>(
                 step,
                 levels,
             };
-            turn(alloc, state, Rc::new(alloc, turns)?)
+            turn(Rc::new(alloc, turns)?)
         }
         Err(fault) => Ok(Nesting::Has(raised(alloc, &fault)?)),
     }

@@ -34,7 +34,7 @@ control_of control.If = meant.If
 control_of control.Switch = meant.Switch
 control_of control.While = meant.While
 
--- what follows the script that runs within a command
+-- what follows what runs within a command
 abbrev pub next_of : {A : Type 0} → Held A → Status → Outcome → Course
 next_of (held.Call own) = calls.next_of own
 next_of (held.Catch own) = catch.next_of own
@@ -45,16 +45,16 @@ next_of (held.Foreach own) = foreach.next_of own
 next_of (held.If own) = if_then.next_of own
 next_of (held.While own) = while_loop.next_of own
 
--- the scripts that a command may still run without a tick before them
-abbrev pub scripts_held : {A : Type 0} → Held A → ℕ
-scripts_held (held.Call own) = 0
-scripts_held (held.Catch own) = 0
-scripts_held (held.Eval own) = 0
-scripts_held (held.Expr own) = expr.scripts_held own
-scripts_held (held.For own) = for_loop.scripts_held own
-scripts_held (held.Foreach own) = 0
-scripts_held (held.If own) = if_then.scripts_held own
-scripts_held (held.While own) = while_loop.scripts_held own
+-- what a command may still run without a tick before it (this project's own rule)
+abbrev pub runs_held : {A : Type 0} → Held A → ℕ
+runs_held (held.Call own) = 0
+runs_held (held.Catch own) = 0
+runs_held (held.Eval own) = 0
+runs_held (held.Expr own) = expr.runs_held own
+runs_held (held.For own) = for_loop.runs_held own
+runs_held (held.Foreach own) = 0
+runs_held (held.If own) = if_then.runs_held own
+runs_held (held.While own) = while_loop.runs_held own
 
 -- how far one command has come is the same course when it is seen as one of all commands
 abbrev pub IsLifted : {A H : Type 0} → (H → Status → Outcome → Course) → Nesting A H →

@@ -1,4 +1,4 @@
-//! What a command holds while a script runs within it.
+//! What a command holds while a script or a formula runs within it.
 
 ghost use Rattle.std.specs.Prelude.{ℕ};
 ghost use Rattle.conditions.specs.Choosing as choosing;
@@ -6,7 +6,7 @@ ghost use Rattle.conditions.specs.Expr as formulas;
 ghost use Rattle.conditions.specs.Starting as starting;
 ghost use Rattle.conditions.specs.Turning as turns;
 ghost use Rattle.bodies.specs.View.{TicksFirst};
-ghost use Rattle.control.specs.View.{IsLifted, scripts_held};
+ghost use Rattle.control.specs.View.{IsLifted, runs_held};
 ghost use Rattle.bodies.specs.Calls as calling;
 ghost use Rattle.bodies.specs.Catch as catches;
 ghost use Rattle.bodies.specs.Eval as evals;
@@ -18,14 +18,14 @@ use conditions::{conditional, expr, for_loop, turning};
 use state::Nesting;
 use std::alloc::Allocator;
 
-/// What a command holds while a script runs within it: a call of a procedure, or one of the
-/// commands that run scripts.
+/// What a command holds while a script or a formula runs within it: a call of a procedure, or one
+/// of the commands that run scripts.
 #[derive(Drop)]
 pub enum Held<A: Allocator> {
     Call(calls::Held),
     Catch(catch::Held<A>),
     Eval(eval::Held),
-    Expr(expr::Held<A>),
+    Expr(expr::Held),
     For(for_loop::Held<A>),
     Foreach(foreach::Held<A>),
     If(conditional::Held<A>),
@@ -36,11 +36,11 @@ pub enum Held<A: Allocator> {
 pub(crate) fn from_call<A: Allocator>(nesting: Nesting<A, calls::Held>) -> Nesting<A, Held<A>>
     ensures lifted { IsLifted calling.next_of nesting result }
     ensures advances { (new old most : ℕ) →
-        TicksFirst nesting new old → Advances scripts_held result new old most }
+        TicksFirst nesting new old → Advances runs_held result new old most }
 {
     match nesting {
         Nesting::Has(outcome) => Nesting::Has(outcome),
-        Nesting::Runs(script, levels, held) => Nesting::Runs(script, levels, Held::Call(held)),
+        Nesting::Runs(it, levels, held) => Nesting::Runs(it, levels, Held::Call(held)),
     }
 }
 
@@ -48,11 +48,11 @@ pub(crate) fn from_call<A: Allocator>(nesting: Nesting<A, calls::Held>) -> Nesti
 pub(crate) fn from_catch<A: Allocator>(nesting: Nesting<A, catch::Held<A>>) -> Nesting<A, Held<A>>
     ensures lifted { IsLifted catches.next_of nesting result }
     ensures advances { (new old most : ℕ) →
-        TicksFirst nesting new old → Advances scripts_held result new old most }
+        TicksFirst nesting new old → Advances runs_held result new old most }
 {
     match nesting {
         Nesting::Has(outcome) => Nesting::Has(outcome),
-        Nesting::Runs(script, levels, held) => Nesting::Runs(script, levels, Held::Catch(held)),
+        Nesting::Runs(it, levels, held) => Nesting::Runs(it, levels, Held::Catch(held)),
     }
 }
 
@@ -60,35 +60,35 @@ pub(crate) fn from_catch<A: Allocator>(nesting: Nesting<A, catch::Held<A>>) -> N
 pub(crate) fn from_eval<A: Allocator>(nesting: Nesting<A, eval::Held>) -> Nesting<A, Held<A>>
     ensures lifted { IsLifted evals.next_of nesting result }
     ensures advances { (new old most : ℕ) →
-        TicksFirst nesting new old → Advances scripts_held result new old most }
+        TicksFirst nesting new old → Advances runs_held result new old most }
 {
     match nesting {
         Nesting::Has(outcome) => Nesting::Has(outcome),
-        Nesting::Runs(script, levels, held) => Nesting::Runs(script, levels, Held::Eval(held)),
+        Nesting::Runs(it, levels, held) => Nesting::Runs(it, levels, Held::Eval(held)),
     }
 }
 
 /// How far `expr` has come, with what it holds as one of `Held`.
-pub(crate) fn from_expr<A: Allocator>(nesting: Nesting<A, expr::Held<A>>) -> Nesting<A, Held<A>>
+pub(crate) fn from_expr<A: Allocator>(nesting: Nesting<A, expr::Held>) -> Nesting<A, Held<A>>
     ensures lifted { IsLifted formulas.next_of nesting result }
-    ensures advances { (new old most : ℕ) → Advances formulas.scripts_held nesting new old most →
-        Advances scripts_held result new old most }
+    ensures advances { (new old most : ℕ) → Advances formulas.runs_held nesting new old most →
+        Advances runs_held result new old most }
 {
     match nesting {
         Nesting::Has(outcome) => Nesting::Has(outcome),
-        Nesting::Runs(script, levels, held) => Nesting::Runs(script, levels, Held::Expr(held)),
+        Nesting::Runs(it, levels, held) => Nesting::Runs(it, levels, Held::Expr(held)),
     }
 }
 
 /// How far `for` has come, with what it holds as one of `Held`.
 pub(crate) fn from_for<A: Allocator>(nesting: Nesting<A, for_loop::Held<A>>) -> Nesting<A, Held<A>>
     ensures lifted { IsLifted starting.next_of nesting result }
-    ensures advances { (new old most : ℕ) → Advances starting.scripts_held nesting new old most →
-        Advances scripts_held result new old most }
+    ensures advances { (new old most : ℕ) → Advances starting.runs_held nesting new old most →
+        Advances runs_held result new old most }
 {
     match nesting {
         Nesting::Has(outcome) => Nesting::Has(outcome),
-        Nesting::Runs(script, levels, held) => Nesting::Runs(script, levels, Held::For(held)),
+        Nesting::Runs(it, levels, held) => Nesting::Runs(it, levels, Held::For(held)),
     }
 }
 
@@ -97,24 +97,24 @@ pub(crate) fn from_if<A: Allocator>(
     nesting: Nesting<A, conditional::Held<A>>,
 ) -> Nesting<A, Held<A>>
     ensures lifted { IsLifted choosing.next_of nesting result }
-    ensures advances { (new old most : ℕ) → Advances choosing.scripts_held nesting new old most →
-        Advances scripts_held result new old most }
+    ensures advances { (new old most : ℕ) → Advances choosing.runs_held nesting new old most →
+        Advances runs_held result new old most }
 {
     match nesting {
         Nesting::Has(outcome) => Nesting::Has(outcome),
-        Nesting::Runs(script, levels, held) => Nesting::Runs(script, levels, Held::If(held)),
+        Nesting::Runs(it, levels, held) => Nesting::Runs(it, levels, Held::If(held)),
     }
 }
 
 /// How far `while` has come, with what it holds as one of `Held`.
 pub(crate) fn from_while<A: Allocator>(nesting: Nesting<A, turning::Held<A>>) -> Nesting<A, Held<A>>
     ensures lifted { IsLifted turns.next_of nesting result }
-    ensures advances { (new old most : ℕ) → Advances turns.scripts_held nesting new old most →
-        Advances scripts_held result new old most }
+    ensures advances { (new old most : ℕ) → Advances turns.runs_held nesting new old most →
+        Advances runs_held result new old most }
 {
     match nesting {
         Nesting::Has(outcome) => Nesting::Has(outcome),
-        Nesting::Runs(script, levels, held) => Nesting::Runs(script, levels, Held::While(held)),
+        Nesting::Runs(it, levels, held) => Nesting::Runs(it, levels, Held::While(held)),
     }
 }
 
@@ -124,10 +124,10 @@ pub(crate) fn from_foreach<A: Allocator>(
 ) -> Nesting<A, Held<A>>
     ensures lifted { IsLifted loops.next_of nesting result }
     ensures advances { (new old most : ℕ) →
-        TicksFirst nesting new old → Advances scripts_held result new old most }
+        TicksFirst nesting new old → Advances runs_held result new old most }
 {
     match nesting {
         Nesting::Has(outcome) => Nesting::Has(outcome),
-        Nesting::Runs(script, levels, held) => Nesting::Runs(script, levels, Held::Foreach(held)),
+        Nesting::Runs(it, levels, held) => Nesting::Runs(it, levels, Held::Foreach(held)),
     }
 }

@@ -4,7 +4,7 @@ ghost use Rattle.std.specs.Prelude.{◌≡◌, ◌≤◌, IfOk, option_map};
 ghost use Rattle.state.specs.Prelude.{Status, FitsState, outcome_of};
 ghost use Rattle.control.specs.Commands as definition;
 ghost use Rattle.bodies.specs.View.{IsCalled};
-ghost use Rattle.control.specs.View.{control_of, next_of, scripts_held};
+ghost use Rattle.control.specs.View.{control_of, next_of, runs_held};
 ghost use Rattle.conditions.specs.GoesOn.{Comes};
 ghost use Rattle.state.specs.Nesting.{Advances};
 
@@ -117,7 +117,7 @@ pub fn resumed<A: Allocator + Copy>(
         Comes next_of nesting state.new (next_of held s (outcome_of outcome))) }
     ensures left { state.new.left ≤ state.old.left }
     ensures advances { IfOk result (λ nesting.
-        Advances scripts_held nesting state.new.left state.old.left (scripts_held held)) }
+        Advances runs_held nesting state.new.left state.old.left (runs_held held)) }
 {
     match held {
         Held::Call(_) => Ok(from_call(calls::resumed(alloc, state, outcome)?)),

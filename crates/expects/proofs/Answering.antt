@@ -2,7 +2,7 @@
 use Rattle.std.proofs.Common.{◌≡◌, ◌∙◌, ℕ, ◌==◌, suc, Bool, true, false, List, [], ◌∷◌, length, option_map, Option, Some, None, Result, Err, ℤ, IfSome, refl, sym, ap, subst, arith}
 use Rattle.std.proofs.lemmas.Bool.Decides.{nat_tests}
 use Rattle.acts.specs.Deed as said
-use Rattle.state.specs.Prelude.{Reply, text_of, Id, Raise, Ends, Calls, Course, ask, gives, inside, raises, within, tree_of, Outcome, Leaves, Error, TurnTree, Reaches, here, Status, lines, shut, outcome_of}
+use Rattle.state.specs.Prelude.{Reply, text_of, Id, Raise, Ends, Calls, Course, ask, gives, inside, raises, within, Outcome, Leaves, Error, TurnTree, Reaches, here, Status, lines, shut, outcome_of}
 use Rattle.acts.specs.Flaw as flaw
 use Rattle.acts.specs.declared.act.Timer.{Timer}
 use Rattle.acts.specs.declared.raise.Raise.TheVariants as raise
@@ -19,14 +19,13 @@ use Rattle.state.proofs.Nestings.{inside_over, text_reaches}
 use Rattle.state.proofs.Reaches.{same_reaches, then_reaches}
 use Rattle.state.proofs.Ticks.{tick_taken}
 use Rattle.state.specs.Dialogue.{written}
-use Rattle.state.specs.Piece.{ArgumentText, BranchText, ChoiceText, Script}
+use Rattle.state.specs.Piece.{ArgumentText, BranchText, ChoiceText, Script, ScriptTree}
 use Rattle.state.specs.Reaches.{reads}
 use Rattle.state.specs.declared.outcome.Leave.{Leave}
 use Rattle.state.specs.declared.state.State.{State}
 use Rattle.tclparse.specs.Grammar.{IsArgument, IsScript}
 use Rattle.tclparse.specs.Seen.{fault_of}
 use Rattle.tclparse.specs.View.{commands_of, words_of}
-use Rattle.code.specs.declared.made.Made.{Made}
 use Rattle.tclparse.specs.declared.words.Words as argument
 use Rattle.expects.proofs.Comings.{begins, over_is}
 use Rattle.expects.proofs.Selecting.{selects_reaches, settled_is, settles_is}
@@ -38,30 +37,29 @@ use Rattle.expects.specs.View.{Selected, notes, settles}
 use Rattle.expects.specs.Words.{Form, stands}
 
 -- a body that runs, or for which no level is left
-module _ {A : Type 0} (script : Made A) (turn : TurnTree) (levels : ℕ) (text : List ℕ)
-    (s : Status)
-    (is : IsScript (tree_of script).commands (tree_of script).fault text) where
+module _ (script : ScriptTree) (turn : TurnTree) (levels : ℕ) (text : List ℕ) (s : Status)
+    (is : IsScript script.commands script.fault text) where
   inside_runs : (inner : ℕ) (next : Status → Outcome → Course) → levels ≡ suc inner →
-      inside levels (tree_of script) s next
-      ≡ (let runs : Course = Calls (Script (tree_of script) inner) s next in runs)
+      inside levels script s next
+      ≡ (let runs : Course = Calls (Script script inner) s next in runs)
   inside_runs inner next deeper = rw deeper refl
 
   pub body_runs : (inner : ℕ) → levels ≡ suc inner →
       Reaches (within levels text s (behind turn levels))
-      (let runs : Course = Calls (Script (tree_of script) inner) s (behind turn levels) in runs)
+      (let runs : Course = Calls (Script script inner) s (behind turn levels) in runs)
   body_runs inner deeper =
       then_reaches (text_reaches script levels text s (behind turn levels) is)
       (same_reaches (inside_runs inner (behind turn levels) deeper))
 
-  pub body_over : (r : Result (List ℕ) (Leave A)) → levels ≡ 0 →
+  pub body_over : {A : Type 0} (r : Result (List ℕ) (Leave A)) → levels ≡ 0 →
       outcome_of r ≡ Leaves Error (text_of flaw.TooManyNested) →
       Reaches (within levels text s (behind turn levels))
       (let end : Course = Ends (s, outcome_of r) in end)
   body_over r zero told =
       then_reaches (text_reaches script levels text s (behind turn levels) is)
       (same_reaches (over_is r (Leaves Error (text_of flaw.TooManyNested)) s
-      (inside levels (tree_of script) s (behind turn levels)) told
-      (inside_over levels (tree_of script) s (behind turn levels) zero)))
+      (inside levels script s (behind turn levels)) told
+      (inside_over levels script s (behind turn levels) zero)))
 
 -- a wait, with its rows, its turn and its levels by other names
 pub waits_is : (clock : Timer) (turn next : TurnTree) (levels inner left : ℕ) (rows : List Row)

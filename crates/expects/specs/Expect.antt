@@ -17,7 +17,7 @@ use Rattle.state.specs.Piece.{ArgumentText, ArgumentTree, BranchText, Turn}
 use Rattle.state.specs.Variables.{consulted}
 use Rattle.tclparse.specs.Fault.{Fault}
 use Rattle.tclparse.specs.Tree as tree
-use Rattle.words.specs.Words.{words}
+use Rattle.state.specs.Words.{words}
 
 -- the open id that a variable names, where it is set
 abbrev pub open_by : Option (List ℕ) → Status → Option Id

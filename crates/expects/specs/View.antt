@@ -1,6 +1,6 @@
 -- How what the code holds stands to the definition.
 use Rattle.std.specs.Prelude.{◌≡◌, ℕ, List, [], Option, Some, None, Err}
-use Rattle.state.specs.Prelude.{Deed, Reply, deed_of, Id, Ends, Asks, Calls, Course, gives, tree_of, Outcome, TurnTree, Reaches, Status, lines, shut, FitsState, outcome_of}
+use Rattle.state.specs.Prelude.{Deed, Reply, deed_of, Id, Ends, Asks, Calls, Course, gives, Outcome, TurnTree, Reaches, Status, lines, shut, FitsState, outcome_of}
 use Rattle.acts.specs.Deed as said
 use Rattle.acts.specs.declared.row.Row.{Row}
 use Rattle.dialog.specs.Branches.{Pair}
@@ -35,7 +35,7 @@ use Rattle.state.specs.declared.outcome.Leave.TheVariants as leave
 use Rattle.state.specs.declared.outcome.Stop.TheVariants as halt
 use Rattle.state.specs.declared.state.State.{State}
 use Rattle.tclparse.specs.View.{words_of}
-use Rattle.words.specs.Words.{words}
+use Rattle.state.specs.Words.{words}
 
 -- the command that one of the code's stands for
 abbrev pub form_of : coded.Form → Form
@@ -108,7 +108,7 @@ IsOnTheWay (waits.Closed box) reply = ⊥
 abbrev pub course_of_turned : {A : Type 0} → Turned A → Status → Course
 course_of_turned (came.Has outcome) s = Ends (s, outcome_of outcome)
 course_of_turned (came.Runs script levels turn) s =
-    Calls (Script (tree_of script) levels) s (behind (turn_of turn.value) turn.value.levels)
+    Calls (Script script levels) s (behind (turn_of turn.value) turn.value.levels)
 course_of_turned (came.Asks act held) s =
     Asks (deed_of act) (replied (deed_of act) s (next_of held (deed_of act)))
 

@@ -6,7 +6,7 @@ ghost use Rattle.expects.specs.Turn.{begun_by, renewed, timed};
 
 use crate::form::Form;
 use acts::{Act, Id, Row, Timer};
-use code::Made;
+use code::CodedScript;
 use dialog::{Choice, Effective, Trigger};
 use state::Outcome;
 use std::alloc::Allocator;
@@ -59,7 +59,7 @@ pub enum Turned<A: Allocator> {
     /// The `expect` is over.
     Has(Outcome<A>),
     /// A body runs, with how many levels may still be nested in it; its outcome goes to the turn.
-    Runs(Made<A>, u8, Box<Turn<A>, A>),
+    Runs(CodedScript<A>, u8, Box<Turn<A>, A>),
     /// An act waits for its answer.
     Asks(Act<A>, Waits<A>),
 }

@@ -4,11 +4,11 @@ ghost use Rattle.std.specs.Prelude.{◌≡◌};
 ghost use Rattle.worlds.specs.Runs.{Heard, RunsRecorded};
 
 use acts::{Act, Answer, Limits, NoMemory, World};
-use engine::{End, Lead, Running, State, Watch};
 use records::Sink;
 use std::alloc::Allocator;
 use teller::Refusal;
 use worlds::recorded::{Refuses, run_seen};
+use worlds::{End, Lead, Running, State, Watch};
 
 /// A world that is lent, and what it refused last.
 #[derive(Drop)]

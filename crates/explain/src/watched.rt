@@ -7,16 +7,13 @@ ghost use Rattle.records.specs.Sink.{Takes};
 
 use crate::refusals::{Heeded, run_heeded};
 use acts::{Act, Answer, Limits, NoMemory, World};
-use code::Instruction;
-use engine::End;
-use machine::{Running, Waits, Watch};
 use records::{Sink, put_all};
-use state::{Leaf, Outcome, State};
 use std::alloc::Allocator;
 use std::rc::Rc;
 use tcltext::Value;
-use teller::{Detail, Teller};
+use teller::{Detail, Instruction, Outcome, Teller};
 use worlds::recorded::{Refuses, Runner};
+use worlds::{End, Lead, Running, State, Watch};
 
 /// The story of a run, which is told to a sink line by line as the run goes.
 #[derive(Drop)]
@@ -88,8 +85,7 @@ impl<A: Allocator + Copy, S: Sink> Story<A, S> {
     }
 }
 
-impl<A: Allocator + Copy, S: Sink> Watch<A, Running<A>, State<A>, Leaf<A, Waits<A>>>
-    for Story<A, S> {
+impl<A: Allocator + Copy, S: Sink> Watch<A, Running<A>, State<A>, Lead<A>> for Story<A, S> {
     ghost use Rattle.explain.specs.Stories.{GoesOn, joined, rests};
     ghost use Rattle.explain.specs.View.{told_of};
 
@@ -122,7 +118,7 @@ impl<A: Allocator + Copy, S: Sink> Watch<A, Running<A>, State<A>, Leaf<A, Waits<
         self.note(noted);
     }
 
-    fn leads(&mut self, running: &Running<A>, state: &State<A>, leaf: &Leaf<A, Waits<A>>) {
+    fn leads(&mut self, running: &Running<A>, state: &State<A>, leaf: &Lead<A>) {
         let told = self.teller.leads(running, state, leaf, self.detail);
         self.tell(told);
     }

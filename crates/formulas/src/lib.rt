@@ -6,7 +6,6 @@ mod fault;
 mod following;
 mod formula;
 mod group;
-mod kept;
 pub mod laws;
 mod leaf;
 mod opening;
@@ -17,5 +16,4 @@ mod white;
 
 pub use error::ReadError;
 pub use fault::Fault;
-pub use kept::KeptFormulas;
 pub use tree::{Choice, Formula, Link, Row};

@@ -9,8 +9,7 @@ use Rattle.std.specs.Map.{lookup, keys_of}
 use Rattle.std.specs.Str.{bytes_eq}
 use Rattle.std.specs.declared.vec.Vec.{Vec}
 use Rattle.indexmap.specs.IndexMap.{insert_entry}
-use Rattle.code.specs.Seen.{tree_of}
-use Rattle.code.specs.declared.made.Made.{Made}
+use Rattle.code.specs.ScriptTree.{ScriptTree}
 use Rattle.tclparse.specs.Grammar.{IsScript}
 use Rattle.kept.specs.Kept.{is_among, newest, with_newest, IsTree, Entries, texts_of, AreTrees}
 
@@ -20,6 +19,16 @@ pub either_outcome : {T E : Type 0} (P Q : Type 0) (r : Result T E) →
 either_outcome P Q (Ok x) p q = inr p
 either_outcome P Q (Err e) p q = inl q
 
+-- a shared script is that of the same text
+pub same_tree : (s t : ScriptTree) (text : List ℕ) → t ≡ s → IsTree s text → IsTree t text
+same_tree s t text same is =
+    subst (λ (tree : ScriptTree). IsScript tree.commands tree.fault text) (sym same) is
+
+pub shared_tree : {E : Type 0} (r : Result ScriptTree E) (s : ScriptTree)
+    (text : List ℕ) → IsTree s text → IfOk r (λ t. t ≡ s) → IfOk r (λ t. IsTree t text)
+shared_tree (Ok t) s text h same = same_tree s t text same h
+shared_tree (Err e) s text h same = same
+
 module _ {A : Type 0} where
   -- the tests of a map's keys
   abbrev is_key : List ℕ → Vec ℕ A → Bool
@@ -28,22 +37,11 @@ module _ {A : Type 0} where
   abbrev same_key : Vec ℕ A → Vec ℕ A → Bool
   same_key a b = pointwise nat_eq a.items b.items
 
-  abbrev is_entry : Vec ℕ A × Made A → Type 0
+  abbrev is_entry : Vec ℕ A × ScriptTree → Type 0
   is_entry e = IsTree e.1 e.0.items
 
-  -- a shared script is that of the same text
-  pub same_tree : (s t : Made A) (text : List ℕ) → tree_of t ≡ tree_of s → IsTree s text →
-      IsTree t text
-  same_tree s t text same is =
-      subst (λ tree. IsScript tree.commands tree.fault text) (sym same) is
-
-  pub shared_tree : {E : Type 0} (r : Result (Made A) E) (s : Made A) (text : List ℕ) →
-      IsTree s text → IfOk r (λ t. tree_of t ≡ tree_of s) → IfOk r (λ t. IsTree t text)
-  shared_tree (Ok t) s text h same = same_tree s t text same h
-  shared_tree (Err e) s text h same = same
-
   -- a script that is found is the text's
-  pub tree_found : (es : Entries A) (text : List ℕ) (s : Made A) → AreTrees es →
+  pub tree_found : (es : Entries A) (text : List ℕ) (s : ScriptTree) → AreTrees es →
       lookup (λ k. pointwise nat_eq text k.items) es ≡ Some s → IsTree s text
   tree_found [] text s trees h = cc
   tree_found (e ∷ es) text s trees h =
@@ -71,7 +69,7 @@ module _ {A : Type 0} where
       by false rest = rest
 
   -- a new text goes last
-  pub goes_last : (es : Entries A) (k : Vec ℕ A) (s : Made A) →
+  pub goes_last : (es : Entries A) (k : Vec ℕ A) (s : ScriptTree) →
       is_among k.items (texts_of es) ≡ false →
       insert_entry (λ a b. pointwise nat_eq a.items b.items) es k s ≡ es ++ (k, s) ∷ []
   goes_last [] k s new = refl
@@ -86,7 +84,7 @@ module _ {A : Type 0} where
       by false new rest = ap (λ r. e ∷ r) (rest new)
 
   -- the texts without the oldest, and one more
-  oldest_out : (es : Entries A) (e : Vec ℕ A × Made A) → 0 < length es →
+  oldest_out : (es : Entries A) (e : Vec ℕ A × ScriptTree) → 0 < length es →
       texts_of (drop 1 (es ++ e ∷ [])) ≡ drop 1 (texts_of es) ++ e.0.items ∷ []
   oldest_out [] e some = absurd (omega arith)
   oldest_out (x ∷ es) e some = map-append (λ e. e.0.items) es (e ∷ [])
@@ -106,14 +104,14 @@ module _ {A : Type 0} where
   distinct_texts (e ∷ es) h = (others e.0 es h.0, distinct_texts es h.1)
 
 -- The entries of a map once a new text is put into it.
-pub record Inserted {A : Type 0} (es new : Entries A) (k : Vec ℕ A) (s : Made A)
+pub record Inserted {A : Type 0} (es new : Entries A) (k : Vec ℕ A) (s : ScriptTree)
     (text : List ℕ) (texts : List (List ℕ)) : Type 0 where
   pub view : texts_of es ≡ texts
   pub items : k.items ≡ text
   pub fresh : is_among text texts ≡ false
   pub entries : new ≡ insert_entry (λ a b. pointwise nat_eq a.items b.items) es k s
 
-module _ {A : Type 0} (es new : Entries A) (k : Vec ℕ A) (s : Made A) (text : List ℕ)
+module _ {A : Type 0} (es new : Entries A) (k : Vec ℕ A) (s : ScriptTree) (text : List ℕ)
     (texts : List (List ℕ)) (put : Inserted es new k s text texts) where
   last : new ≡ es ++ (k, s) ∷ []
   last = put.entries ∙ goes_last es k s (rw (put.items, put.view) put.fresh)

@@ -3,8 +3,7 @@ use Rattle.std.specs.Prelude.{ℕ, ◌==◌, nat_lt, Bool, List, [], ◌∷◌, 
 use Rattle.std.specs.List.{list_any, All}
 use Rattle.std.specs.Str.{bytes_eq}
 use Rattle.std.specs.declared.vec.Vec.{Vec}
-use Rattle.code.specs.Seen.{tree_of}
-use Rattle.code.specs.declared.made.Made.{Made}
+use Rattle.code.specs.ScriptTree.{ScriptTree}
 use Rattle.tclparse.specs.Grammar.{IsScript}
 
 -- The text is one of these (this project's own rule).
@@ -26,12 +25,12 @@ abbrev pub with_text : List ℕ → List (List ℕ) → List (List ℕ)
 with_text text texts = if is_among text texts then texts else with_newest text texts
 
 -- The text's script (Tcl(n)).
-abbrev pub IsTree : {A : Type 0} → Made A → List ℕ → Type 0
-IsTree script text = IsScript (tree_of script).commands (tree_of script).fault text
+abbrev pub IsTree : ScriptTree → List ℕ → Type 0
+IsTree script text = IsScript script.commands script.fault text
 
 -- A map's entries: texts, and what is kept under them.
 abbrev pub Entries : Type 0 → Type 0
-Entries A = List (Vec ℕ A × Made A)
+Entries A = List (Vec ℕ A × ScriptTree)
 
 -- The texts of a map's entries, in order.
 abbrev pub texts_of : {A : Type 0} → Entries A → List (List ℕ)
@@ -39,4 +38,4 @@ texts_of es = map (λ e. e.0.items) es
 
 -- Each entry is a text and its script.
 abbrev pub AreTrees : {A : Type 0} → Entries A → Type 0
-AreTrees {A} es = All (λ (e : Vec ℕ A × Made A). IsTree e.1 e.0.items) es
+AreTrees {A} es = All (λ (e : Vec ℕ A × ScriptTree). IsTree e.1 e.0.items) es

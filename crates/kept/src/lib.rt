@@ -9,28 +9,30 @@ ghost use Rattle.std.specs.Str.{bytes_eq};
 ghost use Rattle.kept.specs.Kept.{is_among, newest, with_newest, with_text, IsTree};
 
 pub use argument::{Argument, Arguments};
-use code::{Instruction, Made};
+use code::{CodedFormula, CodedScript, Instruction};
 use hints::{Hints, Table, found_near, new_table};
 use memory::NoMemory;
+use recent::Recent;
 use std::alloc::Allocator;
 use std::marker::Model;
 use std::rc::Rc;
-use tclparse::Command;
+use tclparse::Script;
+
+/// The formulas of the texts that were read last, as their code (expr(n)).
+pub type KeptFormulas<A> = Recent<A, CodedFormula<A>>;
 
 /// The most texts that are kept.
 pub const MOST_KEPT: usize = 256;
 
-/// The scripts of the texts that were last put here, at most [`MOST_KEPT`], as their trees or as
-/// their code. Contracts see the texts, each once, the oldest first.
+/// The scripts of the texts that were last put here, at most [`MOST_KEPT`], as their code.
+/// Contracts see the texts, each once, the oldest first.
 ///
 /// A look-up compares one text in most cases, and else computes one hash. A script lives as long as
 /// a frame holds it, whether it is still kept or not.
 #[derive(Drop)]
 pub struct Kept<A: Allocator> {
-    scripts: Table<Made<A>, A>,
+    scripts: Table<CodedScript<A>, A>,
     hints: Hints<256>,
-    /// Whether scripts are kept as their code.
-    as_code: bool,
 }
 
 impl<A: Allocator> Model for Kept<A> {
@@ -57,24 +59,11 @@ impl<A: Allocator> Kept<A> {
 }
 
 impl<A: Allocator> Kept<A> {
-    /// The text under which the script with these commands is kept, if it is. Takes no memory. No
-    /// contract speaks of it: it is told to who watches a run, which text it is that runs.
-    pub fn text_of(&self, commands: &Rc<Vec<Command<A>, A>, A>) -> Option<&[u8]> {
-        for (text, script) in self.scripts.iter() {
-            if Rc::ptr_eq(script.commands(), commands) {
-                return Some(text.as_slice());
-            }
-        }
-        None
-    }
-
     /// The text under which the script with this code is kept, if it is. Takes no memory. No
-    /// contract speaks of it, as of the one above.
-    pub fn text_of_code(&self, code: &Rc<Vec<Instruction<A>, A>, A>) -> Option<&[u8]> {
+    /// contract speaks of it: it is told to who watches a run, which text it is that runs.
+    pub fn text_of(&self, code: &Rc<Vec<Instruction<A>, A>, A>) -> Option<&[u8]> {
         for (text, script) in self.scripts.iter() {
-            if let Made::Code(coded) = script
-                && Rc::ptr_eq(coded.code(), code)
-            {
+            if Rc::ptr_eq(script.code(), code) {
                 return Some(text.as_slice());
             }
         }
@@ -83,14 +72,13 @@ impl<A: Allocator> Kept<A> {
 }
 
 impl<A: Allocator + Copy> Kept<A> {
-    /// Keeps no text yet, and will keep scripts as their code, or as their trees. Takes no memory.
-    pub fn new(alloc: A, as_code: bool) -> Kept<A>
+    /// Keeps no text yet. Takes no memory.
+    pub fn new(alloc: A) -> Kept<A>
         ensures { result ≡ [] }
     {
         Kept {
             scripts: new_table(alloc),
             hints: Hints::new(),
-            as_code,
         }
     }
 
@@ -103,7 +91,7 @@ impl<A: Allocator + Copy> Kept<A> {
     /// # Errors
     /// `NoMemory` where the script itself could not be made or shared. The texts are then as they
     /// were.
-    pub fn get(&mut self, text: &[u8]) -> Result<Made<A>, NoMemory>
+    pub fn get(&mut self, text: &[u8]) -> Result<CodedScript<A>, NoMemory>
         ensures tree { IfOk result (λ script. IsTree script text.now) }
         ensures texts { (self.new ≡ self.old) ⊎ (self.new ≡ with_text text.now self.old) }
         ensures unchanged { OnErr result (self.new ≡ self.old) }
@@ -111,13 +99,13 @@ impl<A: Allocator + Copy> Kept<A> {
         if let Some(script) = found_near(&self.scripts, self.hints.place(text), text) {
             return script.share();
         }
-        let script = Made::read(*self.scripts.allocator(), text, self.as_code)?;
+        let script = read_script(*self.scripts.allocator(), text)?;
         let _ = self.keep(text, &script);
         Ok(script)
     }
 
     /// Keeps the script of a text that is not kept yet.
-    fn keep(&mut self, text: &[u8], script: &Made<A>) -> Result<(), NoMemory>
+    fn keep(&mut self, text: &[u8], script: &CodedScript<A>) -> Result<(), NoMemory>
         requires new { is_among text.now self.old ≡ false }
         requires tree { IsTree script.now text.now }
         ensures ok { OnOk result (self.new ≡ with_newest text.now self.old) }
@@ -131,8 +119,16 @@ impl<A: Allocator + Copy> Kept<A> {
     }
 }
 
+/// Reads a text as a script (Tcl(n)), and makes its code.
+fn read_script<A: Allocator + Copy>(alloc: A, text: &[u8]) -> Result<CodedScript<A>, NoMemory>
+    ensures { IfOk result (λ script. IsTree script text.now) }
+{
+    let script = Script::read(alloc, text)?;
+    CodedScript::new(alloc, script)
+}
+
 /// Drops the oldest where there are more than [`MOST_KEPT`].
-fn drop_oldest<A: Allocator>(scripts: &mut Table<Made<A>, A>)
+fn drop_oldest<A: Allocator>(scripts: &mut Table<CodedScript<A>, A>)
     ensures { scripts.new.entries ≡ newest scripts.old.entries }
 {
     if MOST_KEPT < scripts.len() {

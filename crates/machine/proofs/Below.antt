@@ -1,7 +1,7 @@
 -- Frames, the code below them, and the parts below that.
 use Rattle.std.proofs.Common.{◌≡◌, ◌∙◌, ℕ, ◌+◌, ◌*◌, ◌<◌, ◌≤◌, List, [], ◌∷◌, Option, Some, None, option_map, Result, Vec, refl, reverse, sym, ap, subst, arith}
 use Rattle.code.specs.ScriptTree.{seen}
-use Rattle.machine.specs.Frames.{Onward, begun, left_of, onward_of, stack, weight, words_in}
+use Rattle.machine.specs.Frames.{Onward, left_of, onward_of, stack, weight, words_in}
 use Rattle.machine.specs.Phases.{Leads, course_of_next}
 use Rattle.machine.specs.Below.{Beneath, BeginsIn, ComesFrom, ComesOver, Falls, GoesOn, Hands, IsBack, IsBelow, IsLess, IsWhole, StandsOver, TicksFirst, Under, depth, height, one_for, parts_of, places_in, rest_of, waits_in}
 use Rattle.machine.specs.declared.frame.Frame.{Frame}

@@ -1,16 +1,11 @@
 -- Commands that run scripts, and what they hold meanwhile.
-use Rattle.std.proofs.Common.{◌≡◌, ◌∙◌, ◌-◌, ℕ, ◌≤◌, List, [], ◌∷◌, drop, get_or, length, take, Some, None, Result, Ok, refl, sym, ap}
+use Rattle.std.proofs.Common.{◌≡◌, ◌∙◌, ℕ, List, [], ◌∷◌, Result, Ok, sym, ap}
 use Rattle.code.specs.declared.made.Made.{Made}
 use Rattle.code.specs.declared.made.Made.TheVariants as made
-use Rattle.commands.proofs.Words.{first_word, rest_words}
-use Rattle.commands.specs.Commands as leaf
 use Rattle.conditions.specs.GoesOn.{Comes}
-use Rattle.bodies.specs.Calls.{call}
-use Rattle.control.specs.Commands.{does, named}
-use Rattle.control.specs.Control.{Control}
 use Rattle.control.specs.View as control
 use Rattle.control.specs.declared.held.Held.{Held}
-use Rattle.machine.specs.Frames.{Onward, frame_of, left_of, onward_of}
+use Rattle.machine.specs.Frames.{Onward, left_of, onward_of}
 use Rattle.steps.specs.Goes.{Goes, here, calls}
 use Rattle.machine.specs.Phases.{Begins, Leads, course_of_next}
 use Rattle.machine.specs.declared.starting.Next.TheVariants as next
@@ -18,17 +13,15 @@ use Rattle.machine.specs.declared.frame.Frame.{Frame}
 use Rattle.machine.specs.declared.frame.Frame.TheVariants as frame
 use Rattle.machine.proofs.Silent.{comes_goes}
 use Rattle.steps.proofs.Leads.Silent.{same_goes, then_goes}
-use Rattle.expects.specs.Expect.{expect}
-use Rattle.expects.specs.Words.{Form, named as form_of}
-use Rattle.runs.specs.Commands.{command, other_command}
 use Rattle.state.specs.Prelude.{Course, gives, Gives, Status}
+use Rattle.plan.proofs.Joined.{associates}
+use Rattle.plan.specs.Plan.{onward}
+use Rattle.state.specs.Evaluated.{evaluated}
 use Rattle.state.specs.Nesting as nests
 use Rattle.state.specs.declared.leaf.Leaf.TheVariants as at_hand
 use Rattle.state.specs.declared.nesting.Nesting.TheVariants as nesting
 use Rattle.state.specs.declared.outcome.Leave.{Leave}
 use Rattle.state.specs.declared.state.State.{State}
-use Rattle.tclstate.specs.Pairs.{found}
-use Rattle.tclstate.specs.Procs.{Procedure}
 
 module _ {A : Type 0} (last : Onward) (fs : List (Frame A)) where
   -- a command that is over continues under the frames
@@ -41,40 +34,43 @@ module _ {A : Type 0} (last : Onward) (fs : List (Frame A)) where
     goes = comes_goes last fs shown.goes;
   }
 
-  -- a script stands on the stack above the command that runs it
-  pub held_goes : (script : Made A) (levels : ℕ) (held : Held A) (new : List (Frame A))
+  -- a script or a formula stands on the stack above the command that runs it
+  pub held_goes : (it : Made A) (levels : ℕ) (held : Held A) (new : List (Frame A))
       (s : Status) →
-      new ≡ frame_of script levels ∷ frame.Held held ∷ fs →
+      new ≡ frame.Code it levels ∷ frame.Held held ∷ fs →
       Goes (left_of last (nests.course_of (control.next_of {A = A})
-      (nesting.Runs script levels held) s) fs)
+      (nesting.Runs it levels held) s) fs)
       (left_of last (gives [] s) new)
-  held_goes (made.Tree script) levels held new s on =
+  held_goes (made.Script tree) levels held new s on =
       then_goes (calls here) (same_goes (ap (λ l. left_of last (gives [] s) l) (sym on)))
-  held_goes (made.Code tree) levels held new s on =
-      then_goes (calls here) (same_goes (ap (λ l. left_of last (gives [] s) l) (sym on)))
+  held_goes (made.Formula f) levels held new s on =
+      same_goes
+      (associates (evaluated levels f s (λ t value. gives value t))
+      (onward (control.next_of held)) (onward (onward_of last fs))
+      ∙ ap (λ l. left_of last (gives [] s) l) (sym on))
 
-  pub runs_held : (script : Made A) (levels : ℕ) (held : Held A) (new : List (Frame A))
+  pub runs_held : (it : Made A) (levels : ℕ) (held : Held A) (new : List (Frame A))
       (state : State A) (course : Course) →
-      new ≡ frame_of script levels ∷ frame.Held held ∷ fs →
-      Comes (control.next_of {A = A}) (nesting.Runs script levels held) state course →
+      new ≡ frame.Code it levels ∷ frame.Held held ∷ fs →
+      Comes (control.next_of {A = A}) (nesting.Runs it levels held) state course →
       Begins last (course_of_next {A = A} next.Again) new state (left_of last course fs)
-  runs_held script levels held new state course on shown = record {
+  runs_held it levels held new state course on shown = record {
     status = shown.status;
     fits = shown.fits;
     goes = then_goes (comes_goes last fs shown.goes)
-        (held_goes script levels held new shown.status on);
+        (held_goes it levels held new shown.status on);
   }
 
   -- the same, where the command took no tick
-  pub runs_on : (script : Made A) (levels : ℕ) (held : Held A) (new : List (Frame A))
+  pub runs_on : (it : Made A) (levels : ℕ) (held : Held A) (new : List (Frame A))
       (state : State A) (course : Course) (none : List ℕ) → none ≡ [] →
-      new ≡ frame_of script levels ∷ frame.Held held ∷ fs →
-      Comes (control.next_of {A = A}) (nesting.Runs script levels held) state course →
+      new ≡ frame.Code it levels ∷ frame.Held held ∷ fs →
+      Comes (control.next_of {A = A}) (nesting.Runs it levels held) state course →
       Leads last (at_hand.Has (Ok none)) new state (left_of last course fs)
-  runs_on script levels held new state course none is on shown = record {
+  runs_on it levels held new state course none is on shown = record {
     status = shown.status;
     fits = shown.fits;
     goes = then_goes (comes_goes last fs shown.goes)
-        (then_goes (held_goes script levels held new shown.status on)
+        (then_goes (held_goes it levels held new shown.status on)
         (same_goes (ap (λ v. onward_of last new shown.status (Gives v)) (sym is))));
   }

@@ -1,8 +1,6 @@
 -- What the parts of the machine do.
 use Rattle.std.proofs.Common.{◌≡◌, ℕ, suc, ◌+◌, ◌<◌, ◌≤◌, List, [], ◌∷◌, Box, None, Result, Ok, Err, IfOk, refl, sym, ap, arith}
-use Rattle.code.specs.ScriptTree.{ScriptTree}
 use Rattle.code.specs.declared.made.Made.{Made}
-use Rattle.code.specs.declared.made.Made.TheVariants as made
 use Rattle.std.specs.declared.rc.Rc.{Rc}
 use Rattle.std.specs.declared.vec.Vec.{Vec}
 use Rattle.tclparse.specs.declared.tree.Command.{Command}
@@ -11,7 +9,7 @@ use Rattle.machine.specs.Began.{HasBegun}
 use Rattle.machine.specs.Waiting as waiting
 use Rattle.machine.specs.declared.waits.Waits.{Waits}
 use Rattle.control.specs.declared.held.Held.{Held}
-use Rattle.machine.specs.Frames.{Onward, call_of, frame_of, next_of, onward_of, left_of, weight, weight_of, words_in, words_of_frame}
+use Rattle.machine.specs.Frames.{Onward, call_of, next_of, onward_of, left_of, weight, weight_of, words_in, words_of_frame}
 use Rattle.steps.specs.Goes.{Goes, here, calls}
 use Rattle.machine.specs.Phases.{Leads, Unwinds, Stands}
 use Rattle.machine.specs.declared.frame.Frame.{Frame}
@@ -39,7 +37,7 @@ use Rattle.state.specs.declared.state.State.{State}
 use Rattle.tclparse.specs.View.{commands_of}
 use Rattle.tclparse.specs.Tree.{Commands}
 use Rattle.words.specs.Gathering.{course_of_gathered, gathering_on}
-use Rattle.words.specs.Words.{nested}
+use Rattle.state.specs.Words.{nested}
 use Rattle.words.specs.declared.gathering.Gathered.{Gathered}
 use Rattle.words.specs.declared.gathering.Gathering.{Gathering}
 
@@ -73,7 +71,7 @@ module _ {A : Type 0} (last : Onward) (fs : List (Frame A)) (state : State A) {p
     fits = begins.fits;
     goes = then_goes goes begins.goes;
   }
-  unwinds_from (unwound.Enters tree levels value) begins = record {
+  unwinds_from (unwound.Enters it levels value) begins = record {
     status = begins.status;
     fits = begins.fits;
     goes = then_goes goes begins.goes;
@@ -186,10 +184,10 @@ pub script_passes : {A : Type 0} (own : Script A) (s : Status) (l : Leave A) →
 script_passes own s (leave.Coded code value) = refl
 script_passes own s (leave.Stopped stop) = refl
 
-pub code_passes : {A : Type 0} (tree : ScriptTree) (levels : ℕ) (s : Status) (l : Leave A) →
-    next_of {A = A} (frame.Code tree levels) s (outcome_of (Err l)) ≡ Ends (s, outcome_of (Err l))
-code_passes tree levels s (leave.Coded code value) = refl
-code_passes tree levels s (leave.Stopped stop) = refl
+pub code_passes : {A : Type 0} (it : Made A) (levels : ℕ) (s : Status) (l : Leave A) →
+    next_of {A = A} (frame.Code it levels) s (outcome_of (Err l)) ≡ Ends (s, outcome_of (Err l))
+code_passes it levels s (leave.Coded code value) = refl
+code_passes it levels s (leave.Stopped stop) = refl
 
 pub words_passes : {A : Type 0} (box : Box (Gathering A) A) (levels : ℕ) (whose : WordsOf)
     (s : Status) (l : Leave A) →
@@ -203,7 +201,7 @@ pub passed_on : {A : Type 0} (f : Frame A) (s : Status) (l : Leave A) →
     ((turn : Box (Turn A) A) → f ≡ frame.Turn turn → ⊥) →
     next_of f s (outcome_of (Err l)) ≡ Ends (s, outcome_of (Err l))
 passed_on (frame.Script own) s l not none = script_passes own s l
-passed_on (frame.Code tree levels) s l not none = code_passes tree levels s l
+passed_on (frame.Code it levels) s l not none = code_passes it levels s l
 passed_on (frame.Words box levels whose) s l not none = words_passes box levels whose s l
 passed_on (frame.Held held) s l not none = absurd (not held refl)
 passed_on (frame.Turn turn) s l not none = absurd (none turn refl)
@@ -212,7 +210,7 @@ passed_on (frame.Turn turn) s l not none = absurd (none turn refl)
 pub lighter_without : {A : Type 0} (f : Frame A) (fs : List (Frame A)) →
     weight fs < weight_of f + weight fs
 lighter_without (frame.Script own) fs = omega arith
-lighter_without (frame.Code tree levels) fs = omega arith
+lighter_without (frame.Code it levels) fs = omega arith
 lighter_without (frame.Words box levels whose) fs = omega arith
 lighter_without (frame.Held held) fs = omega arith
 lighter_without (frame.Turn turn) fs = omega arith
@@ -220,14 +218,3 @@ lighter_without (frame.Turn turn) fs = omega arith
 pub fewer_without : {A : Type 0} (f : Frame A) (fs : List (Frame A)) (again : ℕ) →
     again + words_in fs ≤ again + (words_of_frame f + words_in fs)
 fewer_without f fs again = omega arith
-
--- a script of which nothing is done yet waits for no words, and is one frame
-pub frame_waits : {A : Type 0} (script : Made A) (levels : ℕ) →
-    words_of_frame (frame_of script levels) ≡ 0
-frame_waits (made.Tree script) levels = refl
-frame_waits (made.Code tree) levels = refl
-
-pub frame_weighs : {A : Type 0} (script : Made A) (levels : ℕ) →
-    weight_of (frame_of script levels) ≡ 1
-frame_weighs (made.Tree script) levels = refl
-frame_weighs (made.Code tree) levels = refl

@@ -12,7 +12,7 @@ use Rattle.runs.specs.Ending.{Over}
 use Rattle.runs.specs.Scripts.{plan_of}
 use Rattle.runs.proofs.Trees.{one_tree}
 use Rattle.state.specs.Prelude.{Course, Dialogue, IsTree, Reaches}
-use Rattle.steps.proofs.Leads.Silent.{same_goes}
+pub use Rattle.steps.proofs.Leads.Silent.{same_goes, then_goes}
 use Rattle.state.specs.Reaches as words_reach
 
 -- a course that continues as another by reading texts does so under frames too

@@ -1,6 +1,6 @@
 -- What is taken from the top frame when the part within it has ended with a value.
 use Rattle.std.proofs.Common.{◌≡◌, ◌∙◌, ℕ, suc, ◌+◌, ◌<◌, ◌≤◌, inl, inr, List, [], ◌∷◌, length, Box, MatchOption, Option, Some, None, option_map, refl, sym, ap, subst, arith}
-use Rattle.code.specs.ScriptTree.{ScriptTree}
+use Rattle.code.specs.declared.made.Made.{Made}
 use Rattle.std.specs.declared.rc.Rc.{Rc}
 use Rattle.std.specs.declared.vec.Vec.{Vec}
 use Rattle.machine.specs.Frames.{Onward, left_of, next_of, onward_of, weight, weight_of, words_in, words_of_frame}
@@ -24,7 +24,7 @@ use Rattle.state.specs.Prelude.{Gives, Status}
 use Rattle.tclparse.specs.Seen.{fault_of}
 use Rattle.tclparse.specs.View.{words_of}
 use Rattle.tclparse.specs.declared.tree.Word.{Word}
-use Rattle.words.specs.Words.{words}
+use Rattle.state.specs.Words.{words}
 use Rattle.words.specs.declared.gathering.Gathering.{Gathering}
 
 -- a state keeps its ticks
@@ -96,11 +96,11 @@ module _ {A : Type 0} where
       (ap (λ cs. script own.levels cs (option_map fault_of own.fault) s value)
       (commands_over own.commands.value.items own.next le)))
 
-  -- a script that runs as its code
-  pub code_taken : (tree : ScriptTree) (levels : ℕ) (frames : List (Frame A)) (ticks : ℕ) →
-      IsTaken (it.Code tree levels) (frame.Code tree levels ∷ frames) frames ticks ticks
-  code_taken tree levels frames ticks =
-      off (frame.Code tree levels) (it.Code tree levels) frames ticks refl refl refl
+  -- a script or a formula of which nothing is done yet
+  pub code_taken : (made : Made A) (levels : ℕ) (frames : List (Frame A)) (ticks : ℕ) →
+      IsTaken (it.Code made levels) (frame.Code made levels ∷ frames) frames ticks ticks
+  code_taken made levels frames ticks =
+      off (frame.Code made levels) (it.Code made levels) frames ticks refl refl refl
       (λ last s value has. here)
 
   -- words that wait, and a command after its script

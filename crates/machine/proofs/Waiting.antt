@@ -1,8 +1,8 @@
 -- Turns of expect under frames.
 use Rattle.std.proofs.Common.{◌≡◌, ℕ, List, [], ◌∷◌, Box, sym, ap}
-use Rattle.code.specs.declared.made.Made.{Made}
+use Rattle.code.specs.ScriptTree.{ScriptTree}
 use Rattle.code.specs.declared.made.Made.TheVariants as made
-use Rattle.machine.specs.Frames.{Onward, frame_of, left_of}
+use Rattle.machine.specs.Frames.{Onward, left_of}
 use Rattle.steps.specs.Goes.{Goes, here, calls}
 use Rattle.machine.specs.declared.frame.Frame.{Frame}
 use Rattle.machine.specs.declared.frame.Frame.TheVariants as frame
@@ -22,12 +22,10 @@ module _ {A : Type 0} (last : Onward) (fs : List (Frame A)) where
   turn_goes turn levels s = calls here
 
   -- the body of what was chosen stands on the stack above its turn
-  pub body_goes : (script : Made A) (levels : ℕ) (turn : Box (turning.Turn A) A)
+  pub body_goes : (tree : ScriptTree) (levels : ℕ) (turn : Box (turning.Turn A) A)
       (new : List (Frame A)) (s : Status) →
-      new ≡ frame_of script levels ∷ frame.Turn turn ∷ fs →
-      Goes (left_of last (course_of_turned (came.Runs script levels turn) s) fs)
+      new ≡ frame.Code (made.Script tree) levels ∷ frame.Turn turn ∷ fs →
+      Goes (left_of last (course_of_turned (came.Runs tree levels turn) s) fs)
       (left_of last (gives [] s) new)
-  body_goes (made.Tree script) levels turn new s on =
-      then_goes (calls here) (same_goes (ap (λ l. left_of last (gives [] s) l) (sym on)))
-  body_goes (made.Code tree) levels turn new s on =
+  body_goes tree levels turn new s on =
       then_goes (calls here) (same_goes (ap (λ l. left_of last (gives [] s) l) (sym on)))

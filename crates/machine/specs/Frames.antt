@@ -2,8 +2,6 @@
 use Rattle.std.specs.Prelude.{◌≡◌, ℕ, ◌+◌, ◌*◌, List, [], ◌∷◌, map, Option, option_map, reverse, drop}
 use Rattle.state.specs.Prelude.{Course, Dialogue, on_value, Outcome, Status}
 use Rattle.std.specs.declared.vec.Vec.{Vec}
-use Rattle.code.specs.declared.made.Made.{Made}
-use Rattle.code.specs.declared.made.Made.TheVariants as made
 use Rattle.control.specs.View as control
 use Rattle.machine.specs.declared.frame.Frame.{Frame}
 use Rattle.machine.specs.declared.frame.Frame.TheVariants as frame
@@ -18,10 +16,10 @@ use Rattle.runs.specs.Commands.{command}
 use Rattle.runs.specs.Ending.{Over}
 use Rattle.runs.specs.Scripts.{script}
 use Rattle.state.specs.declared.state.State.{State}
+use Rattle.steps.specs.Entered.{entered}
 use Rattle.tclparse.specs.Seen.{fault_of}
 use Rattle.tclparse.specs.Tree.{Commands, no_commands}
 use Rattle.tclparse.specs.View.{commands_then}
-use Rattle.tclparse.specs.declared.script.Script as read
 use Rattle.words.specs.Gathering.{gathering_on}
 use Rattle.words.specs.Scripts.{scripts_left}
 
@@ -39,27 +37,17 @@ call_of whose.Command levels = command levels
 call_of (whose.Argument form) levels = by_words (form_of form) levels
 
 -- a frame is what is done next with the outcome of the part within it: the remaining commands of a
--- script, a script of which nothing is done yet, the words of a command or of an argument in braces
--- after a script in one of them, a command after a script that it ran, or a turn of expect after
--- the body of what it chose
+-- script, a script or a formula of which nothing is done yet, the words of a command or of an
+-- argument in braces after a script in one of them, a command after what it ran, or a turn of
+-- expect after the body of what it chose
 abbrev pub next_of : {A : Type 0} → Frame A → Status → Outcome → Course
 next_of (frame.Script s) =
     on_value (script s.levels (commands_left s) (option_map fault_of s.fault))
-next_of (frame.Code tree levels) = on_value (script levels tree.commands tree.fault)
+next_of (frame.Code it levels) = on_value (entered it levels)
 next_of (frame.Words gathering levels whose) =
     on_value (gathering_on levels gathering.value (call_of whose levels))
 next_of (frame.Held held) = control.next_of held
 next_of (frame.Turn turn) = behind (turn_of turn.value) turn.value.levels
-
--- a script of which nothing is done yet, in which this many levels may nest
-abbrev pub begun : {A : Type 0} → read.Script A → ℕ → Script A
-begun script levels =
-    record { commands = script.commands; next = 0; levels = levels; fault = script.fault }
-
--- a script of which nothing is done yet, as a frame
-abbrev pub frame_of : {A : Type 0} → Made A → ℕ → Frame A
-frame_of (made.Tree script) levels = frame.Script (begun script levels)
-frame_of (made.Code coded) levels = frame.Code coded levels
 
 -- what is done with an outcome
 abbrev pub Onward : Type 0
@@ -76,9 +64,9 @@ left_of last course frames = and_then course (onward (onward_of last frames))
 -- how much a frame may still put on the stack between two ticks
 abbrev pub weight_of : {A : Type 0} → Frame A → ℕ
 weight_of (frame.Script s) = 1
-weight_of (frame.Code tree levels) = 1
+weight_of (frame.Code it levels) = 1
 weight_of (frame.Words gathering levels whose) = 3 + 2 * scripts_left gathering.value
-weight_of (frame.Held held) = 1 + 2 * control.scripts_held held
+weight_of (frame.Held held) = 1 + 2 * control.runs_held held
 weight_of (frame.Turn turn) = 1
 
 -- how much all frames together may still put on the stack between two ticks
@@ -96,7 +84,7 @@ words_load (whose.Argument form) = 1
 -- exp_continue
 abbrev pub words_of_frame : {A : Type 0} → Frame A → ℕ
 words_of_frame (frame.Script s) = 0
-words_of_frame (frame.Code tree levels) = 0
+words_of_frame (frame.Code it levels) = 0
 words_of_frame (frame.Words gathering levels whose) = words_load whose
 words_of_frame (frame.Held held) = 1
 words_of_frame (frame.Turn turn) = 0

@@ -22,7 +22,7 @@ use Rattle.machine.specs.declared.phase.Phase.TheVariants as phase
 use Rattle.runs.specs.Commands.{command}
 use Rattle.runs.specs.Closing.{does, ends_with, reported}
 use Rattle.runs.specs.Ending.{Over, numbered}
-use Rattle.runs.specs.Scripts.{script}
+use Rattle.steps.specs.Entered.{entered}
 use Rattle.expects.specs.Turn.{turns}
 use Rattle.expects.specs.View.{turn_of}
 use Rattle.state.specs.Budget.{again_of}
@@ -31,7 +31,7 @@ use Rattle.state.specs.declared.leaf.Leaf.{Leaf}
 use Rattle.state.specs.declared.leaf.Leaf.TheVariants as leaf
 use Rattle.state.specs.declared.state.State.{State}
 use Rattle.tclparse.specs.View.{words_of}
-use Rattle.words.specs.Words.{words}
+use Rattle.state.specs.Words.{words}
 
 -- for some state of the definition that the code's state fits, the dialogue continues as the course
 -- at hand, and then as the frames say
@@ -56,15 +56,15 @@ course_of_next (next.Call values levels whose) s = call_of whose levels s values
 course_of_next (next.Turn turn) s = turns (turn_of turn.value) turn.value.levels s
 course_of_next next.Again s = gives [] s
 
--- what a frame did with an outcome: it gave another one, something begins, or the code of a script
+-- what a frame did with an outcome: it gave another one, something begins, or a script or a formula
 -- is entered
 abbrev pub Unwinds : {A : Type 0} → Onward → Unwound A → List (Frame A) → State A →
     Dialogue Over → Type 0
 Unwinds last (unwound.Has outcome) frames state p = Leads last (leaf.Has outcome) frames state p
 Unwinds last (unwound.Begins next) frames state p =
     Begins last (course_of_next next) frames state p
-Unwinds last (unwound.Enters tree levels value) frames state p =
-    Begins last (λ s. script levels tree.commands tree.fault s value) frames state p
+Unwinds last (unwound.Enters it levels value) frames state p =
+    Begins last (λ s. entered it levels s value) frames state p
 
 -- how much may begin from words that are all substituted: a command may end by exp_continue
 abbrev pub call_load : WordsOf → ℕ
@@ -86,20 +86,20 @@ Lightens (unwound.Has outcome) frames state most waiting left =
     × (state.left ≤ left)
 Lightens (unwound.Begins next) frames state most waiting left =
     more_of next + load frames state < 3 * left + waiting
-Lightens (unwound.Enters tree levels value) frames state most waiting left =
+Lightens (unwound.Enters it levels value) frames state most waiting left =
     (weight frames < most) × (words_in frames ≤ waiting) × (state.left ≤ left)
 
--- where the code of a script is entered, its frame is gone
+-- where a script or a formula is entered, its frame is gone
 abbrev pub IsLighter : {A : Type 0} → Unwound A → List (Frame A) → ℕ → Type 0
 IsLighter (unwound.Has outcome) frames most = Unit {0}
 IsLighter (unwound.Begins next) frames most = Unit {0}
-IsLighter (unwound.Enters tree levels value) frames most = weight frames < most
+IsLighter (unwound.Enters it levels value) frames most = weight frames < most
 
 -- all frames are gone where there is an outcome
 abbrev pub IsEmptied : {A : Type 0} → Unwound A → List (Frame A) → Type 0
 IsEmptied (unwound.Has outcome) frames = frames ≡ []
 IsEmptied (unwound.Begins next) frames = Unit {0}
-IsEmptied (unwound.Enters tree levels value) frames = Unit {0}
+IsEmptied (unwound.Enters it levels value) frames = Unit {0}
 
 -- what is done with the answer to an act that closes a run, where it fits
 abbrev pub closing_on : {A : Type 0} → Closing A → Status → Reply → Dialogue Over

@@ -5,6 +5,7 @@ use Rattle.std.specs.declared.rc.Rc.{Rc}
 use Rattle.std.specs.declared.vec.Vec.{Vec}
 use Rattle.control.specs.View as control
 use Rattle.machine.specs.Frames.{Onward, call_of, commands_left, left_of, onward_of, weight, words_in, words_load}
+use Rattle.steps.specs.Entered.{entered}
 use Rattle.steps.specs.Goes.{Goes}
 use Rattle.machine.specs.declared.frame.Frame.{Frame}
 use Rattle.machine.specs.declared.frame.Frame.TheVariants as frame
@@ -14,7 +15,7 @@ use Rattle.machine.specs.declared.taken.Taken.TheVariants as it
 use Rattle.expects.specs.Turn.{behind as behind_body}
 use Rattle.expects.specs.View.{turn_of}
 use Rattle.runs.specs.Commands.{command}
-use Rattle.runs.specs.Scripts.{behind, script}
+use Rattle.runs.specs.Scripts.{behind}
 use Rattle.state.specs.Outcome as stop
 use Rattle.tclparse.specs.Seen.{fault_of}
 use Rattle.tclparse.specs.Tree.{no_commands}
@@ -23,7 +24,7 @@ use Rattle.tclparse.specs.View.{words_of}
 use Rattle.tclparse.specs.declared.tree.Word.{Word}
 use Rattle.words.specs.Gathering.{gathering_on}
 use Rattle.words.specs.Scripts.{scripts_left}
-use Rattle.words.specs.Words.{words}
+use Rattle.state.specs.Words.{words}
 
 -- a script hands out its next command, and the others are left (Tcl(n), rule 1)
 pub record HandsOut {A : Type 0} (ws : Rc (Vec (Word A) A) A) (old new : Script A) : Type 0 where
@@ -35,7 +36,7 @@ pub record HandsOut {A : Type 0} (ws : Rc (Vec (Word A) A) A) (old new : Script 
 abbrev pub HasNone : {A : Type 0} → List (Frame A) → Type 0
 HasNone [] = Unit {0}
 HasNone (frame.Script s ∷ rest) = commands_left s ≡ no_commands
-HasNone (frame.Code tree levels ∷ rest) = Unit {0}
+HasNone (frame.Code made levels ∷ rest) = Unit {0}
 HasNone (frame.Words gathering levels whose ∷ rest) = Unit {0}
 HasNone (frame.Held held ∷ rest) = Unit {0}
 HasNone (frame.Turn turn ∷ rest) = Unit {0}
@@ -64,14 +65,13 @@ abbrev pub IsOver : {A : Type 0} → List (Frame A) → List (Frame A) → ℕ �
 IsOver old new ticks left = (old ≡ []) × (new ≡ []) × (left ≡ ticks)
 
 -- what was taken, as a course: a command that has taken its tick, the run's limit, what stands
--- after a script's commands, a whole script, words with one more value, a command after its script,
--- a turn of expect after a body
+-- after a script's commands, a whole script or a formula, words with one more value, a command
+-- after what it ran, a turn of expect after a body
 abbrev pub course_of_taken : {A : Type 0} → Taken A → Status → List ℕ → Course
 course_of_taken (it.Command ws levels) s value = words levels (words_of ws) [] s (command levels)
 course_of_taken it.Limit s value = stops stop.Limit s
 course_of_taken (it.Behind fault) s value = behind (option_map fault_of fault) s value
-course_of_taken (it.Code tree levels) s value =
-    script levels tree.commands tree.fault s value
+course_of_taken (it.Code made levels) s value = entered made levels s value
 course_of_taken (it.Words gathering levels whose) s value =
     gathering_on levels gathering.value (call_of whose levels) s value
 course_of_taken (it.Held held) s value = control.next_of held s (Gives value)
@@ -83,9 +83,9 @@ abbrev pub weight_taken : {A : Type 0} → Taken A → ℕ
 weight_taken (it.Command ws levels) = 0
 weight_taken it.Limit = 1
 weight_taken (it.Behind fault) = 1
-weight_taken (it.Code tree levels) = 1
+weight_taken (it.Code made levels) = 1
 weight_taken (it.Words gathering levels whose) = 3 + 2 * scripts_left gathering.value
-weight_taken (it.Held held) = 1 + 2 * control.scripts_held held
+weight_taken (it.Held held) = 1 + 2 * control.runs_held held
 weight_taken (it.Turn turn) = 1
 
 -- how much may still begin from what was taken before the next tick
@@ -93,7 +93,7 @@ abbrev pub words_taken : {A : Type 0} → Taken A → ℕ
 words_taken (it.Command ws levels) = 0
 words_taken it.Limit = 0
 words_taken (it.Behind fault) = 0
-words_taken (it.Code tree levels) = 0
+words_taken (it.Code made levels) = 0
 words_taken (it.Words gathering levels whose) = words_load whose
 words_taken (it.Held held) = 1
 words_taken (it.Turn turn) = 0
@@ -103,7 +103,7 @@ abbrev pub tick_of : {A : Type 0} → Taken A → ℕ
 tick_of (it.Command ws levels) = 1
 tick_of it.Limit = 0
 tick_of (it.Behind fault) = 0
-tick_of (it.Code tree levels) = 0
+tick_of (it.Code made levels) = 0
 tick_of (it.Words gathering levels whose) = 0
 tick_of (it.Held held) = 0
 tick_of (it.Turn turn) = 0

@@ -10,9 +10,8 @@ ghost use Rattle.tclstate.specs.Scopes.{Text, scopes as scopes_of};
 
 use acts::{Limits, NoMemory};
 use dialog::{KeptBranches, LogState};
-use formulas::KeptFormulas;
 use itoa::Buffer;
-use kept::{Arguments, Kept};
+use kept::{Arguments, Kept, KeptFormulas};
 use state::{Ids, State};
 use std::alloc::Allocator;
 use tclstate::{Procs, ScopeError, Scopes};
@@ -37,7 +36,7 @@ pub fn beginning<A: Allocator + Copy>(
             all: false,
         },
         left: limits.ticks,
-        kept: Kept::new(alloc, true),
+        kept: Kept::new(alloc),
         formulas: KeptFormulas::new(alloc),
         arguments: Arguments::new(alloc),
         branches: KeptBranches::new(alloc),

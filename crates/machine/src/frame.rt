@@ -1,13 +1,14 @@
 //! The frames of a session: each says what is done next with the outcome of the part within it.
 
-ghost use Rattle.std.specs.Prelude.{◌≡◌, [], ◌∷◌, IfOk, OnOk, MatchOption};
+ghost use Rattle.std.specs.Prelude.{◌≡◌, [], ◌∷◌, List, false, IfOk, OnOk, MatchOption};
 ghost use Rattle.machine.specs.Frames.{commands_left, stack};
 ghost use Rattle.machine.specs.Taken.{HandsOut, HasNone, MovesOn};
+ghost use Rattle.machine.specs.declared.frame.Frame as framed;
 ghost use Rattle.machine.specs.declared.frame.Frame.TheVariants as frame;
 ghost use Rattle.tclparse.specs.Tree.{no_commands};
 
 use acts::NoMemory;
-use code::Coded;
+use code::Made;
 use control::Held;
 use expects::form::Form;
 use expects::turn::Turn;
@@ -41,13 +42,13 @@ pub enum WordsOf {
 pub enum Frame<A: Allocator> {
     /// A script, whose remaining commands come next.
     Script(Script<A>),
-    /// A script that runs as its code, of which nothing is done yet, and how many levels may still
-    /// nest in it.
-    Code(Coded<A>, u8),
+    /// A script or a formula of which nothing is done yet, and how many levels may still nest in
+    /// it.
+    Code(Made<A>, u8),
     /// Words that wait for a script in one of them, how many levels may still nest in their
     /// command, and what the words belong to.
     Words(Box<Gathering<A>, A>, u8, WordsOf),
-    /// A command that waits for a script that it runs.
+    /// A command that waits for a script or a formula that it runs.
     Held(Held<A>),
     /// A turn of `expect` that waits for the body that it chose.
     Turn(Box<Turn<A>, A>),
@@ -77,6 +78,29 @@ impl<A: Allocator> Frame<A> {
     {
         frames.push(self)?;
         Ok(())
+    }
+
+    /// Whether this is a script.
+    fn is_script(&self) -> bool
+        ensures { (rest : List (framed.Frame A)) → result ≡ false → HasNone (self.now ∷ rest) }
+    {
+        match self {
+            Frame::Script(_) => true,
+            Frame::Code(_, _) => false,
+            Frame::Words(_, _, _) => false,
+            Frame::Held(_) => false,
+            Frame::Turn(_) => false,
+        }
+    }
+
+    /// Whether the top frame is a script.
+    pub fn has_script(frames: &Vec<Frame<A>, A>) -> bool
+        ensures { result ≡ false → HasNone (stack frames.now) }
+    {
+        match frames.last() {
+            Some(frame) => frame.is_script(),
+            None => false,
+        }
     }
 
     /// Takes the top frame off; `None` where there is no frame.

@@ -22,5 +22,6 @@ pub use closing::Closing;
 pub use end::End;
 pub use phase::Phase;
 pub use running::Running;
+pub use steps::Run;
 pub use waits::Waits;
 pub use watch::{Unwatched, Watch};

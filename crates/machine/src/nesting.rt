@@ -1,15 +1,16 @@
-//! Scripts put on the stack: one that a command runs, and one that stands in a word.
+//! What is put on the stack: what a command runs, and a script that stands in a word.
 
 ghost use Rattle.std.specs.Prelude.{◌≡◌, ◌+◌, ◌*◌, ◌≤◌, [], ◌∷◌, IfOk};
 ghost use Rattle.state.specs.Prelude.{Status, FitsState, outcome_of};
-ghost use Rattle.machine.specs.Frames.{Onward, call_of, frame_of, left_of, onward_of, stack, weight, words_in, words_load};
+ghost use Rattle.machine.specs.Frames.{Onward, call_of, left_of, onward_of, stack, weight, words_in, words_load};
 ghost use Rattle.machine.specs.Gathers.{Gathers, again_among};
+ghost use Rattle.machine.specs.declared.frame.Frame.TheVariants as frame;
 ghost use Rattle.steps.specs.Goes.{Goes};
 ghost use Rattle.state.specs.Budget.{again_of};
 ghost use Rattle.tclparse.specs.View.{commands_of, words_of};
 ghost use Rattle.words.specs.Gathering.{gathering_on};
 ghost use Rattle.words.specs.Scripts.{scripts_left};
-ghost use Rattle.words.specs.Words.{nested, words as meant_words};
+ghost use Rattle.state.specs.Words.{nested, words as meant_words};
 
 use crate::frame::{Frame, Script, WordsOf};
 use acts::{Fault, NoMemory};
@@ -86,32 +87,17 @@ pub(crate) fn nest<A: Allocator + Copy>(
     Ok(Ok(Value::empty()))
 }
 
-/// Puts a script on the stack, above the frame that takes its outcome.
-pub(crate) fn put_script<A: Allocator>(
+/// Puts a script or a formula on the stack, above the frame that takes its outcome.
+pub(crate) fn put_above<A: Allocator>(
     frames: &mut Vec<Frame<A>, A>,
-    script: Made<A>,
+    it: Made<A>,
     levels: u8,
     under: Frame<A>,
 ) -> Result<(), NoMemory>
     ensures { IfOk result (λ _.
-        stack frames.new ≡ frame_of script levels ∷ under ∷ stack frames.old) }
+        stack frames.new ≡ frame.Code it levels ∷ under ∷ stack frames.old) }
 {
     under.push(frames)?;
-    as_frame(script, levels).push(frames)?;
+    Frame::Code(it, levels).push(frames)?;
     Ok(())
-}
-
-/// A script of which nothing is done yet, as a frame.
-pub(crate) fn as_frame<A: Allocator>(script: Made<A>, levels: u8) -> Frame<A>
-    ensures { result ≡ frame_of script levels }
-{
-    match script {
-        Made::Code(coded) => Frame::Code(coded, levels),
-        Made::Tree(tclparse::Script { commands, fault }) => Frame::Script(Script {
-            commands,
-            next: 0,
-            levels,
-            fault,
-        }),
-    }
 }

@@ -4,9 +4,9 @@
 ghost use Rattle.std.specs.Prelude.{◌≡◌, ◌+◌, ◌*◌, ◌≤◌, [], ◌∷◌, Some, IfOk, OnOk};
 ghost use Rattle.machine.specs.Frames.{Onward, left_of, onward_of, stack};
 ghost use Rattle.machine.specs.Below.{Falls, GoesOn, HasTicked, IsBack, IsBelow, IsLess, IsWhole, RunsOn, TicksFirst, left_to_run, parts_of, rest_of};
-ghost use Rattle.runs.specs.Scripts.{script as meant};
 ghost use Rattle.state.specs.Budget.{again_of};
 ghost use Rattle.state.specs.Prelude.{Status, FitsState, outcome_of};
+ghost use Rattle.steps.specs.Entered.{entered};
 ghost use Rattle.steps.specs.Run.{Awaits, IsFresh, IsValue, places_left};
 
 use crate::frame::{Frame, WordsOf};
@@ -15,12 +15,12 @@ use crate::unwinding::{Unwound, unwind};
 use crate::waits::Waits;
 use crate::watch::Watch;
 use acts::NoMemory;
-use code::{Coded, code_of};
+use code::{CodedScript, Made};
 use state::{Leaf, Outcome, State};
 use std::alloc::Allocator;
 use std::mem;
-use std::rc::Rc;
 use steps::{Progress, Run};
+use tclparse::Script;
 use tcltext::Value;
 
 /// How many levels of evaluation may nest in a script (interp(n), recursionlimit).
@@ -85,11 +85,12 @@ impl<A: Allocator + Copy> Running<A> {
     pub fn begin(alloc: A, text: &[u8]) -> Result<Running<A>, NoMemory>
         ensures { IfOk result (λ running. IsWhole running text.now) }
     {
-        let script = tclparse::Script::read(alloc, text)?;
-        let code = Rc::new(alloc, code_of(alloc, &script)?)?;
+        let tree = Script::read(alloc, text)?;
+        let script = CodedScript::new(alloc, tree)?;
+        let run = Run::begin(alloc, Made::Script(script), MOST_LEVELS);
         Ok(Running {
             frames: Vec::new(alloc),
-            code: Some(Run::begin(alloc, code, MOST_LEVELS)),
+            code: Some(run),
             parts: Vec::new(alloc),
         })
     }
@@ -151,33 +152,32 @@ fn hand_once<A: Allocator + Copy, T: Watch<A, Running<A>, State<A>, Leaf<A, Wait
 {
     match unwind(alloc, &mut running.frames, state, outcome)? {
         Unwound::Begins(next) => Ok(Handed::Begins(next)),
-        Unwound::Enters(script, levels, value) => enter(
-            alloc, running, state, script, levels, value, watch,
-        ),
+        Unwound::Enters(it, levels, value) => {
+            enter(alloc, running, state, it, levels, value, watch)
+        }
         Unwound::Has(last) => hand_down(alloc, running, state, last, watch),
     }
 }
 
-/// Enters the code of a script with this value, above the frames.
+/// Enters a script or a formula with this value, above the frames.
 fn enter<A: Allocator + Copy, T: Watch<A, Running<A>, State<A>, Leaf<A, Waits<A>>>>(
     alloc: A,
     running: &mut Running<A>,
     state: &mut State<A>,
-    script: Coded<A>,
+    it: Made<A>,
     levels: u8,
     value: Value<A>,
     watch: &mut T,
 ) -> Result<Handed<A>, NoMemory>
     ensures goes_on { (last : Onward) (s : Status) → FitsState state.old s →
         IsBelow running.old last → IfOk result (λ handed. GoesOn handed running.new state.new
-        (left_of last (meant levels script.commands script.fault s value)
-        (stack running.old.frames))) }
+        (left_of last (entered it levels s value) (stack running.old.frames))) }
     ensures left { IfOk result (λ _. state.new.left ≤ state.old.left) }
     ensures less { IfOk result (λ handed. state.new.left ≡ state.old.left →
         TicksFirst handed × (running.new ≡ running.old)) }
     ensures watched { T.told watch.old [] watch.new }
 {
-    let mut run = Run::begin(alloc, script.into_code(), levels);
+    let mut run = Run::begin(alloc, it, levels);
     match go_on(alloc, &mut run, state, Ok(value), watch)? {
         Handed::Begins(next) => {
             let frames = mem::replace(&mut running.frames, Vec::new(alloc));
@@ -220,7 +220,7 @@ fn hand_down<A: Allocator + Copy, T: Watch<A, Running<A>, State<A>, Leaf<A, Wait
     }
 }
 
-/// Hands an outcome to the code of a script, up to the next command, which begins by its words, or
+/// Hands an outcome to a code, up to the next command, which begins by its words, or
 /// to the end.
 fn go_on<A: Allocator + Copy, T: Watch<A, Running<A>, State<A>, Leaf<A, Waits<A>>>>(
     alloc: A,
@@ -250,7 +250,7 @@ fn go_on<A: Allocator + Copy, T: Watch<A, Running<A>, State<A>, Leaf<A, Waits<A>
             watch.ends(&run.code, run.spot.place, state, &outcome);
             Ok(Handed::Has(outcome))
         }
-        // It never stops otherwise: the code of a script lacks no operand.
+        // It never stops otherwise: no code lacks an operand.
         _ => Ok(Handed::Has(Ok(Value::empty()))),
     }
 }

@@ -22,10 +22,10 @@ ghost use Rattle.state.specs.Nesting.{course_of as course_of_nesting};
 ghost use Rattle.state.specs.declared.leaf.Leaf.TheVariants as leaf;
 ghost use Rattle.tclparse.specs.View.{words_of};
 ghost use Rattle.tclstate.specs.Pairs.{found};
-ghost use Rattle.words.specs.Words.{words as meant_words};
+ghost use Rattle.state.specs.Words.{words as meant_words};
 
 use crate::frame::{Frame, WordsOf};
-use crate::nesting::{gather, put_script};
+use crate::nesting::{gather, put_above};
 use crate::running::Running;
 use crate::turns::{say, take_turn, wait};
 use crate::waits::{Waits, plainly};
@@ -400,7 +400,7 @@ fn behind<A: Allocator>(words: &[Value<A>]) -> &[Value<A>]
     }
 }
 
-/// Puts a script that a command runs on the stack, above what the command holds.
+/// Puts what a command runs on the stack, above what the command holds.
 fn hold<A: Allocator>(
     frames: &mut Vec<Frame<A>, A>,
     nesting: Nesting<A, Held<A>>,
@@ -414,8 +414,8 @@ fn hold<A: Allocator>(
 {
     match nesting {
         Nesting::Has(outcome) => Ok(outcome),
-        Nesting::Runs(script, levels, held) => {
-            put_script(frames, script, levels, Frame::Held(held))?;
+        Nesting::Runs(it, levels, held) => {
+            put_above(frames, it, levels, Frame::Held(held))?;
             Ok(Ok(Value::empty()))
         }
     }

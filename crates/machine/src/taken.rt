@@ -8,7 +8,7 @@ ghost use Rattle.machine.specs.declared.taken.Taken.TheVariants as taken;
 
 use crate::frame::{Frame, WordsOf};
 use acts::NoMemory;
-use code::Coded;
+use code::Made;
 use control::Held;
 use expects::turn::Turn;
 use std::alloc::Allocator;
@@ -26,12 +26,13 @@ pub enum Taken<A: Allocator> {
     Limit,
     /// A script without a command left, with the fault after its commands, if there is one.
     Behind(Option<Fault>),
-    /// A script that runs as its code, and how many levels may still nest in it.
-    Code(Coded<A>, u8),
+    /// A script or a formula of which nothing is done yet, and how many levels may still nest in
+    /// it.
+    Code(Made<A>, u8),
     /// Words after a script in one of them, how many levels may still nest in their command, and
     /// what the words belong to.
     Words(Box<Gathering<A>, A>, u8, WordsOf),
-    /// A command after a script that it ran.
+    /// A command after a script or a formula that it ran.
     Held(Held<A>),
     /// A turn of `expect` after the body of what it chose.
     Turn(Box<Turn<A>, A>),
@@ -43,6 +44,25 @@ pub enum Taken<A: Allocator> {
 /// # Errors
 /// `NoMemory` where memory is refused.
 pub fn take_top<A: Allocator>(
+    frames: &mut Vec<Frame<A>, A>,
+    ticks: &mut u64,
+) -> Result<Option<Taken<A>>, NoMemory>
+    ensures { IfOk result (λ found. MatchOption found
+        (IsOver (stack frames.old) (stack frames.new) ticks.old ticks.new)
+        (λ taken. IsTaken taken (stack frames.old) (stack frames.new) ticks.old ticks.new)) }
+{
+    if Frame::has_script(frames) {
+        return Ok(take_of_script(frames, ticks)?);
+    }
+    match Frame::pop(frames) {
+        Some(frame) => Ok(Some(taken_off(frame))),
+        None => Ok(None),
+    }
+}
+
+/// The same, where a script is on top.
+#[inline(never)]
+fn take_of_script<A: Allocator>(
     frames: &mut Vec<Frame<A>, A>,
     ticks: &mut u64,
 ) -> Result<Option<Taken<A>>, NoMemory>
@@ -94,7 +114,7 @@ fn taken_off<A: Allocator>(frame: Frame<A>) -> Taken<A>
                 Taken::Behind(script.fault)
             }
         }
-        Frame::Code(script, levels) => Taken::Code(script, levels),
+        Frame::Code(it, levels) => Taken::Code(it, levels),
         Frame::Words(gathering, levels, whose) => Taken::Words(gathering, levels, whose),
         Frame::Held(held) => Taken::Held(held),
         Frame::Turn(turn) => Taken::Turn(turn),

@@ -12,9 +12,10 @@ ghost use Rattle.expects.specs.View.{IsPlain, IsPlainOpening, course_of_opening,
 ghost use Rattle.state.specs.Leaf.{course_of};
 
 use crate::frame::{Frame, WordsOf};
-use crate::nesting::{gather, put_script};
+use crate::nesting::{gather, put_above};
 use crate::waits::Waits;
 use acts::NoMemory;
+use code::Made;
 use expects::expect::{begin, by_words};
 use expects::form::Form;
 use expects::turn::{Begun, Opening, Talk, Turn, Turned};
@@ -143,7 +144,7 @@ fn settle<A: Allocator>(
     match turned {
         Turned::Has(outcome) => Ok(Leaf::Has(outcome)),
         Turned::Runs(script, levels, turn) => {
-            put_script(frames, script, levels, Frame::Turn(turn))?;
+            put_above(frames, Made::Script(script), levels, Frame::Turn(turn))?;
             Ok(empty())
         }
         Turned::Asks(act, waits) => Ok(Leaf::Asks(act, Waits::Turn(waits))),

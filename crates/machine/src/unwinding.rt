@@ -3,7 +3,7 @@
 ghost use Rattle.std.specs.Prelude.{◌≡◌, ◌≤◌, ◌+◌, ◌*◌, [], option_map, Err, IfOk, IfErr};
 ghost use Rattle.state.specs.Prelude.{Ends, Status, FitsState, outcome_of};
 ghost use Rattle.control.specs.View as control;
-ghost use Rattle.control.specs.View.{scripts_held};
+ghost use Rattle.control.specs.View.{runs_held};
 ghost use Rattle.machine.specs.Frames.{Onward, call_of, left_of, next_of, onward_of, stack, weight, weight_of, words_in, words_load, words_of_frame};
 ghost use Rattle.expects.specs.Turn.{behind as behind_body};
 ghost use Rattle.expects.specs.View.{turn_of};
@@ -16,11 +16,11 @@ ghost use Rattle.words.specs.Gathering.{gathering_on};
 ghost use Rattle.words.specs.Scripts.{scripts_left};
 
 use crate::frame::{Frame, WordsOf};
-use crate::nesting::{nest, put_script};
+use crate::nesting::{nest, put_above};
 use crate::starting::Next;
 use crate::taken::{Taken, take_top};
 use acts::NoMemory;
-use code::Coded;
+use code::Made;
 use control::Held;
 use expects::resuming::resumed;
 use expects::turn::{Opening, Turn};
@@ -38,8 +38,8 @@ pub enum Unwound<A: Allocator> {
     Has(Outcome<A>),
     /// This begins on top of the frames.
     Begins(Next<A>),
-    /// The code of this script is entered with this value, and so many levels may still nest in it.
-    Enters(Coded<A>, u8, Value<A>),
+    /// This script or formula is entered with this value, and so many levels may still nest in it.
+    Enters(Made<A>, u8, Value<A>),
 }
 
 /// Hands an outcome to the frames, from the top down, until something begins or no frame is left.
@@ -65,8 +65,8 @@ pub(crate) fn unwind<A: Allocator + Copy>(
             Err(last) => return Ok(Unwound::Has(last)),
             Ok(Unwound::Has(next)) => outcome = next,
             Ok(Unwound::Begins(next)) => return Ok(Unwound::Begins(next)),
-            Ok(Unwound::Enters(script, levels, value)) => {
-                return Ok(Unwound::Enters(script, levels, value));
+            Ok(Unwound::Enters(it, levels, value)) => {
+                return Ok(Unwound::Enters(it, levels, value));
             }
         }
     }
@@ -123,7 +123,7 @@ fn value_on<A: Allocator + Copy>(
         Taken::Command(words, levels) => Ok(Unwound::Begins(Next::Command(words, levels))),
         Taken::Limit => Ok(Unwound::Has(Err(Leave::Stopped(Stop::Limit)))),
         Taken::Behind(fault) => Ok(Unwound::Has(behind(alloc, fault, value)?)),
-        Taken::Code(script, levels) => Ok(Unwound::Enters(script, levels, value)),
+        Taken::Code(it, levels) => Ok(Unwound::Enters(it, levels, value)),
         Taken::Words(gathering, levels, whose) => {
             let gathering = Box::into_inner(gathering);
             words_on(alloc, frames, state, gathering, levels, whose, value)
@@ -234,7 +234,7 @@ fn turn_on<A: Allocator + Copy>(
     }
 }
 
-/// Continues a command after a script that it ran.
+/// Continues a command after a script or a formula that it ran.
 #[inline(never)]
 fn held_on<A: Allocator + Copy>(
     alloc: A,
@@ -248,7 +248,7 @@ fn held_on<A: Allocator + Copy>(
         (left_of last (control.next_of held s (outcome_of outcome)) (stack frames.old))) }
     ensures lightens { IfOk result (λ unwound.
         Lightens unwound (stack frames.new) state.new
-        (1 + 2 * scripts_held held + weight (stack frames.old))
+        (1 + 2 * runs_held held + weight (stack frames.old))
         (1 + words_in (stack frames.old)) state.old.left) }
     ensures left { state.new.left ≤ state.old.left }
 {
@@ -256,8 +256,8 @@ fn held_on<A: Allocator + Copy>(
     let nesting = control::resumed(alloc, state, held, outcome)?;
     match nesting {
         Nesting::Has(outcome) => Ok(Unwound::Has(outcome)),
-        Nesting::Runs(script, levels, held) => {
-            put_script(frames, script, levels, Frame::Held(held))?;
+        Nesting::Runs(it, levels, held) => {
+            put_above(frames, it, levels, Frame::Held(held))?;
             if state.left < left {
                 Ok(Unwound::Begins(Next::Again))
             } else {

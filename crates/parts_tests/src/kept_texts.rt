@@ -1,6 +1,6 @@
 //! Texts that are kept.
 
-use code::Made;
+use code::{CodedScript, Instruction};
 use kept::Kept;
 use memory::NoMemory;
 use std::alloc::Allocator;
@@ -20,27 +20,27 @@ impl Answers for KeptTexts {
             return Ok(());
         };
         let (texts, most) = (number(texts) as usize, number(most) as usize);
-        let mut kept = Kept::new(*answer.allocator(), true);
+        let mut kept = Kept::new(*answer.allocator());
         let first = keep(*answer.allocator(), &mut kept, texts, most)?;
         tell_again(answer, &mut kept, &first)
     }
 }
 
-/// Keeps so many texts, and gives their trees as far as each is the same when it is asked for
+/// Keeps so many texts, and gives their scripts as far as each is the same when it is asked for
 /// again, and no more than `most` are kept.
 fn keep<A: Allocator + Copy>(
     alloc: A,
     kept: &mut Kept<A>,
     texts: usize,
     most: usize,
-) -> Result<Vec<Made<A>, A>, NoMemory> {
+) -> Result<Vec<CodedScript<A>, A>, NoMemory> {
     let mut first = Vec::new(alloc);
     for n in 0..texts {
         let text = format!(in alloc; "set x {n}")?;
         let script = kept.get(text.as_bytes())?;
         let before = kept.len();
         let again = kept.get(text.as_bytes())?;
-        let is_same = Rc::ptr_eq(script.commands(), again.commands());
+        let is_same = Rc::ptr_eq(script.code(), again.code());
         let wanted = n.saturating_add(1).min(most);
         if is_same && before == wanted && kept.len() == wanted {
             first.push(script)?;
@@ -49,13 +49,13 @@ fn keep<A: Allocator + Copy>(
     Ok(first)
 }
 
-/// Writes of how many trees there are, and of those, from the newest to the oldest so that no kept
-/// text goes out before it is asked for, which is the first that is not the same any more, and how
-/// many are of one command.
+/// Writes of how many scripts there are, and of those, from the newest to the oldest so that no
+/// kept text goes out before it is asked for, which is the first that is not the same any more, and
+/// how many are of one command.
 fn tell_again<A: Allocator + Copy>(
     answer: &mut Vec<u8, A>,
     kept: &mut Kept<A>,
-    first: &Vec<Made<A>, A>,
+    first: &Vec<CodedScript<A>, A>,
 ) -> Result<(), NoMemory> {
     let mut same = 0u64;
     let mut single = 0u64;
@@ -63,12 +63,12 @@ fn tell_again<A: Allocator + Copy>(
     for (n, script) in first.iter().enumerate().rev() {
         let text = format!(in *answer.allocator(); "set x {n}")?;
         let again = kept.get(text.as_bytes())?;
-        if Rc::ptr_eq(script.commands(), again.commands()) {
+        if Rc::ptr_eq(script.code(), again.code()) {
             same = same.saturating_add(1);
         } else {
             gone = gone.max(n);
         }
-        if script.commands().len() == 1 {
+        if commands_in(script) == 1 {
             single = single.saturating_add(1);
         }
     }
@@ -76,4 +76,15 @@ fn tell_again<A: Allocator + Copy>(
         answer,
         format_args!("{same} same, {gone} gone, {single} single"),
     )
+}
+
+/// How many commands a script has, those of scripts in brackets among them.
+pub(crate) fn commands_in<A: Allocator>(script: &CodedScript<A>) -> usize {
+    let mut count = 0usize;
+    for it in script.code().iter() {
+        if let Instruction::Next(_) = it {
+            count = count.saturating_add(1);
+        }
+    }
+    count
 }

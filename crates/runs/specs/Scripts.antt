@@ -10,7 +10,7 @@ use Rattle.state.specs.Piece.{Piece, Script, One, Loop, Turn}
 use Rattle.tclparse.specs.Fault.{Fault}
 use Rattle.tclparse.specs.Tree.{Words, Commands, no_commands}
 use Rattle.tclparse.specs.Tree as tree
-use Rattle.words.specs.Words.{words}
+use Rattle.state.specs.Words.{words}
 
 -- after the commands of a text: the value of the last one, or the fault that ends the text early,
 -- which costs no tick (Tcl(n))

@@ -1,7 +1,7 @@
--- How far a command that runs scripts has come, where it is known how it came there.
+-- How far a command that runs scripts or formulas has come, where it is known how it came there.
 use Rattle.std.proofs.Common.{◌≡◌, ◌∙◌, ℕ, suc, List, Result, refl, sym, ap, subst}
 use Rattle.acts.specs.Flaw as flaw
-use Rattle.state.specs.Prelude.{text_of, Ends, Course, inside, within, Nests, tree_of, Outcome, Leaves, Error, ScriptText, ScriptTree, Reaches, here, Status, FitsState, outcome_of}
+use Rattle.state.specs.Prelude.{text_of, Ends, Course, inside, within, Nests, Outcome, Leaves, Error, ScriptText, ScriptTree, Reaches, here, Status, FitsState, outcome_of}
 use Rattle.state.proofs.Reaches.{same_reaches, then_reaches}
 use Rattle.state.specs.declared.nesting.Nesting.{Nesting}
 use Rattle.state.specs.declared.nesting.Nesting.TheVariants as nesting
@@ -9,7 +9,8 @@ use Rattle.state.specs.declared.outcome.Leave.{Leave}
 use Rattle.state.specs.declared.state.State.{State}
 use Rattle.state.specs.Reaches.{reads}
 use Rattle.tclparse.specs.Grammar.{IsScript}
-use Rattle.code.specs.declared.made.Made.{Made}
+use Rattle.code.specs.declared.made.CodedScript.{CodedScript}
+use Rattle.code.specs.declared.made.Made.TheVariants as made
 
 module _ {A H : Type 0} (next : H → Status → Outcome → Course) (state : State A) where
   -- the command has ended with this outcome
@@ -38,19 +39,18 @@ module _ {A H : Type 0} (next : H → Status → Outcome → Course) (state : St
   }
 
   -- a script runs one level deeper
-  pub script_nests : (script : Made A) (levels inner : ℕ) (held : H) (s : Status) →
+  pub script_nests : (script : CodedScript A) (levels inner : ℕ) (held : H) (s : Status) →
       FitsState state s → levels ≡ suc inner →
-      Nests next (nesting.Runs script inner held) state
-      (inside levels (tree_of script) s (next held))
+      Nests next (nesting.Runs (made.Script script) inner held) state
+      (inside levels script s (next held))
   script_nests script levels inner held s fits deeper =
       rw deeper (record { status = s; fits = fits; reaches = here })
 
 -- a text is read as the script that it is
-pub text_reaches : {A : Type 0} (script : Made A) (levels : ℕ) (text : List ℕ) (s : Status)
-    (next : Status → Outcome → Course) →
-    IsScript (tree_of script).commands (tree_of script).fault text →
-    Reaches (within levels text s next) (inside levels (tree_of script) s next)
-text_reaches script levels text s next is = reads {text = ScriptText text} (tree_of script) is here
+pub text_reaches : (script : ScriptTree) (levels : ℕ) (text : List ℕ) (s : Status)
+    (next : Status → Outcome → Course) → IsScript script.commands script.fault text →
+    Reaches (within levels text s next) (inside levels script s next)
+text_reaches script levels text s next is = reads {text = ScriptText text} script is here
 
 -- where no level is left, a script ends with the error that says so
 pub inside_over : (levels : ℕ) (tree : ScriptTree) (s : Status)

@@ -7,6 +7,8 @@ pub mod Reaches
 pub mod Listed
 pub mod Meant
 pub mod Variables
+pub mod Words
+pub mod Evaluated
 pub mod Rows
 pub mod Placed
 pub mod View

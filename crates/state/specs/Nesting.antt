@@ -1,24 +1,32 @@
--- How far a command that runs scripts has come, as a course.
+-- How far a command that runs scripts or formulas has come, as a course.
 use Rattle.std.specs.Prelude.{ℕ, ◌<◌, ◌⊎◌}
-use Rattle.code.specs.Seen.{tree_of}
-use Rattle.plan.specs.Plan.{Ends, Calls}
+use Rattle.code.specs.declared.made.Made.{Made}
+use Rattle.code.specs.declared.made.Made.TheVariants as made
+use Rattle.plan.specs.Plan.{Ends, Calls, and_then, onward}
 use Rattle.state.specs.declared.nesting.Nesting.{Nesting}
 use Rattle.state.specs.declared.nesting.Nesting.TheVariants as nesting
 use Rattle.state.specs.declared.state.State.{State}
-use Rattle.state.specs.Dialogue.{Course}
+use Rattle.state.specs.Dialogue.{Course, gives}
+use Rattle.state.specs.Evaluated.{evaluated}
 use Rattle.state.specs.Outcome.{Outcome}
 use Rattle.state.specs.Piece.{Script}
 use Rattle.state.specs.Reaches.{Reaches}
 use Rattle.state.specs.Status.{Status}
 use Rattle.state.specs.View.{FitsState, outcome_of}
 
--- the course of a command that has come this far: it has ended, or a script runs, and next
--- continues with the script's outcome by what is held (Tcl(n), rule 7)
+-- a script runs, or a formula is evaluated, and next continues with the outcome, which is the
+-- formula's value or its error (Tcl(n), rule 7; expr(n))
+abbrev pub runs : {A : Type 0} → Made A → ℕ → Status → (Status → Outcome → Course) → Course
+runs (made.Script tree) levels s next = Calls (Script tree levels) s next
+runs (made.Formula formula) levels s next =
+    and_then (evaluated levels formula s (λ t value. gives value t)) (onward next)
+
+-- the course of a command that has come this far: it has ended, or something runs, and next
+-- continues with the outcome of that by what is held (Tcl(n), rule 7)
 abbrev pub course_of : {A H : Type 0} → (H → Status → Outcome → Course) → Nesting A H → Status →
     Course
 course_of next (nesting.Has outcome) s = Ends (s, outcome_of outcome)
-course_of next (nesting.Runs script levels held) s =
-    Calls (Script (tree_of script) levels) s (next held)
+course_of next (nesting.Runs it levels held) s = runs it levels s (next held)
 
 -- for some state of the definition that the code's state fits, the course goes on as that of the
 -- command, once the texts that it reads first are read
@@ -28,9 +36,8 @@ pub record Nests {A H : Type 0} (next : H → Status → Outcome → Course) (n 
   pub fits : FitsState state status
   pub reaches : Reaches course (course_of next n status)
 
--- a script runs again only after a tick, or where fewer scripts than most may follow it without a
--- tick (this project's own rule)
+-- something runs again only after a tick, or where fewer than most may follow it without a tick
+-- (this project's own rule)
 abbrev pub Advances : {A H : Type 0} → (H → ℕ) → Nesting A H → ℕ → ℕ → ℕ → Type 0
-Advances scripts (nesting.Has outcome) new old most = Unit {0}
-Advances scripts (nesting.Runs script levels held) new old most =
-    (new < old) ⊎ (scripts held < most)
+Advances rest (nesting.Has outcome) new old most = Unit {0}
+Advances rest (nesting.Runs it levels held) new old most = (new < old) ⊎ (rest held < most)

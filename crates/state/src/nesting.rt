@@ -1,15 +1,15 @@
-//! How far a command that runs scripts has come.
+//! How far a command that runs scripts or formulas has come.
 
 use crate::outcome::Outcome;
 use code::Made;
 use std::alloc::Allocator;
 
-/// How far a command that runs scripts has come; `H` is what it holds while a script runs.
+/// How far a command that runs scripts or formulas has come; `H` is what it holds meanwhile.
 #[derive(Drop)]
 pub enum Nesting<A: Allocator, H: Drop> {
     /// The command is over.
     Has(Outcome<A>),
-    /// A script runs, in which as many levels may still stand as the number says; the outcome of
-    /// the script goes to what is held.
+    /// A script or a formula runs, in which as many levels may still stand as the number says; its
+    /// outcome goes to what is held.
     Runs(Made<A>, u8, H),
 }

@@ -2,8 +2,7 @@
 
 use crate::ids::Ids;
 use dialog::{KeptBranches, LogState};
-use formulas::KeptFormulas;
-use kept::{Arguments, Kept};
+use kept::{Arguments, Kept, KeptFormulas};
 use std::alloc::Allocator;
 use tclstate::{Procs, Scopes};
 

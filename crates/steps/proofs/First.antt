@@ -1,82 +1,27 @@
--- The first instruction of a script's code takes a tick, or ends it.
-use Rattle.std.proofs.Common.{◌≡◌, ℕ, zero, suc, ◌+◌, ◌-◌, ◌*◌, ◌<◌, ◌≤◌, List, [], ◌∷◌, length, None, Option, Some, Result, Ok, Err, refl, sym, ap, subst, ⊎_elim, arith}
+-- What a run does first, and what ends it.
+use Rattle.std.proofs.Common.{◌≡◌, ℕ, zero, suc, ◌-◌, ◌*◌, ◌<◌, ◌≤◌, List, [], ◌∷◌, None, Option, Some, Result, Ok, Err, refl, sym, ap, subst, ⊎_elim, arith}
 use Rattle.std.proofs.Math.Nat.{eq-or-lt_of_le}
-use Rattle.std.proofs.lemmas.Option.{slice_get_past}
-use Rattle.std.specs.Prelude.{nat_le, if◌then◌else◌, true, false, Bool, slice_get}
-use Rattle.code.specs.Code.{CommandsAt, FaultAt, ScriptAt}
-use Rattle.code.specs.Code as laid
+use Rattle.std.specs.Prelude.{nat_le, if◌then◌else◌, true, false, Bool}
 use Rattle.code.specs.declared.instruction.Instruction.{Instruction}
-use Rattle.code.specs.declared.instruction.Instruction.TheVariants as i
 use Rattle.runs.specs.Run.{initial}
 use Rattle.state.specs.Budget.{again_of}
 use Rattle.state.specs.declared.outcome.Leave.{Leave}
-use Rattle.state.specs.Prelude.{Again, AgainRunning, Break, Code, Continue, Error, Return, Gives, Leaves, Outcome, Scopes, Status, Stops, outcome_of}
+use Rattle.state.specs.Prelude.{Again, AgainRunning, Break, Code, Continue, Error, Return, Gives, Leaves, Outcome, Status, Stops, outcome_of}
 use Rattle.steps.specs.Does.{Does}
 use Rattle.steps.specs.Does as it_does
 use Rattle.steps.specs.Handling.{handled, led, outside, resumed, way_of, with_code}
 use Rattle.bodies.specs.Catch.{number_of}
-use Rattle.steps.specs.Machine.{ahead, machine}
-use Rattle.steps.specs.Moves.{jumping, on_top, ticked, with_operands}
-use Rattle.steps.specs.Run.{IsIdle, IsValue, TicksFirst, has_fault, no_instruction, takes_tick}
+use Rattle.steps.specs.Machine.{machine}
+use Rattle.steps.specs.Moves.{jumping, on_top}
+use Rattle.steps.specs.Run.{IsIdle, IsValue}
 use Rattle.steps.specs.Spot.{Spot, Did, Handler, Went, Reads, Begins, Over, Stuck, with_top}
-use Rattle.steps.specs.View.{did_of, spot_of, with_parts}
+use Rattle.steps.specs.View.{did_of, spot_of}
 use Rattle.steps.specs.declared.handler.Way.{Way}
 use Rattle.steps.specs.declared.handler.Way.TheVariants as way
 use Rattle.steps.specs.declared.progress.Progress.{Progress}
 use Rattle.steps.specs.declared.progress.Progress.TheVariants as went
 use Rattle.steps.specs.declared.spot.Spot as coded
 use Rattle.steps.proofs.Handlers.{leads_nowhere}
-use Rattle.tclparse.specs.Fault.{Fault}
-use Rattle.tclparse.specs.Tree.{Commands}
-use Rattle.tclstate.specs.Procs.{Procs}
-
--- a tick was taken, or nothing goes on, and that not by exp_continue
-abbrev pub Ticked : ℕ → Did → Type 0
-Ticked left (Went spot s) = s.left < left
-Ticked left (Reads text next) = ⊥
-Ticked left (Begins words spot s) = ⊥
-Ticked left (Over outcome s) = again_of outcome ≡ 0
-Ticked left Stuck = Unit {0}
-
-next_ticks : (left : ℕ) (below : List (List ℕ)) (spot : Spot) (s : Status) → s.left ≡ left →
-    Ticked s.left (ticked left s (λ t. Went (with_operands below spot) t))
-next_ticks zero below spot s is = refl
-next_ticks (suc left) below spot s is = omega (arith, is)
-
-top_ticks : (left : ℕ) (operands : List (List ℕ)) (rest : List ℕ → List (List ℕ) → Did) →
-    ((value : List ℕ) (below : List (List ℕ)) → Ticked left (rest value below)) →
-    Ticked left (on_top operands rest)
-top_ticks left [] rest ticks = tt
-top_ticks left (value ∷ below) rest ticks = ticks value below
-
-first_ticks : {A : Type 0} {it : Option (Instruction A)} (spot : Spot) (s : Status) →
-    TicksFirst it → spot.handlers ≡ [] → Ticked s.left (machine it spot s)
-first_ticks spot s no_instruction none =
-    top_ticks s.left spot.operands _ (λ value below. refl)
-first_ticks spot s takes_tick none =
-    top_ticks s.left spot.operands _
-    (λ value below. next_ticks s.left below (ahead spot) s refl)
-first_ticks spot s has_fault none = rw none refl
-
--- what reads no text did this
-does_it : (left : ℕ) (did other : Did) → Ticked left did → Does did other → Ticked left other
-does_it left did other ticked it_does.same = ticked
-does_it left (Reads text next) other ticked (it_does.reads tree is does) = absurd ticked
-
--- the first instruction took a tick, or nothing goes on
-pub first_took : {A : Type 0} (it : Option (Instruction A)) (spot : Spot) (s : Status)
-    (did : Did) → TicksFirst it → spot.handlers ≡ [] → Does (machine it spot s) did →
-    Ticked s.left did
-first_took it spot s did first none does =
-    does_it s.left (machine it spot s) did (first_ticks spot s first none) does
-
--- where no tick was taken, no command begins, and exp_continue has not ended the code
-pub idle : {A : Type 0} (progress : Progress) (spot : coded.Spot A) (s : Status) (left : ℕ) →
-    Ticked left (did_of progress spot s) → IsIdle progress spot
-idle went.GoesOn spot s left ticked = tt
-idle went.Begins spot s left ticked = ticked
-idle went.Over spot s left ticked = ticked
-idle went.Stuck spot s left ticked = tt
 
 -- so where a command begins a tick was taken
 pub ticked_by : {A : Type 0} (progress : Progress) (spot : coded.Spot A) (now left : ℕ) →
@@ -88,33 +33,6 @@ ticked_by progress spot now left begun fewer unless =
 -- some state of the definition
 abbrev pub any_state : Status
 any_state = initial [] 0
-
--- where nothing was done before, so it is in the run of a code
-pub step_took : {A : Type 0} (code : List (Instruction A)) (from at : coded.Spot A)
-    (scopes : Scopes) (procs : Procs) (left : ℕ) (did : Did) →
-    TicksFirst (slice_get code from.place) → (spot_of from).handlers ≡ [] → at ≡ from →
-    Does (machine (slice_get code at.place) (spot_of at) (with_parts scopes procs left any_state))
-    did → Ticked left did
-step_took code from at scopes procs left did first none same does =
-    first_took (slice_get code at.place) (spot_of at) (with_parts scopes procs left any_state) did
-    (subst (λ spot. TicksFirst (slice_get code spot.place)) (sym same) first)
-    (subst (λ spot. (spot_of spot).handlers ≡ []) (sym same) none) does
-
--- a script's code takes a tick first
-commands_first : {A : Type 0} (code : List (Instruction A)) (mid end : ℕ) (cs : Commands)
-    (f : Option Fault) → CommandsAt code 0 cs mid → FaultAt code f mid end → end ≡ length code →
-    TicksFirst (slice_get code 0)
-commands_first code mid end cs f laid.done laid.none over =
-    subst (λ it. TicksFirst it) (sym (slice_get_past code 0 (omega (arith, over)))) no_instruction
-commands_first code mid end cs f laid.done (laid.fault at) over =
-    subst (λ it. TicksFirst it) (sym at) has_fault
-commands_first code mid end cs f (laid.next at it rest) ends over =
-    subst (λ it. TicksFirst it) (sym at) takes_tick
-
-pub script_first : {A : Type 0} (code : List (Instruction A)) (cs : Commands)
-    (f : Option Fault) → ScriptAt code 0 cs f (length code) → TicksFirst (slice_get code 0)
-script_first code cs f at =
-    commands_first code at.mid (length code) cs f at.commands at.ends refl
 
 -- where something went on, this is where
 abbrev spot_in : Did → Spot → Spot

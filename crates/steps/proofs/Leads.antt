@@ -16,6 +16,7 @@ pub mod Catches
 pub mod Scripts
 pub mod Bodies
 pub mod Operators
+pub mod Functions
 pub mod Words
 pub mod Literals
 pub mod Lists

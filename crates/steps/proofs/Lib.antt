@@ -13,3 +13,4 @@ pub mod Changes
 pub mod Named
 pub mod AtOnce
 pub mod First
+pub mod Quiet

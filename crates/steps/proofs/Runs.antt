@@ -1,20 +1,27 @@
 -- The run of a code as one value: how it begins, and what it does with an outcome.
 use Rattle.std.proofs.Common.{◌≡◌, ℕ, ◌≤◌, List, [], ◌∷◌, length, refl, sym, subst, arith}
 use Rattle.std.proofs.lemmas.Option.{slice_get_past}
-use Rattle.code.specs.Code.{ScriptAt}
+use Rattle.code.specs.Code.{At, FormulaAt, ScriptAt}
 use Rattle.code.specs.declared.instruction.Instruction.{Instruction}
+use Rattle.code.specs.declared.instruction.Instruction.TheVariants as i
+use Rattle.code.specs.Made.{IsCodeOfMade}
+use Rattle.code.specs.declared.made.Made.{Made}
+use Rattle.code.specs.declared.made.Made.TheVariants as made
+use Rattle.state.specs.Evaluated.{evaluated}
 use Rattle.plan.specs.Plan.{and_then, onward}
 use Rattle.runs.specs.Scripts.{script}
 use Rattle.state.specs.Piece.{ScriptTree}
-use Rattle.state.specs.Prelude.{Dialogue, on_value, Outcome, Scopes, Status}
+use Rattle.state.specs.Prelude.{Dialogue, gives, on_value, Outcome, Scopes, Status}
 use Rattle.steps.specs.Does.{Arrives}
+use Rattle.steps.specs.Entered.{entered}
 use Rattle.steps.specs.Follows.{Follows, Resumes}
 use Rattle.steps.specs.Handling.{resumed}
-use Rattle.steps.specs.Places.{Rest}
+use Rattle.steps.specs.Places.{Alone, Rest}
 use Rattle.steps.specs.Spot.{Spot, Did, Went}
 use Rattle.steps.specs.View.{with_parts}
 use Rattle.steps.proofs.Leads.Each.{code_leads}
 use Rattle.steps.proofs.Leads.Resumed.{outcome_leads}
+use Rattle.tclparse.specs.Formula.{Formula}
 use Rattle.tclstate.specs.Procs.{Procs}
 
 -- a state of the definition that has these parts already
@@ -27,7 +34,7 @@ same_parts s scopes procs left one two three =
 
 module _ {A X : Type 0} (code : List (Instruction A)) (last : Status → Outcome → Dialogue X) where
   -- a script of which nothing is done yet waits for the empty text
-  pub script_awaits : (tree : ScriptTree) (levels : ℕ) (spot : Spot) → levels ≤ 255 →
+  script_awaits : (tree : ScriptTree) (levels : ℕ) (spot : Spot) → levels ≤ 255 →
       ScriptAt code 0 tree.commands tree.fault (length code) →
       spot ≡ record { place = 0; operands = []; marks = []; levels = levels; handlers = [] } →
       (s : Status) (outcome : Outcome) →
@@ -40,6 +47,34 @@ module _ {A X : Type 0} (code : List (Instruction A)) (last : Status → Outcome
       (outcome_leads code last 0 levels (Rest tree.commands tree.fault ∷ []) s
       (length code, at, slice_get_past code (length code) (omega arith)) (omega (arith, fits))
       outcome)
+
+  -- so does a formula, whose value is that of the run
+  formula_awaits : (f : Formula) (levels : ℕ) (spot : Spot) → levels ≤ 255 →
+      At code 0 i.Discard → FormulaAt code 1 f (length code) →
+      spot ≡ record { place = 0; operands = []; marks = []; levels = levels; handlers = [] } →
+      (s : Status) (outcome : Outcome) →
+      Resumes code last (resumed spot outcome s)
+      (and_then (on_value (λ t value. evaluated levels f t (λ u v. gives v u)) s outcome)
+      (onward last))
+  formula_awaits f levels spot fits drops at is s outcome =
+      subst (λ there. Resumes code last (resumed there outcome s)
+      (and_then (on_value (λ t value. evaluated levels f t (λ u v. gives v u)) s outcome)
+      (onward last)))
+      (sym is)
+      (outcome_leads code last 0 levels (Alone f ∷ []) s
+      (drops, (length code, at, slice_get_past code (length code) (omega arith)))
+      (omega (arith, fits)) outcome)
+
+  -- either of the two
+  pub made_awaits : (it : Made A) (levels : ℕ) (spot : Spot) → levels ≤ 255 → IsCodeOfMade code it →
+      spot ≡ record { place = 0; operands = []; marks = []; levels = levels; handlers = [] } →
+      (s : Status) (outcome : Outcome) →
+      Resumes code last (resumed spot outcome s)
+      (and_then (on_value (entered it levels) s outcome) (onward last))
+  made_awaits (made.Script tree) levels spot fits at is s outcome =
+      script_awaits tree levels spot fits at is s outcome
+  made_awaits (made.Formula f) levels spot fits at is s outcome =
+      formula_awaits f levels spot fits at.0 at.1 is s outcome
 
   -- the outcome leads on, and several instructions after it
   pub arrives_follow : (spot : Spot) (s t : Status) (did : Did) (p : Dialogue X) → t ≡ s →

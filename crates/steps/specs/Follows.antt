@@ -2,7 +2,7 @@
 use Rattle.std.specs.Prelude.{◌≡◌, ℕ, ◌+◌, ◌≤◌, List, [], length, slice_get}
 use Rattle.code.specs.Code.{FormulaAt, ScriptAt}
 use Rattle.code.specs.declared.instruction.Instruction.{Instruction}
-use Rattle.evaluation.specs.Evaluated.{evaluated}
+use Rattle.state.specs.Evaluated.{evaluated}
 use Rattle.plan.specs.Plan.{and_then, onward}
 use Rattle.runs.specs.Commands.{command}
 use Rattle.runs.specs.Scripts.{plan_of}

@@ -1,6 +1,6 @@
 -- What the instructions of formulas do.
 use Rattle.std.specs.Prelude.{ℕ, List, ◌∷◌, Bool, true, false, Result, Ok, Err, reverse, take, drop, if◌then◌else◌}
-use Rattle.evaluation.specs.Evaluated.{told}
+use Rattle.state.specs.Evaluated.{told}
 use Rattle.meanings.specs.Meaning.{Meaning, Gives, Raises, Splits, Matches, flaw_of_list, truth}
 use Rattle.operators.specs.Binary.{binary}
 use Rattle.operators.specs.Function as function

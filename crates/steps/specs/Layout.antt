@@ -7,7 +7,7 @@ use Rattle.conditions.specs.Branches.{Branch}
 use Rattle.state.specs.Prelude.{LoopTree, ScriptTree}
 use Rattle.steps.specs.Each.{Each}
 use Rattle.steps.specs.Operand.{Outer, Prefixed, Row, Right, Holds, Argument, Test, Chosen, Condition, Turning, Resulting}
-use Rattle.steps.specs.Places.{Head, Has, Part, Joins, Gathers, Evaluates, Values, Starts, Chooses, Enters, Repeats, Finishes, Deals, Takes, Sets, Drops, Compares, Runs, Frame, Rest, Bracket, Body, Skip, For, Turns, Elements, Tries, Stores, Catches}
+use Rattle.steps.specs.Places.{Head, Has, Part, Joins, Gathers, Evaluates, Values, Starts, Chooses, Enters, Repeats, Finishes, Deals, Takes, Sets, Drops, Compares, Runs, Frame, Rest, Bracket, Body, Skip, Alone, For, Turns, Elements, Tries, Stores, Catches}
 use Rattle.steps.specs.Word.{Around, Open, Word, Plain, Expands, Operand, Listed, Switched, Last}
 use Rattle.tclparse.specs.Formula.{Formula}
 use Rattle.tclparse.specs.FormulaGrammar.{IsFormula}
@@ -200,6 +200,9 @@ module _ {A : Type 0} (code : List (Instruction A)) where
   FramesAt place (Body ∷ frames) = At code place i.Leave × FramesAt (place + 1) frames
   FramesAt place (Skip ∷ frames) =
       (end : ℕ) × At code place (i.Jump end) × (place + 1 ≤ end) × FramesAt end frames
+  FramesAt place (Alone f ∷ frames) =
+      At code place i.Discard ×
+      ((end : ℕ) × FormulaAt code (place + 1) f end × FramesAt end frames)
   FramesAt place (For test step body ∷ frames) =
       At code place i.Discard ×
       ((end : ℕ) × TurnsAt code (place + 1) test (Some step) body end × FramesAt end frames)

@@ -19,4 +19,5 @@ pub mod Places
 pub mod Layout
 pub mod Goes
 pub mod Follows
+pub mod Entered
 pub mod Run

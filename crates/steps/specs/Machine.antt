@@ -4,6 +4,8 @@ use Rattle.acts.specs.Flaw as flaw
 use Rattle.code.specs.declared.instruction.Instruction.{Instruction}
 use Rattle.code.specs.declared.instruction.Instruction.TheVariants as i
 use Rattle.meanings.specs.Meaning.{flaw_of_list}
+use Rattle.pure.specs.Pure.{named, says}
+use Rattle.pure.specs.declared.command.Pure.{Pure}
 use Rattle.state.specs.Prelude.{Gives, Status}
 use Rattle.state.specs.Faults.{flaw_of_fault}
 use Rattle.state.specs.Piece.{ListText}
@@ -11,15 +13,15 @@ use Rattle.state.specs.Variables.{flaw_of_trouble, spelled}
 use Rattle.steps.specs.Catch.{catching, ending_catch, keeping}
 use Rattle.steps.specs.Direct as direct
 use Rattle.steps.specs.Foreach.{assigning, dealing, finishing, hidden, looking}
-use Rattle.steps.specs.Formulas.{calling, choosing, joining_both, prefixing, putting, resulting, telling, unless}
+use Rattle.steps.specs.Formulas.{calling, choosing, gives, joining_both, prefixing, putting, resulting, telling, unless}
 use Rattle.steps.specs.Handling.{fails}
 use Rattle.steps.specs.Loops.{ending, stepping, turned, turning}
-use Rattle.steps.specs.Moves.{jumping, on_top, ticked, with_operands}
+use Rattle.steps.specs.Moves.{jumping, lowest, on_top, ticked, with_operands}
 use Rattle.steps.specs.Switch as switch
 use Rattle.steps.specs.Spot.{Spot, Did, Went, Reads, Begins, Over, Stuck, with_top}
 use Rattle.tclparse.specs.Seen.{fault_of}
 use Rattle.tclstate.specs.Pairs.{found}
-use Rattle.tclstate.specs.Procs.{Procedure}
+use Rattle.tclstate.specs.Procs.{Procedure, Procs}
 use Rattle.tclstate.specs.Scopes.{Trouble, read}
 use Rattle.tcltext.specs.Flaw as list
 
@@ -91,6 +93,30 @@ abbrev pub beginning_counted : Spot → Status → Did
 beginning_counted spot s =
     on_top spot.marks (λ below marks. beginning below (record spot { marks = marks }) s)
 
+-- the function that a command of this name is, where no procedure hides it (proc(n))
+abbrev pub unless_hidden : Option Procedure → Option Pure → Option Pure
+unless_hidden None function = function
+unless_hidden (Some procedure) function = None
+
+-- the function of its words that a command is, of which the first is its name (Tcl(n), rule 2)
+abbrev pub function_in : List (List ℕ) → Procs → Option Pure
+function_in [] procedures = None
+function_in (name ∷ args) procedures = unless_hidden (found procedures name) (named name)
+
+-- the value of a function of the words after its name takes the place of all words, which stand
+-- above so many operands; a command that is no function begins (Tcl(n), rule 2)
+abbrev pub performing : Option Pure → List (List ℕ) → ℕ → Spot → Status → Did
+performing (Some function) words below spot s =
+    gives (says function (drop 1 words)) (with_operands (lowest below spot.operands) spot) s
+performing None words below spot s = beginning below spot s
+
+-- a command, whose words are all operands above the lowest ones, which are this many: where it is a
+-- function of its words it is over, else it begins (Tcl(n), rule 2)
+abbrev pub starting : ℕ → Spot → Status → Did
+starting below spot s =
+    let words = drop below (reverse spot.operands) in
+    performing (function_in words s.procedures) words below spot s
+
 -- where no procedure hides a command, this place is next (proc(n))
 abbrev pub unhidden : Option Procedure → ℕ → Spot → Status → Did
 unhidden None place spot s = jumping place spot s
@@ -112,7 +138,7 @@ does (i.Body after) spot s = entering spot.levels spot s
 does i.Leave spot s = leaving spot s
 does (i.Count n) spot s = counting n spot s
 does i.Spread spot s = spreading spot s
-does (i.Command n) spot s = beginning (length spot.operands - n) spot s
+does (i.Command n) spot s = starting (length spot.operands - n) spot s
 does i.Counted spot s = beginning_counted spot s
 does (i.Fault fault) spot s = fails (flaw_of_fault (fault_of fault)) spot s
 does (i.Numeral digits) spot s = putting digits spot s

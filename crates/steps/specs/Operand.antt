@@ -3,7 +3,7 @@ use Rattle.std.specs.Prelude.{ℕ, List, [], ◌∷◌, ◌++◌, Option, if◌t
 use Rattle.conditions.specs.Branches.{Branch}
 use Rattle.conditions.specs.Conditional.{chosen}
 use Rattle.conditions.specs.Loop.{turned}
-use Rattle.evaluation.specs.Evaluated.{arguments, evaluated, linked, on_truth, told}
+use Rattle.state.specs.Evaluated.{arguments, evaluated, linked, on_truth, told}
 use Rattle.operators.specs.Binary.{binary}
 use Rattle.operators.specs.Function as function
 use Rattle.operators.specs.Truth.{truth_of}

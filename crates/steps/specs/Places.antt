@@ -5,7 +5,7 @@ use Rattle.conditions.specs.Branches.{Branch}
 use Rattle.conditions.specs.Conditional.{chooses, passes}
 use Rattle.conditions.specs.ForLoop.{started}
 use Rattle.conditions.specs.Loop.{again, behind_body, on_step}
-use Rattle.evaluation.specs.Evaluated.{evaluated}
+use Rattle.state.specs.Evaluated.{evaluated}
 use Rattle.plan.specs.Plan.{and_then, onward, after}
 use Rattle.runs.specs.Commands.{command}
 use Rattle.runs.specs.Scripts.{script}
@@ -21,7 +21,7 @@ use Rattle.steps.specs.Word.{Open, bytes_of, course_with, is_counted, operands_o
 use Rattle.tclparse.specs.Fault.{Fault}
 use Rattle.tclparse.specs.Formula.{Formula}
 use Rattle.tclparse.specs.Tree.{Commands, Words}
-use Rattle.words.specs.Words.{words}
+use Rattle.state.specs.Words.{words}
 
 -- what is being done at a place: a value is on top; an open word goes on with its next part; a
 -- value is put after the bytes of an open word; a command goes on with its next word, after these
@@ -57,7 +57,8 @@ pub data Head : Type 0 where
 
 -- what is done with a value once it is on top: the commands of a script that are left follow; or a
 -- script in brackets is over, and its value is put after the bytes of an open word; or a body is
--- over, and its outcome is passed on; or the code goes on elsewhere; or the start of for is over,
+-- over, and its outcome is passed on; or the code goes on elsewhere; or the value is dropped, and a
+-- formula is evaluated, whose value is then on top; or the start of for is over,
 -- and turns with this test, this script after each turn and this body follow; or the body of a turn
 -- is over, at the place where it ends, or else, without a place, the script after it is, and then
 -- the loop goes on, whose next turn begins at the other place; or the body of a turn of foreach is
@@ -70,6 +71,7 @@ pub data Frame : Type 0 where
   Bracket : (word : Open) → Frame
   Body : Frame
   Skip : Frame
+  Alone : (formula : Formula) → Frame
   For : (test step body : List ℕ) → Frame
   Turns : (loop : LoopTree) (ends : Option ℕ) (turn : ℕ) → Frame
   Elements : (each : Each) (elements : List (List ℕ)) (ends turn : ℕ) → Frame
@@ -113,6 +115,8 @@ nexts levels (Bracket word ∷ frames) =
     on_value (λ s value. course_of (suc levels) (Joins value word) s) ∷ nexts (suc levels) frames
 nexts levels (Body ∷ frames) = passes ∷ nexts (suc levels) frames
 nexts levels (Skip ∷ frames) = nexts levels frames
+nexts levels (Alone f ∷ frames) =
+    on_value (λ s value. course_of levels (Evaluates f []) s) ∷ nexts levels frames
 nexts levels (For test step body ∷ frames) =
     on_value (started levels test step body) ∷ nexts levels frames
 nexts levels (Turns loop ends turn ∷ frames) = behind_part loop levels ends ∷ nexts levels frames
@@ -138,6 +142,7 @@ beneath (Rest cs f ∷ frames) = beneath frames
 beneath (Bracket word ∷ frames) = operands_of word (beneath frames)
 beneath (Body ∷ frames) = beneath frames
 beneath (Skip ∷ frames) = beneath frames
+beneath (Alone f ∷ frames) = beneath frames
 beneath (For test step body ∷ frames) = beneath frames
 beneath (Turns loop ends turn ∷ frames) = beneath frames
 beneath (Elements each elements ends turn ∷ frames) = elements ++ beneath frames
@@ -156,6 +161,7 @@ marks_beneath (Bracket word ∷ frames) =
     marked (is_counted word.word) (length (beneath frames)) (marks_beneath frames)
 marks_beneath (Body ∷ frames) = marks_beneath frames
 marks_beneath (Skip ∷ frames) = marks_beneath frames
+marks_beneath (Alone f ∷ frames) = marks_beneath frames
 marks_beneath (For test step body ∷ frames) = marks_beneath frames
 marks_beneath (Turns loop ends turn ∷ frames) = marks_beneath frames
 marks_beneath (Elements each elements ends turn ∷ frames) =
@@ -174,6 +180,7 @@ handlers_beneath levels (Rest cs f ∷ frames) = handlers_beneath levels frames
 handlers_beneath levels (Bracket word ∷ frames) = handlers_beneath (suc levels) frames
 handlers_beneath levels (Body ∷ frames) = handlers_beneath (suc levels) frames
 handlers_beneath levels (Skip ∷ frames) = handlers_beneath levels frames
+handlers_beneath levels (Alone f ∷ frames) = handlers_beneath levels frames
 handlers_beneath levels (For test step body ∷ frames) = handlers_beneath levels frames
 handlers_beneath levels (Turns loop ends turn ∷ frames) =
     record {
@@ -262,6 +269,7 @@ brackets (Rest cs f ∷ frames) = brackets frames
 brackets (Bracket word ∷ frames) = suc (brackets frames)
 brackets (Body ∷ frames) = suc (brackets frames)
 brackets (Skip ∷ frames) = brackets frames
+brackets (Alone f ∷ frames) = brackets frames
 brackets (For test step body ∷ frames) = brackets frames
 brackets (Turns loop ends turn ∷ frames) = brackets frames
 brackets (Elements each elements ends turn ∷ frames) = brackets frames

@@ -1,5 +1,6 @@
 -- The run of a code as one value.
 use Rattle.std.specs.Prelude.{◌≡◌, ◌≢◌, ℕ, ◌+◌, ◌-◌, ◌*◌, List, [], Option, Some, None, Result, Ok, Err, length, slice_get}
+use Rattle.code.specs.Code.{At}
 use Rattle.code.specs.declared.instruction.Instruction.{Instruction}
 use Rattle.code.specs.declared.instruction.Instruction.TheVariants as i
 use Rattle.state.specs.Budget.{again_of}
@@ -14,6 +15,9 @@ use Rattle.steps.specs.declared.progress.Progress.TheVariants as went
 use Rattle.steps.specs.declared.run.Run.{Run}
 use Rattle.steps.specs.declared.spot.Spot as coded
 use Rattle.tclparse.specs.declared.fault.Fault as read
+use Rattle.tclparse.specs.declared.operator.Binary.{Binary}
+use Rattle.tclparse.specs.declared.operator.Function.{Function}
+use Rattle.tclparse.specs.declared.operator.Unary.{Unary}
 
 -- how many places the run has still before it
 abbrev pub places_left : {A : Type 0} → Run A → ℕ
@@ -25,11 +29,41 @@ places_left run = length run.code.value.items - run.spot.place
 abbrev pub most_commands : {A : Type 0} → Run A → ℕ → ℕ
 most_commands run left = left * (length run.code.value.items + 1) + places_left run
 
--- before anything else a tick is taken, or the code ends (this project's own rule)
-pub data TicksFirst {A : Type 0} : Option (Instruction A) → Type 0 where
-  no_instruction : TicksFirst None
-  takes_tick : {from_end : ℕ} → TicksFirst (Some (i.Next from_end))
-  has_fault : {fault : read.Fault} → TicksFirst (Some (i.Fault fault))
+-- an instruction of a word or of a formula after which the next place comes, unless it fails
+-- (Tcl(n), rules 7, 8 and 11; expr(n))
+pub data IsPlain {A : Type 0} : Instruction A → Type 0 where
+  text : {bytes : List ℕ} → IsPlain (i.Text bytes)
+  variable : {name : List ℕ} → IsPlain (i.Variable name)
+  element : {name : List ℕ} → IsPlain (i.Element name)
+  joins : IsPlain i.Join
+  enters : IsPlain i.Enter
+  leaves : IsPlain i.Leave
+  numeral : {digits : List ℕ} → IsPlain (i.Numeral digits)
+  prefixed : {operator : Unary} → IsPlain (i.Prefix operator)
+  both : {operator : Binary} → IsPlain (i.Binary operator)
+  called : {function : Function} {n : ℕ} → IsPlain (i.Call function n)
+  truth : IsPlain i.Truth
+  result : IsPlain i.Result
+  drops : IsPlain i.Discard
+
+-- an instruction after which the next place comes or this one, unless it fails (expr(n), operators)
+pub data Forks {A : Type 0} : Instruction A → ℕ → Type 0 where
+  and_also : {place : ℕ} → Forks (i.AndAlso place) place
+  or_else : {place : ℕ} → Forks (i.OrElse place) place
+  unless : {place : ℕ} → Forks (i.Unless place) place
+
+-- from this place on a tick is taken, or the code ends, before a command begins (this project's own
+-- rule)
+pub data IsQuiet {A : Type 0} (code : List (Instruction A)) : ℕ → Type 0 where
+  past : {place : ℕ} → slice_get code place ≡ None → IsQuiet code place
+  ticks : {place from_end : ℕ} → At code place (i.Next from_end) → IsQuiet code place
+  faulty : {place : ℕ} {fault : read.Fault} → At code place (i.Fault fault) → IsQuiet code place
+  goes : {place : ℕ} {it : Instruction A} → At code place it → IsPlain it →
+      IsQuiet code (place + 1) → IsQuiet code place
+  forks : {place other : ℕ} {it : Instruction A} → At code place it → Forks it other →
+      IsQuiet code (place + 1) → IsQuiet code other → IsQuiet code place
+  jumps : {place other : ℕ} → At code place (i.Jump other) → IsQuiet code other →
+      IsQuiet code place
 
 -- the outcome is a value
 abbrev pub IsValue : {A : Type 0} → Result (List ℕ) (Leave A) → Type 0
@@ -43,9 +77,9 @@ IsIdle went.Begins spot = ⊥
 IsIdle went.Over spot = again_of (outcome_of spot.outcome) ≡ 0
 IsIdle went.Stuck spot = Unit {0}
 
--- a run of which nothing is done yet, whose code takes a tick first
+-- a run of which nothing is done yet, whose code takes a tick before a command begins
 pub record IsFresh {A : Type 0} (run : Run A) : Type 0 where
-  pub first : TicksFirst (slice_get run.code.value.items run.spot.place)
+  pub quiet : IsQuiet run.code.value.items run.spot.place
   pub handlers : (spot_of run.spot).handlers ≡ []
 
 -- for some state of the definition that the code's state fits, the course ends with this outcome,

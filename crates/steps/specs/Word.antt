@@ -9,7 +9,7 @@ use Rattle.state.specs.Prelude.{Course, Status}
 use Rattle.state.specs.Variables.{reads}
 use Rattle.steps.specs.Operand.{Outer, operand_on, waiting}
 use Rattle.tclparse.specs.Tree.{Parts, Words, no_words}
-use Rattle.words.specs.Words.{parts, words}
+use Rattle.state.specs.Words.{parts, words}
 
 -- an array whose index is open, and the word or the index around its element: the bytes before the
 -- element, where there is something of it, and the parts after it (Tcl(n), rule 8)

@@ -1,10 +1,10 @@
 //! Instructions one after the other, up to the next command or to the end.
 
-ghost use Rattle.std.specs.Prelude.{◌≡◌, ◌≢◌, ◌<◌, ◌≤◌, ◌-◌, [], length, slice_get, IfOk};
+ghost use Rattle.std.specs.Prelude.{◌≡◌, ◌≢◌, ◌<◌, ◌≤◌, ◌-◌, [], length, IfOk};
 ghost use Rattle.state.specs.Budget.{again_of};
 ghost use Rattle.state.specs.Prelude.{Status, outcome_of};
 ghost use Rattle.steps.specs.Does.{Arrives};
-ghost use Rattle.steps.specs.Run.{IsIdle, TicksFirst};
+ghost use Rattle.steps.specs.Run.{IsIdle, IsQuiet};
 ghost use Rattle.steps.specs.View.{did_of, spot_of, with_parts};
 ghost use Rattle.steps.specs.declared.progress.Progress.TheVariants as went;
 
@@ -36,7 +36,7 @@ pub fn advance<A: Allocator + Copy>(
     ensures onward { IfOk result (λ progress. progress ≡ went.Begins → left.new ≡ left.old →
         length code.now - spot.new.place < length code.now - spot.old.place) }
     ensures ticks { left.new ≤ left.old }
-    ensures first { TicksFirst (slice_get code.now spot.old.place) →
+    ensures first { IsQuiet code.now spot.old.place →
         (spot_of spot.old).handlers ≡ [] →
         IfOk result (λ progress. left.new ≡ left.old → IsIdle progress spot.new) }
     ensures ended { length code.now ≤ spot.old.place →

@@ -6,6 +6,7 @@ mod at_once;
 mod catching;
 mod direct;
 mod foreach;
+mod functions;
 mod handler;
 mod handling;
 pub mod laws;

@@ -2,7 +2,7 @@
 
 ghost use Rattle.std.specs.Prelude.{◌≡◌, ◌≤◌, ◌-◌, ◌∷◌, ℕ, List, length, map, Err, Some, IfOk, IfSome, if◌then◌else◌};
 ghost use Rattle.acts.specs.Flaw as flaw;
-ghost use Rattle.evaluation.specs.Evaluated.{told as told_of};
+ghost use Rattle.state.specs.Evaluated.{told as told_of};
 ghost use Rattle.meanings.specs.Meaning.{Gives, Meaning, truth as truth_text};
 ghost use Rattle.meanings.specs.View.{Answers};
 ghost use Rattle.operators.specs.Binary.{binary as meant};
@@ -48,7 +48,7 @@ fn settle<A: Allocator + Copy>(
 /// Fails with the error of a function of texts.
 #[cold]
 #[inline(never)]
-fn fail<A: Allocator + Copy>(
+pub(crate) fn fail<A: Allocator + Copy>(
     alloc: A,
     spot: &mut Spot<A>,
     raise: Raise<A>,

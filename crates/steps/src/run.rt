@@ -1,13 +1,11 @@
 //! The run of a code as one value: the code, which is shared, and where the run stands in it.
 
-ghost use Rattle.std.specs.Prelude.{◌≡◌, ◌+◌, ◌*◌, ◌<◌, ◌≤◌, length, IfOk};
-ghost use Rattle.code.specs.Code.{ScriptAt};
+ghost use Rattle.std.specs.Prelude.{◌≡◌, ◌+◌, ◌*◌, ◌<◌, ◌≤◌, IfOk};
 ghost use Rattle.plan.specs.Plan.{and_then, onward};
 ghost use Rattle.runs.specs.Ending.{Over};
-ghost use Rattle.runs.specs.Scripts.{script};
 ghost use Rattle.state.specs.Budget.{again_of};
-ghost use Rattle.state.specs.Piece.{ScriptTree};
 ghost use Rattle.state.specs.Prelude.{Dialogue, FitsState, Outcome as Ending, Status, on_value, outcome_of};
+ghost use Rattle.steps.specs.Entered.{entered};
 
 use crate::advancing::advance;
 use crate::at_once::perform;
@@ -15,7 +13,7 @@ use crate::handling::resume;
 use crate::progress::Progress;
 use crate::spot::Spot;
 use acts::NoMemory;
-use code::Instruction;
+use code::{Instruction, Made};
 use state::{Outcome, State};
 use std::alloc::Allocator;
 use std::rc::Rc;
@@ -33,29 +31,16 @@ impl<A: Allocator + Copy> Run<A> {
     ghost use Rattle.steps.specs.Run.{Awaits, HasCome, HasStopped, IsFresh, IsIdle, IsValue, most_commands, places_left};
     ghost use Rattle.steps.specs.declared.progress.Progress.TheVariants as went;
 
-    /// The run of a script's code of which nothing is done yet, in which this many levels may nest.
-    pub fn begin(alloc: A, code: Rc<Vec<Instruction<A>, A>, A>, levels: u8) -> Run<A>
-        ensures awaits { (last : Status → Ending → Dialogue Over) (tree : ScriptTree) →
-            ScriptAt code.value.items 0 tree.commands tree.fault (length code.value.items) →
-            Awaits last result (λ s outcome.
-            and_then (on_value (script levels tree.commands tree.fault) s outcome) (onward last)) }
-        ensures fresh { (tree : ScriptTree) →
-            ScriptAt code.value.items 0 tree.commands tree.fault (length code.value.items) →
-            IsFresh result }
+    /// The run of a script or of a formula of which nothing is done yet, in which this many levels
+    /// may nest.
+    pub fn begin(alloc: A, it: Made<A>, levels: u8) -> Run<A>
+        ensures awaits { (last : Status → Ending → Dialogue Over) → Awaits last result (λ s outcome.
+            and_then (on_value (entered it levels) s outcome) (onward last)) }
+        ensures fresh { IsFresh result }
     {
-        Run {
-            code,
-            spot: Spot {
-                place: 0,
-                operands: Vec::new(alloc),
-                marks: Vec::new(alloc),
-                levels,
-                handlers: Vec::new(alloc),
-                below: 0,
-                words: Vec::new(alloc),
-                outcome: Ok(Value::empty()),
-            },
-        }
+        let spot = Spot::first(alloc, levels);
+        let code = it.into_code();
+        Run { code, spot }
     }
 
     /// Hands in the outcome that the run waits for, and runs the code up to the next command that
@@ -63,8 +48,8 @@ impl<A: Allocator + Copy> Run<A> {
     /// or to the end, whose outcome lies there. It never answers `GoesOn`.
     ///
     /// A command that begins without a tick before it stands further on in the code than the one
-    /// before, so that a run ends after so many outcomes. A script of which nothing is done yet
-    /// takes a tick before its first command.
+    /// before, so that a run ends after so many outcomes. A run of which nothing is done yet takes
+    /// a tick before its first command.
     ///
     /// # Errors
     /// `NoMemory` where memory is refused.

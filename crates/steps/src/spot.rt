@@ -1,6 +1,6 @@
 //! Where the run of a code stands, and how instructions change it.
 
-ghost use Rattle.std.specs.Prelude.{◌≡◌, ◌≤◌, ◌-◌, [], ◌∷◌, length, Some, IfOk, OnOk};
+ghost use Rattle.std.specs.Prelude.{◌≡◌, ◌≤◌, [], ◌∷◌, Some, IfOk, OnOk};
 ghost use Rattle.state.specs.Prelude.{Gives, Status, outcome_of};
 ghost use Rattle.steps.specs.Machine.{beginning, beginning_counted, counting, discarding, entering, joining, leaving, ticking};
 ghost use Rattle.steps.specs.Moves.{on_top};
@@ -39,6 +39,28 @@ pub struct Spot<A: Allocator> {
 }
 
 impl<A: Allocator + Copy> Spot<A> {
+    /// Where the run of a code begins, with nothing on top, where this many levels may nest.
+    pub(crate) fn first(alloc: A, levels: u8) -> Spot<A>
+        ensures { spot_of result ≡ record {
+          place = 0;
+          operands = [];
+          marks = [];
+          levels = levels;
+          handlers = [];
+        } }
+    {
+        Spot {
+            place: 0,
+            operands: Vec::new(alloc),
+            marks: Vec::new(alloc),
+            levels,
+            handlers: Vec::new(alloc),
+            below: 0,
+            words: Vec::new(alloc),
+            outcome: Ok(Value::empty()),
+        }
+    }
+
     /// Where a code begins, in which this many levels may nest: the empty text is on top.
     ///
     /// # Errors
@@ -185,16 +207,6 @@ impl<A: Allocator + Copy> Spot<A> {
         }
         self.below = below;
         Progress::Begins
-    }
-
-    /// Begins a command, whose words are this many operands.
-    pub fn begin_last(&mut self, n: usize) -> Progress
-        ensures does { (s : Status) → did_of result self.new s
-            ≡ beginning (length (spot_of self.old).operands - n) (spot_of self.old) s }
-        ensures place { self.new.place ≡ self.old.place }
-    {
-        let below = self.operands.len().saturating_sub(n);
-        self.begin(below)
     }
 
     /// Begins a command, whose words were counted.

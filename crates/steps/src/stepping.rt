@@ -16,6 +16,7 @@ ghost use Rattle.tclstate.specs.Pairs.{found};
 use crate::catching::{begin_catch, end_catch};
 use crate::direct::{add, append, increment, leave_by_return, set};
 use crate::foreach::{assign, begin_foreach, deal, finish, look};
+use crate::functions::start;
 use crate::handling::{fail_to_reach, failed};
 use crate::looping::{begin_step, begin_turn, end_turn, turn};
 use crate::operating::{
@@ -201,7 +202,7 @@ fn perform<A: Allocator + Copy>(
         Instruction::Leave => Ok(spot.leave()),
         Instruction::Count(n) => Ok(spot.count(*n)?),
         Instruction::Spread => Ok(spread(alloc, spot)?),
-        Instruction::Command(n) => Ok(spot.begin_last(*n)),
+        Instruction::Command(n) => Ok(start(alloc, spot, procs, *n)?),
         Instruction::Counted => Ok(spot.begin_counted()),
         Instruction::Fault(fault) => Ok(end_faulty(alloc, spot, *fault)?),
         Instruction::Numeral(digits) => Ok(number(alloc, spot, digits)?),

@@ -29,12 +29,13 @@ fn show<A: Allocator>(shown: &mut Vec<u8, A>, it: &Instruction<A>) -> Result<(),
         Instruction::Prefix(Unary::Not) => (b"not", b""),
         Instruction::Binary(Binary::Add) => (b"add", b""),
         Instruction::Call(Function::Max, 2) => (b"max 2", b""),
-        Instruction::AndAlso(9) => (b"and also 9", b""),
-        Instruction::OrElse(10) => (b"or else 10", b""),
+        Instruction::AndAlso(10) => (b"and also 10", b""),
+        Instruction::OrElse(11) => (b"or else 11", b""),
         Instruction::Truth => (b"truth", b""),
         Instruction::Result => (b"result", b""),
         Instruction::Jump(10) => (b"jump 10", b""),
         Instruction::Unless(15) => (b"unless 15", b""),
+        Instruction::Unless(16) => (b"unless 16", b""),
         Instruction::Jump(16) => (b"jump 16", b""),
         Instruction::Unhidden(name, 7) => (b"unhidden 7 ", name.as_slice()),
         Instruction::Jump(14) => (b"jump 14", b""),
@@ -102,9 +103,9 @@ fn the_operators_of_a_formula_follow_their_operands(rt: HostRuntime) -> Result<(
     for it in &code {
         show(&mut shown, it)?;
     }
-    let wanted: &[u8] = b"variable a\nor else 10\nnumeral 1\nnot\nand also 9\n\
-        numeral 2\nnumeral 3\nadd\ntruth\ntruth\nunless 15\nnumeral 4\nnumeral 5\nmax 2\n\
-        jump 16\nvariable b\n";
+    let wanted: &[u8] = b"discard\nvariable a\nor else 11\nnumeral 1\nnot\nand also 10\n\
+        numeral 2\nnumeral 3\nadd\ntruth\ntruth\nunless 16\nnumeral 4\nnumeral 5\nmax 2\n\
+        jump 17\nvariable b\n";
     assert_eq!(&rt; shown.as_slice(), wanted);
     Ok(())
 }

@@ -6,6 +6,8 @@ mod catching;
 #[cfg(test)]
 mod choices;
 #[cfg(test)]
+mod functions;
+#[cfg(test)]
 mod instructions;
 #[cfg(test)]
 mod running;

@@ -138,7 +138,7 @@ pub(crate) fn commands_within(
 }
 
 /// The same, where 3 ticks and 2 levels are left.
-fn commands_beside(
+pub(crate) fn commands_beside(
     alloc: Global,
     procs: &Procs<Global>,
     code: &[Instruction<Global>],

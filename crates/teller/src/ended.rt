@@ -5,12 +5,11 @@ use acts::NoMemory;
 use code::Instruction;
 use expects::turn::Turn;
 use kept::Kept;
-use machine::Running;
 use machine::frame::Frame;
+use machine::{Run, Running};
 use state::{Code, Leave, Outcome, State};
 use std::alloc::Allocator;
 use std::rc::Rc;
-use steps::Run;
 
 /// A code that has come to a place: it waits there for the outcome of a command, or it has ended
 /// right before it.
@@ -89,7 +88,7 @@ impl<A: Allocator + Copy> Teller<A> {
         code: &Rc<Vec<Instruction<A>, A>, A>,
         kept: &Kept<A>,
     ) -> Result<Option<Vec<u8, A>>, NoMemory> {
-        match kept.text_of_code(code) {
+        match kept.text_of(code) {
             Some(text) => Ok(Some(Vec::from_slice(self.alloc, text)?)),
             None => Ok(None),
         }

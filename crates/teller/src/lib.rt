@@ -20,5 +20,7 @@ mod vain;
 mod wait;
 mod watching;
 
+pub use code::Instruction;
 pub use refusal::Refusal;
+pub use state::Outcome;
 pub use telling::{Detail, Teller};

@@ -15,11 +15,17 @@ pub fn session<W: Write>(alloc: Global, out: &mut W) -> Result<(), Trouble> {
     let Some(limits) = Limits::new(1_000) else {
         return Ok(());
     };
-    let mut session = Session::start(alloc, SCRIPT, &[], limits)?;
+    let mut session = start(alloc, limits)?;
     for turn in 0..5 {
         ask(alloc, out, b"by hand:", &mut session, answer(alloc, turn)?)?;
     }
     Ok(())
+}
+
+/// A session of the dialogue, of which nothing is done yet. It is wide, so it lies behind a
+/// pointer.
+fn start(alloc: Global, limits: Limits) -> Result<Box<Session<Global>, Global>, NoMemory> {
+    Ok(Box::new(alloc, Session::start(alloc, SCRIPT, &[], limits)?)?)
 }
 
 /// The answer to the act before this turn, if there was one.

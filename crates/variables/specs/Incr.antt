@@ -31,11 +31,15 @@ abbrev pub put_in_range : List ℕ → Option (List ℕ) → ℤ → Scopes → 
 put_in_range name index n v =
     if is_in_range n then put name index n v else Err flaw.OutOfRange
 
--- a number is added to that of what a word names: the name is read first, then the number, then
--- the variable (incr(n))
+-- a number is added to that of a variable: the number is read first, then the variable (incr(n))
+abbrev pub adds_to : List ℕ → Option (List ℕ) → Option (List ℕ) → Scopes →
+    Result (Scopes × List ℕ) Flaw
+adds_to name index by v = bind (step_of by) (λ k.
+    bind (number_in name index v) (λ number. put_in_range name index (number +ℤ k) v))
+
+-- a number is added to that of what a word names, which is read first (incr(n))
 abbrev pub adds : List ℕ → Option (List ℕ) → Scopes → Result (Scopes × List ℕ) Flaw
-adds word by v = bind (name_in word) (λ n. bind (step_of by) (λ k.
-    bind (number_in n.0 n.1 v) (λ number. put_in_range n.0 n.1 (number +ℤ k) v)))
+adds word by v = bind (name_in word) (λ n. adds_to n.0 n.1 by v)
 
 -- incr n ?k? (incr(n))
 abbrev pub incr : List (List ℕ) → Scopes → Result (Scopes × List ℕ) Flaw

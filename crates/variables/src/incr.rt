@@ -1,6 +1,6 @@
 //! `incr n ?k?` (incr(n)).
 
-ghost use Rattle.std.specs.Prelude.{◌+ℤ◌, option_copied};
+ghost use Rattle.std.specs.Prelude.{◌≡◌, ◌+ℤ◌, Ok, IfSome, option_copied};
 ghost use Rattle.acts.specs.Raise.{Answers};
 ghost use Rattle.kinds.specs.Answers.{Stores};
 ghost use Rattle.variables.specs.Incr as definition;
@@ -8,10 +8,10 @@ ghost use Rattle.variables.specs.Incr as definition;
 use crate::values::{self, held};
 use acts::raise::wrong_args;
 use acts::{Fault, Raise};
-use kinds::variables::name_in;
 use kinds::words;
+use state::arguments::whole_number_in;
 use std::alloc::Allocator;
-use tclparse::Name;
+use tclparse::{Name, variable_name};
 use tclstate::Scopes;
 use tcltext::Value;
 
@@ -45,7 +45,70 @@ fn add<'a, A: Allocator + Copy>(
     ensures { Stores (definition.adds word.now (option_copied by.entry) scopes.old)
         scopes.old result scopes.new }
 {
-    let Name { name, index } = name_in(word)?;
+    let Ok(Name { name, index }) = variable_name(word) else {
+        return Err(Raise::Fault(Fault::BadVariable));
+    };
+    match sum_of(scopes, name, index, by) {
+        Some(sum) => put(alloc, scopes, name, index, sum),
+        None => add_to(alloc, scopes, name, index, by),
+    }
+}
+
+/// The number that a word says, one where there is none; `None` where the word is no number.
+fn step_in<A: Allocator>(by: Option<&Value<A>>) -> Option<i64>
+    ensures { IfSome result (λ k. definition.step_of (option_copied by.entry) ≡ Ok k) }
+{
+    match by {
+        Some(by) => whole_number_in(by),
+        None => Some(1),
+    }
+}
+
+/// The number that a variable or an element holds; `None` where it holds none.
+fn number_at<A: Allocator + Copy>(
+    scopes: &Scopes<A>,
+    name: &[u8],
+    index: Option<&[u8]>,
+) -> Option<i64>
+    ensures { IfSome result (λ n.
+        definition.number_in name.now (option_copied index.entry) scopes.now ≡ Ok n) }
+{
+    match scopes.get(name, index) {
+        Ok(value) => whole_number_in(value),
+        Err(_) => None,
+    }
+}
+
+/// The sum of the numbers that a variable holds and a word says. `None` says nothing: there may be
+/// no such number, or none of 64 bits.
+fn sum_of<A: Allocator + Copy>(
+    scopes: &Scopes<A>,
+    name: &[u8],
+    index: Option<&[u8]>,
+    by: Option<&Value<A>>,
+) -> Option<i64>
+    ensures { IfSome result (λ sum.
+        definition.adds_to name.now (option_copied index.entry) (option_copied by.entry) scopes.now
+        ≡ definition.put name.now (option_copied index.entry) sum scopes.now) }
+{
+    let by = step_in(by)?;
+    let number = number_at(scopes, name, index)?;
+    number.checked_add(by)
+}
+
+/// Adds a number to that of a variable or an element. What it may answer is wide, so this is apart
+/// from sums of numbers that are there.
+#[inline(never)]
+fn add_to<'a, A: Allocator + Copy>(
+    alloc: A,
+    scopes: &mut Scopes<A>,
+    name: &[u8],
+    index: Option<&[u8]>,
+    by: Option<&'a Value<A>>,
+) -> Result<Value<A>, Raise<A>>
+    ensures { Stores (definition.adds_to name.now (option_copied index.entry)
+        (option_copied by.entry) scopes.old) scopes.old result scopes.new }
+{
     let by = step_of(alloc, by)?;
     let number = number_in(alloc, scopes, name, index)?;
     Ok(put_sum(alloc, scopes, name, index, number, by)?)

@@ -3,7 +3,7 @@ use Rattle.std.proofs.Common.{ℕ, ◌++◌, List, [], ◌∷◌, Bool, true, fa
 use Rattle.state.proofs.Closed.{Closed, inside_closed, listed_closed, reads_closed, value_closed}
 use Rattle.state.specs.Prelude.{Course, on_value, Status}
 use Rattle.tclparse.specs.Tree.{Commands, Parts, no_parts, byte, variable, element, script, Words, no_words, word}
-use Rattle.words.specs.Words.{nested, parts, expanded, words}
+use Rattle.state.specs.Words.{nested, parts, expanded, words}
 
 module _ (P : Status → Course → Type 0) (closed : Closed P) where
   -- a script in a word

@@ -10,7 +10,7 @@ use Rattle.tclparse.specs.declared.tree.Word.{Word, out-Word}
 use Rattle.tclparse.proofs.Trees.{view_Word}
 use Rattle.words.specs.Gathering.{Adds, taken}
 use Rattle.state.specs.Reaches.{reads}
-use Rattle.words.specs.Words.{parts, words, expanded}
+use Rattle.state.specs.Words.{parts, words, expanded}
 use Rattle.state.proofs.Reaches.{same_reaches}
 
 module _ {A : Type 0} (ws : List (Word A)) where

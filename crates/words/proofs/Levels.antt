@@ -8,7 +8,7 @@ use Rattle.words.specs.declared.word.Rest.{Rest}
 use Rattle.words.specs.declared.word.Met.{Met}
 use Rattle.words.specs.declared.word.Met.TheVariants as met
 use Rattle.words.specs.View.{rest_of, after, course_of_met}
-use Rattle.words.specs.Words.{nested, parts}
+use Rattle.state.specs.Words.{nested, parts}
 
 -- a list from which nothing is taken at its front is empty
 pub none_left : {X : Type 0} (xs ys : List X) → xs ≡ ys → ys ≡ drop 1 xs → xs ≡ []

@@ -15,7 +15,7 @@ use Rattle.tclstate.specs.declared.error.ScopeError.TheVariants as error
 use Rattle.state.specs.Stores.{IsTold}
 use Rattle.state.specs.Variables.{found, reads, spelled, flaw_of_trouble}
 use Rattle.words.specs.View.{Appends}
-use Rattle.words.specs.Words.{parts}
+use Rattle.state.specs.Words.{parts}
 
 -- a variable that is read gives its value
 pub reads_ok : (s : Status) (scopes : Scopes) (name : List ℕ) (index : Option (List ℕ))

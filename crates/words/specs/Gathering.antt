@@ -8,7 +8,7 @@ use Rattle.tclparse.specs.declared.tree.Word.{Word}
 use Rattle.words.specs.declared.gathering.Gathering.{Gathering}
 use Rattle.words.specs.declared.gathering.Gathered.{Gathered}
 use Rattle.words.specs.declared.gathering.Gathered.TheVariants as gathered
-use Rattle.words.specs.Words.{nested, expanded, words}
+use Rattle.state.specs.Words.{nested, expanded, words}
 use Rattle.words.specs.View.{resumed}
 
 -- the words of a command from a place on

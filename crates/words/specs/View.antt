@@ -11,7 +11,7 @@ use Rattle.words.specs.declared.word.Outer.{Outer}
 use Rattle.words.specs.declared.word.OpenWord.{OpenWord}
 use Rattle.words.specs.declared.word.Met.{Met}
 use Rattle.words.specs.declared.word.Met.TheVariants as met
-use Rattle.words.specs.Words.{nested, parts}
+use Rattle.state.specs.Words.{nested, parts}
 
 -- the parts of a word from a place on
 abbrev pub parts_from : {A : Type 0} → Rc (Vec (Part A) A) A → ℕ → Parts

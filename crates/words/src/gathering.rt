@@ -5,7 +5,7 @@ ghost use Rattle.std.specs.Prelude.{◌≡◌, ◌≤◌, ℕ, List, [], ◌∷�
 ghost use Rattle.state.specs.Prelude.{Course, Status, Reaches};
 ghost use Rattle.tclparse.specs.Tree.{no_words};
 ghost use Rattle.tclparse.specs.View.{words_of, words_then};
-ghost use Rattle.words.specs.Words.{words as meant};
+ghost use Rattle.state.specs.Words.{words as meant};
 ghost use Rattle.words.specs.Gathering.{Adds, course_of_gathered, gathering_on, taken, words_from};
 ghost use Rattle.words.specs.Scripts.{HasFewer, scripts_left, scripts_of};
 ghost use Rattle.words.specs.View.{course_of_met};

@@ -5,7 +5,7 @@ ghost use Rattle.state.specs.Prelude.{Course, Status};
 ghost use Rattle.state.specs.Variables.{reads};
 ghost use Rattle.tclparse.specs.Tree.{Parts, no_parts};
 ghost use Rattle.tclparse.specs.View.{part_view, parts_of, parts_then};
-ghost use Rattle.words.specs.Words.{parts as substituted};
+ghost use Rattle.state.specs.Words.{parts as substituted};
 ghost use Rattle.words.specs.Scripts.{MeetsFewer, scripts_around, scripts_behind, scripts_in};
 ghost use Rattle.words.specs.View.{Appends, after, course_of_met, course_of_part, parts_from, rest_of, resumed};
 

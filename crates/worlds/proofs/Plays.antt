@@ -4,7 +4,7 @@ use Rattle.std.specs.Borrow.{Bor}
 use Rattle.memory.specs.declared.NoMemory.{NoMemory as Refusal}
 use Rattle.acts.specs.Deed.{Deed, Reply}
 use Rattle.acts.specs.History.{History}
-use Rattle.machine.specs.declared.end.End.{End}
+use Rattle.engine.specs.Prelude.{End}
 use Rattle.records.specs.declared.record.RecordFault.TheVariants as fault
 use Rattle.records.specs.Entry.{AreEntries, HasSecondHeader, IsBadLine, Note}
 use Rattle.records.specs.Record.{HasHeader}

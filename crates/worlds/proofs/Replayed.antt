@@ -4,19 +4,14 @@ use Rattle.std.specs.Prelude.{flat_map}
 use Rattle.acts.specs.Deed.{Deed, Reply}
 use Rattle.acts.specs.Deed as said
 use Rattle.acts.specs.History.{History}
-use Rattle.plan.specs.Answers.{Event, Performs, Over, GoAlike, events}
-use Rattle.plan.specs.Last.{ClosesAt}
+use Rattle.engine.proofs.Laws.{answers_decide, answers_lead, nothing_follows}
+use Rattle.engine.specs.Prelude.{ClosesAt, CutsOff, Ending, Event, GoAlike, Over, Performs, events, is_no_more}
 use Rattle.records.proofs.Notes.{one_entries}
 use Rattle.recorders.proofs.Recorded.{is_whole_record}
 use Rattle.recorders.proofs.Replayed.{is_replayed}
 use Rattle.recorders.specs.Laws.{AreLedAlike, EndsAtNoMore, acts_of, answers_of}
 use Rattle.recorders.specs.Recorder.{entries_of}
 use Rattle.replays.specs.Recording.{whole}
-use Rattle.runs.proofs.AllRuns.{answers_lead, answers_decide}
-use Rattle.runs.proofs.Cut.{nothing_follows}
-use Rattle.runs.specs.Ending.{Ending}
-use Rattle.state.specs.Cut.{CutsOff}
-use Rattle.state.specs.Dialogue.{is_no_more}
 use Rattle.worlds.specs.Laws.{AreReplayed}
 
 -- where each answer that cuts a run off is the last one, the answer that there are no more is too

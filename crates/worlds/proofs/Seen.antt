@@ -3,11 +3,8 @@ use Rattle.std.proofs.Common.{◌≡◌, ℕ, Bool, List, [], ◌∷◌, Option,
 use Rattle.memory.specs.declared.NoMemory.{NoMemory as Refusal}
 use Rattle.acts.specs.Deed.{Deed, Reply}
 use Rattle.acts.specs.History.{History, Past}
-use Rattle.machine.specs.declared.end.End.{End}
-use Rattle.machine.specs.View.{ending_of, words_of}
+use Rattle.engine.specs.Prelude.{Began, End, Ending, Ran, ending_of, words_of}
 use Rattle.recorders.specs.Recorder.{MayRecord, Notes}
-use Rattle.runs.specs.Ending.{Ending}
-use Rattle.runs.specs.Run.{Began, Ran}
 use Rattle.engine.specs.Watching.{BeganTold, RanTold}
 use Rattle.worlds.specs.Runs.{Heard, Runs, RunsRecorded}
 

@@ -1,13 +1,12 @@
 -- What holds of recorded runs that are replayed.
 use Rattle.std.specs.Prelude.{◌≡◌, ℕ, Bool, false, List, None}
 use Rattle.acts.specs.Deed.{Deed, Reply}
+use Rattle.engine.specs.Prelude.{Ending, Ran}
 use Rattle.records.specs.Entry.{AreEntries, IsSecondRecord, Note, second_header}
 use Rattle.records.specs.Sink.{Gets, Takes}
 use Rattle.recorders.specs.Recorder.{Records, entries_of}
 use Rattle.replays.specs.Recording.{Recorded, whole}
 use Rattle.replays.specs.Replay.{Replays}
-use Rattle.runs.specs.Ending.{Ending}
-use Rattle.runs.specs.Run.{Ran}
 
 -- `step` says how a world changes by an act with an answer, `adds`, `out` and `err` whether a write
 -- may lead from one state of a sink to another and add these bytes, `failed`, `out_failed` and

@@ -3,8 +3,8 @@ use Rattle.std.specs.Prelude.{ℕ, Bool, List, Option, None, Result, Vec}
 use Rattle.memory.specs.declared.NoMemory.{NoMemory as Refusal}
 use Rattle.acts.specs.Deed.{Deed, Reply}
 use Rattle.acts.specs.History.{History}
-use Rattle.machine.specs.declared.end.End.{End}
 use Rattle.acts.specs.declared.id.Id.{Id}
+use Rattle.engine.specs.Prelude.{End}
 use Rattle.live.specs.Calls.{Call}
 use Rattle.live.specs.Live.{Lives, Logs, Programs, Works}
 use Rattle.live.specs.declared.peers.Peers.{Peers}

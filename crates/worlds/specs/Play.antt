@@ -4,7 +4,7 @@ use Rattle.std.specs.Borrow.{Bor}
 use Rattle.memory.specs.declared.NoMemory.{NoMemory as Refusal}
 use Rattle.acts.specs.Deed.{Deed, Reply}
 use Rattle.acts.specs.History.{History}
-use Rattle.machine.specs.declared.end.End.{End}
+use Rattle.engine.specs.Prelude.{End}
 use Rattle.records.specs.Entry.{AreEntries, Note}
 use Rattle.records.specs.Fault.{IsEntriesFault}
 use Rattle.records.specs.Sink.{Takes}

@@ -3,10 +3,8 @@ use Rattle.std.specs.Prelude.{⊤, ℕ, Bool, List, Option, Result, MatchResult,
 use Rattle.memory.specs.declared.NoMemory.{NoMemory as Refusal}
 use Rattle.acts.specs.Deed.{Deed, Reply}
 use Rattle.acts.specs.History.{History}
-use Rattle.machine.specs.declared.end.End.{End}
-use Rattle.machine.specs.View.{ending_of, words_of}
+use Rattle.engine.specs.Prelude.{Began, End, Ran, ending_of, words_of}
 use Rattle.recorders.specs.Recorder.{Begins, MayRecord}
-use Rattle.runs.specs.Run.{Began, Ran}
 
 -- who watches a run may have come from before to after by being told these acts with their answers;
 -- `told` says how such a one changes

@@ -3,8 +3,8 @@ use Rattle.std.specs.Prelude.{ℕ, Bool, true, false, pos, unsigned_abs, List, [
 use Rattle.std.specs.Borrow.{Bor}
 use Rattle.std.specs.Int.{int_rem_euclid}
 use Rattle.memory.specs.declared.NoMemory.{NoMemory as Refusal}
-use Rattle.machine.specs.declared.end.End.{End}
-use Rattle.machine.specs.declared.end.End.TheVariants as end
+use Rattle.engine.specs.Ends as end
+use Rattle.engine.specs.Prelude.{End}
 use Rattle.worlds.specs.declared.input.Unread.{Unread}
 use Rattle.worlds.specs.declared.input.Unread.TheVariants as unread
 use Rattle.records.specs.declared.record.RecordFault.{RecordFault}

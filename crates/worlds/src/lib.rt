@@ -14,6 +14,7 @@ mod same_file;
 pub mod standard;
 pub mod status;
 
+pub use engine::{End, Lead, Running, State, Watch};
 pub use input::Unread;
 pub use live::Live;
 pub use recorders::Recorder;

@@ -35,7 +35,7 @@ use Rattle.tclparse.specs.Tree.{Words, bytes_then, no_parts, no_words, word}
 use Rattle.tclstate.specs.Pairs.{found}
 use Rattle.tclstate.specs.Procs.{Procedure}
 use Rattle.words.proofs.Steps.{literal}
-use Rattle.words.specs.Words.{words}
+use Rattle.state.specs.Words.{words}
 
 module _ {A X : Type 0} (code : List (Instruction A)) (last : Status → Outcome → Dialogue X) where
   -- the branches that words make, and where they stand

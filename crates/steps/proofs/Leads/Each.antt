@@ -4,7 +4,7 @@ use Rattle.std.specs.Prelude.{slice_get}
 use Rattle.std.proofs.lemmas.Option.{slice_get_past}
 use Rattle.code.specs.Code.{FormulaAt, ScriptAt}
 use Rattle.code.specs.declared.instruction.Instruction.{Instruction}
-use Rattle.evaluation.specs.Evaluated.{evaluated}
+use Rattle.state.specs.Evaluated.{evaluated}
 use Rattle.plan.specs.Plan.{and_then, onward}
 use Rattle.runs.specs.Scripts.{plan_of}
 use Rattle.state.specs.Piece.{Script, ScriptTree}

@@ -30,7 +30,7 @@ use Rattle.tclstate.specs.Scopes.{Trouble, written}
 use Rattle.variables.specs.Append.{append}
 use Rattle.variables.specs.Incr.{incr}
 use Rattle.variables.specs.Values.{puts}
-use Rattle.words.specs.Words.{words}
+use Rattle.state.specs.Words.{words}
 
 -- a variable was written, or could not be
 written_is : (r : Result Scopes Trouble) (name value : List ℕ) (s : Status) →

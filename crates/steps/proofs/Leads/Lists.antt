@@ -26,7 +26,7 @@ use Rattle.steps.proofs.Leads.Standing.{by, sooner, stands}
 use Rattle.tclparse.specs.Tree.{no_parts}
 use Rattle.tclstate.specs.Pairs.{found}
 use Rattle.tclstate.specs.Procs.{Procedure}
-use Rattle.words.specs.Words.{words}
+use Rattle.state.specs.Words.{words}
 
 module _ {A X : Type 0} (code : List (Instruction A)) (last : Status → Outcome → Dialogue X) where
   -- operands on top of those that are beneath

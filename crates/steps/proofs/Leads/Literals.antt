@@ -6,7 +6,7 @@ use Rattle.code.specs.Switch.{texts_then}
 use Rattle.state.specs.Prelude.{Course, Status}
 use Rattle.tclparse.specs.Tree.{Words, no_parts}
 use Rattle.words.proofs.Steps.{literal}
-use Rattle.words.specs.Words.{words}
+use Rattle.state.specs.Words.{words}
 
 -- words that are texts as they stand are these texts
 pub literal_words : (levels : ℕ) (texts before : List (List ℕ)) (s : Status)

@@ -3,7 +3,7 @@ use Rattle.std.proofs.Common.{◌≡◌, ℕ, ◌+◌, ◌≤◌, List, ◌++◌
 use Rattle.std.specs.Prelude.{reverse}
 use Rattle.std.proofs.lemmas.Bool.{le-leb}
 use Rattle.code.specs.declared.instruction.Instruction.{Instruction}
-use Rattle.evaluation.specs.Evaluated as evaluation
+use Rattle.state.specs.Evaluated as evaluation
 use Rattle.meanings.specs.Meaning.{Meaning, Gives, Raises, Splits, Matches, flaw_of_list}
 use Rattle.operators.specs.Function as function
 use Rattle.plan.specs.Plan.{and_then, onward}

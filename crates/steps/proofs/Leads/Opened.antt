@@ -32,7 +32,7 @@ use Rattle.steps.proofs.Leads.Words.{words_lead}
 use Rattle.tclparse.specs.Tree.{Parts, no_parts, Words}
 use Rattle.tclstate.specs.Scopes.{read}
 use Rattle.tcltext.specs.Flaw.{Flaw}
-use Rattle.words.specs.Words.{words}
+use Rattle.state.specs.Words.{words}
 
 module _ {A X : Type 0} (code : List (Instruction A)) (last : Status → Outcome → Dialogue X) where
   module _ (levels end : ℕ) (fs : List Frame) (s : Status) where

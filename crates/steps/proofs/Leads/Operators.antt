@@ -6,7 +6,7 @@ use Rattle.conditions.specs.Conditional as definition
 use Rattle.conditions.specs.Loop as loops
 use Rattle.code.specs.declared.instruction.Instruction.{Instruction}
 use Rattle.code.specs.declared.instruction.Instruction.TheVariants as i
-use Rattle.evaluation.specs.Evaluated.{arguments, evaluated, told}
+use Rattle.state.specs.Evaluated.{arguments, evaluated, told}
 use Rattle.meanings.specs.Meaning.{truth}
 use Rattle.operators.specs.Binary.{binary}
 use Rattle.operators.specs.Function as function

@@ -11,14 +11,14 @@ use Rattle.steps.specs.Follows.{Follows, Here, Resumes}
 use Rattle.steps.specs.Handling.{fails, handled, led, resumed, way_of}
 use Rattle.steps.specs.Layout.{FramesAt}
 use Rattle.steps.specs.Moves.{jumping, lowest}
-use Rattle.steps.specs.Places.{Has, Finishes, Drops, Stores, Part, Frame, Rest, Bracket, Body, Skip, For, Turns, Elements, Catches, beneath, brackets, handlers_beneath, marks_beneath, onward_of, part_of, spot_at}
+use Rattle.steps.specs.Places.{Has, Finishes, Drops, Stores, Part, Frame, Rest, Bracket, Body, Skip, Alone, For, Turns, Elements, Catches, beneath, brackets, handlers_beneath, marks_beneath, onward_of, part_of, spot_at}
 use Rattle.steps.specs.Spot.{Did, Went, Reads, Begins, Over, Stuck, Handler, Spot}
 use Rattle.steps.specs.Word.{Open, is_counted, operands_of}
 use Rattle.steps.specs.declared.handler.Covered.{Covered}
 use Rattle.steps.specs.declared.handler.Covered.TheVariants as covers
 use Rattle.steps.proofs.Leads.Above.{LiesOn, lies_on, lowest_of, mark_above, those, word_above}
 use Rattle.steps.proofs.Leads.Forwards.{joined_grows, part_grows, script_grows}
-use Rattle.steps.proofs.Leads.Grows.{assigns_grow, turns_grow}
+use Rattle.steps.proofs.Leads.Grows.{assigns_grow, formula_grows, turns_grow}
 use Rattle.steps.proofs.Leads.Silent.{same_goes}
 use Rattle.steps.proofs.Leads.Standing.{comes_here, stands_here, stops_pass}
 
@@ -193,6 +193,10 @@ module _ {A X : Type 0} (code : List (Instruction A)) (last : Status → Outcome
   handled_leads c value spot s levels place (Skip ∷ fs) at fits within =
       handled_leads c value spot s levels at.0 fs at.3 fits
       (further spot place at.0 (beneath fs) (marks_beneath fs) (omega (arith, at.2)) within)
+  handled_leads c value spot s levels place (Alone f ∷ fs) at fits within =
+      handled_leads c value spot s levels at.1.0 fs at.1.2 fits
+      (further spot place at.1.0 (beneath fs) (marks_beneath fs)
+      (omega (arith, formula_grows code at.1.1)) within)
   handled_leads c value spot s levels place (For test step body ∷ fs) at fits within =
       handled_leads c value spot s levels at.1.0 fs at.1.2 fits
       (further spot place at.1.0 (beneath fs) (marks_beneath fs)

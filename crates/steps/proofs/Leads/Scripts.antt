@@ -12,7 +12,7 @@ use Rattle.steps.specs.Follows.{Follows}
 use Rattle.steps.specs.Goes.{here, calls}
 use Rattle.steps.specs.Layout.{FramesAt}
 use Rattle.steps.specs.Machine.{ahead, machine}
-use Rattle.steps.specs.Places.{Has, Joins, Starts, Frame, Rest, Bracket, Body, Skip, For, Turns, Elements, Catches, beneath, brackets, onward_of, spot_at}
+use Rattle.steps.specs.Places.{Has, Evaluates, Joins, Starts, Frame, Rest, Bracket, Body, Skip, Alone, For, Turns, Elements, Catches, beneath, brackets, onward_of, spot_at}
 use Rattle.steps.specs.Spot.{Went, Stuck}
 use Rattle.steps.proofs.Leads.Above.{those}
 use Rattle.steps.proofs.Leads.Catches.{caught_over}
@@ -23,8 +23,9 @@ use Rattle.steps.proofs.Leads.Resumed.{amid_operands, failure_leads}
 use Rattle.steps.proofs.Leads.Standing.{by, silently, stands, tick_leads}
 use Rattle.tclparse.specs.Fault.{Fault}
 use Rattle.tclparse.specs.Seen.{fault_of}
+use Rattle.tclparse.specs.Formula.{Formula}
 use Rattle.tclparse.specs.Tree.{Commands}
-use Rattle.words.specs.Words.{words}
+use Rattle.state.specs.Words.{words}
 use Rattle.steps.specs.Word.{Open}
 
 module _ {A X : Type 0} (code : List (Instruction A)) (last : Status → Outcome → Dialogue X) where
@@ -99,6 +100,15 @@ module _ {A X : Type 0} (code : List (Instruction A)) (last : Status → Outcome
       by code last i.Discard (spot_at place levels (Has v) (For test step body ∷ fs)) s _ at.0
       (for_turns code last levels fs s v (place + 1) test step body at.1.0 at.1.1 at.1.2 fits)
 
+  -- the value is dropped, and a formula evaluated
+  alone_leads : (place levels : ℕ) (f : Formula) (fs : List Frame) (v : List ℕ) (s : Status) →
+      FramesAt code place (Alone f ∷ fs) → levels + brackets fs ≤ 255 →
+      ValueLeads place levels (Alone f ∷ fs) v s
+  alone_leads place levels f fs v s at fits =
+      by code last i.Discard (spot_at place levels (Has v) (Alone f ∷ fs)) s _ at.0
+      (stands code last (place + 1) levels (Evaluates f []) fs at.1.0 s
+      (at.1.0, at.1.1, refl) at.1.2 fits)
+
   -- each frame
   pub has_leads : (place levels : ℕ) (fs : List Frame) (v : List ℕ) (s : Status) →
       FramesAt code place fs → levels + brackets fs ≤ 255 → ValueLeads place levels fs v s
@@ -112,6 +122,7 @@ module _ {A X : Type 0} (code : List (Instruction A)) (last : Status → Outcome
       bracket_leads place levels word fs v s at fits
   has_leads place levels (Body ∷ fs) v s at fits = body_leads place levels fs v s at fits
   has_leads place levels (Skip ∷ fs) v s at fits = skip_leads place levels fs v s at fits
+  has_leads place levels (Alone f ∷ fs) v s at fits = alone_leads place levels f fs v s at fits
   has_leads place levels (For test step body ∷ fs) v s at fits =
       start_leads place levels test step body fs v s at fits
   has_leads place levels (Turns loop ends turn ∷ fs) v s at fits =

@@ -35,7 +35,7 @@ use Rattle.steps.proofs.Leads.Standing.{by, silently, sooner, stands}
 use Rattle.tclparse.specs.Tree.{no_parts}
 use Rattle.tclstate.specs.Pairs.{found}
 use Rattle.tclstate.specs.Procs.{Procedure}
-use Rattle.words.specs.Words.{words}
+use Rattle.state.specs.Words.{words}
 
 -- a text that begins with no dash is no word that does
 no_dash : (text rest : List ℕ) → begins_with_dash text ≡ false → bytes_eq text (45 ∷ rest) ≡ false

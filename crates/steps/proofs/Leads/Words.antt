@@ -1,5 +1,5 @@
 -- The words of a command: its next word, or its beginning.
-use Rattle.std.proofs.Common.{◌≡◌, ℕ, suc, ◌+◌, ◌≤◌, List, [], ◌∷◌, ◌++◌, Bool, true, false, refl, sym, subst, length, arith}
+use Rattle.std.proofs.Common.{◌≡◌, ◌∙◌, ℕ, suc, ◌+◌, ◌≤◌, List, [], ◌∷◌, ◌++◌, Bool, true, false, drop, refl, sym, ap, subst, length, arith}
 use Rattle.std.specs.Prelude.{slice_get, reverse}
 use Rattle.code.specs.Code.{At, WordsAt, begins, begins_counted, one, counts, spread}
 use Rattle.code.specs.declared.instruction.Instruction.{Instruction}
@@ -10,11 +10,13 @@ use Rattle.state.specs.Prelude.{Dialogue, Outcome, Status}
 use Rattle.steps.specs.Follows.{Follows}
 use Rattle.steps.specs.Goes.{here}
 use Rattle.steps.specs.Layout.{CountIs, FramesAt}
-use Rattle.steps.specs.Machine.{beginning, machine}
+use Rattle.steps.specs.Machine.{beginning, function_in, machine, performing, starting}
+use Rattle.steps.specs.Moves.{lowest}
 use Rattle.steps.specs.Places.{Gathers, Frame, beneath, brackets, handlers_beneath, left_of, onward_of, marks_beneath, spot_at}
 use Rattle.steps.specs.Spot.{Went}
 use Rattle.steps.specs.Word.{Plain, Expands}
-use Rattle.steps.proofs.Leads.Operands.{begins_with, words_left}
+use Rattle.steps.proofs.Leads.Functions.{performed_leads, with_all}
+use Rattle.steps.proofs.Leads.Operands.{begins_with, lowest_below, words_above, words_left}
 use Rattle.steps.proofs.Leads.Parts.{start_leads}
 use Rattle.steps.proofs.Leads.Resumed.{outcome_leads}
 use Rattle.steps.proofs.Leads.Standing.{by, stands}
@@ -59,6 +61,29 @@ module _ {A X : Type 0} (code : List (Instruction A)) (last : Status → Outcome
         resumes = λ t outcome. outcome_leads code last (place + 1) levels fs t behind fits outcome;
       })
 
+  -- or it is a function of its words
+  start_command : (levels place n : ℕ) (before : List (List ℕ)) (fs : List Frame) (s : Status) →
+      n ≡ length (beneath fs) → FramesAt code (place + 1) fs → levels + brackets fs ≤ 255 →
+      Follows code last
+      (starting n (record {
+        place = place + 1;
+        operands = before ++ beneath fs;
+        marks = marks_beneath fs;
+        levels = levels;
+        handlers = handlers_beneath levels fs;
+      }) s)
+      (and_then (command levels s (reverse before)) (onward (onward_of last levels fs)))
+  start_command levels place n before fs s is behind fits =
+      let operands = before ++ beneath fs in
+      subst (λ words. Follows code last
+      (performing (function_in words s.procedures) words n
+      (with_all code last levels (place + 1) fs s behind fits operands) s)
+      (and_then (command levels s (reverse before)) (onward (onward_of last levels fs))))
+      (sym (ap (λ m. drop m (reverse operands)) is ∙ words_above before (beneath fs)))
+      (performed_leads code last levels (place + 1) fs s behind fits operands n
+      (ap (λ m. lowest m operands) is ∙ lowest_below before (beneath fs)) (reverse before)
+      (begin_leads levels place n false before fs s is behind fits))
+
   -- from here on the words are counted
   count_leads : (levels place count end : ℕ) (before : List (List ℕ)) (rest : Words)
       (fs : List Frame) (s : Status) → count ≡ length before → At code place (i.Count count) →
@@ -88,7 +113,7 @@ module _ {A X : Type 0} (code : List (Instruction A)) (last : Status → Outcome
   words_lead levels before fs s counted count place rest end is (begins at) behind fits =
       by code last (i.Command count) (spot_at place levels (Gathers false before no_words) fs) s _
       at
-      (begin_leads levels place _ false before fs s (words_left count before (beneath fs) is) behind
+      (start_command levels place _ before fs s (words_left count before (beneath fs) is) behind
       fits)
   words_lead levels before fs s counted count place rest end is (begins_counted at) behind fits =
       by code last i.Counted (spot_at place levels (Gathers true before no_words) fs) s _ at

@@ -1,6 +1,6 @@
 use Rattle.std.proofs.Common.{◌≡◌, ◌∙◌, Some, None, sym, ap, subst}
 use Rattle.acts.specs.Flaw as flaw
-use Rattle.state.specs.Prelude.{text_of, tree_of, FitsState, Leaves, Error, Status}
+use Rattle.state.specs.Prelude.{text_of, FitsState, Leaves, Error, Status}
 use Rattle.bodies.proofs.Calling.{call_refused, call_runs}
 use Rattle.bodies.specs.Calls as definition
 use Rattle.state.proofs.Fits.{kept_fits}
@@ -44,8 +44,8 @@ returns-clause-called g c = λ s fits.
     ∙ sym c.in_ok-frame.ensures ∙ c.in-Some-2.is in
     let text : c.as_slice.result.now ≡ procedure.body =
     c.as_slice.ensures ∙ ap (λ p. p.body) c.procedure.view_is in
-    let is : IsScript (tree_of body).commands (tree_of body).fault procedure.body =
-    subst (λ t. IsScript (tree_of body).commands (tree_of body).fault t) text
+    let is : IsScript body.commands body.fault procedure.body =
+    subst (λ t. IsScript body.commands body.fault t) text
     c.in_ok-body.ensures.tree in
     let state = record c.args.state.now { scopes = c.fresh_frame-empty.new.self } in
     let still : FitsState state s =

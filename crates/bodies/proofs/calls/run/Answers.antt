@@ -3,7 +3,7 @@ use Rattle.bodies.specs.Calls as definition
 use Rattle.bodies.proofs.Catching.{on_ok}
 use Rattle.state.proofs.Fits.{scopes_fit}
 use Rattle.state.proofs.Nestings.{inside_over, nests_from, script_nests}
-use Rattle.state.specs.Prelude.{inside, tree_of, Status}
+use Rattle.state.specs.Prelude.{inside, Status}
 use Rattle.tclstate.specs.Scopes.{entered}
 use Rattle.bodies.proofs.calls.run.Goals as goal
 
@@ -11,7 +11,7 @@ pub returns-in_default-clause-nests : goal.returns-in_default-clause-nests
 returns-in_default-clause-nests g c = λ s fits.
     let new = c.enter.new.self in
     let levels = c.args.levels in
-    let tree = tree_of c.args.body in
+    let tree = c.args.body in
     let there : Status = record s { scopes = new } in
     let zero : levels ≡ 0 = search (rules, arith) in
     let on : entered c.args.frame s.scopes ≡ new =
@@ -28,7 +28,7 @@ pub returns-clause-nests : goal.returns-clause-nests
 returns-clause-nests g c = λ s fits.
     let new = c.enter.new.self in
     let levels = c.args.levels in
-    let tree = tree_of c.args.body in
+    let tree = c.args.body in
     let there : Status = record s { scopes = new } in
     let deeper : levels ≡ suc c.in-Some.inner = search (rules, arith) in
     let on : entered c.args.frame s.scopes ≡ new =

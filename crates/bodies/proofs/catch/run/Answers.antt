@@ -4,7 +4,6 @@ use Rattle.bodies.proofs.Catching.{on_ok}
 use Rattle.bodies.specs.declared.catch.Held.{Held}
 use Rattle.state.proofs.Fits.{kept_fits}
 use Rattle.state.proofs.Nestings.{inside_over, nests_after, nests_from, script_nests, text_reaches}
-use Rattle.state.specs.Prelude.{tree_of}
 use Rattle.bodies.proofs.catch.run.Goals as goal
 
 pub returns-in_default-clause-nests : goal.returns-in_default-clause-nests
@@ -17,7 +16,7 @@ returns-in_default-clause-nests g c = λ s fits.
     nests_after definition.next_of c.resumed.new.state n _ _
     (text_reaches script levels c.args.text.now s next c.in_ok-script.ensures.tree)
     (nests_from definition.next_of c.resumed.new.state n _ _
-    (inside_over levels (tree_of script) s next zero
+    (inside_over levels script s next zero
     ∙ ap (λ o. next s o) (sym c.in_ok-outcome.ensures))
     nests))
     (c.resumed.ensures.nests s (kept_fits c.args.state.now s fits c.get.new.self))

@@ -1,6 +1,6 @@
 use Rattle.std.proofs.Common.{◌≡◌, ◌∙◌, suc, rules, arith}
 use Rattle.acts.specs.Flaw as flaw
-use Rattle.state.specs.Prelude.{text_of, tree_of, Leaves, Error}
+use Rattle.state.specs.Prelude.{text_of, Leaves, Error}
 use Rattle.bodies.specs.Eval.{next_of, passed}
 use Rattle.state.proofs.Fits.{kept_fits}
 use Rattle.state.proofs.Nestings.{inside_over, nests_after, over, script_nests, text_reaches}
@@ -17,7 +17,7 @@ returns-in_default-clause-nests g c = λ s fits.
     (text_reaches script levels c.args.text.now s passed c.in_ok-script.ensures.tree)
     (over next_of _ c.in_ok-raised.field-0
     (Leaves Error (text_of flaw.TooManyNested)) s _ still c.in_ok-raised.ensures
-    (inside_over levels (tree_of script) s passed zero))
+    (inside_over levels script s passed zero))
 
 pub returns-clause-nests : goal.returns-clause-nests
 returns-clause-nests g c = λ s fits.

@@ -2,7 +2,7 @@ use Rattle.std.proofs.Common.{◌≡◌, ◌∙◌, ◌-◌, ◌≤◌, [], ◌�
 use Rattle.std.proofs.lemmas.List.{map-append}
 use Rattle.std.specs.Prelude.{codes, max}
 use Rattle.acts.specs.Flaw as flaw
-use Rattle.state.specs.Prelude.{text_of, raised, tree_of, Leaves, Error, ScriptText, here}
+use Rattle.state.specs.Prelude.{text_of, raised, Leaves, Error, ScriptText, here}
 use Rattle.bodies.proofs.Catching.{on_ok}
 use Rattle.bodies.proofs.Pairing.{greater, most_behind, pairs_begin, pairs_body, pairs_wrong}
 use Rattle.bodies.specs.Foreach.{begins, most_asked, rows, turns, with_pairs}
@@ -92,9 +92,9 @@ returns-clause-nests g c = λ s fits.
     (same_reaches (pairs_body rest pairs s (begins levels s) c.body-item.result
     c.as_slice-2.result.now one c.body-item.is c.as_slice-2.ensures))
     (then_reaches
-    (reads {text = ScriptText c.as_slice-2.result.now} (tree_of body)
+    (reads {text = ScriptText c.as_slice-2.result.now} body
     c.in_ok-body.ensures.tree here)
-    (same_reaches (ap (λ n. turns levels (tree_of body) (rows n pairs) s)
+    (same_reaches (ap (λ n. turns levels body (rows n pairs) s)
     (sym c.pairs.invariant.turns))))))
     nests)
     (c.turn.ensures.nests s (kept_fits c.args.state.now s fits c.get.new.self))

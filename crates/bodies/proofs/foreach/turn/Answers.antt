@@ -8,7 +8,7 @@ use Rattle.state.proofs.Fits.{left_fits}
 use Rattle.state.proofs.Nestings.{over}
 use Rattle.state.proofs.Reaches.{same_reaches}
 use Rattle.state.proofs.Ticks.{tick_refused, tick_taken}
-use Rattle.state.specs.Prelude.{inside, raised, tree_of, Gives, Stops}
+use Rattle.state.specs.Prelude.{inside, raised, Gives, Stops}
 use Rattle.state.specs.Outcome as stop
 use Rattle.state.specs.declared.outcome.Leave.TheVariants as leave
 use Rattle.state.specs.declared.outcome.Stop.TheVariants as halt
@@ -20,7 +20,7 @@ returns-in_default-clause-nests g c = λ s fits.
     let zero : held.turns ≡ 0 = search (rules, arith) in
     over next_of c.args.state.now (Ok c.empty.result) (Gives []) s _ fits
     (ap (λ v. Gives v) c.empty.ensures)
-    (turns_over held.levels (tree_of held.body) held.turns
+    (turns_over held.levels held.body held.turns
     (map (λ p. pair_of p) held.pairs.items) s zero)
 
 pub returns-in-Some-2-clause-nests : goal.returns-in-Some-2-clause-nests
@@ -30,7 +30,7 @@ returns-in-Some-2-clause-nests g c = λ s fits.
     let set = rw c.in-Some-2.is at (c.in_ok-fault.ensures.assigns s fits) in
     over next_of c.assign_all.new.state c.in_ok-raised.field-0 (raised c.in-Some-2.fault) set.status
     _ set.fits c.in_ok-raised.ensures
-    (turns_next held.levels (tree_of held.body) held.turns
+    (turns_next held.levels held.body held.turns
     (map (λ p. pair_of p) held.pairs.items) s c.in-Some.turns more
     ∙ set.same _)
 
@@ -41,7 +41,7 @@ returns-then-state-eq0-clause-nests g c = λ s fits.
     let set = rw c.in_default-2.is at (c.in_ok-fault.ensures.assigns s fits) in
     over next_of c.assign_all.new.state (Err (leave.Stopped halt.Limit)) (Stops stop.Limit)
     set.status _ set.fits refl
-    (turns_next held.levels (tree_of held.body) held.turns
+    (turns_next held.levels held.body held.turns
     (map (λ p. pair_of p) held.pairs.items) s c.in-Some.turns more
     ∙ set.same _ ∙ tick_refused set.status _ (set.fits.left ∙ c.if-state-eq0.true))
 
@@ -49,7 +49,7 @@ pub returns-clause-nests : goal.returns-clause-nests
 returns-clause-nests g c = λ s fits.
     let held = c.args.held in
     let levels = held.levels in
-    let body = tree_of held.body in
+    let body = held.body in
     let more : held.turns ≡ suc c.in-Some.turns = search (rules, arith) in
     let set = rw c.in_default-2.is at (c.in_ok-fault.ensures.assigns s fits) in
     let moved = rw c.in_default-2.is at c.in_ok-fault.ensures.behind in

@@ -23,7 +23,7 @@ returns-in-Some-clause-nests g c = λ s fits.
       reaches = then_reaches
           (same_reaches (ap (λ found. on_branches levels found s) (sym words))) reaches;
     })
-    (c.choose.ensures.reaches s fits.scopes)
+    (c.choose.ensures.reaches s)
 
 pub returns-in_ok-wrong_args-in-None-clause-nests :
     goal.returns-in_ok-wrong_args-in-None-clause-nests

@@ -1,11 +1,11 @@
 use Rattle.std.proofs.Common.{◌∙◌, refl, sym}
-use Rattle.std.proofs.lemmas.Result.{IfOk-weaker}
 use Rattle.std.specs.Prelude.{codes}
 use Rattle.acts.specs.Flaw as flaw
 use Rattle.state.specs.Prelude.{text_of, raised, Leaves, Error}
+use Rattle.conditions.proofs.Asked.{evaluated_then}
 use Rattle.conditions.proofs.Evaluating.{expr_none, expr_some}
 use Rattle.conditions.specs.Expr.{next_of, told}
-use Rattle.evaluation.specs.Evaluated.{evaluated}
+use Rattle.state.specs.Evaluated.{evaluated}
 use Rattle.state.proofs.Nestings.{nests_after, over}
 use Rattle.state.proofs.Reaches.{same_reaches, then_reaches}
 use Rattle.conditions.proofs.expr.begin.Goals as goal
@@ -19,22 +19,21 @@ returns-then-is_empty-clause-nests g c = λ s fits.
 pub returns-in-Ok-clause-nests : goal.returns-in-Ok-clause-nests
 returns-in-Ok-clause-nests g c = λ s fits.
     let levels = c.args.levels in
-    let read = rw c.in-Ok.is at c.in_ok-formula.ensures.reaches in
-    IfOk-weaker c.value_of.result _ _
-    (λ nesting reaches. record {
+    let read = rw c.in-Ok.is at c.in_ok-formula.ensures in
+    record {
       status = s;
       fits = fits;
       reaches = then_reaches
           (same_reaches (expr_some levels s c.args.args.now c.deref.result.now
           (sym c.if-is_empty.ensures) (c.deref.ensures.value ∙ c.in_ok-text.ensures)))
-          (then_reaches (read s (λ formula. evaluated levels formula s told)) reaches);
-    })
-    (c.value_of.ensures s fits.scopes)
+          (then_reaches (read s (λ formula. evaluated levels formula s told))
+          (same_reaches (evaluated_then told levels c.in-Ok.formula s)));
+    }
 
 pub returns-clause-nests : goal.returns-clause-nests
 returns-clause-nests g c = λ s fits.
     let levels = c.args.levels in
-    let read = rw c.in-Err.is at c.in_ok-formula.ensures.reaches in
+    let read = rw c.in-Err.is at c.in_ok-formula.ensures in
     nests_after next_of c.args.state.now _ _ _
     (then_reaches
     (same_reaches (expr_some levels s c.args.args.now c.deref.result.now

@@ -2,7 +2,7 @@ use Rattle.std.proofs.Common.{◌≡◌, ◌∙◌, ℕ, List, length, refl, sym
 use Rattle.std.proofs.lemmas.Result.{IfOk-weaker}
 use Rattle.std.specs.Prelude.{codes}
 use Rattle.acts.specs.Flaw as flaw
-use Rattle.state.specs.Prelude.{text_of, inside, on_value, tree_of, Leaves, Error, ScriptText}
+use Rattle.state.specs.Prelude.{text_of, inside, on_value, Leaves, Error, ScriptText}
 use Rattle.conditions.proofs.Beginning.{for_four, for_other}
 use Rattle.conditions.proofs.Comings.{comes_over, same_goes, then_goes}
 use Rattle.conditions.specs.ForLoop.{started}
@@ -29,7 +29,7 @@ returns-clause-comes g c = λ s fits.
     let step = c.step-item.result in
     let body = c.body-item.result in
     let text = c.as_slice.result.now in
-    let tree = tree_of c.in_ok-script.script in
+    let tree = c.in_ok-script.script in
     let by_words = λ (x y z : List ℕ). inside levels tree s (on_value (started levels x y z)) in
     IfOk-weaker c.deeper.result _ _
     (λ nesting runs. record {

@@ -1,6 +1,6 @@
 use Rattle.std.proofs.Common.{refl}
 use Rattle.std.proofs.lemmas.Result.{IfOk-weaker}
-use Rattle.conditions.proofs.Comings.{comes_from, comes_over}
+use Rattle.conditions.proofs.Comings.{comes_over, same_goes, then_goes}
 use Rattle.conditions.specs.Loop.{again}
 use Rattle.conditions.specs.Turning.{loop_of, next_of}
 use Rattle.state.specs.View.{outcome_of}
@@ -16,6 +16,9 @@ pub returns-in-None-clause-comes : goal.returns-in-None-clause-comes
 returns-in-None-clause-comes g c = λ s fits.
     let next = again (loop_of c.args.turns.value) c.args.turns.value.levels in
     IfOk-weaker c.turn.result _ _
-    (λ nesting comes.
-    comes_from next_of c.turn.new.state nesting _ _ (c.in-None.ensures next s) comes)
-    (c.turn.ensures.comes s fits)
+    (λ nesting goes. record {
+      status = s;
+      fits = fits;
+      goes = then_goes (same_goes (c.in-None.ensures next s)) goes;
+    })
+    (c.turn.ensures.goes s)

@@ -5,7 +5,7 @@ use Rattle.conditions.specs.Loop.{behind_body}
 use Rattle.conditions.specs.Turning.{loop_of, next_of}
 use Rattle.state.proofs.Fits.{left_fits}
 use Rattle.state.proofs.Ticks.{tick_refused, tick_taken}
-use Rattle.state.specs.Prelude.{inside, tree_of, Stops}
+use Rattle.state.specs.Prelude.{inside, Stops}
 use Rattle.state.specs.Outcome as stop
 use Rattle.state.specs.declared.outcome.Leave.TheVariants as leave
 use Rattle.state.specs.declared.outcome.Stop.TheVariants as halt
@@ -24,7 +24,7 @@ returns-clause-comes g c = λ s fits.
     let left = c.args.state.now.left - 1 in
     let some : s.left ≡ suc left = omega (arith, fits.left, c.if-state-eq0.false) in
     let after = record s { left = left } in
-    let body = c.in_ok-body.ensures ∙ ap (λ own. tree_of own.body) c.deref.ensures in
+    let body = c.in_ok-body.ensures ∙ ap (λ own. own.body) c.deref.ensures in
     IfOk-weaker c.deeper.result _ _
     (λ nesting runs. record {
       status = after;

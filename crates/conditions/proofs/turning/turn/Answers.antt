@@ -1,26 +1,22 @@
-use Rattle.std.proofs.Common.{sym, ap}
-use Rattle.std.proofs.lemmas.Result.{IfOk-weaker}
-use Rattle.conditions.proofs.Comings.{comes_after, reaches_goes, same_goes, then_goes}
+use Rattle.std.proofs.Common.{◌∙◌, sym, ap}
+use Rattle.conditions.proofs.Asked.{evaluated_then}
+use Rattle.conditions.proofs.Comings.{same_goes}
 use Rattle.conditions.specs.GoesOn.{turning}
 use Rattle.conditions.specs.Loop.{turned}
 use Rattle.conditions.specs.Test.{on_tested}
-use Rattle.conditions.specs.Turning.{loop_of, next_of}
-use Rattle.evaluation.specs.Evaluated.{evaluated}
-use Rattle.formulas.specs.View.{formula_of}
+use Rattle.conditions.specs.Turning.{loop_of}
+use Rattle.state.specs.Evaluated.{evaluated}
 use Rattle.conditions.proofs.turning.turn.Goals as goal
 
-pub returns-clause-comes : goal.returns-clause-comes
-returns-clause-comes g c = λ s fits.
+pub returns-clause-goes : goal.returns-clause-goes
+returns-clause-goes g c = λ s.
     let turns = c.args.turns in
-    let levels = turns.value.levels in
-    let next = turned (loop_of turns.value) levels in
-    IfOk-weaker c.on_test.result _ _
-    (λ nesting comes.
-    comes_after next_of c.on_test.new.state nesting _ _
-    (turning
-    (then_goes
-    (same_goes (ap (λ own. evaluated levels (formula_of own.test) s (on_tested next))
-    (sym c.deref.ensures)))
-    (reaches_goes (c.in_ok-test.ensures.reaches levels s next fits.scopes))))
-    comes)
-    (c.on_test.ensures.comes s fits)
+    let next = on_tested (turned (loop_of turns.value) turns.value.levels) in
+    let test = c.in_ok-test.test in
+    let levels = c.deref-2.result.now.levels in
+    turning (same_goes
+    (ap (λ own. evaluated turns.value.levels own.test s next) (sym c.deref.ensures)
+    ∙ ap (λ own. evaluated own.levels c.deref.result.now.test s next)
+    (sym c.deref-2.ensures)
+    ∙ ap (λ f. evaluated levels f s next) (sym c.in_ok-test.ensures)
+    ∙ evaluated_then next levels test s))

@@ -4,7 +4,7 @@ use Rattle.machine.specs.Gathers.{Gathers}
 use Rattle.machine.proofs.Machines.{begun_from, on_ok}
 use Rattle.runs.specs.Commands.{command}
 use Rattle.tclparse.specs.View.{words_of}
-use Rattle.words.specs.Words.{words}
+use Rattle.state.specs.Words.{words}
 use Rattle.machine.proofs.starting.begin.Goals as goal
 
 pub returns-in-Ok-clause-begins : goal.returns-in-Ok-clause-begins

@@ -1,14 +1,14 @@
+use Rattle.std.proofs.Common.{inr, refl}
 use Rattle.machine.specs.Frames.{stack}
 use Rattle.machine.specs.Taken.{CannotMove}
-use Rattle.machine.proofs.Taking.{none_moved, top_taken}
+use Rattle.machine.proofs.Taking.{top_taken}
 use Rattle.machine.proofs.taken.take_top.Goals as goal
 
-pub returns-in-Some-pop : goal.returns-in-Some-pop
-returns-in-Some-pop g c =
+pub returns-in-Some : goal.returns-in-Some
+returns-in-Some g c =
     let old = stack c.args.frames.now in
-    let before = stack c.next_command.new.frames in
-    let cannot : CannotMove old before c.args.ticks.now c.next_command.new.ticks =
-    none_moved old before c.args.ticks.now c.next_command.new.ticks c.in_ok-words.field-0
-    c.in_default.not-Some c.in_ok-words.ensures in
-    top_taken c.in-Some-pop.frame c.taken_off.result old before (stack c.pop.new.frames)
-    c.args.ticks.now c.next_command.new.ticks cannot c.in-Some-pop.ensures c.taken_off.ensures
+    let ticks = c.args.ticks.now in
+    let cannot : CannotMove old old ticks ticks =
+    (inr (c.if-has_script.ensures refl), refl, refl) in
+    top_taken c.in-Some.frame c.taken_off.result old old (stack c.pop.new.frames) ticks ticks
+    cannot c.in-Some.ensures c.taken_off.ensures

@@ -27,8 +27,8 @@ returns-in-Words g c = λ frames ticks none.
 
 pub returns-in-Code : goal.returns-in-Code
 returns-in-Code g c = λ frames ticks none.
-    subst (λ f. IsTaken (it.Code c.in-Code.script c.in-Code.levels) (f ∷ frames) frames ticks ticks)
-    (sym c.in-Code.is) (code_taken c.in-Code.script c.in-Code.levels frames ticks)
+    subst (λ f. IsTaken (it.Code c.in-Code.it c.in-Code.levels) (f ∷ frames) frames ticks ticks)
+    (sym c.in-Code.is) (code_taken c.in-Code.it c.in-Code.levels frames ticks)
 
 pub returns-in-Held : goal.returns-in-Held
 returns-in-Held g c = λ frames ticks none.

@@ -7,7 +7,7 @@ use Rattle.steps.proofs.Leads.Silent.{then_goes}
 use Rattle.expects.specs.Expect.{by_words}
 use Rattle.expects.specs.View.{course_of_begun, form_of}
 use Rattle.tclparse.specs.View.{words_of}
-use Rattle.words.specs.Words.{words}
+use Rattle.state.specs.Words.{words}
 use Rattle.machine.proofs.turns.wait.Goals as goal
 
 pub returns-in-Opens-clause-leads : goal.returns-in-Opens-clause-leads

@@ -16,17 +16,17 @@ returns-in-Has-clause-unwinds g c = λ last s fits.
 pub returns-then-state-left-clause-unwinds : goal.returns-then-state-left-clause-unwinds
 returns-then-state-left-clause-unwinds g c = λ last s fits.
     let course = control.next_of c.args.held s (outcome_of c.args.outcome) in
-    runs_held last (stack c.args.frames.now) c.in-Runs.script c.in-Runs.levels c.in-Runs.held
-    (stack c.put_script.new.frames) c.resumed.new.state course
-    c.in_ok-put_script-in-Runs.ensures
+    runs_held last (stack c.args.frames.now) c.in-Runs.it c.in-Runs.levels c.in-Runs.held
+    (stack c.put_above.new.frames) c.resumed.new.state course
+    c.in_ok-put_above-in-Runs.ensures
     (subst (λ n. Comes control.next_of n c.resumed.new.state course) c.in-Runs.is
     (c.in_ok-nesting.ensures.comes s fits))
 
 pub returns-else-state-left-clause-unwinds : goal.returns-else-state-left-clause-unwinds
 returns-else-state-left-clause-unwinds g c = λ last s fits.
     let course = control.next_of c.args.held s (outcome_of c.args.outcome) in
-    runs_on last (stack c.args.frames.now) c.in-Runs.script c.in-Runs.levels c.in-Runs.held
-    (stack c.put_script.new.frames) c.resumed.new.state course c.empty.result c.empty.ensures
-    c.in_ok-put_script-in-Runs.ensures
+    runs_on last (stack c.args.frames.now) c.in-Runs.it c.in-Runs.levels c.in-Runs.held
+    (stack c.put_above.new.frames) c.resumed.new.state course c.empty.result c.empty.ensures
+    c.in_ok-put_above-in-Runs.ensures
     (subst (λ n. Comes control.next_of n c.resumed.new.state course) c.in-Runs.is
     (c.in_ok-nesting.ensures.comes s fits))

@@ -58,7 +58,7 @@ returns-in-Ok-Enters-clause-unwinds g c = λ last s fits.
     let new = stack c.resume.new.frames in
     let o = outcome_of c.frames.outcome in
     let at = c.frames.invariant.comes last s fits in
-    let enters = unwound.Enters c.in-Ok-Enters.script c.in-Ok-Enters.levels c.in-Ok-Enters.value in
+    let enters = unwound.Enters c.in-Ok-Enters.it c.in-Ok-Enters.levels c.in-Ok-Enters.value in
     let is : c.in_ok-last.field-0 ≡ Ok enters = c.in-Ok-Enters.is ∙ ap Ok c.in-Ok-Enters.field-0-is in
     unwinds_from last new c.resume.new.state at.goes enters
     (subst (λ r. IfOk r (λ u. Unwinds last u new c.resume.new.state

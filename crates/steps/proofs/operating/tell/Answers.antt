@@ -1,5 +1,5 @@
 use Rattle.std.proofs.Common.{◌≡◌, subst, sym, rules}
-use Rattle.evaluation.specs.Evaluated.{told}
+use Rattle.state.specs.Evaluated.{told}
 use Rattle.meanings.specs.View.{Answers}
 use Rattle.operators.specs.Truth.{truth_of}
 use Rattle.steps.specs.Does.{Does}

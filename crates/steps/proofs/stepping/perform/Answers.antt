@@ -69,12 +69,12 @@ returns-in_ok-count-in-Count-clause-does g c = λ s.
     does_so c.args.instruction.now _ spot t c.in-Count.is
     (same_does (c.in_ok-count-in-Count.ensures.does t))
 
-pub returns-in-Command-clause-does : goal.returns-in-Command-clause-does
-returns-in-Command-clause-does g c = λ s.
+pub returns-in_ok-start-in-Command-clause-does : goal.returns-in_ok-start-in-Command-clause-does
+returns-in_ok-start-in-Command-clause-does g c = λ s.
     let spot = spot_of c.args.spot.now in
     let t = with_parts c.args.scopes.now c.args.procs.now c.args.left.now s in
     does_so c.args.instruction.now _ spot t c.in-Command.is
-    (same_does (c.begin_last.ensures.does t))
+    (c.in_ok-start-in-Command.ensures.does t refl)
 
 pub returns-in-Counted-clause-does : goal.returns-in-Counted-clause-does
 returns-in-Counted-clause-does g c = λ s.

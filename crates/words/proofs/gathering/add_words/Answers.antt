@@ -2,7 +2,7 @@ use Rattle.std.proofs.Common.{◌≡◌, ◌++◌, true, false, sym, ap, subst, 
 use Rattle.acts.specs.declared.raise.Raise.TheVariants as meant
 use Rattle.meanings.specs.View.{IsNoList}
 use Rattle.tcltext.specs.Elements.{IsList}
-use Rattle.words.specs.Words.{expanded}
+use Rattle.state.specs.Words.{expanded}
 use Rattle.state.proofs.Reaches.{same_reaches, then_reaches}
 use Rattle.state.proofs.Listed.{list_reaches, no_list_reaches}
 use Rattle.words.proofs.gathering.add_words.Goals as goal

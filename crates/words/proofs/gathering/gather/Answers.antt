@@ -3,7 +3,7 @@ use Rattle.tclparse.specs.View.{commands_of, parts_of}
 use Rattle.words.specs.Gathering.{gathering_on, taken}
 use Rattle.words.specs.Scripts.{MeetsFewer, scripts_in, scripts_left, scripts_of}
 use Rattle.words.specs.View.{course_of_met, resumed}
-use Rattle.words.specs.Words.{nested, words}
+use Rattle.state.specs.Words.{nested, words}
 use Rattle.words.proofs.Command.{left, next_word, at_word, added, not_added}
 use Rattle.state.proofs.Reaches.{same_reaches, then_reaches}
 use Rattle.words.proofs.gathering.gather.Goals as goal

@@ -1,7 +1,7 @@
 use Rattle.std.proofs.Common.{◌≡◌, ◌≤◌, ℕ, List, ◌-◌, length}
 use Rattle.state.specs.Prelude.{Course, Status, Reaches}
 use Rattle.words.specs.Scripts.{scripts_of}
-use Rattle.words.specs.Words.{words}
+use Rattle.state.specs.Words.{words}
 use Rattle.words.proofs.Command.{left}
 use Rattle.words.proofs.gathering.gather.Given as goal
 

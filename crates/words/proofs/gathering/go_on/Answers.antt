@@ -7,7 +7,7 @@ use Rattle.tclparse.specs.Tree.{no_words}
 use Rattle.tclparse.specs.View.{words_then}
 use Rattle.words.specs.Gathering.{course_of_gathered}
 use Rattle.words.specs.Scripts.{HasFewer, scripts_of}
-use Rattle.words.specs.Words.{words}
+use Rattle.state.specs.Words.{words}
 use Rattle.words.proofs.Command.{left}
 use Rattle.words.proofs.Scripts.{has_more}
 use Rattle.words.proofs.gathering.go_on.Goals as goal

@@ -5,7 +5,7 @@ use Rattle.words.specs.Gathering.{course_of_gathered, gathering_on, taken}
 use Rattle.state.specs.Reaches.{Reaches}
 use Rattle.words.specs.Scripts.{HasFewer, MeetsFewer, scripts_behind, scripts_left, scripts_of}
 use Rattle.words.specs.View.{course_of_met}
-use Rattle.words.specs.Words.{nested, words}
+use Rattle.state.specs.Words.{nested, words}
 use Rattle.words.proofs.Command.{left, added}
 use Rattle.state.proofs.Reaches.{same_reaches, then_reaches}
 use Rattle.words.proofs.Scripts.{has_more}

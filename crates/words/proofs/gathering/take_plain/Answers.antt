@@ -2,7 +2,7 @@ use Rattle.std.proofs.Common.{◌≡◌, ◌∙◌, ◌+◌, ◌<◌, ◌∷◌,
 use Rattle.tclparse.specs.View.{parts_of}
 use Rattle.words.specs.Gathering.{taken}
 use Rattle.words.specs.Scripts.{scripts_of}
-use Rattle.words.specs.Words.{expanded, parts, words}
+use Rattle.state.specs.Words.{expanded, parts, words}
 use Rattle.words.proofs.Command.{at_word, left, next_word}
 use Rattle.words.proofs.gathering.take_plain.Goals as goal
 

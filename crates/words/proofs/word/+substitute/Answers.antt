@@ -4,7 +4,7 @@ use Rattle.std.specs.Prelude.{MatchOption}
 use Rattle.tclparse.specs.Tree.{no_commands}
 use Rattle.tclparse.specs.View.{part_view, commands_of, commands_then, parts_of}
 use Rattle.state.specs.Variables.{reads}
-use Rattle.words.specs.Words.{parts}
+use Rattle.state.specs.Words.{parts}
 use Rattle.words.specs.Scripts.{scripts_in, scripts_around, MeetsFewer}
 use Rattle.words.specs.View.{course_of_met, course_of_part, rest_of}
 use Rattle.words.proofs.Levels.{reading, same_script}

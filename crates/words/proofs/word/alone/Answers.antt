@@ -1,7 +1,7 @@
 use Rattle.std.proofs.Common.{◌≡◌, ◌∙◌, ℕ, List, [], ◌++◌, IfSome, Some, sym, ap, subst}
 use Rattle.tclparse.specs.Tree.{no_parts}
 use Rattle.tclparse.specs.View.{part_view}
-use Rattle.words.specs.Words.{parts}
+use Rattle.state.specs.Words.{parts}
 use Rattle.words.proofs.word.alone.Goals as goal
 
 pub returns-in_ok-share-in-Some : goal.returns-in_ok-share-in-Some

@@ -1,7 +1,7 @@
 use Rattle.std.proofs.Common.{◌≡◌, ℕ, List, ◌++◌, ◌∙◌, Some, sym, ap, arith, subst, rules}
 use Rattle.tclparse.specs.View.{commands_of}
 use Rattle.state.specs.Variables.{reads}
-use Rattle.words.specs.Words.{nested, parts}
+use Rattle.state.specs.Words.{nested, parts}
 use Rattle.words.specs.Scripts.{scripts_in, MeetsFewer}
 use Rattle.words.specs.View.{course_of_met, resumed}
 use Rattle.words.proofs.Levels.{Next, reading, same_reading}

@@ -1,6 +1,6 @@
 use Rattle.std.proofs.Common.{◌≡◌, [], IfSome, subst}
 use Rattle.tclparse.specs.View.{parts_of}
-use Rattle.words.specs.Words.{parts}
+use Rattle.state.specs.Words.{parts}
 use Rattle.words.proofs.word.begin.Goals as goal
 
 pub returns-in-Some-clause-goes_on : goal.returns-in-Some-clause-goes_on

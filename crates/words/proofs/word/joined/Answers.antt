@@ -2,7 +2,7 @@ use Rattle.std.proofs.Common.{◌≡◌, ◌∙◌, ◌+◌, ◌<◌, ◌≤◌,
 use Rattle.std.proofs.Math.ListN.{drop_of_length-le}
 use Rattle.tclparse.specs.Tree.{no_parts}
 use Rattle.tclparse.specs.View.{part_view, parts_then}
-use Rattle.words.specs.Words.{parts}
+use Rattle.state.specs.Words.{parts}
 use Rattle.words.proofs.Steps.{left, next_part}
 use Rattle.words.proofs.word.joined.Goals as goal
 

@@ -1,6 +1,6 @@
 use Rattle.std.proofs.Common.{◌≡◌, ℕ, List, [], ◌-◌, length}
 use Rattle.state.specs.Prelude.{Course, Status}
-use Rattle.words.specs.Words.{parts}
+use Rattle.state.specs.Words.{parts}
 use Rattle.words.proofs.Steps.{left}
 use Rattle.words.proofs.word.joined.Given as goal
 

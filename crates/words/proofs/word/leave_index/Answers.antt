@@ -1,7 +1,7 @@
 use Rattle.std.proofs.Common.{◌≡◌, ◌∙◌, List, ℕ, ◌++◌, Some, sym, ap}
 use Rattle.std.proofs.lemmas.Result.{IfOk-weaker}
 use Rattle.state.specs.Variables.{reads}
-use Rattle.words.specs.Words.{parts}
+use Rattle.state.specs.Words.{parts}
 use Rattle.words.specs.View.{rest_of, course_of_met}
 use Rattle.words.proofs.Steps.{appended, not_appended}
 use Rattle.words.proofs.word.leave_index.Goals as goal

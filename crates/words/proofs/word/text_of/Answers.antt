@@ -1,6 +1,6 @@
 use Rattle.std.proofs.Common.{◌≡◌, ◌∙◌, ℕ, List, ◌++◌, None, sym, ap}
 use Rattle.tclstate.specs.Scopes.{read}
-use Rattle.words.specs.Words.{parts}
+use Rattle.state.specs.Words.{parts}
 use Rattle.words.proofs.Steps.{as_literal, as_variable, literal, reads_ok}
 use Rattle.words.proofs.word.text_of.Goals as goal
 

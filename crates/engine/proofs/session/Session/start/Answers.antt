@@ -4,7 +4,7 @@ use Rattle.machine.specs.View.{words_of}
 use Rattle.runs.specs.Run.{initial}
 use Rattle.state.specs.Outcome.{Outcome, Gives}
 use Rattle.machine.proofs.Silent.{goes_exact}
-use Rattle.steps.proofs.Leads.Silent.{same_goes, then_goes}
+use Rattle.machine.proofs.Silent.{same_goes, then_goes}
 use Rattle.engine.proofs.session.Session.start.Goals as goal
 
 pub returns : goal.returns

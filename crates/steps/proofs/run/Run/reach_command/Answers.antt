@@ -1,10 +1,10 @@
-use Rattle.std.proofs.Common.{◌≡◌, ◌∙◌, ◌<◌, ◌≤◌, ◌-◌, [], arith, length, rules, refl, slice_get, sym, subst}
+use Rattle.std.proofs.Common.{◌≡◌, ◌∙◌, ◌<◌, ◌≤◌, ◌-◌, arith, length, rules, refl, sym, subst}
 use Rattle.state.specs.Budget.{again_of}
 use Rattle.state.specs.Prelude.{outcome_of}
 use Rattle.steps.specs.Does.{Arrives}
 use Rattle.steps.specs.Follows.{Follows, Resumes}
 use Rattle.steps.specs.Handling.{resumed}
-use Rattle.steps.specs.Run.{TicksFirst}
+use Rattle.steps.specs.Run.{IsQuiet}
 use Rattle.steps.specs.Spot.{Went}
 use Rattle.steps.specs.View.{did_of, spot_of, with_parts}
 use Rattle.steps.specs.declared.progress.Progress.TheVariants as went
@@ -121,8 +121,8 @@ returns-clause-first g c = λ fresh value left.
     let still = stands_still c.in_ok-progress.progress mid self.spot c.args.outcome value
     c.in_ok-progress.ensures.does goes in
     c.in_ok-advance.ensures.first
-    (subst (λ items. TicksFirst (slice_get items mid.place)) (sym is_code)
-    (subst (λ n. TicksFirst (slice_get code n)) (sym still.0) fresh.first))
+    (subst (λ items. IsQuiet items mid.place) (sym is_code)
+    (subst (λ n. IsQuiet code n) (sym still.0) fresh.quiet))
     (still.1 ∙ fresh.handlers) left
 
 pub returns-clause-again : goal.returns-clause-again

@@ -1,6 +1,6 @@
 use Rattle.std.proofs.Common.{◌≡◌, ◌∙◌, [], ◌∷◌, sym, ap, subst, arith, rules}
 use Rattle.tclparse.specs.View.{commands_of}
-use Rattle.words.specs.Words.{nested, parts}
+use Rattle.state.specs.Words.{nested, parts}
 use Rattle.words.specs.Scripts.{MeetsFewer, scripts_in}
 use Rattle.words.specs.View.{after, course_of_met, rest_of}
 use Rattle.words.proofs.Levels.{Next, none_left, one_out}

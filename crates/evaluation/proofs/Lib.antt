@@ -1,4 +1,0 @@
-pub mod Outer
-pub mod Steps
-pub mod Closed
-mod Known

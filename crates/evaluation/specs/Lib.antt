@@ -1,5 +1,0 @@
-pub mod Evaluated
-pub mod Pending
-pub mod View
-pub mod Scripts
-pub mod Numeric
