@@ -68,18 +68,9 @@ impl<A: Allocator + Copy> Spot<A> {
     pub fn new(alloc: A, levels: u8) -> Result<Spot<A>, NoMemory>
         ensures { IfOk result (λ spot. spot_of spot ≡ beginning_at levels) }
     {
-        let mut operands = Vec::new(alloc);
-        operands.push(Value::empty())?;
-        Ok(Spot {
-            place: 0,
-            operands,
-            marks: Vec::new(alloc),
-            levels,
-            handlers: Vec::new(alloc),
-            below: 0,
-            words: Vec::new(alloc),
-            outcome: Ok(Value::empty()),
-        })
+        let mut spot = Spot::first(alloc, levels);
+        put_on(&mut spot.operands, Value::empty())?;
+        Ok(spot)
     }
 
     /// Puts a text that is shared on top.
