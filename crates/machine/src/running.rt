@@ -30,7 +30,7 @@ const MOST_LEVELS: u8 = 100;
 #[derive(Drop)]
 pub struct Part<A: Allocator> {
     pub frames: Vec<Frame<A>, A>,
-    /// `None` where the lowest of these frames is a script's, or below it nothing is left.
+    /// `None` where nothing is left below them.
     pub code: Option<Run<A>>,
 }
 
@@ -39,8 +39,8 @@ pub struct Part<A: Allocator> {
 pub struct Running<A: Allocator> {
     /// The frames, the top one last.
     pub frames: Vec<Frame<A>, A>,
-    /// The code that runs below them, and takes the outcome of the lowest frame. `None` where that
-    /// is the frame of the run's script, or nothing is left below it.
+    /// The code that runs below them, and takes the outcome of the lowest frame. `None` where
+    /// nothing is left below them.
     pub code: Option<Run<A>>,
     /// What waits for this code, the last one first.
     pub parts: Vec<Part<A>, A>,
@@ -220,8 +220,7 @@ fn hand_down<A: Allocator + Copy, T: Watch<A, Running<A>, State<A>, Leaf<A, Wait
     }
 }
 
-/// Hands an outcome to a code, up to the next command, which begins by its words, or
-/// to the end.
+/// Hands an outcome to a code, up to the next command, which begins by its words, or to the end.
 fn go_on<A: Allocator + Copy, T: Watch<A, Running<A>, State<A>, Leaf<A, Waits<A>>>>(
     alloc: A,
     run: &mut Run<A>,
