@@ -29,7 +29,7 @@ module _ {A : Type 0} where
   own_block old hole one two filled_one all new name known args ws named are put_one worded put_two
       fill_one second fill_two =
       let fork = forked old hole one two filled_one all new (λ n. i.Unhidden name n) (λ n. tt)
-      (λ later. WordsAt later false 0 (length hole) ws (length one))
+      (λ later. WordsAt later false false 0 (length hole) ws (length one))
       (λ later. OwnAt later known (length filled_one) args (length all))
       put_one worded put_two fill_one second fill_two in
       record {
@@ -39,9 +39,9 @@ module _ {A : Type 0} where
             subst (λ w. CommandAt later (length old) w (length new)) (sym are)
             (own
             (subst (λ n. At later (length old) (i.Unhidden n (length one + 1))) named lies.0)
-            (subst (λ k. WordsAt later false 0 k (literals (known ∷ args)) (length one))
+            (subst (λ k. WordsAt later false false 0 k (literals (known ∷ args)) (length one))
             (longer old hole i.Hole put_one)
-            (subst (λ w. WordsAt later false 0 (length hole) w (length one)) are lies.1))
+            (subst (λ w. WordsAt later false false 0 (length hole) w (length one)) are lies.1))
             lies.2
             (subst (λ k. OwnAt later known (length one + 1) args k)
             (sym (filled_length all new (length one) (i.Jump (length all)) fill_two))

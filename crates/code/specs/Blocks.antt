@@ -5,7 +5,7 @@ use Rattle.code.specs.declared.instruction.Instruction.{Instruction}
 use Rattle.code.specs.declared.instruction.Instruction.TheVariants as i
 use Rattle.tclparse.specs.Fault.{Fault}
 use Rattle.tclparse.specs.Formula.{Formula, Formulas, Links}
-use Rattle.tclparse.specs.Tree.{Parts, Words, Commands}
+use Rattle.tclparse.specs.Tree.{Parts, Words, no_words, Commands}
 
 -- what stood there stands there still
 pub record Extends {A : Type 0} (old new : List (Instruction A)) : Type 0 where
@@ -37,18 +37,33 @@ ValueBlock old new front = Block old new (λ later.
 abbrev pub PartsBlock : {A : Type 0} → List (Instruction A) → List (Instruction A) → Parts → Type 0
 PartsBlock old new ps = Block old new (λ later. PartsAt later false (length old) ps (length new))
 
--- a word of a command, before which this many words stand, that stands before other words; whether
--- words are counted before it, and after it
+-- a word of a command, or of an argument in braces, before which this many words stand, that stands
+-- before other words; whether words are counted before it, and after it
 abbrev pub WordBlock : {A : Type 0} → Bool → Bool → ℕ → List (Instruction A) →
     List (Instruction A) → (Words → Words) → Type 0
 WordBlock counted counting count old new front = Block old new (λ later.
-    (t : Words) (end : ℕ) → WordsAt later counting (count + 1) (length new) t end →
-    WordsAt later counted count (length old) (front t) end)
+    (braced : Bool) (t : Words) (end : ℕ) →
+    WordsAt later braced counting (count + 1) (length new) t end →
+    WordsAt later braced counted count (length old) (front t) end)
+
+-- all words, without what they begin; whether they are counted before the first one, and after the
+-- last one, which is the one of this number
+abbrev pub ValuesBlock : {A : Type 0} → Bool → Bool → ℕ → List (Instruction A) →
+    List (Instruction A) → Words → Type 0
+ValuesBlock counted counting count old new ws = Block old new (λ later.
+    (braced : Bool) (end : ℕ) → WordsAt later braced counting count (length new) no_words end →
+    WordsAt later braced counted 0 (length old) ws end)
 
 -- all words of a command
 abbrev pub WordsBlock : {A : Type 0} → List (Instruction A) → List (Instruction A) → Words → Type 0
 WordsBlock old new ws = Block old new (λ later.
-    WordsAt later false 0 (length old) ws (length new))
+    WordsAt later false false 0 (length old) ws (length new))
+
+-- all words of an argument in braces, after the name of its command
+abbrev pub ArgumentBlock : {A : Type 0} → List (Instruction A) → List (Instruction A) → Words →
+    Type 0
+ArgumentBlock old new ws = Block old new (λ later.
+    WordsAt later true false 1 (length old) ws (length new))
 
 -- the code that a command has of its own, where it has any; else nothing was put
 abbrev pub OwnBlock : {A : Type 0} → Bool → List (Instruction A) → List (Instruction A) → Words →

@@ -150,34 +150,38 @@ mutual
         JoinsAt code more (at + 1) mid → PartsAt code true mid ps end →
         PartsAt code more place (script cs ps) end
 
-  -- words of a command after this many, which are counted or are not: each value is put on top, and
-  -- then the command begins (Tcl(n), rules 2 and 5)
+  -- words of a command, or of an argument in braces, after this many, which are counted or are not:
+  -- each value is put on top, and then what they begin begins (Tcl(n), rules 2 and 5; expect(1),
+  -- expect)
   pub data WordsAt {A : Type 0} (code : List (Instruction A)) :
-      Bool → ℕ → ℕ → Words → ℕ → Type 0 where
+      Bool → Bool → ℕ → ℕ → Words → ℕ → Type 0 where
     begins : {count place : ℕ} → At code place (i.Command count) →
-        WordsAt code false count place no_words (place + 1)
+        WordsAt code false false count place no_words (place + 1)
     begins_counted : {count place : ℕ} → At code place i.Counted →
-        WordsAt code true count place no_words (place + 1)
-    one : {counted : Bool} {count place mid end : ℕ} {ps : Parts} {ws : Words} →
-        PartsAt code false place ps mid → WordsAt code counted (count + 1) mid ws end →
-        WordsAt code counted count place (word false ps ws) end
-    counts : {count place end : ℕ} {ws : Words} → At code place (i.Count count) →
-        WordsAt code true count (place + 1) ws end → WordsAt code false count place ws end
-    spread : {count place mid end : ℕ} {ps : Parts} {ws : Words} →
+        WordsAt code false true count place no_words (place + 1)
+    says : {count place : ℕ} → At code place i.Say →
+        WordsAt code true true count place no_words (place + 1)
+    one : {braced counted : Bool} {count place mid end : ℕ} {ps : Parts} {ws : Words} →
+        PartsAt code false place ps mid → WordsAt code braced counted (count + 1) mid ws end →
+        WordsAt code braced counted count place (word false ps ws) end
+    counts : {braced : Bool} {count other place end : ℕ} {ws : Words} →
+        At code place (i.Count count) → WordsAt code braced true other (place + 1) ws end →
+        WordsAt code braced false count place ws end
+    spread : {braced : Bool} {count place mid end : ℕ} {ps : Parts} {ws : Words} →
         PartsAt code false place ps mid → At code mid i.Spread →
-        WordsAt code true (count + 1) (mid + 1) ws end →
-        WordsAt code true count place (word true ps ws) end
+        WordsAt code braced true (count + 1) (mid + 1) ws end →
+        WordsAt code braced true count place (word true ps ws) end
 
   -- a command begins by its words; or it has code of its own, which stands after that of its words
   -- and is done where no procedure hides the command; or it is foreach, whose list is put on top
   -- before; or it is switch, whose string is; or one instruction is the command, and the value of
   -- its last word is (Tcl(n), rule 2; proc(n); foreach(n); switch(n))
   pub data CommandAt {A : Type 0} (code : List (Instruction A)) : ℕ → Words → ℕ → Type 0 where
-    by_words : {place end : ℕ} {ws : Words} → WordsAt code false 0 place ws end →
+    by_words : {place end : ℕ} {ws : Words} → WordsAt code false false 0 place ws end →
         CommandAt code place ws end
     own : {place mid end : ℕ} {name : List ℕ} {args : List (List ℕ)} →
         At code place (i.Unhidden name (mid + 1)) →
-        WordsAt code false 0 (place + 1) (literals (name ∷ args)) mid →
+        WordsAt code false false 0 (place + 1) (literals (name ∷ args)) mid →
         At code mid (i.Jump end) → OwnAt code name (mid + 1) args end →
         CommandAt code place (literals (name ∷ args)) end
     foreach_loop : {place mid end : ℕ} {variables body : List ℕ} {list : Parts} →

@@ -1,7 +1,9 @@
--- The code of what a command runs by its text.
+-- The code of what is run by itself.
 use Rattle.std.specs.Prelude.{List}
-use Rattle.code.specs.CodeOf.{IsCodeOf, IsCodeOfFormula}
+use Rattle.code.specs.CodeOf.{IsCodeOf, IsCodeOfArgument, IsCodeOfFormula}
 use Rattle.code.specs.declared.instruction.Instruction.{Instruction}
+use Rattle.code.specs.declared.made.Entry.{Entry}
+use Rattle.code.specs.declared.made.Entry.TheVariants as entry
 use Rattle.code.specs.declared.made.Made.{Made}
 use Rattle.code.specs.declared.made.Made.TheVariants as made
 
@@ -9,3 +11,8 @@ use Rattle.code.specs.declared.made.Made.TheVariants as made
 abbrev pub IsCodeOfMade : {A : Type 0} → List (Instruction A) → Made A → Type 0
 IsCodeOfMade code (made.Script tree) = IsCodeOf code tree
 IsCodeOfMade code (made.Formula formula) = IsCodeOfFormula code formula
+
+-- the same, or the code of the words of an argument in braces (this project's own rule)
+abbrev pub IsCodeOfEntry : {A : Type 0} → List (Instruction A) → Entry A → Type 0
+IsCodeOfEntry code (entry.Made it) = IsCodeOfMade code it
+IsCodeOfEntry code (entry.Argument words) = IsCodeOfArgument code words

@@ -143,3 +143,10 @@ stored = record {
   code = stored_tree;
   inj = λ x y same. sym (tree_back x) ∙ ap tree_in same ∙ tree_back y;
 }
+
+-- how the logic stores the words of an argument in braces
+abbrev pub stored_argument : Coded Words
+stored_argument = record {
+  code = stored_words;
+  inj = λ x y same. sym (words_back x) ∙ ap words_in same ∙ words_back y;
+}

@@ -1,6 +1,6 @@
 -- How the logic stores a formula.
 use Prim.Native.Nat.{zero, suc}
-use Rattle.std.specs.Prelude.{◌≡◌, ℕ, List, [], ◌∷◌, get_or, refl}
+use Rattle.std.specs.Prelude.{◌≡◌, ℕ, [], ◌∷◌, get_or, refl}
 use base.Stored.{Coded, Gv, gnil, gnum, gcons}
 use mathlib.Core.Path.{sym, ◌∙◌, ap}
 use Rattle.code.specs.ScriptTree.{bytes_back, bytes_in, parts_back, parts_in, stored_bytes, stored_parts}

@@ -2,12 +2,11 @@
 
 ghost use Rattle.std.specs.Prelude.{◌≡◌, [], ◌∷◌, false, true, codes, length, IfOk, IfSome};
 ghost use Rattle.std.specs.Str.{bytes_eq};
-ghost use Rattle.code.specs.Conditional.{Are};
 ghost use Rattle.code.specs.Switch.{AreArms, AreWhole, IsShort, dashes_word, flag_word, is_default, option_words, texts_then, words_before};
 ghost use Rattle.tclparse.specs.Tree.{no_parts, no_words, word as word_then};
 ghost use Rattle.tclparse.specs.View.{parts_then, words_then};
 
-use crate::literal::{first_of, literal_of, plain_of};
+use crate::literal::{first_of, plain_of};
 use crate::options::{Flag, Options};
 use memory::NoMemory;
 use std::alloc::Allocator;
@@ -95,24 +94,6 @@ pub(crate) fn switch_words<A: Allocator>(words: &[Word<A>]) -> Option<SwitchWord
         string: string.parts,
         after: string.rest,
     })
-}
-
-/// Some words as texts; `None` where one of them is no literal.
-pub(crate) fn texts_of<A: Allocator + Copy>(
-    alloc: A,
-    words: &[Word<A>],
-) -> Result<Option<Vec<Value<A>, A>>, NoMemory>
-    ensures { IfOk result (λ read. IfSome read (λ texts. Are words.now texts.items)) }
-{
-    let mut texts = Vec::new(alloc);
-    for word in words {
-        let Some(text) = literal_of(word) else {
-            return Ok(None);
-        };
-        let text = Value::from_slice(alloc, text)?;
-        texts.push(text)?;
-    }
-    Ok(Some(texts))
 }
 
 /// Texts that are shared.

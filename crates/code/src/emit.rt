@@ -1,7 +1,7 @@
 //! Code is put after the code that stands there already: that of parts, of words, and of commands.
 
-ghost use Rattle.std.specs.Prelude.{option_map, IfOk, OnOk};
-ghost use Rattle.code.specs.Blocks.{CommandBlock, CommandsBlock, OwnBlock, PartsBlock, ScriptBlock, ValueBlock, WordBlock, WordsBlock};
+ghost use Rattle.std.specs.Prelude.{◌≡◌, true, length, option_map, IfOk, OnOk};
+ghost use Rattle.code.specs.Blocks.{ArgumentBlock, CommandBlock, CommandsBlock, OwnBlock, PartsBlock, ScriptBlock, ValueBlock, ValuesBlock, WordBlock, WordsBlock};
 ghost use Rattle.tclparse.specs.Seen.{fault_of};
 ghost use Rattle.tclparse.specs.Tree.{no_commands, no_parts, no_words};
 ghost use Rattle.tclparse.specs.View.{commands_of, commands_then, part_view, parts_then, word_view, words_then};
@@ -78,8 +78,9 @@ fn emit_word<A: Allocator + Copy, N: Nest<A>>(
     counted: bool,
     nest: &N,
 ) -> Result<bool, NoMemory>
-    ensures { IfOk result (λ counts. WordBlock counted counts count code.old.items code.new.items
-        (word_view word.now)) }
+    ensures block { IfOk result (λ counts. WordBlock counted counts count code.old.items
+        code.new.items (word_view word.now)) }
+    ensures stays { IfOk result (λ counts. counted ≡ true → counts ≡ true) }
 {
     if !word.expands {
         emit_parts(code, &word.parts, nest)?;
@@ -93,6 +94,26 @@ fn emit_word<A: Allocator + Copy, N: Nest<A>>(
     Ok(true)
 }
 
+/// Puts code that puts the values of words on top, which are counted or not, and says whether they
+/// are counted after the last one.
+#[cycle(emit)]
+fn emit_values<A: Allocator + Copy, N: Nest<A>>(
+    code: &mut Vec<Instruction<A>, A>,
+    words: &[Word<A>],
+    counted: bool,
+    nest: &N,
+) -> Result<bool, NoMemory>
+    ensures block { IfOk result (λ counts. ValuesBlock counted counts (length words.now)
+        code.old.items code.new.items (words_then words.now no_words)) }
+    ensures stays { IfOk result (λ counts. counted ≡ true → counts ≡ true) }
+{
+    let mut counts = counted;
+    for (count, word) in words.iter().enumerate() {
+        counts = emit_word(code, word, count, counts, nest)?;
+    }
+    Ok(counts)
+}
+
 /// Puts code that puts the values of the words of a command on top, and begins the command.
 #[cycle(emit)]
 pub(crate) fn emit_words<A: Allocator + Copy, N: Nest<A>>(
@@ -103,15 +124,28 @@ pub(crate) fn emit_words<A: Allocator + Copy, N: Nest<A>>(
     ensures { OnOk result (WordsBlock code.old.items code.new.items
         (words_then words.now no_words)) }
 {
-    let mut counted = false;
-    for (count, word) in words.iter().enumerate() {
-        counted = emit_word(code, word, count, counted, nest)?;
-    }
+    let counted = emit_values(code, words, false, nest)?;
     code.push(if counted {
         Instruction::Counted
     } else {
         Instruction::Command(words.len())
     })?;
+    Ok(())
+}
+
+/// Puts code that puts the values of the words of an argument in braces after the name of its
+/// command, which is on top, and gives the branches of that.
+pub(crate) fn emit_argument<A: Allocator + Copy, N: Nest<A>>(
+    code: &mut Vec<Instruction<A>, A>,
+    words: &[Word<A>],
+    nest: &N,
+) -> Result<(), NoMemory>
+    ensures { OnOk result (ArgumentBlock code.old.items code.new.items
+        (words_then words.now no_words)) }
+{
+    code.push(Instruction::Count(1))?;
+    emit_values(code, words, true, nest)?;
+    code.push(Instruction::Say)?;
     Ok(())
 }
 

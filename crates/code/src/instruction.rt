@@ -37,6 +37,9 @@ pub enum Instruction<A: Allocator> {
     Command(usize),
     /// Begins a command whose words were counted (Tcl(n), rule 2).
     Counted,
+    /// These words, which were counted, are those of an argument in braces, after the name of its
+    /// command: they give the branches of that (expect(1), expect).
+    Say,
     /// The text has this fault, which ends its script (Tcl(n)).
     Fault(Fault),
     /// Puts the value of a numeral on top (expr(n), operands).

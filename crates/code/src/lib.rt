@@ -22,6 +22,7 @@ mod switch;
 mod whole;
 
 pub use instruction::Instruction;
-pub use made::{CodedFormula, CodedScript, Made};
+pub use literal::texts_of;
+pub use made::{CodedArgument, CodedFormula, CodedScript, Entry, Made};
 pub use options::{Flag, Options};
-pub use whole::{code_of, formula_code};
+pub use whole::{argument_code, code_of, formula_code};

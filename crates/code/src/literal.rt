@@ -1,12 +1,14 @@
 //! Words that are texts as they stand.
 
-ghost use Rattle.std.specs.Prelude.{◌≡◌, false, IfSome};
-ghost use Rattle.code.specs.Conditional.{IsLiteral};
+ghost use Rattle.std.specs.Prelude.{◌≡◌, false, IfOk, IfSome};
+ghost use Rattle.code.specs.Conditional.{Are, IsLiteral};
 ghost use Rattle.tclparse.specs.Tree.{Words, bytes_then, no_parts, no_words, word as word_then};
 ghost use Rattle.tclparse.specs.View.{part_view, parts_then, words_then};
 
+use memory::NoMemory;
 use std::alloc::Allocator;
 use tclparse::{Part, Word};
+use tcltext::Value;
 
 /// The text of a word, and the words after it.
 #[derive(Drop)]
@@ -43,6 +45,27 @@ pub(crate) fn first_of<A: Allocator>(words: &[Word<A>]) -> Option<First<'_, A>>
     };
     let text = literal_of(word)?;
     Some(First { text, rest })
+}
+
+/// Some words as texts; `None` where one of them is no literal.
+///
+/// # Errors
+/// `NoMemory`, after which nothing stays allocated.
+pub fn texts_of<A: Allocator + Copy>(
+    alloc: A,
+    words: &[Word<A>],
+) -> Result<Option<Vec<Value<A>, A>>, NoMemory>
+    ensures { IfOk result (λ read. IfSome read (λ texts. Are words.now texts.items)) }
+{
+    let mut texts = Vec::new(alloc);
+    for word in words {
+        let Some(text) = literal_of(word) else {
+            return Ok(None);
+        };
+        let text = Value::from_slice(alloc, text)?;
+        texts.push(text)?;
+    }
+    Ok(Some(texts))
 }
 
 /// The parts of the first of some words, where it is no list of words.

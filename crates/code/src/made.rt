@@ -1,18 +1,20 @@
-//! What a command runs by its text, as the code that is made of it: a script, or a formula.
+//! What is run as a code of its own, with what the code is made of: a script, a formula, or the
+//! words of an argument in braces.
 
 ghost use Rattle.std.specs.Prelude.{◌≡◌, IfOk};
 ghost use Rattle.code.specs.ScriptTree.{seen};
 ghost use Rattle.formulas.specs.View.{formula_of};
+ghost use Rattle.tclparse.specs.View.{words_of};
 
 use crate::instruction::Instruction;
-use crate::whole::{code_of, formula_code};
+use crate::whole::{argument_code, code_of, formula_code};
 use formulas::{Formula, ReadError};
 use memory::NoMemory;
 use recent::{Readable, Shared};
 use std::alloc::Allocator;
 use std::marker::Model;
 use std::rc::Rc;
-use tclparse::Script;
+use tclparse::{Script, Word};
 
 /// A script's code, with the tree that it is made of. Contracts see the tree.
 #[derive(Drop)]
@@ -154,6 +156,65 @@ impl<A: Allocator + Copy> Readable<A> for CodedFormula<A> {
     }
 }
 
+/// The code of the words of an argument in braces, with these words. Contracts see the words.
+#[derive(Drop)]
+pub struct CodedArgument<A: Allocator> {
+    words: Rc<Vec<Word<A>, A>, A>,
+    code: Rc<Vec<Instruction<A>, A>, A>,
+}
+
+impl<A: Allocator> Model for CodedArgument<A> {
+    ghost use Rattle.code.specs.CodeOf.{IsCodeOfArgument};
+    ghost use Rattle.code.specs.ScriptTree.{stored_argument};
+    ghost use Rattle.tclparse.specs.Tree.{Words};
+    ghost use Rattle.tclparse.specs.View.{words_of};
+
+    ghost Value = { Words };
+
+    ghost coded = { stored_argument };
+
+    ghost view = { λ c. words_of c.words };
+
+    ghost invariant = { λ c. IsCodeOfArgument c.code.value.items (words_of c.words) };
+}
+
+impl<A: Allocator> CodedArgument<A> {
+    ghost use Rattle.code.specs.CodeOf.{IsCodeOfArgument};
+
+    /// The same code once more; nothing of it is copied.
+    ///
+    /// # Errors
+    /// `NoMemory` where the handles cannot be counted.
+    pub fn share(&self) -> Result<CodedArgument<A>, NoMemory>
+        ensures { IfOk result (λ same. same ≡ self.now) }
+    {
+        let words = self.words.clone()?;
+        let code = self.code.clone()?;
+        Ok(CodedArgument { words, code })
+    }
+
+    /// The instructions alone.
+    pub fn into_code(self) -> Rc<Vec<Instruction<A>, A>, A>
+        ensures { IsCodeOfArgument result.value.items self }
+    {
+        let CodedArgument { words: _, code } = self;
+        code
+    }
+}
+
+impl<A: Allocator + Copy> CodedArgument<A> {
+    /// The code of the words of an argument in braces.
+    ///
+    /// # Errors
+    /// `NoMemory`, after which nothing stays allocated.
+    pub fn new(alloc: A, words: Rc<Vec<Word<A>, A>, A>) -> Result<CodedArgument<A>, NoMemory>
+        ensures { IfOk result (λ coded. coded ≡ words_of words) }
+    {
+        let code = Rc::new(alloc, argument_code(alloc, &words)?)?;
+        Ok(CodedArgument { words, code })
+    }
+}
+
 /// What a command runs by its text.
 #[derive(Drop)]
 pub enum Made<A: Allocator> {
@@ -173,6 +234,29 @@ impl<A: Allocator> Made<A> {
         match self {
             Made::Script(script) => script.into_code(),
             Made::Formula(formula) => formula.into_code(),
+        }
+    }
+}
+
+/// What is run as a code of its own.
+#[derive(Drop)]
+pub enum Entry<A: Allocator> {
+    /// What a command runs by its text, whose outcome the command takes.
+    Made(Made<A>),
+    /// The words of an argument in braces, which give the branches of their command.
+    Argument(CodedArgument<A>),
+}
+
+impl<A: Allocator> Entry<A> {
+    ghost use Rattle.code.specs.Made.{IsCodeOfEntry};
+
+    /// The instructions alone.
+    pub fn into_code(self) -> Rc<Vec<Instruction<A>, A>, A>
+        ensures { IsCodeOfEntry result.value.items self }
+    {
+        match self {
+            Entry::Made(made) => made.into_code(),
+            Entry::Argument(argument) => argument.into_code(),
         }
     }
 }

@@ -1,6 +1,6 @@
 //! The code of `while` and of `for` whose words are literals (while(n), for(n)).
 
-ghost use Rattle.std.specs.Prelude.{◌≡◌, [], ◌∷◌, ℕ, List, None, Option, Some, codes, IfOk, IfSome, OnOk};
+ghost use Rattle.std.specs.Prelude.{[], ◌∷◌, ℕ, List, None, Option, Some, codes, IfOk, IfSome, OnOk};
 ghost use Rattle.code.specs.Blocks.{ItsBlock, StepBlock, TurnsBlock};
 ghost use Rattle.code.specs.Conditional.{Are, IsBody};
 ghost use Rattle.code.specs.Repeat.{AreTurns, IsFor, IsStep};

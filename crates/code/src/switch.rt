@@ -8,11 +8,12 @@ ghost use Rattle.code.specs.Switch.{AreArms, AreWhole, IsShort, are_globs, is_de
 ghost use Rattle.tclparse.specs.Tree.{no_parts, no_words};
 ghost use Rattle.tclparse.specs.View.{parts_then, words_then};
 
-use crate::arms::{SwitchWords, arms_of, have_code, is_last_default, switch_words, texts_of};
+use crate::arms::{SwitchWords, arms_of, have_code, is_last_default, switch_words};
 use crate::conditional::emit_body;
 use crate::emit::emit_parts;
 use crate::formula::fill;
 use crate::instruction::Instruction;
+use crate::literal::texts_of;
 use crate::nest::Nest;
 use memory::NoMemory;
 use std::alloc::Allocator;

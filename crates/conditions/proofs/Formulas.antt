@@ -13,7 +13,7 @@ use Rattle.state.proofs.Closed.{Closed, listed_closed, raises_closed}
 use Rattle.tclparse.specs.Formula.{Formula, numeral, text, call, prefix, row, choice, Links, no_links, link, Formulas, no_formulas, formula}
 use Rattle.tclparse.specs.declared.operator.Infix.{Infix}
 use Rattle.tclparse.specs.declared.operator.Infix.TheVariants.{Both, AndAlso, OrElse}
-use Rattle.words.proofs.Closed.{parts_closed}
+use Rattle.state.proofs.Words.{parts_closed}
 use Rattle.state.specs.Evaluated.{on_truth, told, joined, evaluated, linked, arguments, tested, valued}
 
 -- what is done with a value

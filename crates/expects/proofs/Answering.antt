@@ -1,8 +1,8 @@
 -- The courses of the parts of a turn, where it is known what was found.
-use Rattle.std.proofs.Common.{◌≡◌, ◌∙◌, ℕ, ◌==◌, suc, Bool, true, false, List, [], ◌∷◌, length, option_map, Option, Some, None, Result, Err, ℤ, IfSome, refl, sym, ap, subst, arith}
+use Rattle.std.proofs.Common.{◌≡◌, ◌∙◌, ℕ, ◌==◌, suc, Bool, true, false, List, [], ◌∷◌, length, Option, Some, None, Result, Err, ℤ, IfSome, refl, sym, ap, subst, arith}
 use Rattle.std.proofs.lemmas.Bool.Decides.{nat_tests}
 use Rattle.acts.specs.Deed as said
-use Rattle.state.specs.Prelude.{Reply, text_of, Id, Raise, Ends, Calls, Course, ask, gives, inside, raises, within, Outcome, Leaves, Error, TurnTree, Reaches, here, Status, lines, shut, outcome_of}
+use Rattle.state.specs.Prelude.{text_of, Id, Raise, Ends, Calls, Course, ask, gives, inside, raises, within, Outcome, Leaves, Error, TurnTree, Reaches, here, Status, lines, shut, outcome_of}
 use Rattle.acts.specs.Flaw as flaw
 use Rattle.acts.specs.declared.act.Timer.{Timer}
 use Rattle.acts.specs.declared.raise.Raise.TheVariants as raise
@@ -24,9 +24,8 @@ use Rattle.state.specs.Reaches.{reads}
 use Rattle.state.specs.declared.outcome.Leave.{Leave}
 use Rattle.state.specs.declared.state.State.{State}
 use Rattle.tclparse.specs.Grammar.{IsArgument, IsScript}
-use Rattle.tclparse.specs.Seen.{fault_of}
-use Rattle.tclparse.specs.View.{commands_of, words_of}
-use Rattle.tclparse.specs.declared.words.Words as argument
+use Rattle.tclparse.specs.Fault.{Fault}
+use Rattle.tclparse.specs.Tree as tree
 use Rattle.expects.proofs.Comings.{begins, over_is}
 use Rattle.expects.proofs.Selecting.{selects_reaches, settled_is, settles_is}
 use Rattle.expects.specs.Clock.{later}
@@ -146,13 +145,11 @@ module _ (clock : Option Timer) (turn : TurnTree) (levels : ℕ) (s : Status) wh
       ∙ ap (λ e. begins (renewed clock (leaving e turn)) levels s) (sym is)
 
 -- the words of an argument in braces are read
-pub argument_reaches : {A : Type 0} (form : Form) (levels : ℕ) (text : List ℕ) (s : Status)
-    (w : argument.Words A) → IsArgument (words_of w.words) (option_map fault_of w.fault) text →
-    Reaches (by_argument form levels text s)
-    (on_words form levels s (words_of w.words) (option_map fault_of w.fault))
-argument_reaches form levels text s w is =
-    reads {text = ArgumentText text}
-    (record { words = words_of w.words; fault = option_map fault_of w.fault }) is here
+pub argument_reaches : (form : Form) (levels : ℕ) (text : List ℕ) (s : Status) (ws : tree.Words)
+    (f : Option Fault) → IsArgument ws f text →
+    Reaches (by_argument form levels text s) (on_words form levels s ws f)
+argument_reaches form levels text s ws f is =
+    reads {text = ArgumentText text} (record { words = ws; fault = f }) is here
 
 -- the first turn of an expect, by its parts
 pub first_is : (b : Branches) (s : Status) (e : Effective) (seconds : Option ℤ) →

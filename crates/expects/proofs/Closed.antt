@@ -10,7 +10,7 @@ use Rattle.state.specs.Faults.{flaw_of_fault}
 use Rattle.state.specs.Piece.{ArgumentText, ArgumentTree, BranchText}
 use Rattle.tclparse.specs.Fault.{Fault}
 use Rattle.tclparse.specs.Tree as tree
-use Rattle.words.proofs.Closed.{words_closed}
+use Rattle.state.proofs.Words.{words_closed}
 use Rattle.expects.specs.Expect.{by_argument, by_words, expect, first_turn, on_branches, on_read, on_words, place_in, put, told}
 use Rattle.expects.specs.Words.{Form, Waits, Stands, is_braced}
 

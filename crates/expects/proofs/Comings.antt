@@ -7,7 +7,9 @@ use Rattle.state.specs.Budget.{again_of}
 use Rattle.state.specs.Piece.{Turn}
 use Rattle.state.specs.declared.outcome.Leave.{Leave}
 use Rattle.state.specs.declared.state.State.{State}
-use Rattle.expects.specs.View.{Comes, course_of_talk, course_of_turned}
+use Rattle.expects.specs.View.{Comes, course_of_begun, course_of_opening, course_of_talk, course_of_turned}
+use Rattle.expects.specs.declared.turn.Begun.TheVariants as begun
+use Rattle.expects.specs.declared.turn.Opening.{Opening}
 use Rattle.expects.specs.declared.turn.Talk.TheVariants as talk
 use Rattle.expects.specs.declared.turn.Turned.{Turned}
 
@@ -72,6 +74,16 @@ pub talk_comes : {A : Type 0} (state : State A) (turned : Turned A) (course : Co
     Comes course_of_turned turned state course →
     Comes course_of_talk (talk.Turned turned) state course
 talk_comes state turned course comes = record {
+  status = comes.status;
+  fits = comes.fits;
+  reaches = comes.reaches;
+}
+
+-- a command has come as far as its opening
+pub opening_comes : {A : Type 0} (levels : ℕ) (opening : Opening A) (state : State A)
+    (course : Course) → Comes course_of_opening opening state course →
+    Comes (course_of_begun levels) (begun.Opens opening) state course
+opening_comes levels opening state course comes = record {
   status = comes.status;
   fits = comes.fits;
   reaches = comes.reaches;

@@ -10,6 +10,7 @@ use Rattle.dialog.specs.Reads.{Place, Outcome, place}
 use Rattle.dialog.specs.Standing.{all_of, put_at}
 use Rattle.dialog.specs.declared.choice.Trigger.TheVariants as after
 use Rattle.dialog.specs.declared.standing.Side.{Side}
+use Rattle.expects.specs.Words as form
 use Rattle.expects.specs.Words.{Form, Waits, Stands, stands, is_braced}
 use Rattle.plan.specs.Plan.{goes}
 use Rattle.state.specs.Faults.{flaw_of_fault}
@@ -69,6 +70,17 @@ on_read form levels s (Err why) = raises (told why s) s
 -- the words of one of the commands (expect(1), expect)
 abbrev pub by_words : Form → ℕ → Status → List (List ℕ) → Course
 by_words form levels s ws = Reads (BranchText (place_in form s) ws) (on_read form levels s)
+
+-- the same of the command that has this name; another name has none (expect(1), expect)
+abbrev pub of_form : Option Form → ℕ → Status → List (List ℕ) → Course
+of_form None levels s ws = gives [] s
+of_form (Some form) levels s ws = by_words form levels s ws
+
+-- the name of one of the commands, and then the words of an argument in braces of it (expect(1),
+-- expect)
+abbrev pub by_name : ℕ → Status → List (List ℕ) → Course
+by_name levels s [] = gives [] s
+by_name levels s (name ∷ ws) = of_form (form.named name) levels s ws
 
 -- the words of an argument in braces are substituted as those of a command, unless its text has a
 -- fault (expect(1), expect)

@@ -34,7 +34,6 @@ use Rattle.state.specs.Placed.{noted}
 use Rattle.state.specs.declared.outcome.Leave.TheVariants as leave
 use Rattle.state.specs.declared.outcome.Stop.TheVariants as halt
 use Rattle.state.specs.declared.state.State.{State}
-use Rattle.tclparse.specs.View.{words_of}
 use Rattle.state.specs.Words.{words}
 
 -- the command that one of the code's stands for
@@ -126,7 +125,7 @@ course_of_opening (opens.Turns turn) s = goes (Turn (turn_of turn.value) turn.va
 abbrev pub course_of_begun : {A : Type 0} → ℕ → Begun A → Status → Course
 course_of_begun levels (begun.Opens opening) s = course_of_opening opening s
 course_of_begun levels (begun.Gathers ws form) s =
-    words levels (words_of ws) [] s (by_words (form_of form) levels)
+    words levels ws [] s (by_words (form_of form) levels)
 
 -- there is a state of the definition that the code's state fits and in which the course leads to
 -- the result at hand, once its texts are read

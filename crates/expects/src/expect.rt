@@ -1,7 +1,7 @@
 //! The words of the three commands (expect(1), expect, expect_before and expect_after).
 
 ghost use Rattle.std.specs.Prelude.{◌≡◌, ◌≤◌, ℕ, IfOk, MatchOption};
-ghost use Rattle.state.specs.Prelude.{Raises, Reaches, Status, FitsState};
+ghost use Rattle.state.specs.Prelude.{Raises, Status, FitsState};
 ghost use Rattle.acts.specs.Flaw as flaw;
 ghost use Rattle.dialog.specs.Misreads as misread;
 ghost use Rattle.expects.specs.Expect as definition;
@@ -15,14 +15,13 @@ use crate::turn::{Begun, Opening, Turn};
 use acts::raise::{bad_flag, not_open};
 use acts::{Fault, Id, NoMemory, Raise};
 use dialog::{BranchError, Branches, Effective, Trigger};
-use kept::Arguments;
+use kept::Argument;
 use kinds::failed;
 use state::State;
 use state::faults::no_script;
 use state::outcome::raised;
 use state::variables::{SPAWN_ID, consulted};
 use std::alloc::Allocator;
-use tclparse::Words;
 use tcltext::Value;
 
 /// Begins one of the three commands with its words; `levels` is how many levels may still be nested
@@ -44,7 +43,7 @@ pub fn begin<A: Allocator + Copy>(
     ensures plain { IfOk result (λ begun. IsPlainBegun begun) }
 {
     match braced(args) {
-        Some(text) => by_argument(alloc, &mut state.arguments, form, text),
+        Some(text) => by_argument(alloc, state, form, text, levels),
         None => Ok(Begun::Opens(by_words(alloc, state, form, args, levels)?)),
     }
 }
@@ -62,22 +61,27 @@ fn braced<A: Allocator>(args: &[Value<A>]) -> Option<&[u8]>
     }
 }
 
-/// Reads the words of an argument in braces.
+/// Reads the words of an argument in braces, and continues the command where they are texts as they
+/// stand.
 fn by_argument<A: Allocator + Copy>(
     alloc: A,
-    arguments: &mut Arguments<A>,
+    state: &mut State<A>,
     form: Form,
     text: &[u8],
+    levels: u8,
 ) -> Result<Begun<A>, NoMemory>
-    ensures reaches { (levels : ℕ) (s : Status) → IfOk result (λ begun.
-        Reaches (definition.by_argument (form_of form) levels text.now s)
-        (course_of_begun levels begun s)) }
+    ensures comes { (s : Status) → FitsState state.old s → IfOk result (λ begun.
+        Comes (course_of_begun levels) begun state.new
+        (definition.by_argument (form_of form) levels text.now s)) }
+    ensures left { state.new.left ≤ state.old.left }
     ensures plain { IfOk result (λ begun. IsPlainBegun begun) }
 {
-    let Words { words, fault } = arguments.read(text)?.words;
-    match fault {
-        None => Ok(Begun::Gathers(words, form)),
-        Some(fault) => Ok(Begun::Opens(Opening::Has(raised(alloc, &no_script(fault))?))),
+    match state.arguments.read(text)? {
+        Argument::Texts(words) => Ok(Begun::Opens(by_words(alloc, state, form, &words, levels)?)),
+        Argument::Words(words) => Ok(Begun::Gathers(words, form)),
+        Argument::Faulty(fault) => {
+            Ok(Begun::Opens(Opening::Has(raised(alloc, &no_script(fault))?)))
+        }
     }
 }
 

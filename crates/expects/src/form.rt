@@ -1,6 +1,6 @@
 //! The three commands that take branches (expect(1), expect, expect_before and expect_after).
 
-ghost use Rattle.std.specs.Prelude.{◌≡◌, option_map};
+ghost use Rattle.std.specs.Prelude.{◌≡◌, Some, option_map};
 ghost use Rattle.expects.specs.View.{form_of};
 ghost use Rattle.expects.specs.Words as definition;
 
@@ -29,6 +29,17 @@ impl Form {
             Some(Form::Stands(Side::After))
         } else {
             None
+        }
+    }
+
+    /// The name of the command.
+    pub fn name(self) -> &'static [u8]
+        ensures { definition.named result.now ≡ Some (form_of self) }
+    {
+        match self {
+            Form::Waits => b"expect",
+            Form::Stands(Side::Before) => b"expect_before",
+            Form::Stands(Side::After) => b"expect_after",
         }
     }
 

@@ -6,13 +6,11 @@ ghost use Rattle.expects.specs.Turn.{begun_by, renewed, timed};
 
 use crate::form::Form;
 use acts::{Act, Id, Row, Timer};
-use code::CodedScript;
+use code::{CodedArgument, CodedScript};
 use dialog::{Choice, Effective, Trigger};
 use state::Outcome;
 use std::alloc::Allocator;
 use std::mem;
-use std::rc::Rc;
-use tclparse::Word;
 
 /// A turn of `expect`.
 #[derive(Drop)]
@@ -79,7 +77,7 @@ pub enum Begun<A: Allocator> {
     /// A turn begins, or the command is over.
     Opens(Opening<A>),
     /// These words of an argument in braces are to be substituted for the command.
-    Gathers(Rc<Vec<Word<A>, A>, A>, Form),
+    Gathers(CodedArgument<A>, Form),
 }
 
 /// What follows the answer to an act.

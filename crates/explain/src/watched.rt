@@ -108,8 +108,8 @@ impl<A: Allocator + Copy, S: Sink> Watch<A, Running<A>, State<A>, Lead<A>> for S
         self.note(noted);
     }
 
-    fn begins(&mut self, state: &State<A>, words: &[Value<A>]) {
-        let noted = self.teller.begins(state, words);
+    fn begins(&mut self, words: &[Value<A>]) {
+        let noted = self.teller.begins(words);
         self.note(noted);
     }
 

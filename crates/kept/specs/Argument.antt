@@ -1,12 +1,15 @@
 -- The words of an argument in braces.
-use Rattle.std.specs.Prelude.{ℕ, List, option_map}
+use Rattle.std.specs.Prelude.{ℕ, List, Some, None}
+use Rattle.code.specs.Code.{literals}
+use Rattle.kept.specs.declared.argument.Argument.{Argument}
+use Rattle.kept.specs.declared.argument.Argument.TheVariants as argument
 use Rattle.tclparse.specs.Grammar.{IsArgument}
-use Rattle.tclparse.specs.Normal.{AreNormalWords}
 use Rattle.tclparse.specs.Seen.{fault_of}
-use Rattle.tclparse.specs.View.{words_of}
-use Rattle.tclparse.specs.declared.words.Words.{Words}
+use Rattle.tclparse.specs.Tree.{Words}
 
--- The words are those of the text, in normal form (expect(1), expect).
-pub record IsRead {A : Type 0} (words : Words A) (text : List ℕ) : Type 0 where
-  pub tree : IsArgument (words_of words.words) (option_map fault_of words.fault) text
-  pub normal : AreNormalWords words.words
+-- the words are those of the text, or the text has the fault (expect(1), expect)
+abbrev pub IsRead : {A : Type 0} → Argument A → List ℕ → Type 0
+IsRead (argument.Texts texts) text = IsArgument (literals texts.value.items) None text
+IsRead (argument.Words words) text = IsArgument words None text
+IsRead (argument.Faulty fault) text =
+    (words : Words) × IsArgument words (Some (fault_of fault)) text

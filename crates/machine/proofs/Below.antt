@@ -1,12 +1,11 @@
 -- Frames, the code below them, and the parts below that.
-use Rattle.std.proofs.Common.{◌≡◌, ◌∙◌, ℕ, ◌+◌, ◌*◌, ◌<◌, ◌≤◌, List, [], ◌∷◌, Option, Some, None, option_map, Result, Vec, refl, reverse, sym, ap, subst, arith}
+use Rattle.std.proofs.Common.{◌≡◌, ◌∙◌, ℕ, zero, suc, ◌+◌, ◌-◌, ◌<◌, ◌≤◌, List, [], ◌∷◌, Option, Some, None, option_map, Result, Vec, length, refl, reverse, slice_get, sym, ap, subst, arith}
 use Rattle.code.specs.ScriptTree.{seen}
-use Rattle.machine.specs.Frames.{Onward, left_of, onward_of, stack, weight, words_in}
+use Rattle.code.specs.declared.instruction.Instruction.{Instruction}
+use Rattle.machine.specs.Frames.{Onward, left_of, onward_of, stack}
 use Rattle.machine.specs.Phases.{Leads, course_of_next}
-use Rattle.machine.specs.Below.{Beneath, BeginsIn, ComesFrom, ComesOver, Falls, GoesOn, Hands, IsBack, IsBelow, IsLess, IsWhole, StandsOver, TicksFirst, Under, depth, height, one_for, parts_of, places_in, rest_of, waits_in}
+use Rattle.machine.specs.Below.{Beneath, BeginsIn, ComesFrom, ComesOver, Falls, GoesOn, Hands, IsBack, IsBelow, IsLess, IsWhole, StandsOver, StaysDeep, depth, height, one_for, parts_of, waits_in}
 use Rattle.machine.specs.declared.frame.Frame.{Frame}
-use Rattle.machine.specs.declared.frame.Frame.TheVariants as frame
-use Rattle.machine.specs.declared.frame.WordsOf.TheVariants as whose
 use Rattle.machine.specs.declared.phase.Phase.{Phase}
 use Rattle.machine.specs.declared.running.Handed.{Handed}
 use Rattle.machine.specs.declared.running.Handed.TheVariants as handed
@@ -16,6 +15,7 @@ use Rattle.machine.specs.declared.starting.Next.{Next}
 use Rattle.machine.specs.declared.starting.Next.TheVariants as next
 use Rattle.machine.specs.declared.waits.Waits.{Waits}
 use Rattle.machine.proofs.Machines.{leads_from, stands_from}
+use Rattle.expects.specs.Expect.{by_name}
 use Rattle.plan.specs.Plan.{and_then, onward}
 use Rattle.runs.specs.Closing.{closing}
 use Rattle.runs.specs.Commands.{command}
@@ -63,7 +63,7 @@ module _ {A : Type 0} where
   -- a command of the code begins by its words
   pub begins_in : (last : Onward) (run : Run A) (words kept : Vec (List ℕ) A) (state : State A)
       (p : Dialogue Over) → HasStopped last went.Begins run state p → words ≡ run.spot.words →
-      BeginsIn last (next.Call words run.spot.levels whose.Command)
+      BeginsIn last (next.Call words run.spot.levels)
       (record run { spot = record run.spot { words = kept } }) state p
   begins_in last run words kept state p stopped is =
       let waits = stopped.follows in
@@ -74,6 +74,24 @@ module _ {A : Type 0} where
           status = stopped.status;
           fits = stopped.fits;
           goes = subst (λ ws. Goes p (and_then (command run.spot.levels stopped.status ws)
+              (onward waits.next))) (ap (λ (v : Vec (List ℕ) A). v.items) (sym is)) waits.goes;
+        };
+      }
+
+  -- branches are given by the name of a command and words
+  pub says_in : (last : Onward) (run : Run A) (words kept : Vec (List ℕ) A) (state : State A)
+      (p : Dialogue Over) → HasStopped last went.Says run state p → words ≡ run.spot.words →
+      BeginsIn last (next.Says words run.spot.levels)
+      (record run { spot = record run.spot { words = kept } }) state p
+  says_in last run words kept state p stopped is =
+      let waits = stopped.follows in
+      record {
+        onward = waits.next;
+        awaits = λ t outcome. waits.resumes t outcome;
+        begins = record {
+          status = stopped.status;
+          fits = stopped.fits;
+          goes = subst (λ ws. Goes p (and_then (by_name run.spot.levels stopped.status ws)
               (onward waits.next))) (ap (λ (v : Vec (List ℕ) A). v.items) (sym is)) waits.goes;
         };
       }
@@ -89,14 +107,15 @@ module _ {A : Type 0} where
     goes = subst (λ it. Goes p (last stopped.status (outcome_of it))) (sym is) stopped.follows;
   }
 
-  -- it stops for a command, or is over
+  -- it stops where something begins, or is over
   pub never_stops : (last : Onward) (progress : Progress) (run : Run A) (state : State A)
-      (p : Dialogue Over) → (progress ≡ went.Begins → ⊥) → (progress ≡ went.Over → ⊥) →
-      HasStopped last progress run state p → ⊥
-  never_stops last went.GoesOn run state p begins over stopped = stopped.stops refl
-  never_stops last went.Begins run state p begins over stopped = begins refl
-  never_stops last went.Over run state p begins over stopped = over refl
-  never_stops last went.Stuck run state p begins over stopped = stopped.follows
+      (p : Dialogue Over) → (progress ≡ went.Begins → ⊥) → (progress ≡ went.Says → ⊥) →
+      (progress ≡ went.Over → ⊥) → HasStopped last progress run state p → ⊥
+  never_stops last went.GoesOn run state p begins says over stopped = stopped.stops refl
+  never_stops last went.Begins run state p begins says over stopped = begins refl
+  never_stops last went.Says run state p begins says over stopped = says refl
+  never_stops last went.Over run state p begins says over stopped = over refl
+  never_stops last went.Stuck run state p begins says over stopped = stopped.follows
 
   -- what ended hands its outcome to the part that waits, or nothing is left
   pub end_goes : (parts : List (Part A)) (h : Handed A) (o : Result (List ℕ) (Leave A))
@@ -187,18 +206,19 @@ module _ {A : Type 0} where
   falls_more (handed.Begins n) old mid new more falls = tt
   falls_more (handed.Has outcome) old mid new more falls = omega (arith, more, falls)
 
-  -- so it is where nothing began, and nothing is there but what was
-  pub ticks_less : (h : Handed A) (running : Running A) (most : ℕ) → TicksFirst h →
-      rest_of running ≤ most → IsLess h running most
-  ticks_less (handed.Over outcome) running most ticks less = absurd ticks
-  ticks_less (handed.Begins n) running most ticks less = absurd ticks
-  ticks_less (handed.Has outcome) running most ticks less = omega (arith, ticks, less)
+  -- where no instruction stands at a place, no places are left from there on
+  pub none_left : (code : List (Instruction A)) (place : ℕ) → slice_get code place ≡ None →
+      length code - place ≡ 0
+  none_left [] place none = omega arith
+  none_left (it ∷ its) zero none = absurd cc
+  none_left (it ∷ its) (suc place) none = omega (arith, none_left its place none)
 
-  pub ticks_fall : (h : Handed A) (old new : Running A) → TicksFirst h → depth new < depth old →
-      Falls h old new
-  ticks_fall (handed.Over outcome) old new ticks less = absurd ticks
-  ticks_fall (handed.Begins n) old new ticks less = absurd ticks
-  ticks_fall (handed.Has outcome) old new ticks less = less
+  -- an outcome is handed on to what was there
+  pub stays_falls : (h : Handed A) (old mid new : Running A) → StaysDeep h mid new →
+      depth mid < depth old → Falls h old new
+  stays_falls (handed.Over outcome) old mid new stays less = tt
+  stays_falls (handed.Begins n) old mid new stays less = tt
+  stays_falls (handed.Has outcome) old mid new stays less = rw stays less
 
   -- a session that has this outcome hands it on
   pub leads_over : (running : Running A) {state : State A} (o : Result (List ℕ) (Leave A))

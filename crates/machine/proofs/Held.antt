@@ -1,5 +1,6 @@
 -- Commands that run scripts, and what they hold meanwhile.
 use Rattle.std.proofs.Common.{◌≡◌, ◌∙◌, ℕ, List, [], ◌∷◌, Result, Ok, sym, ap}
+use Rattle.code.specs.declared.made.Entry.TheVariants as entry
 use Rattle.code.specs.declared.made.Made.{Made}
 use Rattle.code.specs.declared.made.Made.TheVariants as made
 use Rattle.conditions.specs.GoesOn.{Comes}
@@ -37,7 +38,7 @@ module _ {A : Type 0} (last : Onward) (fs : List (Frame A)) where
   -- a script or a formula stands on the stack above the command that runs it
   pub held_goes : (it : Made A) (levels : ℕ) (held : Held A) (new : List (Frame A))
       (s : Status) →
-      new ≡ frame.Code it levels ∷ frame.Held held ∷ fs →
+      new ≡ frame.Code (entry.Made it) levels ∷ frame.Held held ∷ fs →
       Goes (left_of last (nests.course_of (control.next_of {A = A})
       (nesting.Runs it levels held) s) fs)
       (left_of last (gives [] s) new)
@@ -51,7 +52,7 @@ module _ {A : Type 0} (last : Onward) (fs : List (Frame A)) where
 
   pub runs_held : (it : Made A) (levels : ℕ) (held : Held A) (new : List (Frame A))
       (state : State A) (course : Course) →
-      new ≡ frame.Code it levels ∷ frame.Held held ∷ fs →
+      new ≡ frame.Code (entry.Made it) levels ∷ frame.Held held ∷ fs →
       Comes (control.next_of {A = A}) (nesting.Runs it levels held) state course →
       Begins last (course_of_next {A = A} next.Again) new state (left_of last course fs)
   runs_held it levels held new state course on shown = record {
@@ -64,7 +65,7 @@ module _ {A : Type 0} (last : Onward) (fs : List (Frame A)) where
   -- the same, where the command took no tick
   pub runs_on : (it : Made A) (levels : ℕ) (held : Held A) (new : List (Frame A))
       (state : State A) (course : Course) (none : List ℕ) → none ≡ [] →
-      new ≡ frame.Code it levels ∷ frame.Held held ∷ fs →
+      new ≡ frame.Code (entry.Made it) levels ∷ frame.Held held ∷ fs →
       Comes (control.next_of {A = A}) (nesting.Runs it levels held) state course →
       Leads last (at_hand.Has (Ok none)) new state (left_of last course fs)
   runs_on it levels held new state course none is on shown = record {

@@ -1,8 +1,6 @@
 pub mod Stacks
 pub mod Silent
 pub mod Closings
-pub mod Scripted
-pub mod Taking
 pub mod Machines
 pub mod Held
 pub mod Waiting

@@ -1,45 +1,31 @@
 -- What the parts of the machine do.
-use Rattle.std.proofs.Common.{◌≡◌, ℕ, suc, ◌+◌, ◌<◌, ◌≤◌, List, [], ◌∷◌, Box, None, Result, Ok, Err, IfOk, refl, sym, ap, arith}
-use Rattle.code.specs.declared.made.Made.{Made}
-use Rattle.std.specs.declared.rc.Rc.{Rc}
-use Rattle.std.specs.declared.vec.Vec.{Vec}
-use Rattle.tclparse.specs.declared.tree.Command.{Command}
-use Rattle.acts.specs.Flaw as flaw
+use Rattle.std.proofs.Common.{◌≡◌, ℕ, List, [], ◌∷◌, Result, Ok, Err, IfOk, refl, sym, ap}
+use Rattle.acts.specs.declared.act.Act.{Act}
+use Rattle.code.specs.declared.made.Entry.{Entry}
 use Rattle.machine.specs.Began.{HasBegun}
 use Rattle.machine.specs.Waiting as waiting
 use Rattle.machine.specs.declared.waits.Waits.{Waits}
-use Rattle.control.specs.declared.held.Held.{Held}
-use Rattle.machine.specs.Frames.{Onward, call_of, next_of, onward_of, left_of, weight, weight_of, words_in, words_of_frame}
-use Rattle.steps.specs.Goes.{Goes, here, calls}
+use Rattle.machine.specs.Frames.{Onward, next_of, onward_of, left_of}
 use Rattle.machine.specs.Phases.{Leads, Unwinds, Stands}
 use Rattle.machine.specs.declared.frame.Frame.{Frame}
 use Rattle.machine.specs.declared.frame.Frame.TheVariants as frame
-use Rattle.machine.specs.declared.frame.Script.{Script}
-use Rattle.machine.specs.declared.frame.WordsOf.{WordsOf}
 use Rattle.machine.specs.declared.starting.Begun.{Begun}
 use Rattle.machine.specs.declared.starting.Begun.TheVariants as begun
 use Rattle.machine.specs.declared.unwinding.Unwound.{Unwound}
 use Rattle.machine.specs.declared.unwinding.Unwound.TheVariants as unwound
 use Rattle.machine.specs.declared.phase.Phase.{Phase}
 use Rattle.machine.specs.declared.phase.Phase.TheVariants as phase
-use Rattle.acts.specs.declared.act.Act.{Act}
 use Rattle.machine.proofs.Silent.{reaches_goes, same_left}
-use Rattle.steps.proofs.Leads.Silent.{same_goes, then_goes}
-use Rattle.expects.specs.declared.turn.Turn.{Turn}
-use Rattle.state.specs.Prelude.{Ends, Course, Dialogue, gives, raises, Shows, Outcome, Gives, Reaches, Status, FitsState, outcome_of}
 use Rattle.runs.specs.Ending.{Over}
 use Rattle.state.specs.Leaf.{HasOutcome, course_of}
+use Rattle.state.specs.Prelude.{Ends, Course, Dialogue, gives, Shows, Outcome, Status, FitsState, outcome_of}
 use Rattle.state.specs.declared.leaf.Leaf.{Leaf}
 use Rattle.state.specs.declared.leaf.Leaf.TheVariants as leaf
 use Rattle.state.specs.declared.outcome.Leave.{Leave}
 use Rattle.state.specs.declared.outcome.Leave.TheVariants as leave
 use Rattle.state.specs.declared.state.State.{State}
-use Rattle.tclparse.specs.View.{commands_of}
-use Rattle.tclparse.specs.Tree.{Commands}
-use Rattle.words.specs.Gathering.{course_of_gathered, gathering_on}
-use Rattle.state.specs.Words.{nested}
-use Rattle.words.specs.declared.gathering.Gathered.{Gathered}
-use Rattle.words.specs.declared.gathering.Gathering.{Gathering}
+use Rattle.steps.specs.Goes.{Goes}
+use Rattle.steps.proofs.Leads.Silent.{same_goes, then_goes}
 
 -- where P implies Q, a result whose value has P has a value that has Q
 pub on_ok : {X E : Type 0} (r : Result X E) {P Q : X → Type 0} → ((x : X) → P x → Q x) →
@@ -123,26 +109,6 @@ module _ {A : Type 0} (last : Onward) (fs : List (Frame A)) where
   nothing_leads value s state is fits =
       record { status = s; fits = fits; goes = same_left last fs (ap (λ v. gives v s) (sym is)) }
 
-  -- what gathering words leads to, where its result is known
-  pub gathered_goes : (levels : ℕ) (call : Status → List (List ℕ) → Course) (s : Status)
-      {found known : Gathered A} {p : Course} →
-      Reaches p (course_of_gathered levels found call s) → found ≡ known →
-      Goes (left_of last p fs) (left_of last (course_of_gathered levels known call s) fs)
-  gathered_goes levels call s first is =
-      then_goes (reaches_goes last fs first)
-      (same_left last fs (ap (λ found. course_of_gathered levels found call s) is))
-
-  -- a script in a word is put on the stack above the words after it
-  pub nest_goes : (levels inner : ℕ) (cs : Rc (Vec (Command A) A) A) (box : Box (Gathering A) A)
-      (whose : WordsOf) (s : Status) → levels ≡ suc inner →
-      Goes
-      (left_of last (nested levels (commands_of cs) s
-      (gathering_on levels box.value (call_of whose levels))) fs)
-      (left_of last (Ends (s, Gives [])) (frame.Script
-      (record { commands = cs; next = 0; levels = inner; fault = None })
-      ∷ frame.Words box levels whose ∷ fs))
-  nest_goes levels inner cs box whose s is = rw is (calls here)
-
 -- a stack continues by its top frame
 pub top_goes : {A : Type 0} (last : Onward) (fs rest : List (Frame A)) (f : Frame A) (s : Status)
     (o : Outcome) →
@@ -172,49 +138,8 @@ module _ {A : Type 0} {last : Onward} {fs : List (Frame A)} {state : State A}
     goes = then_goes goes leads.goes;
   }
 
--- where no level is left, a nested script is the script's error
-pub nested_over : (levels : ℕ) (cs : Commands) (s : Status)
-    (next : Status → List ℕ → Course) → levels ≡ 0 →
-    nested levels cs s next ≡ raises flaw.TooManyNested s
-nested_over levels cs s next is = rw is refl
-
--- an outcome other than a value passes through a script, and through words
-pub script_passes : {A : Type 0} (own : Script A) (s : Status) (l : Leave A) →
-    next_of (frame.Script own) s (outcome_of (Err l)) ≡ Ends (s, outcome_of (Err l))
-script_passes own s (leave.Coded code value) = refl
-script_passes own s (leave.Stopped stop) = refl
-
-pub code_passes : {A : Type 0} (it : Made A) (levels : ℕ) (s : Status) (l : Leave A) →
+-- an outcome other than a value passes through a code of which nothing is done yet
+pub code_passes : {A : Type 0} (it : Entry A) (levels : ℕ) (s : Status) (l : Leave A) →
     next_of {A = A} (frame.Code it levels) s (outcome_of (Err l)) ≡ Ends (s, outcome_of (Err l))
 code_passes it levels s (leave.Coded code value) = refl
 code_passes it levels s (leave.Stopped stop) = refl
-
-pub words_passes : {A : Type 0} (box : Box (Gathering A) A) (levels : ℕ) (whose : WordsOf)
-    (s : Status) (l : Leave A) →
-    next_of (frame.Words box levels whose) s (outcome_of (Err l)) ≡ Ends (s, outcome_of (Err l))
-words_passes box levels whose s (leave.Coded code value) = refl
-words_passes box levels whose s (leave.Stopped stop) = refl
-
--- an outcome other than a value passes through every frame but that of a command or of a turn
-pub passed_on : {A : Type 0} (f : Frame A) (s : Status) (l : Leave A) →
-    ((held : Held A) → f ≡ frame.Held held → ⊥) →
-    ((turn : Box (Turn A) A) → f ≡ frame.Turn turn → ⊥) →
-    next_of f s (outcome_of (Err l)) ≡ Ends (s, outcome_of (Err l))
-passed_on (frame.Script own) s l not none = script_passes own s l
-passed_on (frame.Code it levels) s l not none = code_passes it levels s l
-passed_on (frame.Words box levels whose) s l not none = words_passes box levels whose s l
-passed_on (frame.Held held) s l not none = absurd (not held refl)
-passed_on (frame.Turn turn) s l not none = absurd (none turn refl)
-
--- taking a frame off leaves less weight
-pub lighter_without : {A : Type 0} (f : Frame A) (fs : List (Frame A)) →
-    weight fs < weight_of f + weight fs
-lighter_without (frame.Script own) fs = omega arith
-lighter_without (frame.Code it levels) fs = omega arith
-lighter_without (frame.Words box levels whose) fs = omega arith
-lighter_without (frame.Held held) fs = omega arith
-lighter_without (frame.Turn turn) fs = omega arith
-
-pub fewer_without : {A : Type 0} (f : Frame A) (fs : List (Frame A)) (again : ℕ) →
-    again + words_in fs ≤ again + (words_of_frame f + words_in fs)
-fewer_without f fs again = omega arith

@@ -24,7 +24,7 @@ course_of_asking (asking.Command own words) s = talks (acting.does own (drop 1 w
 course_of_asking (asking.Branching form words levels) s =
     expect (form_of form) levels (drop 1 words.items) s
 course_of_asking (asking.Branches form words levels) s =
-    by_words (form_of form) levels s words.items
+    by_words (form_of form) levels s (drop 1 words.items)
 course_of_asking (asking.Turn turn) s = turns (turn_of turn.value) turn.value.levels s
 
 -- for some state of the definition that the code's state fits, the dialogue continues with the

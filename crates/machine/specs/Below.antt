@@ -126,11 +126,19 @@ HasTicked (handed.Over outcome) now left = Unit {0}
 HasTicked (handed.Begins next) now left = Unit {0}
 HasTicked (handed.Has outcome) now left = now < left
 
--- nothing has begun, and what is handed on is not of exp_continue
-abbrev pub TicksFirst : {A : Type 0} → Handed A → Type 0
-TicksFirst (handed.Over outcome) = ⊥
-TicksFirst (handed.Begins next) = ⊥
-TicksFirst (handed.Has outcome) = again_of (outcome_of outcome) ≡ 0
+-- where an outcome is handed on, nothing else has changed
+abbrev pub StaysDeep : {A : Type 0} → Handed A → Running A → Running A → Type 0
+StaysDeep (handed.Over outcome) old new = Unit {0}
+StaysDeep (handed.Begins next) old new = Unit {0}
+StaysDeep (handed.Has outcome) old new = new ≡ old
+
+-- nothing has begun but branches that are given last, where they may be given, and what is handed
+-- on is not of exp_continue
+abbrev pub TicksFirst : {A : Type 0} → ℕ → Handed A → Run A → Type 0
+TicksFirst said (handed.Over outcome) run = ⊥
+TicksFirst said (handed.Begins next) run =
+    (0 < said) × (more_of next ≡ 0) × (places_left run ≡ 0)
+TicksFirst said (handed.Has outcome) run = again_of (outcome_of outcome) ≡ 0
 
 -- how much may begin by the code before the next tick, and one more where something begins
 abbrev pub left_to_run : {A : Type 0} → Handed A → Run A → ℕ

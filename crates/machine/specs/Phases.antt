@@ -1,18 +1,16 @@
 -- Where a session stands.
-use Rattle.std.specs.Prelude.{◌≡◌, ℕ, ◌+◌, ◌*◌, ◌<◌, ◌≤◌, List, [], ◌∷◌, Option, Some, None, Result, Err, IsOkAnd}
+use Rattle.std.specs.Prelude.{◌≡◌, ℕ, ◌+◌, ◌<◌, ◌≤◌, List, [], ◌∷◌, Option, Some, None, Result, Err, IsOkAnd}
 use Rattle.state.specs.Prelude.{Deed, Reply, deed_of, reply_of, NoMemory, Ends, Asks, Dialogue, Course, gives, Status, FitsState, outcome_of}
 use Rattle.acts.specs.History.{History}
 use Rattle.acts.specs.declared.answer.Answer.{Answer}
 use Rattle.machine.specs.Waiting.{next_of}
 use Rattle.machine.specs.declared.waits.Waits.{Waits}
-use Rattle.machine.specs.Frames.{Onward, call_of, load, onward_of, left_of, weight, words_in}
+use Rattle.machine.specs.Frames.{Onward, load, onward_of, left_of, weight, words_in}
 use Rattle.steps.specs.Goes.{Goes}
 use Rattle.machine.specs.View.{ending_of}
 use Rattle.machine.specs.declared.closing.Closing.{Closing}
 use Rattle.machine.specs.declared.closing.Closing.TheVariants as closing
 use Rattle.machine.specs.declared.frame.Frame.{Frame}
-use Rattle.machine.specs.declared.frame.WordsOf.{WordsOf}
-use Rattle.machine.specs.declared.frame.WordsOf.TheVariants as whose
 use Rattle.machine.specs.declared.starting.Next.{Next}
 use Rattle.machine.specs.declared.starting.Next.TheVariants as next
 use Rattle.machine.specs.declared.unwinding.Unwound.{Unwound}
@@ -23,6 +21,8 @@ use Rattle.runs.specs.Commands.{command}
 use Rattle.runs.specs.Closing.{does, ends_with, reported}
 use Rattle.runs.specs.Ending.{Over, numbered}
 use Rattle.steps.specs.Entered.{entered}
+use Rattle.steps.specs.Run.{branches_in}
+use Rattle.expects.specs.Expect.{by_name}
 use Rattle.expects.specs.Turn.{turns}
 use Rattle.expects.specs.View.{turn_of}
 use Rattle.state.specs.Budget.{again_of}
@@ -30,8 +30,6 @@ use Rattle.state.specs.Leaf.{course_of}
 use Rattle.state.specs.declared.leaf.Leaf.{Leaf}
 use Rattle.state.specs.declared.leaf.Leaf.TheVariants as leaf
 use Rattle.state.specs.declared.state.State.{State}
-use Rattle.tclparse.specs.View.{words_of}
-use Rattle.state.specs.Words.{words}
 
 -- for some state of the definition that the code's state fits, the dialogue continues as the course
 -- at hand, and then as the frames say
@@ -51,13 +49,12 @@ pub record Begins {A : Type 0} (last : Onward) (course : Status → Course)
 
 -- what begins, as a course
 abbrev pub course_of_next : {A : Type 0} → Next A → Status → Course
-course_of_next (next.Command ws levels) s = words levels (words_of ws) [] s (command levels)
-course_of_next (next.Call values levels whose) s = call_of whose levels s values.items
+course_of_next (next.Call words levels) s = command levels s words.items
+course_of_next (next.Says words levels) s = by_name levels s words.items
 course_of_next (next.Turn turn) s = turns (turn_of turn.value) turn.value.levels s
 course_of_next next.Again s = gives [] s
 
--- what a frame did with an outcome: it gave another one, something begins, or a script or a formula
--- is entered
+-- what a frame did with an outcome: it gave another one, something begins, or a code is entered
 abbrev pub Unwinds : {A : Type 0} → Onward → Unwound A → List (Frame A) → State A →
     Dialogue Over → Type 0
 Unwinds last (unwound.Has outcome) frames state p = Leads last (leaf.Has outcome) frames state p
@@ -66,16 +63,10 @@ Unwinds last (unwound.Begins next) frames state p =
 Unwinds last (unwound.Enters it levels value) frames state p =
     Begins last (λ s. entered it levels s value) frames state p
 
--- how much may begin from words that are all substituted: a command may end by exp_continue
-abbrev pub call_load : WordsOf → ℕ
-call_load whose.Command = 1
-call_load (whose.Argument form) = 0
-
--- how much more may begin from what begins: the words of a command that begins by its tree may wait
--- in a frame
+-- how much more may begin from what begins: a command may end by exp_continue
 abbrev pub more_of : {A : Type 0} → Next A → ℕ
-more_of (next.Command ws levels) = 2
-more_of (next.Call values levels whose) = call_load whose
+more_of (next.Call words levels) = 1
+more_of (next.Says words levels) = 0
 more_of (next.Turn turn) = 0
 more_of next.Again = 0
 
@@ -85,11 +76,11 @@ Lightens (unwound.Has outcome) frames state most waiting left =
     (weight frames < most) × (again_of (outcome_of outcome) + words_in frames ≤ waiting)
     × (state.left ≤ left)
 Lightens (unwound.Begins next) frames state most waiting left =
-    more_of next + load frames state < 3 * left + waiting
+    more_of next + load frames state < left + waiting
 Lightens (unwound.Enters it levels value) frames state most waiting left =
-    (weight frames < most) × (words_in frames ≤ waiting) × (state.left ≤ left)
+    (weight frames < most) × (branches_in it + words_in frames ≤ waiting) × (state.left ≤ left)
 
--- where a script or a formula is entered, its frame is gone
+-- where a code is entered, its frame is gone
 abbrev pub IsLighter : {A : Type 0} → Unwound A → List (Frame A) → ℕ → Type 0
 IsLighter (unwound.Has outcome) frames most = Unit {0}
 IsLighter (unwound.Begins next) frames most = Unit {0}

@@ -7,7 +7,7 @@ ghost use Rattle.machine.specs.Frames.{Onward};
 ghost use Rattle.machine.specs.Phases.{IsTold, Stands, closing_on};
 ghost use Rattle.machine.specs.View.{ending_of};
 ghost use Rattle.machine.specs.declared.frame.Frame.{Frame};
-ghost use Rattle.runs.specs.Closing.{closing as closes_run, closes, ends_with, leaves, reports, reported};
+ghost use Rattle.runs.specs.Closing.{closing as closes_run, ends_with, leaves, reports};
 ghost use Rattle.runs.specs.Ending.{stopped};
 ghost use Rattle.state.specs.Dialogue as dialogues;
 ghost use Rattle.state.specs.Dialogue.{judged};

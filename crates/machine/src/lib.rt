@@ -12,7 +12,6 @@ mod nesting;
 mod phase;
 pub mod running;
 mod starting;
-mod taken;
 mod turns;
 mod unwinding;
 mod waits;

@@ -1,21 +1,21 @@
 //! What a session has still to do: frames, below them the code that runs, and below that what waits
 //! for this code.
 
-ghost use Rattle.std.specs.Prelude.{◌≡◌, ◌+◌, ◌*◌, ◌≤◌, [], ◌∷◌, Some, IfOk, OnOk};
+ghost use Rattle.std.specs.Prelude.{◌≡◌, ◌+◌, ◌*◌, ◌≤◌, ℕ, [], Some, IfOk};
 ghost use Rattle.machine.specs.Frames.{Onward, left_of, onward_of, stack};
-ghost use Rattle.machine.specs.Below.{Falls, GoesOn, HasTicked, IsBack, IsBelow, IsLess, IsWhole, RunsOn, TicksFirst, left_to_run, parts_of, rest_of};
+ghost use Rattle.machine.specs.Below.{Falls, GoesOn, HasTicked, IsBack, IsBelow, IsLess, IsWhole, RunsOn, StaysDeep, TicksFirst, left_to_run, parts_of, rest_of};
 ghost use Rattle.state.specs.Budget.{again_of};
 ghost use Rattle.state.specs.Prelude.{Status, FitsState, outcome_of};
 ghost use Rattle.steps.specs.Entered.{entered};
-ghost use Rattle.steps.specs.Run.{Awaits, IsFresh, IsValue, places_left};
+ghost use Rattle.steps.specs.Run.{Awaits, IsFresh, IsValue, branches_in, places_left};
 
-use crate::frame::{Frame, WordsOf};
+use crate::frame::Frame;
 use crate::starting::Next;
 use crate::unwinding::{Unwound, unwind};
 use crate::waits::Waits;
 use crate::watch::Watch;
 use acts::NoMemory;
-use code::{CodedScript, Made};
+use code::{CodedScript, Entry, Made};
 use state::{Leaf, Outcome, State};
 use std::alloc::Allocator;
 use std::mem;
@@ -87,7 +87,8 @@ impl<A: Allocator + Copy> Running<A> {
     {
         let tree = Script::read(alloc, text)?;
         let script = CodedScript::new(alloc, tree)?;
-        let run = Run::begin(alloc, Made::Script(script), MOST_LEVELS);
+        let script = Entry::Made(Made::Script(script));
+        let run = Run::begin(alloc, script, MOST_LEVELS);
         Ok(Running {
             frames: Vec::new(alloc),
             code: Some(run),
@@ -153,18 +154,18 @@ fn hand_once<A: Allocator + Copy, T: Watch<A, Running<A>, State<A>, Leaf<A, Wait
     match unwind(alloc, &mut running.frames, state, outcome)? {
         Unwound::Begins(next) => Ok(Handed::Begins(next)),
         Unwound::Enters(it, levels, value) => {
-            enter(alloc, running, state, it, levels, value, watch)
+            Ok(enter(alloc, running, state, it, levels, value, watch)?)
         }
         Unwound::Has(last) => hand_down(alloc, running, state, last, watch),
     }
 }
 
-/// Enters a script or a formula with this value, above the frames.
+/// Enters a code with this value, above the frames.
 fn enter<A: Allocator + Copy, T: Watch<A, Running<A>, State<A>, Leaf<A, Waits<A>>>>(
     alloc: A,
     running: &mut Running<A>,
     state: &mut State<A>,
-    it: Made<A>,
+    it: Entry<A>,
     levels: u8,
     value: Value<A>,
     watch: &mut T,
@@ -174,7 +175,9 @@ fn enter<A: Allocator + Copy, T: Watch<A, Running<A>, State<A>, Leaf<A, Waits<A>
         (left_of last (entered it levels s value) (stack running.old.frames))) }
     ensures left { IfOk result (λ _. state.new.left ≤ state.old.left) }
     ensures less { IfOk result (λ handed. state.new.left ≡ state.old.left →
-        TicksFirst handed × (running.new ≡ running.old)) }
+        IsLess handed running.new (branches_in it + rest_of running.old)) }
+    ensures falls { IfOk result (λ handed. state.new.left ≡ state.old.left →
+        StaysDeep handed running.old running.new) }
     ensures watched { T.told watch.old [] watch.new }
 {
     let mut run = Run::begin(alloc, it, levels);
@@ -235,14 +238,19 @@ fn go_on<A: Allocator + Copy, T: Watch<A, Running<A>, State<A>, Leaf<A, Waits<A>
     ensures less { IfOk result (λ handed. state.new.left ≡ state.old.left →
         left_to_run handed run.new
         ≤ again_of (outcome_of outcome) + 2 * places_left run.old) }
-    ensures first { IsFresh run.old → IsValue outcome → IfOk result (λ handed.
-        state.new.left ≡ state.old.left → TicksFirst handed) }
+    ensures first { (said : ℕ) → IsFresh said run.old → IsValue outcome → IfOk result (λ handed.
+        state.new.left ≡ state.old.left → TicksFirst said handed run.new) }
     ensures watched { T.told watch.old [] watch.new }
 {
     match run.go_on(alloc, state, outcome)? {
         Progress::Begins => {
             let words = mem::replace(&mut run.spot.words, Vec::new(alloc));
-            Ok(Handed::Begins(Next::Call(words, run.spot.levels, WordsOf::Command)))
+            Ok(Handed::Begins(Next::Call(words, run.spot.levels)))
+        }
+        Progress::Says => {
+            let words = mem::replace(&mut run.spot.words, Vec::new(alloc));
+            watch.says(words.as_slice());
+            Ok(Handed::Begins(Next::Says(words, run.spot.levels)))
         }
         Progress::Over => {
             let outcome = mem::replace(&mut run.spot.outcome, Ok(Value::empty()));

@@ -1,5 +1,5 @@
-//! What begins on top of the frames: a command, by its tree or by its substituted words, or a turn
-//! of `expect`.
+//! What begins on top of the frames: a command by its words, the branches of one by those of an
+//! argument in braces, or a turn of `expect`.
 //!
 //! What waits for the answer to an act is wide. So what asks for no act is done up to its outcome,
 //! and what may ask for acts is begun apart from it.
@@ -10,22 +10,22 @@ ghost use Rattle.commands.specs.Commands as plain;
 ghost use Rattle.control.specs.Commands as controls;
 ghost use Rattle.control.specs.View as control;
 ghost use Rattle.control.specs.View.{control_of};
+ghost use Rattle.expects.specs.Expect.{by_name};
 ghost use Rattle.machine.specs.Began.{HasBegun, asking_load, begun_load, course_of_asking};
-ghost use Rattle.machine.specs.Frames.{Onward, call_of, left_of, load, onward_of, stack, words_in};
+ghost use Rattle.machine.specs.Frames.{Onward, left_of, load, onward_of, stack, words_in};
 ghost use Rattle.steps.specs.Goes.{Goes};
-ghost use Rattle.machine.specs.Phases.{Leads, call_load, course_of_next, more_of};
+ghost use Rattle.machine.specs.Phases.{Leads, course_of_next, more_of};
 ghost use Rattle.machine.specs.Waiting.{again_in};
 ghost use Rattle.machine.specs.declared.frame.Frame as framed;
 ghost use Rattle.runs.specs.Commands.{command, other_command};
 ghost use Rattle.state.specs.Budget.{again_of};
 ghost use Rattle.state.specs.Nesting.{course_of as course_of_nesting};
 ghost use Rattle.state.specs.declared.leaf.Leaf.TheVariants as leaf;
-ghost use Rattle.tclparse.specs.View.{words_of};
+ghost use Rattle.state.specs.declared.state.State as stated;
 ghost use Rattle.tclstate.specs.Pairs.{found};
-ghost use Rattle.state.specs.Words.{words as meant_words};
 
-use crate::frame::{Frame, WordsOf};
-use crate::nesting::{gather, put_above};
+use crate::frame::Frame;
+use crate::nesting::put_above;
 use crate::running::Running;
 use crate::turns::{say, take_turn, wait};
 use crate::waits::{Waits, plainly};
@@ -37,18 +37,16 @@ use expects::form::Form;
 use expects::turn::Turn;
 use state::{Leaf, Nesting, Outcome, State};
 use std::alloc::Allocator;
-use std::rc::Rc;
-use tclparse::Word;
 use tcltext::Value;
 
 /// What begins once frames are taken off.
 #[derive(Drop)]
 pub enum Next<A: Allocator> {
-    /// A command as its tree, which has taken its tick, and how many levels may still nest in it.
-    Command(Rc<Vec<Word<A>, A>, A>, u8),
-    /// What words begin once all of them are substituted, how many levels may still nest in it, and
-    /// what the words belong to.
-    Call(Vec<Value<A>, A>, u8, WordsOf),
+    /// A command by its words, and how many levels may still nest in it.
+    Call(Vec<Value<A>, A>, u8),
+    /// The branches of a command, by its name and the words of an argument in braces, and how many
+    /// levels may still nest in it.
+    Says(Vec<Value<A>, A>, u8),
     /// A turn of `expect`.
     Turn(Box<Turn<A>, A>),
     /// The script on the stack, which a command runs again after a tick.
@@ -62,7 +60,8 @@ pub enum Asking<A: Allocator> {
     Command(Acting, Vec<Value<A>, A>),
     /// A command that takes branches, by its words, and how many levels may still nest in it.
     Branching(Form, Vec<Value<A>, A>, u8),
-    /// Words that give the branches of such a command, and how many levels may still nest in it.
+    /// The name of such a command and words that give its branches, and how many levels may still
+    /// nest in it.
     Branches(Form, Vec<Value<A>, A>, u8),
     /// A turn of `expect`.
     Turn(Box<Turn<A>, A>),
@@ -117,64 +116,26 @@ fn begin_next<A: Allocator + Copy, T: Watch<A, Running<A>, State<A>, Leaf<A, Wai
     ensures left { state.new.left ≤ state.old.left }
 {
     match next {
-        Next::Command(words, levels) => begin(alloc, frames, state, words, levels, watch),
-        Next::Call(values, levels, whose) => {
-            go_on(alloc, frames, state, values, levels, whose, watch)
-        }
+        Next::Call(words, levels) => call(alloc, frames, state, words, levels, watch),
+        Next::Says(words, levels) => Ok(give(words, levels)),
         Next::Turn(turn) => Ok(Begun::Asks(Asking::Turn(turn))),
         Next::Again => Ok(Begun::Has(Ok(Value::empty()))),
     }
 }
 
-/// Continues with words that are all substituted: they begin a command, or give its branches.
-#[inline(never)]
-fn go_on<A: Allocator + Copy, T: Watch<A, Running<A>, State<A>, Leaf<A, Waits<A>>>>(
-    alloc: A,
-    frames: &mut Vec<Frame<A>, A>,
-    state: &mut State<A>,
-    words: Vec<Value<A>, A>,
-    levels: u8,
-    whose: WordsOf,
-    watch: &mut T,
-) -> Result<Begun<A>, NoMemory>
-    ensures begins { (last : Onward) (s : Status) → FitsState state.old s →
-        IfOk result (λ begun. HasBegun last begun (stack frames.new) state.new
-        (left_of last (call_of whose levels s words.items) (stack frames.old))) }
-    ensures load { IfOk result (λ begun. begun_load begun + load (stack frames.new) state.new
-        ≤ call_load whose + load (stack frames.old) state.old) }
-    ensures watched { T.told watch.old [] watch.new }
-    ensures left { state.new.left ≤ state.old.left }
+/// Gives the branches of a command by its name and words, up to where it may ask for acts.
+fn give<A: Allocator>(words: Vec<Value<A>, A>, levels: u8) -> Begun<A>
+    ensures begins { (frames : List (framed.Frame A)) (state : stated.State A) (last : Onward)
+        (s : Status) → FitsState state s → HasBegun last result frames state
+        (left_of last (by_name levels s words.items) frames) }
+    ensures again { begun_load result ≡ 0 }
 {
-    match whose {
-        WordsOf::Command => call(alloc, frames, state, words, levels, watch),
-        WordsOf::Argument(form) => {
-            watch.says(&words);
-            Ok(Begun::Asks(Asking::Branches(form, words, levels)))
-        }
-    }
-}
-
-/// Begins a command by its tree, or a script in one of its words.
-fn begin<A: Allocator + Copy, T: Watch<A, Running<A>, State<A>, Leaf<A, Waits<A>>>>(
-    alloc: A,
-    frames: &mut Vec<Frame<A>, A>,
-    state: &mut State<A>,
-    words: Rc<Vec<Word<A>, A>, A>,
-    levels: u8,
-    watch: &mut T,
-) -> Result<Begun<A>, NoMemory>
-    ensures begins { (last : Onward) (s : Status) → FitsState state.old s →
-        IfOk result (λ begun. HasBegun last begun (stack frames.new) state.new
-        (left_of last (meant_words levels (words_of words) [] s (command levels))
-        (stack frames.old))) }
-    ensures load { IfOk result (λ begun. begun_load begun + load (stack frames.new) state.new
-        ≤ 2 + load (stack frames.old) state.old) }
-    ensures watched { T.told watch.old [] watch.new }
-    ensures left { state.new.left ≤ state.old.left }
-{
-    match gather(alloc, frames, state, words, levels, WordsOf::Command)? {
-        Ok(values) => call(alloc, frames, state, values, levels, watch),
-        Err(outcome) => Ok(Begun::Has(outcome)),
+    let [name, ..] = words.as_slice() else {
+        return Begun::Has(Ok(Value::empty()));
+    };
+    match Form::read(name.as_slice()) {
+        Some(form) => Begun::Asks(Asking::Branches(form, words, levels)),
+        None => Begun::Has(Ok(Value::empty())),
     }
 }
 
@@ -198,7 +159,7 @@ fn call<A: Allocator + Copy, T: Watch<A, Running<A>, State<A>, Leaf<A, Waits<A>>
     if words.is_empty() {
         return Ok(Begun::Has(Ok(Value::empty())));
     }
-    watch.begins(state, words.as_slice());
+    watch.begins(words.as_slice());
     match call_control(alloc, frames, state, words.as_slice(), levels)? {
         Some(outcome) => Ok(Begun::Has(outcome)),
         None => call_other(alloc, state, words, levels),
@@ -384,7 +345,7 @@ fn ask<A: Allocator + Copy>(
             wait(alloc, frames, state, form, behind(words.as_slice()), levels)
         }
         Asking::Branches(form, words, levels) => {
-            say(alloc, frames, state, form, words.as_slice(), levels)
+            say(alloc, frames, state, form, behind(words.as_slice()), levels)
         }
         Asking::Turn(turn) => take_turn(alloc, frames, state, turn),
     }

@@ -1,6 +1,6 @@
 //! Turns of `expect` under frames.
 
-ghost use Rattle.std.specs.Prelude.{◌≡◌, ◌+◌, ◌≤◌, IfOk};
+ghost use Rattle.std.specs.Prelude.{◌+◌, ◌≤◌, [], IfOk};
 ghost use Rattle.state.specs.Prelude.{Status, FitsState};
 ghost use Rattle.machine.specs.Frames.{Onward, left_of, load, stack, words_in};
 ghost use Rattle.steps.specs.Goes.{Goes};
@@ -10,17 +10,18 @@ ghost use Rattle.expects.specs.Expect as definition;
 ghost use Rattle.expects.specs.Turn.{turns};
 ghost use Rattle.expects.specs.View.{IsPlain, IsPlainOpening, course_of_opening, course_of_talk, course_of_turned, form_of, turn_of};
 ghost use Rattle.state.specs.Leaf.{course_of};
+ghost use Rattle.state.specs.Words.{words as meant_words};
 
-use crate::frame::{Frame, WordsOf};
-use crate::nesting::{gather, put_above};
+use crate::frame::Frame;
+use crate::nesting::put_above;
 use crate::waits::Waits;
 use acts::NoMemory;
-use code::Made;
+use code::{CodedArgument, Entry, Made};
 use expects::expect::{begin, by_words};
 use expects::form::Form;
 use expects::turn::{Begun, Opening, Talk, Turn, Turned};
 use expects::turning::turn as turn_of_it;
-use state::leaf::empty;
+use state::leaf::{empty, gives};
 use state::{Leaf, State};
 use std::alloc::Allocator;
 use tcltext::Value;
@@ -44,13 +45,28 @@ pub fn wait<A: Allocator + Copy>(
 {
     match begin(alloc, state, form, args, levels)? {
         Begun::Opens(opening) => open(alloc, frames, state, opening),
-        Begun::Gathers(words, form) => {
-            match gather(alloc, frames, state, words, levels, WordsOf::Argument(form))? {
-                Ok(values) => say(alloc, frames, state, form, &values, levels),
-                Err(outcome) => Ok(Leaf::Has(outcome)),
-            }
-        }
+        Begun::Gathers(words, form) => gather(alloc, frames, words, form, levels),
     }
+}
+
+/// Puts the words of an argument in braces on the stack, which take the name of their command.
+fn gather<A: Allocator + Copy>(
+    alloc: A,
+    frames: &mut Vec<Frame<A>, A>,
+    words: CodedArgument<A>,
+    form: Form,
+    levels: u8,
+) -> Result<Leaf<A, Waits<A>>, NoMemory>
+    ensures goes { (last : Onward) (s : Status) → IfOk result (λ leaf.
+        Goes (left_of last (meant_words levels words [] s
+        (definition.by_words (form_of form) levels)) (stack frames.old))
+        (left_of last (course_of next_of leaf s) (stack frames.new))) }
+    ensures words { IfOk result (λ leaf.
+        again_in leaf + words_in (stack frames.new) ≤ 1 + words_in (stack frames.old)) }
+{
+    let name = Value::from_slice(alloc, form.name())?;
+    Frame::Code(Entry::Argument(words), levels).push(frames)?;
+    Ok(gives(name))
 }
 
 /// Continues with words that give branches, all of which are substituted.

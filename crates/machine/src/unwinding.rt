@@ -1,35 +1,30 @@
 //! How the frames take the outcome of the part within them, from the top down.
 
-ghost use Rattle.std.specs.Prelude.{◌≡◌, ◌≤◌, ◌+◌, ◌*◌, [], option_map, Err, IfOk, IfErr};
-ghost use Rattle.state.specs.Prelude.{Ends, Status, FitsState, outcome_of};
+ghost use Rattle.std.specs.Prelude.{◌≤◌, ◌+◌, ◌*◌, List, IfOk};
+ghost use Rattle.state.specs.Prelude.{Status, FitsState, outcome_of};
 ghost use Rattle.control.specs.View as control;
 ghost use Rattle.control.specs.View.{runs_held};
-ghost use Rattle.machine.specs.Frames.{Onward, call_of, left_of, next_of, onward_of, stack, weight, weight_of, words_in, words_load, words_of_frame};
+ghost use Rattle.machine.specs.Frames.{Onward, left_of, next_of, onward_of, stack, weight, weight_of, words_in, words_of_frame};
 ghost use Rattle.expects.specs.Turn.{behind as behind_body};
 ghost use Rattle.expects.specs.View.{turn_of};
 ghost use Rattle.machine.specs.Phases.{IsEmptied, IsLighter, Lightens, Unwinds};
-ghost use Rattle.machine.specs.Taken.{course_of_taken, tick_of, weight_taken, words_taken};
-ghost use Rattle.runs.specs.Scripts.{behind as meant_behind};
+ghost use Rattle.machine.specs.declared.frame.Frame as framed;
+ghost use Rattle.machine.specs.declared.frame.Frame.TheVariants as frames_are;
 ghost use Rattle.state.specs.Budget.{again_of};
-ghost use Rattle.tclparse.specs.Seen.{fault_of};
-ghost use Rattle.words.specs.Gathering.{gathering_on};
-ghost use Rattle.words.specs.Scripts.{scripts_left};
+ghost use Rattle.state.specs.declared.state.State as stated;
+ghost use Rattle.steps.specs.Run.{branches_in};
 
-use crate::frame::{Frame, WordsOf};
-use crate::nesting::{nest, put_above};
+use crate::frame::Frame;
+use crate::nesting::put_above;
 use crate::starting::Next;
-use crate::taken::{Taken, take_top};
 use acts::NoMemory;
-use code::Made;
+use code::Entry;
 use control::Held;
 use expects::resuming::resumed;
 use expects::turn::{Opening, Turn};
-use state::faults::no_script;
-use state::outcome::raised;
-use state::{Leave, Nesting, Outcome, State, Stop};
+use state::{Nesting, Outcome, State};
 use std::alloc::Allocator;
 use tcltext::Value;
-use words::{Gathered, Gathering};
 
 /// What a frame does with the outcome of the part within it.
 #[derive(Drop)]
@@ -38,8 +33,8 @@ pub enum Unwound<A: Allocator> {
     Has(Outcome<A>),
     /// This begins on top of the frames.
     Begins(Next<A>),
-    /// This script or formula is entered with this value, and so many levels may still nest in it.
-    Enters(Made<A>, u8, Value<A>),
+    /// This code is entered with this value, and so many levels may still nest in it.
+    Enters(Entry<A>, u8, Value<A>),
 }
 
 /// Hands an outcome to the frames, from the top down, until something begins or no frame is left.
@@ -61,152 +56,57 @@ pub(crate) fn unwind<A: Allocator + Copy>(
     ensures left { IfOk result (λ _. state.new.left ≤ state.old.left) }
 {
     'frames: loop {
-        match resume(alloc, frames, state, outcome)? {
-            Err(last) => return Ok(Unwound::Has(last)),
-            Ok(Unwound::Has(next)) => outcome = next,
-            Ok(Unwound::Begins(next)) => return Ok(Unwound::Begins(next)),
-            Ok(Unwound::Enters(it, levels, value)) => {
+        let Some(frame) = Frame::pop(frames) else {
+            return Ok(Unwound::Has(outcome));
+        };
+        match resume(alloc, frames, state, frame, outcome)? {
+            Unwound::Has(next) => outcome = next,
+            Unwound::Begins(next) => return Ok(Unwound::Begins(next)),
+            Unwound::Enters(it, levels, value) => {
                 return Ok(Unwound::Enters(it, levels, value));
             }
         }
     }
 }
 
-/// Hands the top frame the outcome of the part within it; `Err` with this outcome where there is
-/// no frame.
+/// Hands the frame that was on top the outcome of the part within it.
 fn resume<A: Allocator + Copy>(
     alloc: A,
     frames: &mut Vec<Frame<A>, A>,
     state: &mut State<A>,
-    outcome: Outcome<A>,
-) -> Result<Result<Unwound<A>, Outcome<A>>, NoMemory>
-    ensures unwinds { (last : Onward) (s : Status) → FitsState state.old s →
-        IfOk result (λ r. IfOk r (λ unwound. Unwinds last unwound (stack frames.new) state.new
-        (onward_of last (stack frames.old) s (outcome_of outcome)))) }
-    ensures lightens { IfOk result (λ r. IfOk r (λ unwound.
-        Lightens unwound (stack frames.new) state.new (weight (stack frames.old))
-        (again_of (outcome_of outcome) + words_in (stack frames.old)) state.old.left)) }
-    ensures over { IfOk result (λ r. IfErr r (λ last. (last ≡ outcome)
-        × (stack frames.old ≡ []) × (stack frames.new ≡ []) × (state.new ≡ state.old))) }
-    ensures left { IfOk result (λ _. state.new.left ≤ state.old.left) }
-{
-    match outcome {
-        Ok(value) => match take_top(frames, &mut state.left)? {
-            Some(taken) => Ok(Ok(value_on(alloc, frames, state, taken, value)?)),
-            None => Ok(Err(Ok(value))),
-        },
-        Err(leave) => match Frame::pop(frames) {
-            Some(frame) => Ok(Ok(leave_on(alloc, frames, state, frame, leave)?)),
-            None => Ok(Err(Err(leave))),
-        },
-    }
-}
-
-/// Hands a value to what was taken from the top frame.
-fn value_on<A: Allocator + Copy>(
-    alloc: A,
-    frames: &mut Vec<Frame<A>, A>,
-    state: &mut State<A>,
-    taken: Taken<A>,
-    value: Value<A>,
-) -> Result<Unwound<A>, NoMemory>
-    ensures unwinds { (last : Onward) (s : Status) → FitsState state.old s →
-        IfOk result (λ unwound. Unwinds last unwound (stack frames.new) state.new
-        (left_of last (course_of_taken taken s value) (stack frames.old))) }
-    ensures lightens { IfOk result (λ unwound.
-        Lightens unwound (stack frames.new) state.new
-        (weight_taken taken + weight (stack frames.old))
-        (words_taken taken + words_in (stack frames.old)) (tick_of taken + state.old.left)) }
-    ensures left { state.new.left ≤ state.old.left }
-{
-    match taken {
-        Taken::Command(words, levels) => Ok(Unwound::Begins(Next::Command(words, levels))),
-        Taken::Limit => Ok(Unwound::Has(Err(Leave::Stopped(Stop::Limit)))),
-        Taken::Behind(fault) => Ok(Unwound::Has(behind(alloc, fault, value)?)),
-        Taken::Code(it, levels) => Ok(Unwound::Enters(it, levels, value)),
-        Taken::Words(gathering, levels, whose) => {
-            let gathering = Box::into_inner(gathering);
-            words_on(alloc, frames, state, gathering, levels, whose, value)
-        }
-        Taken::Held(held) => held_on(alloc, frames, state, held, Ok(value)),
-        Taken::Turn(turn) => turn_on(alloc, frames, state, turn, Ok(value)),
-    }
-}
-
-/// Hands an outcome other than a value to the frame that was on top: scripts and words pass it on.
-#[inline(never)]
-fn leave_on<A: Allocator + Copy>(
-    alloc: A,
-    frames: &mut Vec<Frame<A>, A>,
-    state: &mut State<A>,
     frame: Frame<A>,
-    leave: Leave<A>,
+    outcome: Outcome<A>,
 ) -> Result<Unwound<A>, NoMemory>
     ensures unwinds { (last : Onward) (s : Status) → FitsState state.old s →
         IfOk result (λ unwound. Unwinds last unwound (stack frames.new) state.new
-        (left_of last (next_of frame s (outcome_of (Err leave))) (stack frames.old))) }
+        (left_of last (next_of frame s (outcome_of outcome)) (stack frames.old))) }
     ensures lightens { IfOk result (λ unwound.
         Lightens unwound (stack frames.new) state.new
         (weight_of frame + weight (stack frames.old))
-        (again_of (outcome_of (Err leave)) + (words_of_frame frame + words_in (stack frames.old)))
+        (again_of (outcome_of outcome) + (words_of_frame frame + words_in (stack frames.old)))
         state.old.left) }
-    ensures left { state.new.left ≤ state.old.left }
+    ensures left { IfOk result (λ _. state.new.left ≤ state.old.left) }
 {
     match frame {
-        Frame::Held(held) => held_on(alloc, frames, state, held, Err(leave)),
-        Frame::Turn(turn) => turn_on(alloc, frames, state, turn, Err(leave)),
-        _ => Ok(Unwound::Has(Err(leave))),
+        Frame::Code(it, levels) => Ok(code_on(it, levels, outcome)),
+        Frame::Held(held) => held_on(alloc, frames, state, held, outcome),
+        Frame::Turn(turn) => turn_on(alloc, frames, state, turn, outcome),
     }
 }
 
-/// How a script ends after its commands: with the value of the last one, or with the fault.
-fn behind<A: Allocator + Copy>(
-    alloc: A,
-    fault: Option<tclparse::Fault>,
-    value: Value<A>,
-) -> Result<Outcome<A>, NoMemory>
-    ensures ends { IfOk result (λ outcome. (s : Status) →
-        meant_behind (option_map fault_of fault) s value ≡ Ends (s, outcome_of outcome)) }
-    ensures plain { IfOk result (λ outcome. again_of (outcome_of outcome) ≡ 0) }
+/// Hands a code of which nothing is done yet an outcome: it is entered with a value, and passes on
+/// all else.
+fn code_on<A: Allocator>(it: Entry<A>, levels: u8, outcome: Outcome<A>) -> Unwound<A>
+    ensures unwinds { (last : Onward) (frames : List (framed.Frame A)) (state : stated.State A)
+        (s : Status) → FitsState state s → Unwinds last result frames state
+        (left_of last (next_of (frames_are.Code it levels) s (outcome_of outcome)) frames) }
+    ensures lightens { (frames : List (framed.Frame A)) (state : stated.State A) →
+        Lightens result frames state (1 + weight frames)
+        (again_of (outcome_of outcome) + (branches_in it + words_in frames)) state.left }
 {
-    match fault {
-        None => Ok(Ok(value)),
-        Some(fault) => raised(alloc, &no_script(fault)),
-    }
-}
-
-/// Continues words after a script in one of them.
-#[inline(never)]
-fn words_on<A: Allocator + Copy>(
-    alloc: A,
-    frames: &mut Vec<Frame<A>, A>,
-    state: &mut State<A>,
-    gathering: Gathering<A>,
-    levels: u8,
-    whose: WordsOf,
-    value: Value<A>,
-) -> Result<Unwound<A>, NoMemory>
-    ensures unwinds { (last : Onward) (s : Status) → FitsState state.old s →
-        IfOk result (λ unwound. Unwinds last unwound (stack frames.new) state.new
-        (left_of last (gathering_on levels gathering (call_of whose levels) s value)
-        (stack frames.old))) }
-    ensures lightens { IfOk result (λ unwound.
-        Lightens unwound (stack frames.new) state.new
-        (3 + 2 * scripts_left gathering + weight (stack frames.old))
-        (words_load whose + words_in (stack frames.old)) state.old.left) }
-    ensures left { state.new.left ≤ state.old.left }
-{
-    let gathered = words::resume(alloc, &state.scopes, gathering, value)?;
-    match gathered {
-        Gathered::Values(values) => Ok(Unwound::Begins(Next::Call(values, levels, whose))),
-        Gathered::Script(commands, gathering) => {
-            let outcome = nest(alloc, frames, commands, gathering, levels, whose)?;
-            Ok(Unwound::Has(outcome))
-        }
-        Gathered::Fault(fault) => {
-            let outcome = raised(alloc, &fault)?;
-            Ok(Unwound::Has(outcome))
-        }
+    match outcome {
+        Ok(value) => Unwound::Enters(it, levels, value),
+        Err(leave) => Unwound::Has(Err(leave)),
     }
 }
 

@@ -28,11 +28,12 @@ pub trait Watch<A: Allocator, R, S, L> {
         ensures { told self.old [] self.new };
 
     /// A command begins with these words, all substituted.
-    fn begins(&mut self, state: &S, words: &[Value<A>])
+    fn begins(&mut self, words: &[Value<A>])
         ensures { told self.old [] self.new };
 
-    /// These words of an argument in braces give the branches of the command that began, after a
-    /// script in one of them.
+    /// These words give the branches of the command that began: its name, and those of its argument
+    /// in braces, which are substituted now. Who watches is told of no words that are texts as they
+    /// stand.
     fn says(&mut self, words: &[Value<A>])
         ensures { told self.old [] self.new };
 
@@ -84,7 +85,7 @@ impl<A: Allocator, R, S, L> Watch<A, R, S, L> for Unwatched {
     fn stands(&mut self, _running: &R, _state: &S) {}
 
     #[inline(always)]
-    fn begins(&mut self, _state: &S, _words: &[Value<A>]) {}
+    fn begins(&mut self, _words: &[Value<A>]) {}
 
     #[inline(always)]
     fn says(&mut self, _words: &[Value<A>]) {}

@@ -14,7 +14,7 @@ use Rattle.state.specs.Piece.{Piece, Script, One, Loop, Turn, Text, Tree}
 use Rattle.tclparse.specs.Fault.{Fault}
 use Rattle.tclparse.specs.Tree.{Words, Commands, no_commands}
 use Rattle.tclparse.specs.Tree as tree
-use Rattle.words.proofs.Closed.{words_closed}
+use Rattle.state.proofs.Words.{words_closed}
 use Rattle.state.specs.Words.{words}
 
 -- the rank of a script is above that of its commands, and the rank of loops and turns above that of

@@ -7,6 +7,7 @@ pub mod FitIds
 pub mod Fits
 pub mod Reaches
 pub mod Closed
+pub mod Words
 pub mod Nestings
 pub mod Refused
 pub mod Numbers

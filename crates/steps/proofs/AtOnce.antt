@@ -1,5 +1,5 @@
 -- Commands that are over at once, in the run of a code.
-use Rattle.std.proofs.Common.{◌≡◌, ◌≢◌, ℕ, ◌+◌, ◌*◌, ◌≤◌, List, ◌∷◌, length, None, Result, refl, sym, subst, arith}
+use Rattle.std.proofs.Common.{◌≡◌, ℕ, ◌+◌, ◌*◌, ◌≤◌, List, ◌∷◌, length, None, Result, refl, sym, subst, arith}
 use Rattle.std.proofs.Math.Nat.{mul-le-mul_right}
 use Rattle.code.specs.declared.instruction.Instruction.{Instruction}
 use Rattle.commands.specs.Commands as plain
@@ -16,8 +16,8 @@ use Rattle.steps.specs.Follows.{Follows, Resumes}
 use Rattle.steps.specs.Goes.{Goes, here, reads}
 use Rattle.steps.specs.Handling.{resumed}
 use Rattle.steps.specs.Run.{Awaits, HasCome, HasStopped, IsDone, most_commands}
-use Rattle.steps.specs.Spot.{Did, Went, Reads, Begins, Over, Stuck}
-use Rattle.steps.specs.View.{below_words, did_of, spot_of, words_of}
+use Rattle.steps.specs.Spot.{Did, Went, Reads, Begins, Says, Over, Stuck}
+use Rattle.steps.specs.View.{IsCall, below_words, did_of, spot_of, stop_of, words_of}
 use Rattle.steps.specs.declared.progress.Progress.{Progress}
 use Rattle.steps.specs.declared.progress.Progress.TheVariants as went
 use Rattle.steps.specs.declared.run.Run.{Run}
@@ -54,6 +54,11 @@ module _ {A X : Type 0} (code : List (Instruction A)) (last : Status → Outcome
     goes = then_goes goes waits.goes;
     resumes = waits.resumes;
   }
+  follows_after (Says words spot s) p q goes waits = record {
+    next = waits.next;
+    goes = then_goes goes waits.goes;
+    resumes = waits.resumes;
+  }
   follows_after (Over outcome s) p q goes over = then_goes goes over
   follows_after Stuck p q goes stuck = absurd stuck
 
@@ -79,12 +84,13 @@ module _ {A : Type 0} (last : Status → Outcome → Dialogue Ended) where
         goes came.follows;
   }
 
-  -- where no command begins it has stopped there
+  -- where nothing begins it has stopped there
   pub over_stops : (progress : Progress) (run : Run A) (state : State A) (p : Dialogue Ended) →
-      progress ≢ went.Begins → HasCome last progress run state p →
+      (IsCall progress → ⊥) → HasCome last progress run state p →
       HasStopped last progress run state p
   over_stops went.GoesOn run state p other came = absurd (came.stops refl)
-  over_stops went.Begins run state p other came = absurd (other refl)
+  over_stops went.Begins run state p other came = absurd (other tt)
+  over_stops went.Says run state p other came = absurd (other tt)
   over_stops went.Over run state p other came = record {
     status = came.status;
     fits = came.fits;
@@ -93,22 +99,35 @@ module _ {A : Type 0} (last : Status → Outcome → Dialogue Ended) where
   }
   over_stops went.Stuck run state p other came = absurd came.follows
 
-  -- and where one begins, once its words are taken off the operands
-  pub begun_stops : (run : Run A) (spot : Spot A) (old new : State A) (p : Dialogue Ended) →
-      (came : HasCome last went.Begins run old p) → FitsState new came.status →
-      spot.words.items ≡ words_of run.spot → spot_of spot ≡ below_words run.spot →
-      HasStopped last went.Begins (record run { spot = spot }) new p
-  begun_stops run spot old new p came fits words stands =
+  -- and where something begins, once its words are taken off the operands
+  taken_off : (progress : Progress) (run : Run A) (spot : Spot A) (s : Status)
+      (p : Dialogue Ended) → IsCall progress → spot.words.items ≡ words_of run.spot →
+      spot_of spot ≡ below_words run.spot →
+      Follows run.code.value.items last (did_of progress run.spot s) p →
+      Follows run.code.value.items last (stop_of progress spot s) p
+  taken_off went.GoesOn run spot s p is words stands follows = absurd is
+  taken_off went.Begins run spot s p is words stands follows =
       let code = run.code.value.items in
-      record {
-        status = came.status;
-        fits = fits;
-        stops = came.stops;
-        follows = subst (λ ws. Follows code last (Begins ws (spot_of spot) came.status) p)
-            (sym words)
-            (subst (λ at. Follows code last (Begins (words_of run.spot) at came.status) p)
-            (sym stands) came.follows);
-      }
+      subst (λ ws. Follows code last (Begins ws (spot_of spot) s) p) (sym words)
+      (subst (λ at. Follows code last (Begins (words_of run.spot) at s) p) (sym stands) follows)
+  taken_off went.Says run spot s p is words stands follows =
+      let code = run.code.value.items in
+      subst (λ ws. Follows code last (Says ws (spot_of spot) s) p) (sym words)
+      (subst (λ at. Follows code last (Says (words_of run.spot) at s) p) (sym stands) follows)
+  taken_off went.Over run spot s p is words stands follows = absurd is
+  taken_off went.Stuck run spot s p is words stands follows = absurd is
+
+  pub begun_stops : (progress : Progress) (run : Run A) (spot : Spot A) (old new : State A)
+      (p : Dialogue Ended) → IsCall progress →
+      (came : HasCome last progress run old p) → FitsState new came.status →
+      spot.words.items ≡ words_of run.spot → spot_of spot ≡ below_words run.spot →
+      HasStopped last progress (record run { spot = spot }) new p
+  begun_stops progress run spot old new p is came fits words stands = record {
+    status = came.status;
+    fits = fits;
+    stops = came.stops;
+    follows = taken_off progress run spot came.status p is words stands came.follows;
+  }
 
   -- a command is over at once, and the run waits for its outcome no longer
   pub done_stands : (run : Run A) (spot : Spot A) (old new : State A)

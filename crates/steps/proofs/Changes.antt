@@ -1,5 +1,5 @@
 -- A command that changes the variables, and gives a value, as one instruction.
-use Rattle.std.proofs.Common.{◌≡◌, ◌∙◌, ℕ, List, ◌∷◌, Option, Some, None, Result, Ok, Err, sym, ap, subst}
+use Rattle.std.proofs.Common.{◌≡◌, ◌∙◌, ℕ, List, ◌∷◌, Option, None, Result, Ok, Err, sym, ap, subst}
 use Rattle.acts.specs.declared.raise.Raise.{Raise}
 use Rattle.acts.specs.declared.raise.Raise.TheVariants as raise
 use Rattle.kinds.specs.Answers.{Keeps, Stores}

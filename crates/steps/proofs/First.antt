@@ -1,7 +1,7 @@
 -- What a run does first, and what ends it.
 use Rattle.std.proofs.Common.{◌≡◌, ℕ, zero, suc, ◌-◌, ◌*◌, ◌<◌, ◌≤◌, List, [], ◌∷◌, None, Option, Some, Result, Ok, Err, refl, sym, ap, subst, ⊎_elim, arith}
 use Rattle.std.proofs.Math.Nat.{eq-or-lt_of_le}
-use Rattle.std.specs.Prelude.{nat_le, if◌then◌else◌, true, false, Bool}
+use Rattle.std.specs.Prelude.{nat_le, slice_get, if◌then◌else◌, true, false, Bool}
 use Rattle.code.specs.declared.instruction.Instruction.{Instruction}
 use Rattle.runs.specs.Run.{initial}
 use Rattle.state.specs.Budget.{again_of}
@@ -14,7 +14,7 @@ use Rattle.bodies.specs.Catch.{number_of}
 use Rattle.steps.specs.Machine.{machine}
 use Rattle.steps.specs.Moves.{jumping, on_top}
 use Rattle.steps.specs.Run.{IsIdle, IsValue}
-use Rattle.steps.specs.Spot.{Spot, Did, Handler, Went, Reads, Begins, Over, Stuck, with_top}
+use Rattle.steps.specs.Spot.{Spot, Did, Handler, Went, Reads, Begins, Says, Over, Stuck, with_top}
 use Rattle.steps.specs.View.{did_of, spot_of}
 use Rattle.steps.specs.declared.handler.Way.{Way}
 use Rattle.steps.specs.declared.handler.Way.TheVariants as way
@@ -24,10 +24,11 @@ use Rattle.steps.specs.declared.spot.Spot as coded
 use Rattle.steps.proofs.Handlers.{leads_nowhere}
 
 -- so where a command begins a tick was taken
-pub ticked_by : {A : Type 0} (progress : Progress) (spot : coded.Spot A) (now left : ℕ) →
-    progress ≡ went.Begins → now ≤ left → (now ≡ left → IsIdle progress spot) → now < left
-ticked_by progress spot now left begun fewer unless =
-    ⊎_elim (λ same. absurd (subst (λ it. IsIdle it spot) begun (unless same))) (λ less. less)
+pub ticked_by : {A : Type 0} (said : ℕ) (code : List (Instruction A)) (progress : Progress)
+    (spot : coded.Spot A) (now left : ℕ) →
+    progress ≡ went.Begins → now ≤ left → (now ≡ left → IsIdle said code progress spot) → now < left
+ticked_by said code progress spot now left begun fewer unless =
+    ⊎_elim (λ same. absurd (subst (λ it. IsIdle said code it spot) begun (unless same))) (λ less. less)
     (eq-or-lt_of_le fewer)
 
 -- some state of the definition
@@ -39,6 +40,7 @@ abbrev spot_in : Did → Spot → Spot
 spot_in (Went spot s) other = spot
 spot_in (Reads text next) other = other
 spot_in (Begins words spot s) other = other
+spot_in (Says words spot s) other = other
 spot_in (Over outcome s) other = other
 spot_in Stuck other = other
 
@@ -79,6 +81,7 @@ abbrev pub Counts : ℕ → Did → Type 0
 Counts most (Went spot s) = Unit {0}
 Counts most (Reads text next) = ⊥
 Counts most (Begins words spot s) = Unit {0}
+Counts most (Says words spot s) = Unit {0}
 Counts most (Over outcome s) = again_of outcome ≤ most
 Counts most Stuck = Unit {0}
 
@@ -143,18 +146,33 @@ end_counts it spot s did none does =
     (subst (λ it. Counts 0 (machine it spot s)) (sym none) (top_counts spot.operands s)) does
 
 -- a value leads on
-pub value_idle : {A : Type 0} (progress : Progress) (new old : coded.Spot A)
-    (outcome : Result (List ℕ) (Leave A)) → IsValue outcome →
+pub value_idle : {A : Type 0} (said : ℕ) (code : List (Instruction A)) (progress : Progress)
+    (new old : coded.Spot A) (outcome : Result (List ℕ) (Leave A)) → IsValue outcome →
     ((s : Status) → did_of progress new s ≡ resumed (spot_of old) (outcome_of outcome) s) →
-    IsIdle progress new
-value_idle went.GoesOn new old outcome is does = tt
-value_idle went.Begins new old outcome is does =
-    leads_nowhere went.Begins new (spot_of old) (outcome_of outcome) does refl
-value_idle went.Over new old (Ok value) is does =
+    IsIdle said code progress new
+value_idle said code went.GoesOn new old outcome is does = tt
+value_idle said code went.Begins new old outcome is does =
+    leads_nowhere went.Begins new (spot_of old) (outcome_of outcome) does tt
+value_idle said code went.Says new old outcome is does =
+    absurd (leads_nowhere went.Says new (spot_of old) (outcome_of outcome) does tt)
+value_idle said code went.Over new old (Ok value) is does =
     let counts = outcome_counts went.Over new (spot_of old) (Gives value) does refl in
     omega (arith, counts)
-value_idle went.Over new old (Err leave) is does = absurd is
-value_idle went.Stuck new old outcome is does = tt
+value_idle said code went.Over new old (Err leave) is does = absurd is
+value_idle said code went.Stuck new old outcome is does = tt
+
+-- the words by which branches are given are no part of that
+pub idle_stays : {A : Type 0} (said : ℕ) (code : List (Instruction A)) (progress : Progress)
+    (old new : coded.Spot A) → new.place ≡ old.place →
+    (progress ≡ went.Over → new.outcome ≡ old.outcome) → IsIdle said code progress old →
+    IsIdle said code progress new
+idle_stays said code went.GoesOn old new place over idle = tt
+idle_stays said code went.Begins old new place over idle = absurd idle
+idle_stays said code went.Says old new place over idle =
+    (idle.0, subst (λ n. slice_get code n ≡ None) (sym place) idle.1)
+idle_stays {A = A} said code went.Over old new place over idle =
+    subst (λ (o : Result (List ℕ) (Leave A)). again_of (outcome_of o) ≡ 0) (sym (over refl)) idle
+idle_stays said code went.Stuck old new place over idle = tt
 
 -- an outcome counts less than two for each place that is left, where none comes after the last one
 pub places_bound : (size place again : ℕ) → again ≤ 1 → (size ≤ place → again ≡ 0) →

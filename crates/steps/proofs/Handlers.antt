@@ -6,9 +6,9 @@ use Rattle.bodies.specs.Catch.{number_of}
 use Rattle.state.specs.Prelude.{Code, Gives, Leaves, Outcome, Status, Stops}
 use Rattle.steps.specs.Handling.{handled, led, outside, resumed, way_of, with_code}
 use Rattle.steps.specs.Moves.{jumping}
-use Rattle.steps.specs.Spot.{Begins, Did, Handler, Over, Spot, Stuck, Went, with_top}
+use Rattle.steps.specs.Spot.{Begins, Did, Handler, Over, Says, Spot, Stuck, Went, with_top}
 use Rattle.runs.specs.Run.{initial}
-use Rattle.steps.specs.View.{did_of, handler_of}
+use Rattle.steps.specs.View.{IsCall, did_of, handler_of}
 use Rattle.steps.specs.declared.handler.Handler as opened
 use Rattle.steps.specs.declared.handler.Way.{Way}
 use Rattle.steps.specs.declared.handler.Way.TheVariants as way
@@ -82,10 +82,19 @@ module _ (code : Code) (value : List ℕ) (s : Status) where
       sym (ap (λ hs. handled (reverse (map handler_of hs)) code value spot s)
       (nil_from_length handlers none))
 
--- a command begins
+-- something begins by words
 abbrev IsBegun : Did → Type 0
 IsBegun (Begins words spot s) = Unit {0}
+IsBegun (Says words spot s) = Unit {0}
 IsBegun did = ⊥
+
+call_begins : {A : Type 0} (progress : Progress) (spot : coded.Spot A) (s : Status) →
+    IsCall progress → IsBegun (did_of progress spot s)
+call_begins went.GoesOn spot s is = absurd is
+call_begins went.Begins spot s is = tt
+call_begins went.Says spot s is = tt
+call_begins went.Over spot s is = absurd is
+call_begins went.Stuck spot s is = absurd is
 
 jumped : (b : Bool) (spot : Spot) (s : Status) →
     IsBegun (if b then Went spot s else Stuck) → ⊥
@@ -114,7 +123,7 @@ handled_nowhere (h ∷ handlers) code value spot s begun =
     (handled handlers code value spot s)
     (λ b. handled_nowhere handlers code value spot s b) begun
 
--- where an outcome leads no command begins
+-- where an outcome leads nothing begins
 none_begins : (spot : Spot) (outcome : Outcome) (s : Status) →
     IsBegun (resumed spot outcome s) → ⊥
 none_begins spot (Gives value) s begun = begun
@@ -122,11 +131,10 @@ none_begins spot (Leaves code value) s begun =
     handled_nowhere spot.handlers code value spot s begun
 none_begins spot (Stops stop) s begun = begun
 
--- where the code does what an outcome leads to, whatever the state, no command begins
+-- where the code does what an outcome leads to, whatever the state, nothing begins
 pub leads_nowhere : {A : Type 0} (progress : Progress) (new : coded.Spot A) (spot : Spot)
     (outcome : Outcome) → ((s : Status) → did_of progress new s ≡ resumed spot outcome s) →
-    progress ≡ went.Begins → ⊥
-leads_nowhere progress new spot outcome does begun =
+    IsCall progress → ⊥
+leads_nowhere progress new spot outcome does is =
     let s = initial [] 0 in
-    none_begins spot outcome s (subst IsBegun (does s)
-    (subst (λ it. IsBegun (did_of it new s)) (sym begun) tt))
+    none_begins spot outcome s (subst IsBegun (does s) (call_begins progress new s is))

@@ -18,7 +18,6 @@ pub mod Bodies
 pub mod Operators
 pub mod Functions
 pub mod Words
-pub mod Literals
 pub mod Lists
 pub mod Switch
 pub mod Strings

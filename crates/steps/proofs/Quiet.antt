@@ -3,10 +3,12 @@ use Rattle.std.proofs.Common.{◌≡◌, ℕ, zero, suc, ◌+◌, ◌-◌, ◌<�
 use Rattle.std.proofs.lemmas.Option.{slice_get_past}
 use Rattle.std.specs.Prelude.{drop, if◌then◌else◌, length, nat_le, reverse, slice_get, take}
 use Rattle.acts.specs.Flaw as flaw
-use Rattle.code.specs.Made.{IsCodeOfMade}
+use Rattle.code.specs.Made.{IsCodeOfEntry, IsCodeOfMade}
+use Rattle.code.specs.declared.made.Entry.{Entry}
+use Rattle.code.specs.declared.made.Entry.TheVariants as entry
 use Rattle.code.specs.declared.made.Made.{Made}
 use Rattle.code.specs.declared.made.Made.TheVariants as made
-use Rattle.code.specs.Code.{ArgumentsAt, At, CommandsAt, FaultAt, FormulaAt, JoinsAt, LinksAt, PartsAt, ScriptAt}
+use Rattle.code.specs.Code.{ArgumentsAt, At, CommandsAt, FaultAt, FormulaAt, JoinsAt, LinksAt, PartsAt, ScriptAt, WordsAt}
 use Rattle.code.specs.Code as laid
 use Rattle.code.specs.declared.instruction.Instruction.{Instruction}
 use Rattle.code.specs.declared.instruction.Instruction.TheVariants as i
@@ -18,25 +20,25 @@ use Rattle.operators.specs.Truth.{truth_of}
 use Rattle.operators.specs.Unary.{unary}
 use Rattle.operators.specs.Value.{result, written}
 use Rattle.state.specs.Budget.{again_of}
-use Rattle.state.specs.Piece.{Tree}
+use Rattle.state.specs.Piece.{ListText, Tree}
 use Rattle.state.specs.Prelude.{Flaw, Status}
 use Rattle.state.specs.Variables.{flaw_of_trouble, spelled}
 use Rattle.steps.specs.Does.{Does}
 use Rattle.steps.specs.Does as it_does
 use Rattle.steps.specs.Formulas.{choosing, deciding, gives, on_meaning, on_split, on_truth, unless}
 use Rattle.steps.specs.Handling.{fails}
-use Rattle.steps.specs.Machine.{ahead, does, entering, machine, reading, with_value}
+use Rattle.steps.specs.Machine.{ahead, does, entering, machine, reading, spread, with_value}
 use Rattle.steps.specs.Moves.{jumping, on_top, ticked, with_operands}
-use Rattle.steps.specs.Run.{Forks, IsIdle, IsPlain, IsQuiet}
+use Rattle.steps.specs.Run.{Forks, IsIdle, IsPlain, IsQuiet, branches_in}
 use Rattle.steps.specs.Run as run
-use Rattle.steps.specs.Spot.{Spot, Did, Went, Reads, Begins, Over, Stuck, with_top}
+use Rattle.steps.specs.Spot.{Spot, Did, Went, Reads, Begins, Says, Over, Stuck, with_top}
 use Rattle.steps.specs.View.{did_of}
 use Rattle.steps.specs.declared.progress.Progress.{Progress}
 use Rattle.steps.specs.declared.progress.Progress.TheVariants as went
 use Rattle.steps.specs.declared.spot.Spot as coded
 use Rattle.tclparse.specs.Formula.{Formula, Formulas, Links}
 use Rattle.tclparse.specs.Fault.{Fault}
-use Rattle.tclparse.specs.Tree.{Commands, Parts}
+use Rattle.tclparse.specs.Tree.{Commands, Parts, Words}
 use Rattle.tcltext.specs.Flaw as list
 use Rattle.tclstate.specs.Scopes.{Trouble, read}
 
@@ -46,6 +48,7 @@ abbrev pub Calm : (ℕ → Type 0) → ℕ → Did → Type 0
 Calm At left (Went spot s) = At spot.place × (spot.handlers ≡ []) × (s.left ≡ left)
 Calm At left (Reads text next) = (tree : Tree text) → Calm At left (next tree)
 Calm At left (Begins words spot s) = ⊥
+Calm At left (Says words spot s) = ⊥
 Calm At left (Over outcome s) = again_of outcome ≡ 0
 Calm At left Stuck = Unit {0}
 
@@ -84,6 +87,11 @@ module _ (P : ℕ → Type 0) where
       Calm P s.left (on_split spot s next read)
   calm_split (Ok elements) spot s next none calm = calm elements
   calm_split (Err why) spot s next none calm = calm_fails (flaw_of_list why) spot s none
+
+  calm_spread : (read : Result (List (List ℕ)) list.Flaw) (spot : Spot) (s : Status) →
+      spot.handlers ≡ [] → P spot.place → Calm P s.left (spread spot s read)
+  calm_spread (Ok elements) spot s none at = (at, none, refl)
+  calm_spread (Err why) spot s none at = calm_fails (flaw_of_list why) spot s none
 
   calm_meaning : (meaning : Meaning) (spot : Spot) (s : Status) (next : List ℕ → Did) →
       spot.handlers ≡ [] → ((value : List ℕ) → Calm P s.left (next value)) →
@@ -148,6 +156,11 @@ module _ (P : ℕ → Type 0) where
   calm_plain spot s run.leaves none at =
       calm_if s.left (nat_le 255 spot.levels) Stuck
       (Went (record spot { levels = suc spot.levels }) s) tt (at, none, refl)
+  calm_plain spot s (run.counts {n = n}) none at = (at, none, refl)
+  calm_plain spot s run.spreads none at =
+      calm_top s.left spot.operands
+      (λ text below. Reads (ListText text) (spread (with_operands below spot) s))
+      (λ text below. λ read. calm_spread read (with_operands below spot) s none at)
   calm_plain spot s (run.numeral {digits = digits}) none at =
       gives_calm (written digits) spot s none at
   calm_plain spot s (run.prefixed {operator = operator}) none at =
@@ -214,103 +227,119 @@ module _ (P : ℕ → Type 0) where
       unless_calm place spot s none at other
 
 -- a tick was taken, or all is as above
-abbrev pub Passed : (ℕ → Type 0) → ℕ → Did → Type 0
-Passed At left (Went spot s) =
-    (s.left < left) ⊎ (At spot.place × (spot.handlers ≡ []) × (s.left ≡ left))
-Passed At left (Reads text next) = (tree : Tree text) → Passed At left (next tree)
-Passed At left (Begins words spot s) = ⊥
-Passed At left (Over outcome s) = again_of outcome ≡ 0
-Passed At left Stuck = Unit {0}
+abbrev pub Passed : {A : Type 0} → ℕ → List (Instruction A) → ℕ → Did → Type 0
+Passed said code left (Went spot s) =
+    (s.left < left) ⊎ (IsQuiet said code spot.place × (spot.handlers ≡ []) × (s.left ≡ left))
+Passed said code left (Reads text next) = (tree : Tree text) → Passed said code left (next tree)
+Passed said code left (Begins words spot s) = ⊥
+Passed said code left (Says words spot s) =
+    (0 < said) × (slice_get code spot.place ≡ None)
+Passed said code left (Over outcome s) = again_of outcome ≡ 0
+Passed said code left Stuck = Unit {0}
 
-calm_passed : (P : ℕ → Type 0) (left : ℕ) (did : Did) → Calm P left did → Passed P left did
-calm_passed P left (Went spot s) calm = inr calm
-calm_passed P left (Reads text next) calm = λ tree. calm_passed P left (next tree) (calm tree)
-calm_passed P left (Begins words spot s) calm = calm
-calm_passed P left (Over outcome s) calm = calm
-calm_passed P left Stuck calm = tt
+module _ {A : Type 0} (said : ℕ) (code : List (Instruction A)) where
+  calm_passed : (left : ℕ) (did : Did) → Calm (IsQuiet said code) left did → Passed said code left did
+  calm_passed left (Went spot s) calm = inr calm
+  calm_passed left (Reads text next) calm = λ tree. calm_passed left (next tree) (calm tree)
+  calm_passed left (Begins words spot s) calm = calm
+  calm_passed left (Says words spot s) calm = absurd calm
+  calm_passed left (Over outcome s) calm = calm
+  calm_passed left Stuck calm = tt
 
-next_passed : (P : ℕ → Type 0) (left : ℕ) (below : List (List ℕ)) (spot : Spot) (s : Status) →
-    s.left ≡ left → Passed P s.left (ticked left s (λ t. Went (with_operands below spot) t))
-next_passed P zero below spot s is = refl
-next_passed P (suc left) below spot s is = inl (omega (arith, is))
+  next_passed : (left : ℕ) (below : List (List ℕ)) (spot : Spot) (s : Status) → s.left ≡ left →
+      Passed said code s.left (ticked left s (λ t. Went (with_operands below spot) t))
+  next_passed zero below spot s is = refl
+  next_passed (suc left) below spot s is = inl (omega (arith, is))
 
-top_passed : (P : ℕ → Type 0) (left : ℕ) (operands : List (List ℕ))
-    (rest : List ℕ → List (List ℕ) → Did) →
-    ((value : List ℕ) (below : List (List ℕ)) → Passed P left (rest value below)) →
-    Passed P left (on_top operands rest)
-top_passed P left [] rest passed = tt
-top_passed P left (value ∷ below) rest passed = passed value below
+  top_passed : {X : Type 0} (left : ℕ) (xs : List X) (rest : X → List X → Did) →
+      ((x : X) (below : List X) → Passed said code left (rest x below)) →
+      Passed said code left (on_top xs rest)
+  top_passed left [] rest passed = tt
+  top_passed left (x ∷ below) rest passed = passed x below
 
--- what the instruction at a quiet place does
-quiet_passed : {A : Type 0} (code : List (Instruction A)) (spot : Spot) (s : Status)
-    {place : ℕ} → IsQuiet code place → spot.place ≡ place → spot.handlers ≡ [] →
-    Passed (IsQuiet code) s.left (machine (slice_get code place) spot s)
-quiet_passed code spot s (run.past over) is none =
-    subst (λ it. Passed (IsQuiet code) s.left (machine it spot s)) (sym over)
-    (top_passed (IsQuiet code) s.left spot.operands _ (λ value below. refl))
-quiet_passed code spot s (run.ticks at) is none =
-    subst (λ it. Passed (IsQuiet code) s.left (machine it spot s)) (sym at)
-    (top_passed (IsQuiet code) s.left spot.operands _
-    (λ value below. next_passed (IsQuiet code) s.left below (ahead spot) s refl))
-quiet_passed code spot s (run.faulty at) is none =
-    subst (λ it. Passed (IsQuiet code) s.left (machine it spot s)) (sym at) (rw none refl)
-quiet_passed code spot s (run.goes {place = place} {it = it} at plain rest) is none =
-    subst (λ it. Passed (IsQuiet code) s.left (machine it spot s)) (sym at)
-    (calm_passed (IsQuiet code) s.left (does it (ahead spot) s)
-    (calm_plain (IsQuiet code) (ahead spot) s plain none
-    (subst (λ n. IsQuiet code (n + 1)) (sym is) rest)))
-quiet_passed code spot s (run.forks {place = place} {it = it} at fork rest other) is none =
-    subst (λ it. Passed (IsQuiet code) s.left (machine it spot s)) (sym at)
-    (calm_passed (IsQuiet code) s.left (does it (ahead spot) s)
-    (calm_forks (IsQuiet code) (ahead spot) s fork none
-    (subst (λ n. IsQuiet code (n + 1)) (sym is) rest) other))
-quiet_passed code spot s (run.jumps {other = other} at rest) is none =
-    subst (λ it. Passed (IsQuiet code) s.left (machine it spot s)) (sym at)
-    (calm_passed (IsQuiet code) s.left (jumping other (ahead spot) s)
-    (calm_jump (IsQuiet code) other (ahead spot) s none rest))
+  said_passed : (b : Bool) (left : ℕ) (words : List (List ℕ)) (spot : Spot) (s : Status) →
+      0 < said → slice_get code spot.place ≡ None →
+      Passed said code left (if b then Says words spot s else Stuck)
+  said_passed true left words spot s may over = (may, over)
+  said_passed false left words spot s may over = tt
 
--- so did what it came to, once texts are read
-pub did_passed : (P : ℕ → Type 0) (left : ℕ) (did other : Did) → Passed P left did →
-    Does did other → Passed P left other
-did_passed P left did other passed it_does.same = passed
-did_passed P left (Reads text next) other passed (it_does.reads tree is does) =
-    did_passed P left (next tree) other (passed tree) does
+  -- what the instruction at a quiet place does
+  quiet_passed : (spot : Spot) (s : Status) {place : ℕ} → IsQuiet said code place →
+      spot.place ≡ place → spot.handlers ≡ [] →
+      Passed said code s.left (machine (slice_get code place) spot s)
+  quiet_passed spot s (run.past over) is none =
+      subst (λ it. Passed said code s.left (machine it spot s)) (sym over)
+      (top_passed s.left spot.operands _ (λ value below. refl))
+  quiet_passed spot s (run.ticks at) is none =
+      subst (λ it. Passed said code s.left (machine it spot s)) (sym at)
+      (top_passed s.left spot.operands _
+      (λ value below. next_passed s.left below (ahead spot) s refl))
+  quiet_passed spot s (run.faulty at) is none =
+      subst (λ it. Passed said code s.left (machine it spot s)) (sym at) (rw none refl)
+  quiet_passed spot s (run.says may at over) is none =
+      subst (λ it. Passed said code s.left (machine it spot s)) (sym at)
+      (top_passed s.left spot.marks _ (λ below marks.
+      said_passed (nat_le below (length spot.operands)) s.left _ _ s may
+      (subst (λ n. slice_get code (n + 1) ≡ None) (sym is) over)))
+  quiet_passed spot s (run.goes {place = place} {it = it} at plain rest) is none =
+      subst (λ it. Passed said code s.left (machine it spot s)) (sym at)
+      (calm_passed s.left (does it (ahead spot) s)
+      (calm_plain (IsQuiet said code) (ahead spot) s plain none
+      (subst (λ n. IsQuiet said code (n + 1)) (sym is) rest)))
+  quiet_passed spot s (run.forks {place = place} {it = it} at fork rest other) is none =
+      subst (λ it. Passed said code s.left (machine it spot s)) (sym at)
+      (calm_passed s.left (does it (ahead spot) s)
+      (calm_forks (IsQuiet said code) (ahead spot) s fork none
+      (subst (λ n. IsQuiet said code (n + 1)) (sym is) rest) other))
+  quiet_passed spot s (run.jumps {other = other} at rest) is none =
+      subst (λ it. Passed said code s.left (machine it spot s)) (sym at)
+      (calm_passed s.left (jumping other (ahead spot) s)
+      (calm_jump (IsQuiet said code) other (ahead spot) s none rest))
 
-pub quiet_took : {A : Type 0} (code : List (Instruction A)) (spot : Spot) (s : Status)
-    (did : Did) → IsQuiet code spot.place → spot.handlers ≡ [] →
-    Does (machine (slice_get code spot.place) spot s) did → Passed (IsQuiet code) s.left did
-quiet_took code spot s did quiet none does =
-    did_passed (IsQuiet code) s.left (machine (slice_get code spot.place) spot s) did
-    (quiet_passed code spot s quiet refl none) does
+  -- so did what it came to, once texts are read
+  did_passed : (left : ℕ) (did other : Did) → Passed said code left did → Does did other →
+      Passed said code left other
+  did_passed left did other passed it_does.same = passed
+  did_passed left (Reads text next) other passed (it_does.reads tree is does) =
+      did_passed left (next tree) other (passed tree) does
 
--- where no tick was taken, no command begins, and exp_continue has not ended the code
-pub idle : {A : Type 0} (P : ℕ → Type 0) (progress : Progress) (spot : coded.Spot A) (s : Status)
-    (left : ℕ) → Passed P left (did_of progress spot s) → IsIdle progress spot
-idle P went.GoesOn spot s left passed = tt
-idle P went.Begins spot s left passed = passed
-idle P went.Over spot s left passed = passed
-idle P went.Stuck spot s left passed = tt
+  pub quiet_took : (spot : Spot) (s : Status) (did : Did) → IsQuiet said code spot.place →
+      spot.handlers ≡ [] → Does (machine (slice_get code spot.place) spot s) did →
+      Passed said code s.left did
+  quiet_took spot s did quiet none does =
+      did_passed s.left (machine (slice_get code spot.place) spot s) did
+      (quiet_passed spot s quiet refl none) does
 
-module _ {A : Type 0} (code : List (Instruction A)) where
+  -- where no tick was taken, no command begins, branches are given last, and exp_continue has not
+  -- ended the code
+  pub idle : (progress : Progress) (spot : coded.Spot A) (s : Status) (left : ℕ) →
+      Passed said code left (did_of progress spot s) → IsIdle said code progress spot
+  idle went.GoesOn spot s left passed = tt
+  idle went.Begins spot s left passed = passed
+  idle went.Says spot s left passed = passed
+  idle went.Over spot s left passed = passed
+  idle went.Stuck spot s left passed = tt
+
+module _ {A : Type 0} (said : ℕ) (code : List (Instruction A)) where
   -- a script in brackets takes a tick, or has no command
   commands_quiet : {place mid : ℕ} {cs : Commands} → CommandsAt code place cs mid →
-      IsQuiet code mid → IsQuiet code place
+      IsQuiet said code mid → IsQuiet said code place
   commands_quiet laid.done rest = rest
   commands_quiet (laid.next at it more) rest = run.ticks at
 
   fault_quiet : {place end : ℕ} {f : Option Fault} → FaultAt code f place end →
-      IsQuiet code end → IsQuiet code place
+      IsQuiet said code end → IsQuiet said code place
   fault_quiet laid.none rest = rest
   fault_quiet (laid.fault at) rest = run.faulty at
 
   joins_quiet : {more : Bool} {place mid : ℕ} → JoinsAt code more place mid →
-      IsQuiet code mid → IsQuiet code place
+      IsQuiet said code mid → IsQuiet said code place
   joins_quiet laid.first rest = rest
   joins_quiet (laid.joined at) rest = run.goes at run.joins rest
 
   -- the parts of a word, before such a place
   parts_quiet : {more : Bool} {place end : ℕ} {ps : Parts} → PartsAt code more place ps end →
-      IsQuiet code end → IsQuiet code place
+      IsQuiet said code end → IsQuiet said code place
   parts_quiet laid.over rest = rest
   parts_quiet (laid.empty at) rest = run.goes at run.text rest
   parts_quiet (laid.text bytes at joins more) rest =
@@ -326,7 +355,7 @@ module _ {A : Type 0} (code : List (Instruction A)) where
   -- a formula, before such a place
   mutual
     formula_before : {place end : ℕ} {f : Formula} → FormulaAt code place f end →
-        IsQuiet code end → IsQuiet code place
+        IsQuiet said code end → IsQuiet said code place
     formula_before (laid.number at) rest = run.goes at run.numeral rest
     formula_before (laid.parts parts) rest = parts_quiet parts rest
     formula_before (laid.called arguments at) rest =
@@ -340,7 +369,7 @@ module _ {A : Type 0} (code : List (Instruction A)) where
         (formula_before first (run.jumps jump rest)) other)
 
     links_before : {place end : ℕ} {ls : Links} → LinksAt code place ls end →
-        IsQuiet code end → IsQuiet code place
+        IsQuiet said code end → IsQuiet said code place
     links_before laid.no_more rest = rest
     links_before (laid.both right at links) rest =
         formula_before right (run.goes at run.both (links_before links rest))
@@ -352,26 +381,44 @@ module _ {A : Type 0} (code : List (Instruction A)) where
         run.forks at run.or_else (formula_before right (run.goes truth run.truth after)) after
 
     arguments_before : {place end count : ℕ} {fs : Formulas} →
-        ArgumentsAt code place fs count end → IsQuiet code end → IsQuiet code place
+        ArgumentsAt code place fs count end → IsQuiet said code end → IsQuiet said code place
     arguments_before laid.no_argument rest = rest
     arguments_before (laid.argument first more) rest =
         formula_before first (arguments_before more rest)
 
   -- nothing stands after the code
-  all_past : IsQuiet code (length code)
+  all_past : IsQuiet said code (length code)
   all_past = run.past (slice_get_past code (length code) (omega arith))
 
   -- a script of which nothing is done yet
   script_quiet : (cs : Commands) (f : Option Fault) →
-      ScriptAt code 0 cs f (length code) → IsQuiet code 0
+      ScriptAt code 0 cs f (length code) → IsQuiet said code 0
   script_quiet cs f at = commands_quiet at.commands (fault_quiet at.ends all_past)
 
   -- a formula of which nothing is done yet, after the value at hand is dropped
   formula_quiet : (f : Formula) → At code 0 i.Discard → FormulaAt code 1 f (length code) →
-      IsQuiet code 0
+      IsQuiet said code 0
   formula_quiet f drops at = run.goes drops run.drops (formula_before at all_past)
 
-  -- either of the two
-  pub made_quiet : (it : Made A) → IsCodeOfMade code it → IsQuiet code 0
-  made_quiet (made.Script tree) at = script_quiet tree.commands tree.fault at
-  made_quiet (made.Formula f) at = formula_quiet f at.0 at.1
+  -- words that give branches last
+  words_quiet : 0 < said → {counted : Bool} {count place end : ℕ} {ws : Words} →
+      WordsAt code true counted count place ws end → slice_get code end ≡ None →
+      IsQuiet said code place
+  words_quiet may (laid.says at) over = run.says may at over
+  words_quiet may (laid.one parts rest) over = parts_quiet parts (words_quiet may rest over)
+  words_quiet may (laid.counts at rest) over = run.goes at run.counts (words_quiet may rest over)
+  words_quiet may (laid.spread parts at rest) over =
+      parts_quiet parts (run.goes at run.spreads (words_quiet may rest over))
+
+-- a script or a formula
+made_quiet : {A : Type 0} (code : List (Instruction A)) (it : Made A) →
+    IsCodeOfMade code it → IsQuiet 0 code 0
+made_quiet code (made.Script tree) at = script_quiet 0 code tree.commands tree.fault at
+made_quiet code (made.Formula f) at = formula_quiet 0 code f at.0 at.1
+
+-- each of the three
+pub entry_quiet : {A : Type 0} (code : List (Instruction A)) (it : Entry A) →
+    IsCodeOfEntry code it → IsQuiet (branches_in it) code 0
+entry_quiet code (entry.Made it) at = made_quiet code it at
+entry_quiet code (entry.Argument ws) at =
+    words_quiet 1 code (omega arith) at (slice_get_past code (length code) (omega arith))

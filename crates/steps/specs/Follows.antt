@@ -1,12 +1,13 @@
 -- What an instruction did is what was left to be done.
 use Rattle.std.specs.Prelude.{◌≡◌, ℕ, ◌+◌, ◌≤◌, List, [], length, slice_get}
 use Rattle.code.specs.Code.{FormulaAt, ScriptAt}
+use Rattle.expects.specs.Expect.{by_name}
 use Rattle.code.specs.declared.instruction.Instruction.{Instruction}
 use Rattle.state.specs.Evaluated.{evaluated}
 use Rattle.plan.specs.Plan.{and_then, onward}
 use Rattle.runs.specs.Commands.{command}
 use Rattle.runs.specs.Scripts.{plan_of}
-use Rattle.state.specs.Prelude.{Dialogue, gives, IsTree, Outcome, Status}
+use Rattle.state.specs.Prelude.{Course, Dialogue, gives, IsTree, Outcome, Status}
 use Rattle.state.specs.Piece.{Script, ScriptTree, Tree}
 use Rattle.tclparse.specs.Formula.{Formula}
 use Rattle.steps.specs.Does.{Arrives}
@@ -15,7 +16,7 @@ use Rattle.steps.specs.Layout.{HeadAt, FramesAt}
 use Rattle.steps.specs.Machine.{machine}
 use Rattle.steps.specs.Places.{Head, Frame, brackets, left_of, spot_at}
 use Rattle.steps.specs.Handling.{resumed}
-use Rattle.steps.specs.Spot.{Spot, Did, Went, Reads, Begins, Over, Stuck, beginning_at}
+use Rattle.steps.specs.Spot.{Spot, Did, Went, Reads, Begins, Says, Over, Stuck, beginning_at}
 
 module _ {A X : Type 0} (code : List (Instruction A)) (last : Status → Outcome → Dialogue X) where
   -- the run of the code stands where this is left to be done, and then what is done last
@@ -43,11 +44,10 @@ module _ {A X : Type 0} (code : List (Instruction A)) (last : Status → Outcome
   Resumes (Over outcome s) p = p ≡ last s outcome
   Resumes did p = ⊥
 
-  -- it continues as a command, whose outcome leads on from here
-  pub record Waits (words : List (List ℕ)) (spot : Spot) (s : Status) (p : Dialogue X) :
-      Type 0 where
+  -- it continues as this course, whose outcome leads on from here
+  pub record Waits (course : Course) (spot : Spot) (p : Dialogue X) : Type 0 where
     pub next : Status → Outcome → Dialogue X
-    pub goes : Goes p (and_then (command spot.levels s words) (onward next))
+    pub goes : Goes p (and_then course (onward next))
     pub resumes : (t : Status) (outcome : Outcome) →
         Resumes (resumed spot outcome t) (next t outcome)
 
@@ -55,7 +55,8 @@ module _ {A X : Type 0} (code : List (Instruction A)) (last : Status → Outcome
   abbrev pub Follows : Did → Dialogue X → Type 0
   Follows (Went spot s) p = Comes spot s p
   Follows (Reads text next) p = (tree : Tree text) → IsTree text tree → Follows (next tree) p
-  Follows (Begins words spot s) p = Waits words spot s p
+  Follows (Begins words spot s) p = Waits (command spot.levels s words) spot p
+  Follows (Says words spot s) p = Waits (by_name spot.levels s words) spot p
   Follows (Over outcome s) p = Goes p (last s outcome)
   Follows Stuck p = ⊥
 

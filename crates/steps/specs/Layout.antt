@@ -128,11 +128,12 @@ module _ {A : Type 0} (code : List (Instruction A)) where
 
   -- after the value of a word come the words after it
   abbrev pub WordAt : ℕ → Word → ℕ → Type 0
-  WordAt place (Plain counted before rest) end =
+  WordAt place (Plain braced counted before rest) end =
       (count : ℕ) × CountIs counted count (suc (length before)) ×
-      WordsAt code counted count place rest end
-  WordAt place (Expands before rest) end =
-      At code place i.Spread × ((count : ℕ) × WordsAt code true count (place + 1) rest end)
+      WordsAt code braced counted count place rest end
+  WordAt place (Expands braced before rest) end =
+      At code place i.Spread ×
+      ((count : ℕ) × WordsAt code braced true count (place + 1) rest end)
   WordAt place (Operand outer) end = OperandAt place outer end
   WordAt place (Listed variables body) end = ForeachAt code place variables body end
   WordAt place (Switched options after) end = SwitchAt code place options after end
@@ -164,9 +165,9 @@ module _ {A : Type 0} (code : List (Instruction A)) where
   HeadAt place (Has value) end = place ≡ end
   HeadAt place (Part word) end = OpenAt place word end
   HeadAt place (Joins value word) end = JoinedAt place word end
-  HeadAt place (Gathers counted before rest) end =
+  HeadAt place (Gathers braced counted before rest) end =
       (count : ℕ) × CountIs counted count (length before) ×
-      WordsAt code counted count place rest end
+      WordsAt code braced counted count place rest end
   HeadAt place (Evaluates f outer) end =
       (mid : ℕ) × FormulaAt code place f mid × OperandAt mid outer end
   HeadAt place (Values value outer) end = OperandAt place outer end

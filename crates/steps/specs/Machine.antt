@@ -18,7 +18,7 @@ use Rattle.steps.specs.Handling.{fails}
 use Rattle.steps.specs.Loops.{ending, stepping, turned, turning}
 use Rattle.steps.specs.Moves.{jumping, lowest, on_top, ticked, with_operands}
 use Rattle.steps.specs.Switch as switch
-use Rattle.steps.specs.Spot.{Spot, Did, Went, Reads, Begins, Over, Stuck, with_top}
+use Rattle.steps.specs.Spot.{Spot, Did, Went, Reads, Begins, Says, Over, Stuck, with_top}
 use Rattle.tclparse.specs.Seen.{fault_of}
 use Rattle.tclstate.specs.Pairs.{found}
 use Rattle.tclstate.specs.Procs.{Procedure, Procs}
@@ -79,19 +79,34 @@ abbrev pub spreading : Spot → Status → Did
 spreading spot s =
     on_top spot.operands (λ text below. Reads (ListText text) (spread (with_operands below spot) s))
 
+-- what is done with all operands above the lowest ones, which are this many, as words (this
+-- project's own rule)
+abbrev pub with_words : (List (List ℕ) → Spot → Did) → ℕ → Spot → Did
+with_words begins below spot =
+    let all = reverse spot.operands in
+    if nat_le below (length spot.operands)
+    then begins (drop below all) (with_operands (reverse (take below all)) spot)
+    else Stuck
+
 -- a command begins, whose words are all operands above the lowest ones, which are this many
 -- (Tcl(n), rule 2)
 abbrev pub beginning : ℕ → Spot → Status → Did
-beginning below spot s =
-    let all = reverse spot.operands in
-    if nat_le below (length spot.operands)
-    then Begins (drop below all) (with_operands (reverse (take below all)) spot) s
-    else Stuck
+beginning below spot s = with_words (λ words at. Begins words at s) below spot
 
 -- a command begins, whose words were counted (Tcl(n), rule 2)
 abbrev pub beginning_counted : Spot → Status → Did
 beginning_counted spot s =
     on_top spot.marks (λ below marks. beginning below (record spot { marks = marks }) s)
+
+-- branches are given by all operands above the lowest ones, which are this many: the name of a
+-- command, and the words of an argument in braces of it (expect(1), expect)
+abbrev pub saying : ℕ → Spot → Status → Did
+saying below spot s = with_words (λ words at. Says words at s) below spot
+
+-- the same, where the words were counted (expect(1), expect)
+abbrev pub saying_counted : Spot → Status → Did
+saying_counted spot s =
+    on_top spot.marks (λ below marks. saying below (record spot { marks = marks }) s)
 
 -- the function that a command of this name is, where no procedure hides it (proc(n))
 abbrev pub unless_hidden : Option Procedure → Option Pure → Option Pure
@@ -140,6 +155,7 @@ does (i.Count n) spot s = counting n spot s
 does i.Spread spot s = spreading spot s
 does (i.Command n) spot s = starting (length spot.operands - n) spot s
 does i.Counted spot s = beginning_counted spot s
+does i.Say spot s = saying_counted spot s
 does (i.Fault fault) spot s = fails (flaw_of_fault (fault_of fault)) spot s
 does (i.Numeral digits) spot s = putting digits spot s
 does (i.Prefix operator) spot s = prefixing operator spot s

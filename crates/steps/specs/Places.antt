@@ -17,28 +17,29 @@ use Rattle.steps.specs.Spot.{Handler, Spot}
 use Rattle.steps.specs.Tries.{tries}
 use Rattle.steps.specs.declared.handler.Covered.{Covered}
 use Rattle.steps.specs.declared.handler.Covered.TheVariants as covers
-use Rattle.steps.specs.Word.{Open, bytes_of, course_with, is_counted, operands_of}
+use Rattle.steps.specs.Word.{Open, bytes_of, call_of, course_with, is_counted, operands_of}
 use Rattle.tclparse.specs.Fault.{Fault}
 use Rattle.tclparse.specs.Formula.{Formula}
 use Rattle.tclparse.specs.Tree.{Commands, Words}
 use Rattle.state.specs.Words.{words}
 
 -- what is being done at a place: a value is on top; an open word goes on with its next part; a
--- value is put after the bytes of an open word; a command goes on with its next word, after these
--- words, the last one first, which are counted or not; a formula is evaluated; the value of an
+-- value is put after the bytes of an open word; a command, or an argument in braces, goes on with
+-- its next word, after these words, the last one first, which are counted or not; a formula is
+-- evaluated; the value of an
 -- operand is on top; a command begins with its first word, or with its own code; the branches of if
 -- that are left are looked through; a body begins; a loop goes on with its next turn; a loop is
 -- over; the list of a foreach is on top; a foreach goes on with its next turn; the variables of a
 -- turn that are left are set; a foreach is over; the patterns of a switch that are left, globs or
 -- not, are held against its string, which is on top; the body that was chosen by the string runs,
 -- once that is dropped
--- turn that are left are set; a foreach is over; a catch begins its script; a catch has this
+-- a catch begins its script; a catch has this
 -- number, and its variable takes this value
 pub data Head : Type 0 where
   Has : (value : List ℕ) → Head
   Part : (word : Open) → Head
   Joins : (value : List ℕ) (word : Open) → Head
-  Gathers : (counted : Bool) (before : List (List ℕ)) (rest : Words) → Head
+  Gathers : (braced counted : Bool) (before : List (List ℕ)) (rest : Words) → Head
   Evaluates : (formula : Formula) (outer : List Outer) → Head
   Values : (value : List ℕ) (outer : List Outer) → Head
   Starts : (words : Words) → Head
@@ -82,8 +83,8 @@ abbrev pub course_of : ℕ → Head → Status → Course
 course_of levels (Has value) s = gives value s
 course_of levels (Part word) s = course_with levels word (bytes_of word.so_far) s
 course_of levels (Joins value word) s = course_with levels word (bytes_of word.so_far ++ value) s
-course_of levels (Gathers counted before rest) s =
-    words levels rest (reverse before) s (command levels)
+course_of levels (Gathers braced counted before rest) s =
+    words levels rest (reverse before) s (call_of braced levels)
 course_of levels (Evaluates f outer) s = evaluated levels f s (operand_on levels outer)
 course_of levels (Values value outer) s = operand_on levels outer s value
 course_of levels (Starts ws) s = words levels ws [] s (command levels)
@@ -212,7 +213,7 @@ abbrev pub operands_at : Head → List Frame → List (List ℕ)
 operands_at (Has value) frames = value ∷ beneath frames
 operands_at (Part word) frames = operands_of word (beneath frames)
 operands_at (Joins value word) frames = value ∷ operands_of word (beneath frames)
-operands_at (Gathers counted before rest) frames = before ++ beneath frames
+operands_at (Gathers braced counted before rest) frames = before ++ beneath frames
 operands_at (Evaluates f outer) frames = waiting outer (beneath frames)
 operands_at (Values value outer) frames = value ∷ waiting outer (beneath frames)
 operands_at (Starts ws) frames = beneath frames
@@ -234,7 +235,7 @@ abbrev pub marks_at : Head → List Frame → List ℕ
 marks_at (Has value) frames = marks_beneath frames
 marks_at (Part word) frames = marks_beneath (Bracket word ∷ frames)
 marks_at (Joins value word) frames = marks_beneath (Bracket word ∷ frames)
-marks_at (Gathers counted before rest) frames =
+marks_at (Gathers braced counted before rest) frames =
     marked counted (length (beneath frames)) (marks_beneath frames)
 marks_at (Evaluates f outer) frames = marks_beneath frames
 marks_at (Values value outer) frames = marks_beneath frames

@@ -1,8 +1,10 @@
 -- The run of a code as one value.
-use Rattle.std.specs.Prelude.{◌≡◌, ◌≢◌, ℕ, ◌+◌, ◌-◌, ◌*◌, List, [], Option, Some, None, Result, Ok, Err, length, slice_get}
+use Rattle.std.specs.Prelude.{◌≡◌, ◌≢◌, ℕ, ◌+◌, ◌-◌, ◌*◌, ◌<◌, List, [], None, Result, Ok, Err, length, slice_get}
 use Rattle.code.specs.Code.{At}
 use Rattle.code.specs.declared.instruction.Instruction.{Instruction}
 use Rattle.code.specs.declared.instruction.Instruction.TheVariants as i
+use Rattle.code.specs.declared.made.Entry.{Entry}
+use Rattle.code.specs.declared.made.Entry.TheVariants as entry
 use Rattle.state.specs.Budget.{again_of}
 use Rattle.state.specs.Prelude.{Course, Dialogue, Ends, FitsState, Outcome, Reaches, Status, outcome_of}
 use Rattle.state.specs.declared.outcome.Leave.{Leave}
@@ -29,8 +31,8 @@ places_left run = length run.code.value.items - run.spot.place
 abbrev pub most_commands : {A : Type 0} → Run A → ℕ → ℕ
 most_commands run left = left * (length run.code.value.items + 1) + places_left run
 
--- an instruction of a word or of a formula after which the next place comes, unless it fails
--- (Tcl(n), rules 7, 8 and 11; expr(n))
+-- an instruction of words or of a formula after which the next place comes, unless it fails
+-- (Tcl(n), rules 5, 7, 8 and 11; expr(n))
 pub data IsPlain {A : Type 0} : Instruction A → Type 0 where
   text : {bytes : List ℕ} → IsPlain (i.Text bytes)
   variable : {name : List ℕ} → IsPlain (i.Variable name)
@@ -38,6 +40,8 @@ pub data IsPlain {A : Type 0} : Instruction A → Type 0 where
   joins : IsPlain i.Join
   enters : IsPlain i.Enter
   leaves : IsPlain i.Leave
+  counts : {n : ℕ} → IsPlain (i.Count n)
+  spreads : IsPlain i.Spread
   numeral : {digits : List ℕ} → IsPlain (i.Numeral digits)
   prefixed : {operator : Unary} → IsPlain (i.Prefix operator)
   both : {operator : Binary} → IsPlain (i.Binary operator)
@@ -52,34 +56,44 @@ pub data Forks {A : Type 0} : Instruction A → ℕ → Type 0 where
   or_else : {place : ℕ} → Forks (i.OrElse place) place
   unless : {place : ℕ} → Forks (i.Unless place) place
 
--- from this place on a tick is taken, or the code ends, before a command begins (this project's own
--- rule)
-pub data IsQuiet {A : Type 0} (code : List (Instruction A)) : ℕ → Type 0 where
-  past : {place : ℕ} → slice_get code place ≡ None → IsQuiet code place
-  ticks : {place from_end : ℕ} → At code place (i.Next from_end) → IsQuiet code place
-  faulty : {place : ℕ} {fault : read.Fault} → At code place (i.Fault fault) → IsQuiet code place
+-- how often a code may give branches before a tick is taken (this project's own rule)
+abbrev pub branches_in : {A : Type 0} → Entry A → ℕ
+branches_in (entry.Made it) = 0
+branches_in (entry.Argument words) = 1
+
+-- from this place on a tick is taken, or the code ends, before a command begins; or branches are
+-- given last, where they may be given (this project's own rule)
+pub data IsQuiet {A : Type 0} (said : ℕ) (code : List (Instruction A)) : ℕ → Type 0 where
+  past : {place : ℕ} → slice_get code place ≡ None → IsQuiet said code place
+  ticks : {place from_end : ℕ} → At code place (i.Next from_end) → IsQuiet said code place
+  faulty : {place : ℕ} {fault : read.Fault} → At code place (i.Fault fault) →
+      IsQuiet said code place
+  says : {place : ℕ} → 0 < said → At code place i.Say → slice_get code (place + 1) ≡ None →
+      IsQuiet said code place
   goes : {place : ℕ} {it : Instruction A} → At code place it → IsPlain it →
-      IsQuiet code (place + 1) → IsQuiet code place
+      IsQuiet said code (place + 1) → IsQuiet said code place
   forks : {place other : ℕ} {it : Instruction A} → At code place it → Forks it other →
-      IsQuiet code (place + 1) → IsQuiet code other → IsQuiet code place
-  jumps : {place other : ℕ} → At code place (i.Jump other) → IsQuiet code other →
-      IsQuiet code place
+      IsQuiet said code (place + 1) → IsQuiet said code other → IsQuiet said code place
+  jumps : {place other : ℕ} → At code place (i.Jump other) → IsQuiet said code other →
+      IsQuiet said code place
 
 -- the outcome is a value
 abbrev pub IsValue : {A : Type 0} → Result (List ℕ) (Leave A) → Type 0
 IsValue (Ok value) = Unit {0}
 IsValue (Err leave) = ⊥
 
--- no command begins, and exp_continue has not ended the code
-abbrev pub IsIdle : {A : Type 0} → Progress → coded.Spot A → Type 0
-IsIdle went.GoesOn spot = Unit {0}
-IsIdle went.Begins spot = ⊥
-IsIdle went.Over spot = again_of (outcome_of spot.outcome) ≡ 0
-IsIdle went.Stuck spot = Unit {0}
+-- no command begins, branches are given last, and exp_continue has not ended the code
+abbrev pub IsIdle : {A : Type 0} → ℕ → List (Instruction A) → Progress → coded.Spot A → Type 0
+IsIdle said code went.GoesOn spot = Unit {0}
+IsIdle said code went.Begins spot = ⊥
+IsIdle said code went.Says spot = (0 < said) × (slice_get code spot.place ≡ None)
+IsIdle said code went.Over spot = again_of (outcome_of spot.outcome) ≡ 0
+IsIdle said code went.Stuck spot = Unit {0}
 
--- a run of which nothing is done yet, whose code takes a tick before a command begins
-pub record IsFresh {A : Type 0} (run : Run A) : Type 0 where
-  pub quiet : IsQuiet run.code.value.items run.spot.place
+-- a run of which nothing is done yet, whose code takes a tick before a command begins, or gives
+-- branches last, where they may be given
+pub record IsFresh {A : Type 0} (said : ℕ) (run : Run A) : Type 0 where
+  pub quiet : IsQuiet said run.code.value.items run.spot.place
   pub handlers : (spot_of run.spot).handlers ≡ []
 
 -- for some state of the definition that the code's state fits, the course ends with this outcome,

@@ -26,12 +26,13 @@ pub record Spot : Type 0 where
   pub handlers : List Handler
 
 -- an instruction leads on; it leads on by what a text is read as; a command begins by its words,
--- whose value is to be put on top; the code is over; or an operand is missing (this project's own
--- rule)
+-- whose value is to be put on top; or its branches are given by its name and the words of an
+-- argument in braces; the code is over; or an operand is missing (this project's own rule)
 pub data Did : Type 0 where
   Went : (spot : Spot) (s : Status) → Did
   Reads : (text : Text) → (Tree text → Did) → Did
   Begins : (words : List (List ℕ)) (spot : Spot) (s : Status) → Did
+  Says : (words : List (List ℕ)) (spot : Spot) (s : Status) → Did
   Over : (outcome : Outcome) (s : Status) → Did
   Stuck : Did
 

@@ -7,7 +7,7 @@ use Rattle.steps.specs.declared.handling.Taker.{Taker}
 use Rattle.steps.specs.declared.progress.Progress.{Progress}
 use Rattle.steps.specs.declared.progress.Progress.TheVariants as went
 use Rattle.steps.specs.declared.spot.Spot as coded
-use Rattle.steps.specs.Spot.{Handler, Spot, Did, Went, Begins, Over, Stuck}
+use Rattle.steps.specs.Spot.{Handler, Spot, Did, Went, Begins, Says, Over, Stuck}
 use Rattle.tclstate.specs.Procs.{Procs}
 
 -- what is open that an outcome may lead out of
@@ -30,7 +30,7 @@ spot_of spot = record {
   handlers = reverse (map handler_of spot.handlers.items);
 }
 
--- the words of a command that begins: all operands but those below them
+-- the words by which something begins: all operands but those below them
 abbrev pub words_of : {A : Type 0} → coded.Spot A → List (List ℕ)
 words_of spot = drop spot.below spot.operands.items
 
@@ -40,18 +40,20 @@ below_words spot = record (spot_of spot) {
   operands = reverse (take spot.below spot.operands.items);
 }
 
--- the result of an instruction: the run goes on; or a command begins by the words on top; or the
--- code is over, with the outcome that lies there; or an operand is missing
+-- the result of an instruction: the run goes on; or a command, or its branches, begin by the words
+-- on top; or the code is over, with the outcome that lies there; or an operand is missing
 abbrev pub did_of : {A : Type 0} → Progress → coded.Spot A → Status → Did
 did_of went.GoesOn spot s = Went (spot_of spot) s
 did_of went.Begins spot s = Begins (words_of spot) (below_words spot) s
+did_of went.Says spot s = Says (words_of spot) (below_words spot) s
 did_of went.Over spot s = Over (outcome_of spot.outcome) s
 did_of went.Stuck spot s = Stuck
 
--- the same where the words by which a command begins lie apart from the operands
+-- the same where the words by which something begins lie apart from the operands
 abbrev pub stop_of : {A : Type 0} → Progress → coded.Spot A → Status → Did
 stop_of went.GoesOn spot s = did_of went.GoesOn spot s
 stop_of went.Begins spot s = Begins spot.words.items (spot_of spot) s
+stop_of went.Says spot s = Says spot.words.items (spot_of spot) s
 stop_of went.Over spot s = did_of went.Over spot s
 stop_of went.Stuck spot s = did_of went.Stuck spot s
 
@@ -59,8 +61,17 @@ stop_of went.Stuck spot s = did_of went.Stuck spot s
 abbrev pub IsOpen : Progress → Type 0
 IsOpen went.GoesOn = Unit {0}
 IsOpen went.Begins = Unit {0}
+IsOpen went.Says = Unit {0}
 IsOpen went.Over = ⊥
 IsOpen went.Stuck = ⊥
+
+-- something begins by words after an instruction: a command, or its branches
+abbrev pub IsCall : Progress → Type 0
+IsCall went.GoesOn = ⊥
+IsCall went.Begins = Unit {0}
+IsCall went.Says = Unit {0}
+IsCall went.Over = ⊥
+IsCall went.Stuck = ⊥
 
 -- a state of the definition with these variables, these procedures and these ticks left
 abbrev pub with_parts : Scopes → Procs → ℕ → Status → Status

@@ -3,6 +3,7 @@ use Rattle.std.specs.Prelude.{ℕ, List, [], ◌∷◌, ◌++◌, codes, Bool, t
 use Rattle.code.specs.Code.{literals}
 use Rattle.code.specs.Switch.{words_before}
 use Rattle.code.specs.declared.options.Options.{Options}
+use Rattle.expects.specs.Expect.{by_name}
 use Rattle.runs.specs.Commands.{command}
 use Rattle.state.specs.Listed.{with_list}
 use Rattle.state.specs.Prelude.{Course, Status}
@@ -18,15 +19,23 @@ pub record Around : Type 0 where
   pub so_far : Option (List ℕ)
   pub parts : Parts
 
--- where a word stands: after these words of its command, the last one first, and before the rest;
--- the words are counted or not, and after {*} they are (Tcl(n), rules 2 and 5); or it is an operand
+-- what is done with words that are all substituted: they begin a command; or they give its
+-- branches, where they are those of an argument in braces after its name (Tcl(n), rule 2;
+-- expect(1), expect)
+abbrev pub call_of : Bool → ℕ → Status → List (List ℕ) → Course
+call_of false levels = command levels
+call_of true levels = by_name levels
+
+-- where a word stands: after these words of its command, or of an argument in braces, the last one
+-- first, and before the rest; the words are counted or not, and after {*} they are (Tcl(n), rules 2
+-- and 5); or it is an operand
 -- of a formula (expr(n)); or the list of a foreach with these variables and this body (foreach(n));
 -- or the string of a switch with these options and these words after it (switch(n)); or the last
 -- word of a command, after these words, that is one instruction (set(n); append(n); incr(n);
 -- return(n))
 pub data Word : Type 0 where
-  Plain : (counted : Bool) (before : List (List ℕ)) (rest : Words) → Word
-  Expands : (before : List (List ℕ)) (rest : Words) → Word
+  Plain : (braced counted : Bool) (before : List (List ℕ)) (rest : Words) → Word
+  Expands : (braced : Bool) (before : List (List ℕ)) (rest : Words) → Word
   Operand : (outer : List Outer) → Word
   Listed : (variables body : List ℕ) → Word
   Switched : (options : Options) (after : List (List ℕ)) → Word
@@ -54,13 +63,14 @@ index_on levels (o ∷ os) next = λ s index.
     reads o.array (Some index) s (λ value.
     parts levels o.parts (bytes_of o.so_far ++ value) s (index_on levels os next))
 
--- what follows the value of a word: the words after it, and then the command (Tcl(n), rules 2
+-- what follows the value of a word: the words after it, and then what they begin (Tcl(n), rules 2
 -- and 5)
 abbrev pub word_on : ℕ → Word → Status → List ℕ → Course
-word_on levels (Plain counted before rest) = λ s value.
-    words levels rest (reverse before ++ value ∷ []) s (command levels)
-word_on levels (Expands before rest) = λ s value.
-    with_list value s (λ more. words levels rest (reverse before ++ more) s (command levels))
+word_on levels (Plain braced counted before rest) = λ s value.
+    words levels rest (reverse before ++ value ∷ []) s (call_of braced levels)
+word_on levels (Expands braced before rest) = λ s value.
+    with_list value s (λ more.
+    words levels rest (reverse before ++ more) s (call_of braced levels))
 word_on levels (Operand outer) = operand_on levels outer
 word_on levels (Listed variables body) = λ s value.
     words levels (literals (body ∷ [])) (codes "foreach" ∷ variables ∷ value ∷ []) s
@@ -87,8 +97,8 @@ around (o ∷ os) below = with_bytes o.so_far (around os below)
 
 -- the words before this one, or the operands before it, on top of these
 abbrev pub before_of : Word → List (List ℕ) → List (List ℕ)
-before_of (Plain counted before rest) below = before ++ below
-before_of (Expands before rest) below = before ++ below
+before_of (Plain braced counted before rest) below = before ++ below
+before_of (Expands braced before rest) below = before ++ below
 before_of (Operand outer) below = waiting outer below
 before_of (Listed variables body) below = below
 before_of (Switched options after) below = below
@@ -96,8 +106,8 @@ before_of (Last before) below = below
 
 -- whether the words are counted
 abbrev pub is_counted : Word → Bool
-is_counted (Plain counted before rest) = counted
-is_counted (Expands before rest) = true
+is_counted (Plain braced counted before rest) = counted
+is_counted (Expands braced before rest) = true
 is_counted (Operand outer) = false
 is_counted (Listed variables body) = false
 is_counted (Switched options after) = false

@@ -1,11 +1,11 @@
 //! Instructions one after the other, up to the next command or to the end.
 
-ghost use Rattle.std.specs.Prelude.{◌≡◌, ◌≢◌, ◌<◌, ◌≤◌, ◌-◌, [], length, IfOk};
+ghost use Rattle.std.specs.Prelude.{◌≡◌, ◌≢◌, ◌<◌, ◌≤◌, ◌-◌, ℕ, [], length, IfOk};
 ghost use Rattle.state.specs.Budget.{again_of};
 ghost use Rattle.state.specs.Prelude.{Status, outcome_of};
 ghost use Rattle.steps.specs.Does.{Arrives};
 ghost use Rattle.steps.specs.Run.{IsIdle, IsQuiet};
-ghost use Rattle.steps.specs.View.{did_of, spot_of, with_parts};
+ghost use Rattle.steps.specs.View.{IsCall, did_of, spot_of, with_parts};
 ghost use Rattle.steps.specs.declared.progress.Progress.TheVariants as went;
 
 use crate::progress::Progress;
@@ -33,12 +33,12 @@ pub fn advance<A: Allocator + Copy>(
         (with_parts scopes.old procs.now left.old s)
         (did_of progress spot.new (with_parts scopes.new procs.now left.new s))) }
     ensures stops { IfOk result (λ progress. progress ≢ went.GoesOn) }
-    ensures onward { IfOk result (λ progress. progress ≡ went.Begins → left.new ≡ left.old →
+    ensures onward { IfOk result (λ progress. IsCall progress → left.new ≡ left.old →
         length code.now - spot.new.place < length code.now - spot.old.place) }
     ensures ticks { left.new ≤ left.old }
-    ensures first { IsQuiet code.now spot.old.place →
+    ensures first { (said : ℕ) → IsQuiet said code.now spot.old.place →
         (spot_of spot.old).handlers ≡ [] →
-        IfOk result (λ progress. left.new ≡ left.old → IsIdle progress spot.new) }
+        IfOk result (λ progress. left.new ≡ left.old → IsIdle said code.now progress spot.new) }
     ensures ended { length code.now ≤ spot.old.place →
         IfOk result (λ progress. progress ≡ went.Over →
         again_of (outcome_of spot.new.outcome) ≡ 0) }

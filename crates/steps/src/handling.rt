@@ -1,13 +1,13 @@
 //! Where the outcome of a command, or the error of an instruction, leads.
 
-ghost use Rattle.std.specs.Prelude.{◌≡◌, ◌∷◌, ◌≤◌, [], decimal, option_copied, ℕ, List, Some, Err, IfOk, OnOk};
+ghost use Rattle.std.specs.Prelude.{◌≡◌, ◌∷◌, ◌≤◌, [], option_copied, ℕ, List, Some, Err, IfOk, OnOk};
 ghost use Rattle.bodies.specs.Catch as catch;
 ghost use Rattle.state.specs.Prelude.{Fault as Failure, Status, flaw_of, outcome_of};
 ghost use Rattle.state.specs.Stores.{IsTold};
 ghost use Rattle.state.specs.View as states;
-ghost use Rattle.steps.specs.Handling.{fails, handled, led, outside, resumed, with_code};
+ghost use Rattle.steps.specs.Handling.{fails, handled, outside, resumed, with_code};
 ghost use Rattle.steps.specs.Moves.{jumping};
-ghost use Rattle.steps.specs.Spot.{Spot as Standing, with_top};
+ghost use Rattle.steps.specs.Spot.{with_top};
 ghost use Rattle.steps.specs.View.{did_of, handler_of, led_by, spot_of};
 
 use crate::handler::{Handler, Way, way_of};

@@ -1,12 +1,11 @@
 //! The instructions of formulas.
 
-ghost use Rattle.std.specs.Prelude.{◌≡◌, ◌≤◌, ◌-◌, ◌∷◌, ℕ, List, length, map, Err, Some, IfOk, IfSome, if◌then◌else◌};
+ghost use Rattle.std.specs.Prelude.{◌≡◌, ◌≤◌, ◌-◌, length, Err, Some, IfOk, IfSome, if◌then◌else◌};
 ghost use Rattle.acts.specs.Flaw as flaw;
 ghost use Rattle.state.specs.Evaluated.{told as told_of};
-ghost use Rattle.meanings.specs.Meaning.{Gives, Meaning, truth as truth_text};
+ghost use Rattle.meanings.specs.Meaning.{Meaning};
 ghost use Rattle.meanings.specs.View.{Answers};
 ghost use Rattle.operators.specs.Binary.{binary as meant};
-ghost use Rattle.operators.specs.Number.{number_of};
 ghost use Rattle.operators.specs.Numeric.{GivesNumber};
 ghost use Rattle.operators.specs.Truth.{truth_of};
 ghost use Rattle.operators.specs.Unary.{unary as prefixed};

@@ -8,6 +8,9 @@ pub enum Progress {
     /// A command begins by its words, which lie on top, or, where `Run::go_on` answers this, in
     /// `words`; its value is to be put on top.
     Begins,
+    /// Branches are given by the name of a command and the words of an argument in braces, which
+    /// lie in the same way; the value of that command is to be put on top.
+    Says,
     /// The code is over, with the outcome that lies in the spot.
     Over,
     /// An operand is missing.

@@ -1,6 +1,6 @@
 //! The run of a code as one value: the code, which is shared, and where the run stands in it.
 
-ghost use Rattle.std.specs.Prelude.{◌≡◌, ◌+◌, ◌*◌, ◌<◌, ◌≤◌, IfOk};
+ghost use Rattle.std.specs.Prelude.{◌≡◌, ◌≢◌, ◌+◌, ◌*◌, ◌<◌, ◌≤◌, ℕ, IfOk};
 ghost use Rattle.plan.specs.Plan.{and_then, onward};
 ghost use Rattle.runs.specs.Ending.{Over};
 ghost use Rattle.state.specs.Budget.{again_of};
@@ -13,7 +13,7 @@ use crate::handling::resume;
 use crate::progress::Progress;
 use crate::spot::Spot;
 use acts::NoMemory;
-use code::{Instruction, Made};
+use code::{Entry, Instruction};
 use state::{Outcome, State};
 use std::alloc::Allocator;
 use std::rc::Rc;
@@ -28,15 +28,16 @@ pub struct Run<A: Allocator> {
 }
 
 impl<A: Allocator + Copy> Run<A> {
-    ghost use Rattle.steps.specs.Run.{Awaits, HasCome, HasStopped, IsFresh, IsIdle, IsValue, most_commands, places_left};
+    ghost use Rattle.steps.specs.Run.{Awaits, HasCome, HasStopped, IsFresh, IsIdle, IsValue, branches_in, most_commands, places_left};
+    ghost use Rattle.steps.specs.View.{IsCall};
     ghost use Rattle.steps.specs.declared.progress.Progress.TheVariants as went;
 
-    /// The run of a script or of a formula of which nothing is done yet, in which this many levels
-    /// may nest.
-    pub fn begin(alloc: A, it: Made<A>, levels: u8) -> Run<A>
+    /// The run of a script, of a formula, or of the words of an argument in braces, of which
+    /// nothing is done yet, in which this many levels may nest.
+    pub fn begin(alloc: A, it: Entry<A>, levels: u8) -> Run<A>
         ensures awaits { (last : Status → Ending → Dialogue Over) → Awaits last result (λ s outcome.
             and_then (on_value (entered it levels) s outcome) (onward last)) }
-        ensures fresh { IsFresh result }
+        ensures fresh { IsFresh (branches_in it) result }
     {
         let spot = Spot::first(alloc, levels);
         let code = it.into_code();
@@ -44,12 +45,13 @@ impl<A: Allocator + Copy> Run<A> {
     }
 
     /// Hands in the outcome that the run waits for, and runs the code up to the next command that
-    /// is not over at once, whose words lie in the spot and whose outcome the run waits for then,
-    /// or to the end, whose outcome lies there. It never answers `GoesOn`.
+    /// is not over at once, or to branches that are given, whose words lie in the spot and whose
+    /// outcome the run waits for then, or to the end, whose outcome lies there. It never answers
+    /// `GoesOn`.
     ///
-    /// A command that begins without a tick before it stands further on in the code than the one
-    /// before, so that a run ends after so many outcomes. A run of which nothing is done yet takes
-    /// a tick before its first command.
+    /// What begins without a tick before it stands further on in the code than what began before,
+    /// so that a run ends after so many outcomes. A run of which nothing is done yet takes a tick
+    /// before its first command, and gives branches last.
     ///
     /// # Errors
     /// `NoMemory` where memory is refused.
@@ -64,13 +66,13 @@ impl<A: Allocator + Copy> Run<A> {
             IfOk result (λ progress.
             HasStopped last progress self.new state.new (next s (outcome_of outcome))) }
         ensures left { IfOk result (λ _. state.new.left ≤ state.old.left) }
-        ensures onward { IfOk result (λ progress. progress ≡ went.Begins →
+        ensures onward { IfOk result (λ progress. IsCall progress →
             state.new.left ≡ state.old.left → places_left self.new < places_left self.old) }
         ensures falls { IfOk result (λ progress. progress ≡ went.Begins →
             most_commands self.new state.new.left < most_commands self.old state.old.left) }
-        ensures first { IsFresh self.old → IsValue outcome →
+        ensures first { (said : ℕ) → IsFresh said self.old → IsValue outcome →
             IfOk result (λ progress. state.new.left ≡ state.old.left →
-            IsIdle progress self.new.spot) }
+            IsIdle said self.new.code.value.items progress self.new.spot) }
         ensures again { IfOk result (λ progress. progress ≡ went.Over →
             state.new.left ≡ state.old.left →
             again_of (outcome_of self.new.spot.outcome)
@@ -79,7 +81,7 @@ impl<A: Allocator + Copy> Run<A> {
         'commands: loop {
             let progress = self.reach_command(alloc, state, outcome)?;
             if progress != Progress::Begins {
-                return Ok(progress);
+                return Ok(self.stop(progress)?);
             }
             match perform(alloc, state, self.spot.words_on_top())? {
                 Some(done) => {
@@ -94,8 +96,26 @@ impl<A: Allocator + Copy> Run<A> {
         }
     }
 
-    /// Hands in the outcome that the run waits for, and runs the code up to the next command, whose
-    /// words are operands still, or to the end.
+    /// Takes the words off the operands by which branches are given, where the run has come there.
+    fn stop(&mut self, progress: Progress) -> Result<Progress, NoMemory>
+        ensures same { IfOk result (λ stopped. stopped ≡ progress) }
+        ensures stops { (last : Status → Ending → Dialogue Over) (state : State A)
+            (p : Dialogue Over) → progress ≢ went.Begins →
+            HasCome last progress self.old state p →
+            IfOk result (λ _. HasStopped last progress self.new state p) }
+        ensures code { self.new.code.value.items ≡ self.old.code.value.items }
+        ensures place { self.new.spot.place ≡ self.old.spot.place }
+        ensures outcome { progress ≡ went.Over → self.new ≡ self.old }
+    {
+        if progress != Progress::Says {
+            return Ok(progress);
+        }
+        self.spot.take_words()?;
+        Ok(progress)
+    }
+
+    /// Hands in the outcome that the run waits for, and runs the code up to the next command, or to
+    /// branches that are given, whose words are operands still, or to the end.
     fn reach_command(
         &mut self,
         alloc: A,
@@ -107,13 +127,13 @@ impl<A: Allocator + Copy> Run<A> {
             IfOk result (λ progress.
             HasCome last progress self.new state.new (next s (outcome_of outcome))) }
         ensures left { IfOk result (λ _. state.new.left ≤ state.old.left) }
-        ensures onward { IfOk result (λ progress. progress ≡ went.Begins →
+        ensures onward { IfOk result (λ progress. IsCall progress →
             state.new.left ≡ state.old.left → places_left self.new < places_left self.old) }
         ensures falls { IfOk result (λ progress. progress ≡ went.Begins →
             most_commands self.new state.new.left < most_commands self.old state.old.left) }
-        ensures first { IsFresh self.old → IsValue outcome →
+        ensures first { (said : ℕ) → IsFresh said self.old → IsValue outcome →
             IfOk result (λ progress. state.new.left ≡ state.old.left →
-            IsIdle progress self.new.spot) }
+            IsIdle said self.new.code.value.items progress self.new.spot) }
         ensures again { IfOk result (λ progress. progress ≡ went.Over →
             again_of (outcome_of self.new.spot.outcome)
             ≤ again_of (outcome_of outcome) + 2 * places_left self.old) }

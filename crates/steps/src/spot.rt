@@ -1,8 +1,8 @@
 //! Where the run of a code stands, and how instructions change it.
 
-ghost use Rattle.std.specs.Prelude.{◌≡◌, ◌≤◌, [], ◌∷◌, Some, IfOk, OnOk};
+ghost use Rattle.std.specs.Prelude.{◌≡◌, ◌≤◌, [], Some, IfOk, OnOk};
 ghost use Rattle.state.specs.Prelude.{Gives, Status, outcome_of};
-ghost use Rattle.steps.specs.Machine.{beginning, beginning_counted, counting, discarding, entering, joining, leaving, ticking};
+ghost use Rattle.steps.specs.Machine.{beginning, beginning_counted, counting, discarding, joining, leaving, saying_counted, ticking};
 ghost use Rattle.steps.specs.Moves.{on_top};
 ghost use Rattle.steps.specs.Spot.{Begins, Over as is_over, Went as goes, beginning_at, with_top};
 ghost use Rattle.steps.specs.View.{IsOpen, below_words, did_of, spot_of, with_parts, words_of};
@@ -212,6 +212,22 @@ impl<A: Allocator + Copy> Spot<A> {
         self.begin(below)
     }
 
+    /// Gives the branches of a command by its name and by words, which were counted together.
+    pub fn say(&mut self) -> Progress
+        ensures does { (s : Status) →
+            did_of result self.new s ≡ saying_counted (spot_of self.old) s }
+        ensures place { self.new.place ≡ self.old.place }
+    {
+        let Some(below) = self.marks.pop() else {
+            return Progress::Stuck;
+        };
+        if self.operands.len() < below {
+            return Progress::Stuck;
+        }
+        self.below = below;
+        Progress::Says
+    }
+
     /// Begins a command by words that are no operands yet.
     pub(crate) fn begin_by(&mut self, mut words: Vec<Value<A>, A>) -> Result<Progress, NoMemory>
         ensures does { (s : Status) → IfOk result (λ progress.
@@ -223,7 +239,7 @@ impl<A: Allocator + Copy> Spot<A> {
         Ok(Progress::Begins)
     }
 
-    /// The words of the command that begins.
+    /// The words by which something begins.
     pub(crate) fn words_on_top(&self) -> &[Value<A>]
         ensures { result.now ≡ words_of self.now }
     {
@@ -241,7 +257,7 @@ impl<A: Allocator + Copy> Spot<A> {
         self.operands.truncate(self.below);
     }
 
-    /// Takes the words of the command that begins off the operands.
+    /// Takes the words by which something begins off the operands.
     ///
     /// # Errors
     /// `NoMemory` where memory is refused.

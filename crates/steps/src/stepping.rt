@@ -204,6 +204,7 @@ fn perform<A: Allocator + Copy>(
         Instruction::Spread => Ok(spread(alloc, spot)?),
         Instruction::Command(n) => Ok(start(alloc, spot, procs, *n)?),
         Instruction::Counted => Ok(spot.begin_counted()),
+        Instruction::Say => Ok(spot.say()),
         Instruction::Fault(fault) => Ok(end_faulty(alloc, spot, *fault)?),
         Instruction::Numeral(digits) => Ok(number(alloc, spot, digits)?),
         Instruction::Prefix(operator) => Ok(prefix(alloc, spot, *operator)?),

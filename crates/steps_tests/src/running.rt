@@ -58,6 +58,10 @@ fn show<A: Allocator>(
     match progress {
         Progress::GoesOn => shown.extend_from_slice(b"goes on")?,
         Progress::Begins => show_words(shown, &spot.words)?,
+        Progress::Says => {
+            shown.extend_from_slice(b"says ")?;
+            show_words(shown, &spot.words)?;
+        }
         Progress::Over => show_outcome(shown, &spot.outcome)?,
         Progress::Stuck => shown.extend_from_slice(b"stuck")?,
     }
@@ -121,7 +125,7 @@ pub(crate) fn commands_within(
     let mut shown = Vec::new(alloc);
     for _ in 0..20 {
         let progress = advance(alloc, code, &mut spot, &mut scopes, procs, &mut left)?;
-        if progress != Progress::Begins {
+        if progress != Progress::Begins && progress != Progress::Says {
             show(&mut shown, progress, &spot)?;
             return Ok(shown);
         }

@@ -2,7 +2,7 @@
 
 use crate::telling::Teller;
 use acts::NoMemory;
-use code::Instruction;
+use code::{Entry, Instruction};
 use expects::turn::Turn;
 use kept::Kept;
 use machine::frame::Frame;
@@ -168,7 +168,12 @@ fn has_turn<A: Allocator>(frames: &[Frame<A>]) -> bool {
 /// The turn whose body stands on top of the frames and has not begun.
 pub(crate) fn chosen<A: Allocator>(frames: &[Frame<A>]) -> Option<&Turn<A>> {
     match frames {
-        [.., Frame::Turn(turn), Frame::Code(_, _)] => Some(turn),
+        [.., Frame::Turn(turn), Frame::Code(Entry::Made(_), _)] => Some(turn),
         _ => None,
     }
+}
+
+/// Whether the words of an argument in braces are substituted next.
+pub(crate) fn is_argument_next<A: Allocator>(frames: &[Frame<A>]) -> bool {
+    matches!(frames.last(), Some(Frame::Code(Entry::Argument(_), _)))
 }

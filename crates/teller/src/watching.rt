@@ -4,7 +4,7 @@ ghost use Rattle.std.specs.Prelude.{◌≡◌, true, None, IfOk, is_some};
 ghost use Rattle.teller.specs.Asked.{is_asked, is_of_command};
 ghost use Rattle.teller.specs.declared.telling.Detail.TheVariants.{Whole};
 
-use crate::ended::chosen;
+use crate::ended::{chosen, is_argument_next};
 use crate::lines::Lines;
 use crate::telling::{Asker, Detail, Teller};
 use crate::told::push_act;
@@ -12,12 +12,12 @@ use acts::{Act, NoMemory};
 use dialog::Trigger;
 use expects::form::Form;
 use expects::turn::Waits as TurnWaits;
+use kept::Argument;
 use machine::{Running, Waits};
+use recent::Readable;
 use state::{Leaf, State};
 use std::alloc::Allocator;
-use tclparse::Words;
 use tcltext::Value;
-use words::{Gathered, begin};
 
 impl<A: Allocator + Copy> Teller<A> {
     /// Takes note of the script of a run that begins.
@@ -38,7 +38,7 @@ impl<A: Allocator + Copy> Teller<A> {
     ///
     /// # Errors
     /// `NoMemory`.
-    pub fn begins(&mut self, state: &State<A>, words: &[Value<A>]) -> Result<(), NoMemory> {
+    pub fn begins(&mut self, words: &[Value<A>]) -> Result<(), NoMemory> {
         let [name, args @ ..] = words else {
             return Ok(());
         };
@@ -50,17 +50,29 @@ impl<A: Allocator + Copy> Teller<A> {
         }
         self.stands = matches!(form, Form::Stands(_));
         match args {
-            [text] if is_braced(text.as_slice()) => self.read_argument(state, text.as_slice()),
-            _ => self.says(args),
+            [text] if is_braced(text.as_slice()) => self.begins_braced(text.as_slice()),
+            _ => self.branches.read(self.alloc, args, self.stands),
         }
     }
 
-    /// Takes note of words that say branches.
+    /// Takes note of the branches that the words of an argument in braces say, where these are
+    /// texts as they stand; else they are told once they are substituted.
+    fn begins_braced(&mut self, text: &[u8]) -> Result<(), NoMemory> {
+        match Argument::read_from(self.alloc, text)? {
+            Argument::Texts(words) => self.branches.read(self.alloc, &words, self.stands),
+            Argument::Words(_) | Argument::Faulty(_) => Ok(()),
+        }
+    }
+
+    /// Takes note of words that say branches, after the name of their command.
     ///
     /// # Errors
     /// `NoMemory`.
     pub fn says(&mut self, words: &[Value<A>]) -> Result<(), NoMemory> {
-        self.branches.read(self.alloc, words, self.stands)
+        let [_, args @ ..] = words else {
+            return Ok(());
+        };
+        self.branches.read(self.alloc, args, self.stands)
     }
 
     /// Tells what has come of what began or was answered: an outcome, or an act.
@@ -83,17 +95,6 @@ impl<A: Allocator + Copy> Teller<A> {
             Leaf::Has(_) => self.outcome_lines(running, state, detail),
             Leaf::Asks(act, waits) => self.act_lines(state, act, waits, detail),
         }
-    }
-
-    /// Reads the branches in an argument in braces. Where a script stands in one of its words, they
-    /// are told once that has run.
-    fn read_argument(&mut self, state: &State<A>, text: &[u8]) -> Result<(), NoMemory> {
-        let Words { words, fault: _ } = Words::read(self.alloc, text)?;
-        let values = match begin(self.alloc, &state.scopes, words)? {
-            Gathered::Values(values) => values,
-            Gathered::Script(_, _) | Gathered::Fault(_) => Vec::new(self.alloc),
-        };
-        self.branches.read(self.alloc, &values, self.stands)
     }
 
     /// The lines of an outcome of what began, or of a choice whose body stands on top.
@@ -161,6 +162,9 @@ impl<A: Allocator + Copy> Teller<A> {
         state: &State<A>,
         detail: Detail,
     ) -> Result<(), NoMemory> {
+        if is_argument_next(&running.frames) {
+            return Ok(());
+        }
         if let Some(turn) = chosen(&running.frames) {
             return self.choose(out, state, turn, detail);
         }

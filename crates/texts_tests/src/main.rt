@@ -1,6 +1,6 @@
-//! Tests of the public calls of `tcltext`, `tclparse` and `words`: tables of what tclsh 8.6 makes
-//! of texts, scripts and words, and of this project's own rules, long texts, and patterns compared
-//! with two slow searches.
+//! Tests of the public calls of `tcltext` and `tclparse`: tables of what tclsh 8.6 makes of texts
+//! and scripts, and of this project's own rules, long texts, and patterns compared with two slow
+//! searches.
 #![tactic(auto)]
 
 mod patterns;
@@ -9,7 +9,7 @@ mod slow;
 mod texts;
 
 use crate::patterns::{Long, Patterns, run_starved};
-use crate::scripts::{LongScripts, Substitution, Trees};
+use crate::scripts::{LongScripts, Trees};
 use crate::slow::run_random;
 use crate::texts::{Escapes, Lists, Numbers};
 use std::io;
@@ -26,6 +26,5 @@ fn main(rt: HostRuntime) -> io::Result<ExitCode> {
     is_well &= run_random(&rt)?;
     is_well &= run_table(&rt, &Trees, "trees", Memory::RefusedInTurn)?;
     is_well &= run_table(&rt, &LongScripts, "long-scripts", Memory::Whole)?;
-    is_well &= run_table(&rt, &Substitution, "words", Memory::RefusedInTurn)?;
     Ok(ExitCode::from(if is_well { 0 } else { 1 }))
 }

@@ -1,18 +1,14 @@
-//! Scripts and the words of their commands: their trees, long and deep ones, and the values of
-//! words.
+//! Scripts and the words of their commands: their trees, long and deep ones.
 //!
 //! A tree is written as a text to compare: each word in `<` and `>`, `*` before one that is
 //! expanded, `;` after each command. A variable is `${name}`, an element `$name(index)`, a script
 //! stands in `[` and `]`.
 
-use crate::texts::{field, fields};
+use crate::texts::field;
 use memory::NoMemory;
 use std::alloc::Allocator;
 use tables::{Answers, number, push_angled, push_shown, repeated};
 use tclparse::{Command, Fault, Part, Script, Word, Words, variable_name};
-use tclstate::{ScopeError, Scopes};
-use tcltext::Value;
-use words::{Gathered, begin, resume};
 
 #[cycle(show)]
 fn show_part<A: Allocator>(answer: &mut Vec<u8, A>, part: &Part<A>) -> Result<(), NoMemory> {
@@ -230,118 +226,4 @@ fn push_count<A: Allocator + Copy>(
 ) -> Result<(), NoMemory> {
     push_shown(answer, many)?;
     push_fault(answer, fault)
-}
-
-/// The variables that the commands name, with their indexes and values.
-const VARIABLES: [(&[u8], Option<&[u8]>, &[u8]); 6] = [
-    (b"a", None, b"1"),
-    (b"l", None, b"u {v w}"),
-    (b"t", Some(b"x"), b"2"),
-    (b"t", Some(b"y"), b"3"),
-    (b"t", Some(b"y2"), b"4"),
-    (b"t", Some(b"x1"), b"1"),
-];
-
-/// The table of commands, whose words have values.
-pub struct Substitution;
-
-impl Answers for Substitution {
-    fn answer<A: Allocator + Copy>(
-        &self,
-        row: &[Vec<u8>],
-        answer: &mut Vec<u8, A>,
-    ) -> Result<(), NoMemory> {
-        let mut scopes = Scopes::new(*answer.allocator());
-        set_variables(&mut scopes, *answer.allocator())?;
-        tell_substituted(answer, &scopes, field(row, 1), fields(row, 2))
-    }
-}
-
-fn set_variables<A: Allocator + Copy>(scopes: &mut Scopes<A>, alloc: A) -> Result<(), NoMemory> {
-    for (name, index, value) in VARIABLES {
-        let value = Value::from_slice(alloc, value)?;
-        if let Err(ScopeError::NoMemory(refusal)) = scopes.set(alloc, name, index, value) {
-            return Err(refusal);
-        }
-    }
-    Ok(())
-}
-
-/// Writes the values of the words of a text's first command, with these values for the scripts in
-/// them.
-fn tell_substituted<A: Allocator + Copy>(
-    answer: &mut Vec<u8, A>,
-    scopes: &Scopes<A>,
-    text: &[u8],
-    values: &[Vec<u8>],
-) -> Result<(), NoMemory> {
-    let gathered = substituted(*answer.allocator(), scopes, text, values)?;
-    tell(answer, &gathered)
-}
-
-fn substituted<A: Allocator + Copy>(
-    alloc: A,
-    scopes: &Scopes<A>,
-    text: &[u8],
-    values: &[Vec<u8>],
-) -> Result<Gathered<A>, NoMemory> {
-    let script = Script::read(alloc, text)?;
-    match script.commands.first() {
-        Some(command) => gather(alloc, scopes, command, values),
-        None => Ok(Gathered::Values(Vec::new(alloc))),
-    }
-}
-
-/// What comes of a command, once its scripts have had these values.
-fn gather<A: Allocator + Copy>(
-    alloc: A,
-    scopes: &Scopes<A>,
-    command: &Command<A>,
-    values: &[Vec<u8>],
-) -> Result<Gathered<A>, NoMemory> {
-    let mut gathered = begin(alloc, scopes, command.words.clone()?)?;
-    for value in values {
-        gathered = resumed(alloc, scopes, gathered, value)?;
-    }
-    Ok(gathered)
-}
-
-/// Gives a script its value; nothing is left where none waits for one.
-fn resumed<A: Allocator + Copy>(
-    alloc: A,
-    scopes: &Scopes<A>,
-    gathered: Gathered<A>,
-    value: &[u8],
-) -> Result<Gathered<A>, NoMemory> {
-    match gathered {
-        Gathered::Script(_, gathering) => {
-            let gathering = Box::into_inner(gathering);
-            resume(alloc, scopes, gathering, Value::from_slice(alloc, value)?)
-        }
-        _ => Ok(Gathered::Values(Vec::new(alloc))),
-    }
-}
-
-fn tell<A: Allocator + Copy>(
-    answer: &mut Vec<u8, A>,
-    gathered: &Gathered<A>,
-) -> Result<(), NoMemory> {
-    match gathered {
-        Gathered::Values(words) => push_words(answer, words),
-        Gathered::Fault(fault) => {
-            let text = fault.text(*answer.allocator())?;
-            Ok(answer.extend_from_slice(&text)?)
-        }
-        Gathered::Script(_, _) => Ok(answer.extend_from_slice(b"one more script")?),
-    }
-}
-
-fn push_words<A: Allocator + Copy>(
-    answer: &mut Vec<u8, A>,
-    words: &[Value<A>],
-) -> Result<(), NoMemory> {
-    for word in words {
-        push_angled(answer, word.as_slice())?;
-    }
-    Ok(())
 }

@@ -17,7 +17,7 @@ pub fn field(row: &[Vec<u8>], place: usize) -> &[u8] {
 }
 
 /// The fields of a row from a place on.
-pub fn fields(row: &[Vec<u8>], place: usize) -> &[Vec<u8>] {
+fn fields(row: &[Vec<u8>], place: usize) -> &[Vec<u8>] {
     row.get(place..).unwrap_or(&[])
 }
 

@@ -48,8 +48,8 @@ waiting_above (Turning loop ∷ outer) below = those [] below
 waiting_above (Resulting ∷ outer) below = those [] below
 
 before_above : (word : Word) (below : List (List ℕ)) → LiesOn (before_of word below) below
-before_above (Plain counted before rest) below = those before below
-before_above (Expands before rest) below = those before below
+before_above (Plain braced counted before rest) below = those before below
+before_above (Expands braced before rest) below = those before below
 before_above (Operand outer) below = waiting_above outer below
 before_above (Listed variables body) below = those [] below
 before_above (Switched options after) below = those [] below

@@ -23,7 +23,7 @@ use Rattle.steps.proofs.Leads.Bodies.{body_begins, body_read, enters_leads}
 use Rattle.steps.proofs.Leads.Catches.{catch_begins}
 use Rattle.steps.proofs.Leads.Formulas.{formula_leads}
 use Rattle.steps.proofs.Leads.Grows.{behind_grows, own_grows, words_grow}
-use Rattle.steps.proofs.Leads.Literals.{literal_words, text_words}
+use Rattle.state.proofs.Words.{literal, literal_words, text_words}
 use Rattle.steps.proofs.Leads.Loops.{for_begins, while_begins}
 use Rattle.steps.proofs.Leads.Meanings.{jump_leads}
 use Rattle.steps.proofs.Leads.Parts.{start_leads}
@@ -34,7 +34,6 @@ use Rattle.steps.specs.Word.{Last, Listed, Switched}
 use Rattle.tclparse.specs.Tree.{Words, bytes_then, no_parts, no_words, word}
 use Rattle.tclstate.specs.Pairs.{found}
 use Rattle.tclstate.specs.Procs.{Procedure}
-use Rattle.words.proofs.Steps.{literal}
 use Rattle.state.specs.Words.{words}
 
 module _ {A X : Type 0} (code : List (Instruction A)) (last : Status → Outcome → Dialogue X) where
@@ -174,7 +173,7 @@ module _ {A X : Type 0} (code : List (Instruction A)) (last : Status → Outcome
   unhidden_leads : (procedure : Option Procedure) (levels : ℕ) (fs : List Frame) (s : Status)
       (name : List ℕ) (place mid : ℕ) (args : List (List ℕ)) (end : ℕ) →
       found s.procedures name ≡ procedure →
-      WordsAt code false 0 (place + 1) (literals (name ∷ args)) mid → At code mid (i.Jump end) →
+      WordsAt code false false 0 (place + 1) (literals (name ∷ args)) mid → At code mid (i.Jump end) →
       OwnAt code name (mid + 1) args end → FramesAt code end fs → levels + brackets fs ≤ 255 →
       Follows code last
       (unhidden procedure (mid + 1)
@@ -185,7 +184,7 @@ module _ {A X : Type 0} (code : List (Instruction A)) (last : Status → Outcome
       (own_begins levels fs s name (mid + 1) args end is own_at behind fits)
   unhidden_leads (Some procedure) levels fs s name place mid args end is words_at jump own_at behind
       fits =
-      stands code last (place + 1) levels (Gathers false [] (literals (name ∷ args))) (Skip ∷ fs)
+      stands code last (place + 1) levels (Gathers false false [] (literals (name ∷ args))) (Skip ∷ fs)
       mid s (0, refl, words_at) (end, jump, own_grows code own_at, behind) fits
 
   -- a command begins with its first word, or with its own code
@@ -196,7 +195,7 @@ module _ {A X : Type 0} (code : List (Instruction A)) (last : Status → Outcome
       (machine (slice_get code place) (spot_at place levels (Starts ws) fs) s)
       (left_of last levels (Starts ws) fs s)
   starts_leads levels fs s place ws end (by_words words_at) behind fits =
-      words_lead code last levels [] fs s false 0 place ws end refl words_at behind fits
+      words_lead code last levels [] fs s false false 0 place ws end refl words_at behind fits
   starts_leads levels fs s place ws end (own {mid = mid} {name = name} {args = args} hides words_at
       jump own_at) behind fits =
       by code last (i.Unhidden name (mid + 1)) (spot_at place levels (Starts (literals (name ∷

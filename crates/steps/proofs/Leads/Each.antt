@@ -44,8 +44,9 @@ module _ {A X : Type 0} (code : List (Instruction A)) (last : Status → Outcome
   head_leads place levels (Joins v o) frames end s at behind fits =
       joins_lead code last levels end frames s v o.so_far o.outer o.word place o.parts at behind
       fits
-  head_leads place levels (Gathers counted before rest) frames end s at behind fits =
-      words_lead code last levels before frames s counted at.0 place rest end at.1 at.2 behind fits
+  head_leads place levels (Gathers braced counted before rest) frames end s at behind fits =
+      words_lead code last levels before frames s braced counted at.0 place rest end at.1 at.2
+      behind fits
   head_leads place levels (Evaluates f outer) frames end s at behind fits =
       formula_leads code last levels end frames s outer place f at.0 at.1 at.2 behind fits
   head_leads place levels (Values v outer) frames end s at behind fits =

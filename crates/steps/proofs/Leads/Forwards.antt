@@ -62,8 +62,8 @@ module _ {A : Type 0} (code : List (Instruction A)) where
       )
 
   word_grows : (place : ℕ) (word : Word) (end : ℕ) → WordAt code place word end → place ≤ end
-  word_grows place (Plain counted before rest) end at = words_grow code at.2
-  word_grows place (Expands before rest) end at = omega (arith, words_grow code at.1.1)
+  word_grows place (Plain braced counted before rest) end at = words_grow code at.2
+  word_grows place (Expands braced before rest) end at = omega (arith, words_grow code at.1.1)
   word_grows place (Operand outer) end at = operand_grows place outer end at
   word_grows place (Listed variables body) end at = foreach_grows code at
   word_grows place (Switched options after) end at = switch_grows code at

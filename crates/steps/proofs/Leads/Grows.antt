@@ -1,6 +1,6 @@
 -- Code ends at its beginning, or after it.
 use Rattle.std.proofs.Common.{ℕ, ◌≤◌, List, Bool, Option, arith}
-use Rattle.code.specs.Code.{JoinsAt, first, joined, PartsAt, over, empty, text, value, item, bracket, WordsAt, begins, begins_counted, one, counts, spread, CommandAt, by_words, own, foreach_loop, direct, CommandsAt, done, next, FaultAt, none, fault, OwnAt, conditional, while_loop, for_loop, evaluated, valued, TurnsAt, turns, StepAt, no_step, steps, AssignsAt, all_set, sets, NextAt, next_turn, ForeachAt, with_names, DealAt, deals, switched, SwitchAt, with_arms, RestAt, no_match, some_arms, ArmsAt, otherwise, shares, takes, BranchesAt, branch, BehindAt, no_else, at_last, else_if, BodyAt, deeper, FormulaAt, number, parts, called, prefixed, in_row, chosen, LinksAt, no_more, both, and_also, or_else, ArgumentsAt, no_argument, argument, caught, TakenAt, dropped, taken}
+use Rattle.code.specs.Code.{JoinsAt, first, joined, PartsAt, over, empty, text, value, item, bracket, WordsAt, begins, begins_counted, says, one, counts, spread, CommandAt, by_words, own, foreach_loop, direct, CommandsAt, done, next, FaultAt, none, fault, OwnAt, conditional, while_loop, for_loop, evaluated, valued, TurnsAt, turns, StepAt, no_step, steps, AssignsAt, all_set, sets, NextAt, next_turn, ForeachAt, with_names, DealAt, deals, switched, SwitchAt, with_arms, RestAt, no_match, some_arms, ArmsAt, otherwise, shares, takes, BranchesAt, branch, BehindAt, no_else, at_last, else_if, BodyAt, deeper, FormulaAt, number, parts, called, prefixed, in_row, chosen, LinksAt, no_more, both, and_also, or_else, ArgumentsAt, no_argument, argument, caught, TakenAt, dropped, taken}
 use Rattle.code.specs.declared.instruction.Instruction.{Instruction}
 use Rattle.code.specs.declared.options.Options.{Options}
 use Rattle.tclparse.specs.Fault.{Fault}
@@ -42,10 +42,11 @@ module _ {A : Type 0} (code : List (Instruction A)) where
     parts_grow (bracket enter commands leave joins rest) =
         omega (arith, commands_grow commands, joins_grow joins, parts_grow rest)
 
-    pub words_grow : {counted : Bool} {count place : ℕ} {ws : Words} {end : ℕ} →
-        WordsAt code counted count place ws end → place ≤ end
+    pub words_grow : {braced counted : Bool} {count place : ℕ} {ws : Words} {end : ℕ} →
+        WordsAt code braced counted count place ws end → place ≤ end
     words_grow (begins at) = omega arith
     words_grow (begins_counted at) = omega arith
+    words_grow (says at) = omega arith
     words_grow (one ps rest) = omega (arith, parts_grow ps, words_grow rest)
     words_grow (counts at rest) = omega (arith, words_grow rest)
     words_grow (spread ps at rest) = omega (arith, parts_grow ps, words_grow rest)

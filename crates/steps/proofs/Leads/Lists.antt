@@ -18,7 +18,7 @@ use Rattle.steps.specs.Places.{Part, Deals, Frame, beneath, brackets, handlers_b
 use Rattle.steps.specs.Spot.{Spot, Begins, Stuck}
 use Rattle.steps.specs.Word.{Listed}
 use Rattle.steps.proofs.Leads.Grows.{deal_grows}
-use Rattle.steps.proofs.Leads.Literals.{literal_words}
+use Rattle.state.proofs.Words.{literal_words}
 use Rattle.steps.proofs.Leads.Parts.{PartLeads, opened}
 use Rattle.steps.proofs.Leads.Resumed.{outcome_leads}
 use Rattle.steps.proofs.Leads.Silent.{same_goes}

@@ -1,12 +1,11 @@
 -- An open word of which there is something, and a value that is put after its bytes.
-use Rattle.std.proofs.Common.{ℕ, ◌+◌, ◌≤◌, List, [], ◌∷◌, ◌++◌, true, false, Option, None, Some, Result, Ok, Err, refl, sym, ap, subst, length, append_assoc, arith}
+use Rattle.std.proofs.Common.{ℕ, ◌+◌, ◌≤◌, List, [], ◌∷◌, ◌++◌, true, false, Option, None, Some, Result, Ok, Err, refl, sym, ap, subst, length, append_assoc, arith, Bool}
 use Rattle.std.specs.Prelude.{slice_get, reverse}
 use Rattle.code.specs.Code.{JoinsAt, first, joined, PartsAt, over, text, value, item, bracket, WordsAt}
 use Rattle.code.specs.declared.instruction.Instruction.{Instruction}
 use Rattle.code.specs.declared.instruction.Instruction.TheVariants as i
 use Rattle.meanings.specs.Meaning.{IsSplit, flaw_of_list}
 use Rattle.plan.specs.Plan.{and_then, onward}
-use Rattle.runs.specs.Commands.{command}
 use Rattle.state.specs.Prelude.{Dialogue, Outcome, Status}
 use Rattle.state.specs.Variables.{spelled}
 use Rattle.steps.specs.Follows.{Follows}
@@ -15,7 +14,7 @@ use Rattle.steps.specs.Layout.{FramesAt, JoinedAt, OpenAt, OuterAt, WordAt}
 use Rattle.steps.specs.Machine.{machine, spread}
 use Rattle.steps.specs.Places.{Part, Joins, Gathers, Frame, beneath, brackets, handlers_beneath, course_of, left_of, marks_beneath, onward_of, spot_at}
 use Rattle.steps.specs.Spot.{Went}
-use Rattle.steps.specs.Word.{Around, Open, Word, Plain, Expands, Operand, Listed, Switched, Last, word_on}
+use Rattle.steps.specs.Word.{Around, Open, Word, Plain, Expands, Operand, Listed, Switched, Last, call_of, word_on}
 use Rattle.steps.proofs.Leads.Above.{those}
 use Rattle.steps.proofs.Leads.Forwards.{outer_grows}
 use Rattle.steps.proofs.Leads.Grows.{joins_grow, parts_grow, words_grow}
@@ -37,9 +36,10 @@ use Rattle.state.specs.Words.{words}
 module _ {A X : Type 0} (code : List (Instruction A)) (last : Status → Outcome → Dialogue X) where
   module _ (levels end : ℕ) (fs : List Frame) (s : Status) where
     -- after {*} the elements of a list are words, or the text is no list
-    split_leads : (bytes : List ℕ) (before : List (List ℕ)) (rest : Words) (place count : ℕ)
+    split_leads : (braced : Bool) (bytes : List ℕ) (before : List (List ℕ)) (rest : Words)
+        (place count : ℕ)
         (split : Result (List (List ℕ)) Flaw) → IsSplit bytes split →
-        WordsAt code true count (place + 1) rest end → FramesAt code end fs →
+        WordsAt code braced true count (place + 1) rest end → FramesAt code end fs →
         levels + brackets fs ≤ 255 →
         Follows code last
         (spread (record {
@@ -49,9 +49,9 @@ module _ {A X : Type 0} (code : List (Instruction A)) (last : Status → Outcome
           levels = levels;
           handlers = handlers_beneath levels fs;
         }) s split)
-        (and_then (word_on levels (Expands before rest) s bytes) (onward (onward_of last levels
-        fs)))
-    split_leads bytes before rest place count (Ok elements) is words_at behind fits =
+        (and_then (word_on levels (Expands braced before rest) s bytes) (onward (onward_of last
+        levels fs)))
+    split_leads braced bytes before rest place count (Ok elements) is words_at behind fits =
         subst (λ os. Follows code last
         (Went (record {
           place = place + 1;
@@ -60,18 +60,18 @@ module _ {A X : Type 0} (code : List (Instruction A)) (last : Status → Outcome
           levels = levels;
           handlers = handlers_beneath levels fs;
         }) s)
-        (and_then (word_on levels (Expands before rest) s bytes) (onward (onward_of last levels
-        fs))))
+        (and_then (word_on levels (Expands braced before rest) s bytes) (onward (onward_of last
+        levels fs))))
         (append_assoc (reverse elements) before (beneath fs))
         (sooner code last _ s
         (reads (Ok elements) is
-        (same_goes (ap (λ ws. and_then (words levels rest ws s (command levels)) (onward (onward_of
-        last levels fs)))
+        (same_goes (ap (λ ws. and_then (words levels rest ws s (call_of braced levels)) (onward
+        (onward_of last levels fs)))
         (sym (elements_after elements before)))))
-        (stands code last (place + 1) levels (Gathers true (reverse elements ++ before) rest) fs end
-        s
+        (stands code last (place + 1) levels (Gathers braced true (reverse elements ++ before) rest)
+        fs end s
         (count, tt, words_at) behind fits))
-    split_leads bytes before rest place count (Err why) is words_at behind fits =
+    split_leads braced bytes before rest place count (Err why) is words_at behind fits =
         silently code last _ (reads (Err why) is here)
         (failure_leads code last (flaw_of_list why) (record {
           place = place + 1;
@@ -94,14 +94,15 @@ module _ {A X : Type 0} (code : List (Instruction A)) (last : Status → Outcome
     word_leads : (bytes : List ℕ) (word : Word) (place : ℕ) → WordAt code place word end →
         FramesAt code end fs → levels + brackets fs ≤ 255 →
         PartLeads code last place levels (opened (Some bytes) no_parts [] word) fs s
-    word_leads bytes (Plain counted before rest) place at behind fits =
+    word_leads bytes (Plain braced counted before rest) place at behind fits =
         subst (λ ws. Follows code last
-        (machine (slice_get code place) (spot_at place levels (Gathers counted (bytes ∷ before)
-        rest) fs) s)
-        (and_then (words levels rest ws s (command levels)) (onward (onward_of last levels fs))))
+        (machine (slice_get code place) (spot_at place levels (Gathers braced counted (bytes ∷
+        before) rest) fs) s)
+        (and_then (words levels rest ws s (call_of braced levels)) (onward (onward_of last levels
+        fs))))
         (last_first bytes before)
-        (words_lead code last levels (bytes ∷ before) fs s counted at.0 place rest end at.1 at.2
-        behind fits)
+        (words_lead code last levels (bytes ∷ before) fs s braced counted at.0 place rest end at.1
+        at.2 behind fits)
     word_leads bytes (Operand outer) place at behind fits =
         operand_leads code last levels end fs s place bytes outer at behind fits
     word_leads bytes (Listed variables body) place at behind fits =
@@ -110,10 +111,11 @@ module _ {A X : Type 0} (code : List (Instruction A)) (last : Status → Outcome
         switched_leads code last levels end fs s bytes options after place at behind fits
     word_leads bytes (Last before) place at behind fits =
         last_leads code last levels end fs s bytes before place at.0 at.1 at.2 at.3 behind fits
-    word_leads bytes (Expands before rest) place at behind fits =
+    word_leads bytes (Expands braced before rest) place at behind fits =
         by code last i.Spread (spot_at place levels (Part (opened (Some bytes) no_parts [] (Expands
-        before rest))) fs) s _ at.0
-        (λ split is. split_leads bytes before rest place at.1.0 split is at.1.1 behind fits)
+        braced before rest))) fs) s _ at.0
+        (λ split is.
+        split_leads braced bytes before rest place at.1.0 split is at.1.1 behind fits)
 
     -- the value of a word or of an index
     over_leads : (bytes : List ℕ) (outer : List Around) (word : Word) (place : ℕ) →

@@ -5,10 +5,9 @@ use mathlib.Core.List.{reverse-cons}
 use Rattle.std.proofs.lemmas.Bool.{le-leb}
 use Rattle.std.proofs.lemmas.List.{reverse-append, reverse-reverse, length-reverse}
 use Rattle.std.proofs.Math.Seq.{take-append_seam, drop-append_seam}
-use Rattle.state.specs.Prelude.{Status}
-use Rattle.steps.specs.Machine.{beginning}
+use Rattle.steps.specs.Machine.{with_words}
 use Rattle.steps.specs.Moves.{lowest, with_operands}
-use Rattle.steps.specs.Spot.{Spot, Handler, Begins, Stuck}
+use Rattle.steps.specs.Spot.{Spot, Handler, Stuck, Did}
 
 -- the words, of which the last one is on top
 pub words_above : (words below : List (List ℕ)) →
@@ -42,27 +41,24 @@ with_rest place marks levels handlers operands = record {
   handlers = handlers;
 }
 
--- a command begins by the words above these operands
-pub begins_with : (n : ℕ) (words below : List (List ℕ)) (place : ℕ) (marks : List ℕ) (levels : ℕ)
-    (handlers : List Handler) (s : Status) → n ≡ length below →
-    beginning n
-    (with_rest place marks levels handlers (words ++ below)) s
-    ≡ Begins (reverse words)
-    (with_rest place marks levels handlers below) s
-begins_with n words below place marks levels handlers s is =
-    let at : Spot =
-    with_rest place marks levels handlers (words ++ below) in
+-- something begins by the words above these operands
+pub begins_with : (begins : List (List ℕ) → Spot → Did) (n : ℕ) (words below : List (List ℕ))
+    (place : ℕ) (marks : List ℕ) (levels : ℕ) (handlers : List Handler) → n ≡ length below →
+    with_words begins n (with_rest place marks levels handlers (words ++ below))
+    ≡ begins (reverse words) (with_rest place marks levels handlers below)
+begins_with begins n words below place marks levels handlers is =
+    let at : Spot = with_rest place marks levels handlers (words ++ below) in
     let within : length below ≤ length (words ++ below) =
     omega (arith, length-append words below) in
-    ap (λ m. beginning m at s) is
+    ap (λ m. with_words begins m at) is
     ∙ ap (λ b. if b
-    then Begins (drop (length below) (reverse (words ++ below)))
-    (with_operands (reverse (take (length below) (reverse (words ++ below)))) at) s
+    then begins (drop (length below) (reverse (words ++ below)))
+    (with_operands (reverse (take (length below) (reverse (words ++ below)))) at)
     else Stuck) (le-leb (length below) (length (words ++ below)) within)
-    ∙ ap (λ ws. Begins ws (with_operands (reverse (take (length below) (reverse (words ++ below))))
-    at) s)
+    ∙ ap (λ ws. begins ws (with_operands (reverse (take (length below) (reverse (words ++ below))))
+    at))
     (words_above words below)
-    ∙ ap (λ os. Begins (reverse words) (with_operands os at) s) (lowest_below words below)
+    ∙ ap (λ os. begins (reverse words) (with_operands os at)) (lowest_below words below)
 
 -- the elements of a list, with the words before them
 pub elements_after : (elements words : List (List ℕ)) →

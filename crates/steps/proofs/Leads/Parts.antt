@@ -22,7 +22,7 @@ use Rattle.steps.proofs.Leads.Silent.{same_goes}
 use Rattle.steps.proofs.Leads.Standing.{by, sooner, stands}
 use Rattle.tclparse.specs.Tree.{Parts, no_parts, variable, script, Commands, bytes_then}
 use Rattle.tclstate.specs.Scopes.{Trouble, read}
-use Rattle.words.proofs.Steps.{literal}
+use Rattle.state.proofs.Words.{literal}
 
 -- an open word by its parts
 abbrev pub opened : Option (List ℕ) → Parts → List Around → Word → Open

@@ -12,7 +12,7 @@ use Rattle.steps.specs.Handling.{fails, handled, led, resumed, way_of}
 use Rattle.steps.specs.Layout.{FramesAt}
 use Rattle.steps.specs.Moves.{jumping, lowest}
 use Rattle.steps.specs.Places.{Has, Finishes, Drops, Stores, Part, Frame, Rest, Bracket, Body, Skip, Alone, For, Turns, Elements, Catches, beneath, brackets, handlers_beneath, marks_beneath, onward_of, part_of, spot_at}
-use Rattle.steps.specs.Spot.{Did, Went, Reads, Begins, Over, Stuck, Handler, Spot}
+use Rattle.steps.specs.Spot.{Did, Went, Reads, Begins, Says, Over, Stuck, Handler, Spot}
 use Rattle.steps.specs.Word.{Open, is_counted, operands_of}
 use Rattle.steps.specs.declared.handler.Covered.{Covered}
 use Rattle.steps.specs.declared.handler.Covered.TheVariants as covers
@@ -285,6 +285,7 @@ module _ {A X : Type 0} (code : List (Instruction A)) (last : Status → Outcome
   resumes_so (Went spot s) p at = comes_here code last spot s at
   resumes_so (Reads text next) p at = absurd at
   resumes_so (Begins words spot s) p at = absurd at
+  resumes_so (Says words spot s) p at = absurd at
   resumes_so (Over outcome s) p is = same_goes is
   resumes_so Stuck p at = absurd at
 

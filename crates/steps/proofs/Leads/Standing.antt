@@ -13,7 +13,7 @@ use Rattle.steps.specs.Layout.{HeadAt, FramesAt}
 use Rattle.steps.specs.Machine.{machine}
 use Rattle.steps.specs.Moves.{ticked}
 use Rattle.steps.specs.Places.{Head, Frame, Rest, Bracket, Body, Skip, Alone, For, Turns, Elements, Catches, brackets, left_of, onward_of, spot_at}
-use Rattle.steps.specs.Spot.{Spot, Did, Went, Reads, Begins, Over, Stuck}
+use Rattle.steps.specs.Spot.{Spot, Did, Went, Reads, Begins, Says, Over, Stuck}
 use Rattle.steps.proofs.Leads.Silent.{same_goes, then_goes}
 
 module _ {A X : Type 0} (code : List (Instruction A)) (last : Status → Outcome → Dialogue X) where
@@ -75,6 +75,11 @@ module _ {A X : Type 0} (code : List (Instruction A)) (last : Status → Outcome
   silently (Went spot s) g f = sooner spot s g f
   silently (Reads text next) g f = λ tree is. silently (next tree) g (f tree is)
   silently (Begins words spot s) g f = record {
+    next = f.next;
+    goes = then_goes g f.goes;
+    resumes = f.resumes;
+  }
+  silently (Says words spot s) g f = record {
     next = f.next;
     goes = then_goes g f.goes;
     resumes = f.resumes;

@@ -5,7 +5,7 @@ use Rattle.std.specs.Prelude.{◌==◌, ◌||◌, not}
 use Rattle.bodies.proofs.Choosing.{arms_tried}
 use Rattle.std.specs.Str.{bytes_eq}
 use Rattle.bodies.specs.Switch as definition
-use Rattle.bodies.specs.Switch.{Exact, Mode, behind_flag, chosen, left_over, on_arms, on_flags, on_words, runs_body, switch, wrong_word}
+use Rattle.bodies.specs.Switch.{Exact, Mode, behind_flag, chosen, left_over, on_flags, on_words, runs_body, switch, wrong_word}
 use Rattle.code.specs.Code.{ArmsAt, RestAt, SwitchAt, literals, no_match, otherwise, shares, some_arms, takes, with_arms}
 use Rattle.code.specs.Switch.{AreArms, are_globs, of_list, of_words, option_words, words_before}
 use Rattle.code.specs.declared.instruction.Instruction.{Instruction}
@@ -18,8 +18,8 @@ use Rattle.runs.specs.Commands.{called, command}
 use Rattle.state.specs.Arguments.{begins_with_dash}
 use Rattle.state.specs.Piece.{ListText}
 use Rattle.state.specs.Prelude.{Dialogue, Outcome, Status}
-use Rattle.steps.specs.Follows.{Comes, Follows}
-use Rattle.steps.specs.Goes.{Goes, here, reads}
+use Rattle.steps.specs.Follows.{Follows}
+use Rattle.steps.specs.Goes.{Goes, reads}
 use Rattle.steps.specs.Layout.{FramesAt}
 use Rattle.steps.specs.Places.{Part, Compares, Frame, beneath, brackets, handlers_beneath, marks_beneath, onward_of, spot_at}
 use Rattle.steps.specs.Spot.{Spot, Begins, Stuck, Went}
@@ -27,11 +27,11 @@ use Rattle.steps.specs.Switch.{by_words, hidden, is_string}
 use Rattle.steps.specs.Tries.{mode_of}
 use Rattle.steps.specs.Word.{Switched}
 use Rattle.steps.proofs.Leads.Grows.{rest_grows}
-use Rattle.steps.proofs.Leads.Literals.{literal_words}
+use Rattle.state.proofs.Words.{literal_words}
 use Rattle.steps.proofs.Leads.Parts.{PartLeads, opened}
 use Rattle.steps.proofs.Leads.Resumed.{outcome_leads}
-use Rattle.steps.proofs.Leads.Silent.{same_goes, then_goes}
-use Rattle.steps.proofs.Leads.Standing.{by, silently, sooner, stands}
+use Rattle.steps.proofs.Leads.Silent.{same_goes}
+use Rattle.steps.proofs.Leads.Standing.{by, sooner, stands}
 use Rattle.tclparse.specs.Tree.{no_parts}
 use Rattle.tclstate.specs.Pairs.{found}
 use Rattle.tclstate.specs.Procs.{Procedure}

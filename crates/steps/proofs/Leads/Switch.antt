@@ -13,8 +13,7 @@ use Rattle.plan.specs.Plan.{and_then, onward}
 use Rattle.state.specs.Piece.{TestText}
 use Rattle.state.specs.Prelude.{Course, Dialogue, Outcome, raises, Reads, Status, within}
 use Rattle.steps.specs.Follows.{Comes, Follows}
-use Rattle.steps.specs.Moves.{jumping}
-use Rattle.steps.specs.Goes.{here, reads}
+use Rattle.steps.specs.Goes.{reads}
 use Rattle.steps.specs.Layout.{FramesAt, LeadsTo, jumps, there}
 use Rattle.steps.specs.Machine.{machine}
 use Rattle.steps.specs.Places.{Finishes, Compares, Runs, Frame, Skip, beneath, brackets, handlers_beneath, left_of, marks_beneath, onward_of, spot_at}

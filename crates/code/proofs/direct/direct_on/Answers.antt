@@ -1,4 +1,4 @@
-use Rattle.std.proofs.Common.{◌≡◌, true, List, [], ◌∷◌, codes, rules, subst}
+use Rattle.std.proofs.Common.{◌≡◌, true, [], ◌∷◌, codes, rules, subst}
 use Rattle.std.proofs.lemmas.Slice.Eq.{bytes_eq-Decides}
 use Rattle.std.specs.Str.{bytes_eq}
 use Rattle.code.specs.Code.{IsDirect, adds_last, appends_last, sets_last}

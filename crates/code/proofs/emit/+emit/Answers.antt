@@ -1,11 +1,11 @@
-use Rattle.std.proofs.Common.{false, true, ℕ, List, IfSome, [], ◌∷◌, rules, arith, ◌≡◌, ◌∙◌, ◌+◌, drop, sym, ap, subst}
+use Rattle.std.proofs.Common.{false, true, ℕ, List, IfSome, [], ◌∷◌, length, rules, arith, ◌≡◌, ◌∙◌, ◌+◌, drop, sym, ap, subst}
 use Rattle.std.proofs.Math.ListN.{drop_of_length-le}
 use Rattle.std.proofs.lemmas.List.{nil_from_length}
-use Rattle.code.proofs.Commands.{command_block, own_after, own_command_block, words_block, command_left, commands_block, counting_block, plain_block, spread_block, word_left}
+use Rattle.code.proofs.Commands.{all_left, command_block, own_after, own_command_block, values_block, words_block, command_left, commands_block, counting_block, plain_block, spread_block, word_left}
 use Rattle.code.proofs.LastWords.{direct_block, three_words, two_words}
 use Rattle.code.proofs.Parts.{bracket_block, element_block, empty_block, first_left, next_left, text_block, variable_block, word_block}
 use Rattle.code.proofs.Places.{command_at, part_at, word_at}
-use Rattle.code.specs.Blocks.{OwnBlock, PartsBlock, WordBlock, WordsBlock}
+use Rattle.code.specs.Blocks.{OwnBlock, PartsBlock, ValuesBlock, WordBlock, WordsBlock}
 use Rattle.code.specs.Code.{IsDirect}
 use Rattle.code.specs.Conditional.{IsLiteral}
 use Rattle.code.specs.Switch.{texts_then}
@@ -47,8 +47,8 @@ emit_value-returns-in_ok-push-in-Bracket-2 g t c =
     (part_view c.args.part.now) (search rules) (search rules) (search rules)
     (λ u. ap (λ p. part_view p u) c.in-Bracket.is ∙ view_Bracket commands u)
 
-pub emit_word-returns-then-not-word : goal.emit_word-returns-then-not-word
-emit_word-returns-then-not-word g t c =
+pub emit_word-returns-then-not-word-clause-block : goal.emit_word-returns-then-not-word-clause-block
+emit_word-returns-then-not-word-clause-block g t c =
     let w = c.args.word.now in
     plain_block c.args.counted c.args.count c.args.code.now.items c.emit_parts.new.code.items
     (parts_of w.parts) (word_view w) (search rules)
@@ -78,28 +78,47 @@ emit_commands-returns g t c =
     (ap (λ cs. commands_then cs no_commands)
     (drop_of_length-le commands {i = n} (omega (arith, c.loop-command-test.false))))
 
-pub emit_words-loop-count-preserved : goal.emit_words-loop-count-preserved
-emit_words-loop-count-preserved g t c =
+pub emit_values-loop-count-init : goal.emit_values-loop-count-init
+emit_values-loop-count-init g t c = (
+  all_left c.args.counted c.args.code.now.items (words_then c.args.words.now no_words),
+  λ counted. counted,
+)
+
+pub emit_values-loop-count-preserved : goal.emit_values-loop-count-preserved
+emit_values-loop-count-preserved g t c =
     let words = c.args.words.now in
     let n = c.loop-count.count in
-    let it = c.index-words-count.result in
-    word_left c.loop-count.counted c.in_ok-counted.counted n
-    c.args.code.now.items c.loop-count.code.items c.emit_word.new.code.items
-    (word_view it) (words_then (drop n words) no_words)
-    (words_then (drop (n + 1) words) no_words) (words_then words no_words)
-    c.loop-count.invariant c.in_ok-counted.ensures
-    (word_at words n it c.loop-count-test.true c.index-words-count.is)
+    let it = c.index-words-count.result in (
+      word_left c.args.counted c.loop-count.counts c.in_ok-counts.counts n
+          c.args.code.now.items c.loop-count.code.items c.emit_word.new.code.items
+          (word_view it) (words_then (drop n words) no_words)
+          (words_then (drop (n + 1) words) no_words) (words_then words no_words)
+          c.loop-count.invariant.0 c.in_ok-counts.ensures.block
+          (word_at words n it c.loop-count-test.true c.index-words-count.is),
+      λ counted. c.in_ok-counts.ensures.stays (c.loop-count.invariant.1 counted),
+    )
+
+pub emit_values-returns-clause-stays : goal.emit_values-returns-clause-stays
+emit_values-returns-clause-stays g t c = c.loop-count.invariant.1
+
+pub emit_values-returns-clause-block : goal.emit_values-returns-clause-block
+emit_values-returns-clause-block g t c =
+    let words = c.args.words.now in
+    let n = c.loop-count.count in
+    let all : n ≡ length words = omega (arith, c.loop-count-test.false) in
+    subst (λ count. ValuesBlock c.args.counted c.loop-count.counts count c.args.code.now.items
+    c.loop-count.code.items (words_then words no_words)) all (values_block c.args.counted
+    c.loop-count.counts n c.args.code.now.items c.loop-count.code.items
+    (words_then (drop n words) no_words) (words_then words no_words)
+    c.loop-count.invariant.0
+    (ap (λ ws. words_then ws no_words)
+    (drop_of_length-le words {i = n} (omega (arith, c.loop-count-test.false)))))
 
 pub emit_words-returns : goal.emit_words-returns
 emit_words-returns g t c =
-    let words = c.args.words.now in
-    let n = c.loop-count.count in
-    words_block c.loop-count.counted n c.args.code.now.items c.loop-count.code.items
-    c.push.new.self.items (words_then (drop n words) no_words) (words_then words no_words)
-    c.loop-count.invariant
-    (ap (λ ws. words_then ws no_words)
-    (drop_of_length-le words {i = n} (omega (arith, c.loop-count-test.false))))
-    (search rules)
+    words_block c.in_ok-counted.counted (length c.args.words.now) c.args.code.now.items
+    c.emit_values.new.code.items c.push.new.self.items
+    (words_then c.args.words.now no_words) c.in_ok-counted.ensures.block (search rules)
 
 pub emit_parts-returns-in_default : goal.emit_parts-returns-in_default
 emit_parts-returns-in_default g t c =
@@ -135,8 +154,8 @@ emit_parts-returns g t c =
     (ap (λ ps. parts_then ps no_parts)
     (drop_of_length-le rest {i = n} (omega (arith, c.loop-part-test.false))))
 
-pub emit_word-returns : goal.emit_word-returns
-emit_word-returns g t c =
+pub emit_word-returns-clause-block : goal.emit_word-returns-clause-block
+emit_word-returns-clause-block g t c =
     let w = c.args.word.now in
     let n = c.args.count in
     let old = c.args.code.now.items in

@@ -1,14 +1,15 @@
-use Rattle.std.proofs.Common.{drop}
+use Rattle.std.proofs.Common.{◌≡◌, true, drop}
 use Rattle.code.proofs.Commands.{CommandsLeft, WordsLeft}
 use Rattle.code.proofs.Parts.{PartsLeft}
 use Rattle.tclparse.specs.Tree.{no_commands, no_parts, no_words}
 use Rattle.tclparse.specs.View.{commands_then, parts_then, words_then}
 use Rattle.code.proofs.emit.+emit.Given as goal
 
-abbrev pub invariant-emit_words-loop-count : goal.invariant-emit_words-loop-count
-invariant-emit_words-loop-count g l =
-    WordsLeft l.counted l.count l.fn.code.items l.code.items
+abbrev pub invariant-emit_values-loop-count : goal.invariant-emit_values-loop-count
+invariant-emit_values-loop-count g l =
+    WordsLeft l.fn.counted l.counts l.count l.fn.code.items l.code.items
     (words_then (drop l.count l.words) no_words) (words_then l.words no_words)
+    × (l.fn.counted ≡ true → l.counts ≡ true)
 
 abbrev pub invariant-emit_commands-loop-command : goal.invariant-emit_commands-loop-command
 invariant-emit_commands-loop-command g l =

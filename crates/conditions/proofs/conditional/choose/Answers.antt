@@ -1,11 +1,15 @@
-use Rattle.std.proofs.Common.{◌≡◌, ◌∙◌, suc, ◌∷◌, length, map, sym, ap, rules, arith}
+use Rattle.std.proofs.Common.{◌≡◌, ◌∙◌, suc, List, [], ◌∷◌, drop, length, map, refl, sym, ap, rules, arith}
 use Rattle.std.proofs.lemmas.Result.{IfOk-weaker}
 use Rattle.conditions.specs.Choosing.{asked_of, branch_of}
 use Rattle.conditions.specs.Conditional.{chooses}
 use Rattle.conditions.specs.declared.conditional.Tested.{Tested}
 use Rattle.state.proofs.Reaches.{same_reaches, then_reaches}
-use Rattle.words.proofs.Levels.{none_left}
 use Rattle.conditions.proofs.conditional.choose.Goals as goal
+
+-- a list from which nothing is taken at its front is empty
+none_left : {X : Type 0} (xs ys : List X) → xs ≡ ys → ys ≡ drop 1 xs → xs ≡ []
+none_left [] ys same rest = refl
+none_left (x ∷ xs) ys same rest = absurd (omega (arith, ap length same, ap length rest))
 
 pub returns-in_default-clause-reaches : goal.returns-in_default-clause-reaches
 returns-in_default-clause-reaches g c = λ s.

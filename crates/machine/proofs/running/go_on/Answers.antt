@@ -3,7 +3,7 @@ use Rattle.state.specs.Budget.{again_of}
 use Rattle.state.specs.Prelude.{outcome_of}
 use Rattle.steps.specs.Run.{HasStopped, IsIdle, places_left}
 use Rattle.steps.specs.declared.progress.Progress.TheVariants as went
-use Rattle.machine.proofs.Below.{begins_in, never_stops, over_in}
+use Rattle.machine.proofs.Below.{begins_in, never_stops, none_left, over_in, says_in}
 use Rattle.machine.proofs.running.go_on.Goals as goal
 
 pub returns-in-Begins-clause-runs : goal.returns-in-Begins-clause-runs
@@ -15,6 +15,28 @@ returns-in-Begins-clause-runs g c = λ last next s fits awaits.
     (subst (λ progress. HasStopped last progress run state p) c.in-Begins.is
     (c.in_ok-go_on.ensures.stops last next s fits awaits))
     c.replace-words.ensures.value
+
+pub returns-in-Begins-clause-first : goal.returns-in-Begins-clause-first
+returns-in-Begins-clause-first g c = λ said fresh value same.
+    absurd (subst (λ progress. IsIdle said c.go_on.new.self.code.value.items progress
+    c.go_on.new.self.spot) c.in-Begins.is (c.in_ok-go_on.ensures.first said fresh value same))
+
+pub returns-in-Says-clause-runs : goal.returns-in-Says-clause-runs
+returns-in-Says-clause-runs g c = λ last next s fits awaits.
+    let run = c.go_on.new.self in
+    let state = c.go_on.new.state in
+    let p = next s (outcome_of c.args.outcome) in
+    says_in last run c.replace-words-in-Says.result c.replace-words-in-Says.new.dest state p
+    (subst (λ progress. HasStopped last progress run state p) c.in-Says.is
+    (c.in_ok-go_on.ensures.stops last next s fits awaits))
+    c.replace-words-in-Says.ensures.value
+
+pub returns-in-Says-clause-first : goal.returns-in-Says-clause-first
+returns-in-Says-clause-first g c = λ said fresh value same.
+    let code = c.go_on.new.self.code.value.items in
+    let idle = subst (λ progress. IsIdle said code progress c.go_on.new.self.spot) c.in-Says.is
+    (c.in_ok-go_on.ensures.first said fresh value same) in
+    (idle.0, refl, none_left code c.go_on.new.self.spot.place idle.1)
 
 pub returns-in-Over-clause-runs : goal.returns-in-Over-clause-runs
 returns-in-Over-clause-runs g c = λ last next s fits awaits.
@@ -32,15 +54,16 @@ returns-in-Over-clause-less g c = λ same.
     (sym c.replace-outcome.ensures.value) (c.in_ok-go_on.ensures.again c.in-Over.is same)
 
 pub returns-in-Over-clause-first : goal.returns-in-Over-clause-first
-returns-in-Over-clause-first g c = λ fresh value same.
+returns-in-Over-clause-first g c = λ said fresh value same.
     subst (λ o. again_of (outcome_of o) ≡ 0) (sym c.replace-outcome.ensures.value)
-    (subst (λ progress. IsIdle progress c.go_on.new.self.spot) c.in-Over.is
-    (c.in_ok-go_on.ensures.first fresh value same))
+    (subst (λ progress. IsIdle said c.go_on.new.self.code.value.items progress
+    c.go_on.new.self.spot) c.in-Over.is (c.in_ok-go_on.ensures.first said fresh value same))
 
 pub returns-in_default-clause-runs : goal.returns-in_default-clause-runs
 returns-in_default-clause-runs g c = λ last next s fits awaits.
     absurd (never_stops last c.in_ok-go_on.field-0 c.go_on.new.self c.go_on.new.state
-    (next s (outcome_of c.args.outcome)) c.in_default.not-Begins c.in_default.not-Over
+    (next s (outcome_of c.args.outcome)) c.in_default.not-Begins c.in_default.not-Says
+    c.in_default.not-Over
     (c.in_ok-go_on.ensures.stops last next s fits awaits))
 
 pub returns-in-Begins-clause-watched : goal.returns-in-Begins-clause-watched

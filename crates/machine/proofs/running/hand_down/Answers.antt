@@ -1,4 +1,4 @@
-use Rattle.std.proofs.Common.{◌≡◌, ◌+◌, ◌*◌, ◌≤◌, ap, subst, sym, arith}
+use Rattle.std.proofs.Common.{◌+◌, ◌*◌, ◌≤◌, ap, subst, sym, arith}
 use Rattle.machine.specs.Below.{RunsOn, Under, left_to_run, parts_of, places_in, rest_of}
 use Rattle.machine.specs.Phases.{Begins, course_of_next}
 use Rattle.state.specs.Budget.{again_of}

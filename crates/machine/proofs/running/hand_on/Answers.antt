@@ -1,4 +1,4 @@
-use Rattle.std.proofs.Common.{◌≡◌, ◌+◌, ◌≤◌, [], refl, subst, arith}
+use Rattle.std.proofs.Common.{◌≡◌, ◌+◌, [], refl, subst, arith}
 use Rattle.machine.specs.Below.{Falls, IsLess, rest_of}
 use Rattle.state.specs.Budget.{again_of}
 use Rattle.state.specs.Prelude.{outcome_of}

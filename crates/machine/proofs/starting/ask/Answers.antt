@@ -30,9 +30,11 @@ pub returns-in-Branches-clause-leads : goal.returns-in-Branches-clause-leads
 returns-in-Branches-clause-leads g c = λ last s fits.
     let form = form_of c.in-Branches.form in
     let levels = c.in-Branches.levels in
+    let rest = c.behind-in-Branches.ensures
+    ∙ ap (λ ws. drop 1 ws) c.as_slice-in-Branches.ensures.value in
     on_ok c.say.result (λ leaf leads. leads_from last (stack c.say.new.frames) c.say.new.state
     (same_left last (stack c.args.frames.now) (ap (λ a. course_of_asking a s) c.in-Branches.is
-    ∙ ap (λ ws. by_words form levels s ws) (sym c.as_slice-in-Branches.ensures.value)))
+    ∙ ap (λ ws. by_words form levels s ws) (sym rest)))
     leads)
     (c.say.ensures.leads last s fits)
 

@@ -19,18 +19,17 @@ returns-in-Again-clause-begins g c = λ last s fits.
     (same_left last frames (ap (λ n. course_of_next n s) c.in-Again.is))
     (nothing_leads last frames c.empty.result s c.args.state.now c.empty.ensures fits)
 
-pub returns-in-Command-clause-begins : goal.returns-in-Command-clause-begins
-returns-in-Command-clause-begins g c = λ last s fits.
-    on_ok c.begin.result (λ begun has.
-    begun_from last (stack c.begin.new.frames) c.begin.new.state
-    (same_left last (stack c.args.frames.now) (ap (λ n. course_of_next n s) c.in-Command.is))
-    begun has)
-    (c.begin.ensures.begins last s fits)
-
 pub returns-in-Call-clause-begins : goal.returns-in-Call-clause-begins
 returns-in-Call-clause-begins g c = λ last s fits.
-    on_ok c.go_on.result (λ begun has.
-    begun_from last (stack c.go_on.new.frames) c.go_on.new.state
+    on_ok c.call.result (λ begun has.
+    begun_from last (stack c.call.new.frames) c.call.new.state
     (same_left last (stack c.args.frames.now) (ap (λ n. course_of_next n s) c.in-Call.is))
     begun has)
-    (c.go_on.ensures.begins last s fits)
+    (c.call.ensures.begins last s fits)
+
+pub returns-in-Says-clause-begins : goal.returns-in-Says-clause-begins
+returns-in-Says-clause-begins g c = λ last s fits.
+    begun_from last (stack c.args.frames.now) c.args.state.now
+    (same_left last (stack c.args.frames.now) (ap (λ n. course_of_next n s) c.in-Says.is))
+    c.give.result
+    (c.give.ensures.begins (stack c.args.frames.now) c.args.state.now last s fits)

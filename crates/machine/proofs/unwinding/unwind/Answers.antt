@@ -1,11 +1,11 @@
-use Rattle.std.proofs.Common.{◌≡◌, ◌∙◌, ◌+◌, [], Ok, IfErr, IfOk, ap, sym, subst, arith}
-use Rattle.machine.specs.Frames.{onward_of, stack, weight, words_in}
+use Rattle.std.proofs.Common.{◌∙◌, ◌+◌, ap, sym, subst, arith}
+use Rattle.machine.specs.Frames.{next_of, onward_of, left_of, stack, weight, weight_of, words_in, words_of_frame}
 use Rattle.steps.specs.Goes.{here}
 use Rattle.machine.specs.Phases.{Lightens, Unwinds}
 use Rattle.machine.specs.declared.unwinding.Unwound.TheVariants as unwound
 use Rattle.state.specs.Budget.{again_of}
-use Rattle.state.specs.View.{FitsState, outcome_of}
-use Rattle.machine.proofs.Machines.{over_comes, unwinds_from}
+use Rattle.state.specs.View.{outcome_of}
+use Rattle.machine.proofs.Machines.{over_comes, top_goes, unwinds_from}
 use Rattle.steps.proofs.Leads.Silent.{same_goes, then_goes}
 use Rattle.machine.proofs.unwinding.unwind.Goals as goal
 
@@ -20,64 +20,118 @@ frames-init g c = record {
 pub frames-preserved : goal.frames-preserved
 frames-preserved g c =
     let old = stack c.frames.frames in
+    let rest = stack c.pop.new.frames in
     let new = stack c.resume.new.frames in
+    let frame = c.in-Some.frame in
     let o = outcome_of c.frames.outcome in
     let before = c.frames.invariant in
-    let is : c.in_ok-last.field-0 ≡ Ok (unwound.Has c.in-Ok-Has.next) =
-    c.in-Ok-Has.is ∙ ap Ok c.in-Ok-Has.field-0-is in
-    let light = subst (λ r. IfOk r (λ u. Lightens u new c.resume.new.state (weight old)
-    (again_of o + words_in old) c.frames.state.left)) is c.in_ok-last.ensures.lightens in
+    let weighs = ap weight c.in-Some.ensures in
+    let waits = ap words_in c.in-Some.ensures in
+    let light = subst (λ u. Lightens u new c.resume.new.state (weight_of frame + weight rest)
+    (again_of o + (words_of_frame frame + words_in rest)) c.frames.state.left) c.in-Has.is
+    c.in_ok-next.ensures.lightens in
     record {
       comes = λ last s fits.
           let at = before.comes last s fits in
-          over_comes c.in-Ok-Has.next at.goes
-          (subst (λ r. IfOk r (λ u. Unwinds last u new c.resume.new.state
-          (onward_of last old at.status o))) is
-          (c.in_ok-last.ensures.unwinds last at.status at.fits));
-      lighter = omega (arith, light.0, before.lighter);
-      waiting = omega (arith, light.1, before.waiting);
+          over_comes c.in-Has.next
+          (then_goes at.goes (top_goes last old rest frame at.status o c.in-Some.ensures))
+          (subst (λ u. Unwinds last u new c.resume.new.state
+          (left_of last (next_of frame at.status o) rest)) c.in-Has.is
+          (c.in_ok-next.ensures.unwinds last at.status at.fits));
+      lighter = omega (arith, light.0, before.lighter, weighs);
+      waiting = omega (arith, light.1, before.waiting, waits);
       left = omega (arith, light.2, before.left);
     }
 
-pub returns-in-Ok-Begins-clause-unwinds : goal.returns-in-Ok-Begins-clause-unwinds
-returns-in-Ok-Begins-clause-unwinds g c = λ last s fits.
-    let old = stack c.frames.frames in
-    let new = stack c.resume.new.frames in
-    let o = outcome_of c.frames.outcome in
+pub returns-in_default-clause-unwinds : goal.returns-in_default-clause-unwinds
+returns-in_default-clause-unwinds g c = λ last s fits.
     let at = c.frames.invariant.comes last s fits in
-    let is : c.in_ok-last.field-0 ≡ Ok (unwound.Begins c.in-Ok-Begins.next) =
-    c.in-Ok-Begins.is ∙ ap Ok c.in-Ok-Begins.field-0-is in
-    unwinds_from last new c.resume.new.state at.goes (unwound.Begins c.in-Ok-Begins.next)
-    (subst (λ r. IfOk r (λ u. Unwinds last u new c.resume.new.state
-    (onward_of last old at.status o))) is
-    (c.in_ok-last.ensures.unwinds last at.status at.fits))
-
-pub returns-in-Ok-Enters-clause-unwinds : goal.returns-in-Ok-Enters-clause-unwinds
-returns-in-Ok-Enters-clause-unwinds g c = λ last s fits.
-    let old = stack c.frames.frames in
-    let new = stack c.resume.new.frames in
-    let o = outcome_of c.frames.outcome in
-    let at = c.frames.invariant.comes last s fits in
-    let enters = unwound.Enters c.in-Ok-Enters.it c.in-Ok-Enters.levels c.in-Ok-Enters.value in
-    let is : c.in_ok-last.field-0 ≡ Ok enters = c.in-Ok-Enters.is ∙ ap Ok c.in-Ok-Enters.field-0-is in
-    unwinds_from last new c.resume.new.state at.goes enters
-    (subst (λ r. IfOk r (λ u. Unwinds last u new c.resume.new.state
-    (onward_of last old at.status o))) is
-    (c.in_ok-last.ensures.unwinds last at.status at.fits))
-
-pub returns-in-Err-clause-unwinds : goal.returns-in-Err-clause-unwinds
-returns-in-Err-clause-unwinds g c = λ last s fits.
-    let old = stack c.frames.frames in
-    let new = stack c.resume.new.frames in
-    let at = c.frames.invariant.comes last s fits in
-    let over = subst (λ r. IfErr r (λ o. (o ≡ c.frames.outcome) × (old ≡ []) × (new ≡ [])
-    × (c.resume.new.state ≡ c.frames.state))) c.in-Err.is c.in_ok-last.ensures.over in
+    let none = c.in_default.ensures in
     record {
       status = at.status;
-      fits = subst (λ state. FitsState state at.status) (sym over.3) at.fits;
+      fits = at.fits;
       goes = then_goes at.goes
-          (same_goes
-          (ap (λ fs. onward_of last fs at.status (outcome_of c.frames.outcome))
-          (over.1 ∙ sym over.2)
-          ∙ ap (λ o. onward_of last new at.status (outcome_of o)) (sym over.0)));
+          (same_goes (ap (λ fs. onward_of last fs at.status (outcome_of c.frames.outcome))
+          (none.0 ∙ sym none.1)));
     }
+
+pub returns-in_default-clause-lightens : goal.returns-in_default-clause-lightens
+returns-in_default-clause-lightens g c =
+    let before = c.frames.invariant in
+    let same = c.in_default.ensures.0 ∙ sym c.in_default.ensures.1 in
+    let weighs = ap weight same in
+    let waits = ap words_in same in
+    (omega (arith, weighs, before.lighter), omega (arith, waits, before.waiting), before.left)
+
+pub returns-in_default-clause-emptied : goal.returns-in_default-clause-emptied
+returns-in_default-clause-emptied g c = c.in_default.ensures.1
+
+pub returns-in-Begins-clause-unwinds : goal.returns-in-Begins-clause-unwinds
+returns-in-Begins-clause-unwinds g c = λ last s fits.
+    let old = stack c.frames.frames in
+    let rest = stack c.pop.new.frames in
+    let new = stack c.resume.new.frames in
+    let frame = c.in-Some.frame in
+    let o = outcome_of c.frames.outcome in
+    let at = c.frames.invariant.comes last s fits in
+    unwinds_from last new c.resume.new.state
+    (then_goes at.goes (top_goes last old rest frame at.status o c.in-Some.ensures))
+    (unwound.Begins c.in-Begins.next)
+    (subst (λ u. Unwinds last u new c.resume.new.state
+    (left_of last (next_of frame at.status o) rest)) c.in-Begins.is
+    (c.in_ok-next.ensures.unwinds last at.status at.fits))
+
+pub returns-in-Begins-clause-lightens : goal.returns-in-Begins-clause-lightens
+returns-in-Begins-clause-lightens g c =
+    let rest = stack c.pop.new.frames in
+    let frame = c.in-Some.frame in
+    let before = c.frames.invariant in
+    let waits = ap words_in c.in-Some.ensures in
+    let light = subst (λ u. Lightens u (stack c.resume.new.frames) c.resume.new.state
+    (weight_of frame + weight rest) (again_of (outcome_of c.frames.outcome)
+    + (words_of_frame frame + words_in rest)) c.frames.state.left) c.in-Begins.is
+    c.in_ok-next.ensures.lightens in
+    omega (arith, light, before.waiting, waits, before.left)
+
+pub returns-in-Enters-clause-unwinds : goal.returns-in-Enters-clause-unwinds
+returns-in-Enters-clause-unwinds g c = λ last s fits.
+    let old = stack c.frames.frames in
+    let rest = stack c.pop.new.frames in
+    let new = stack c.resume.new.frames in
+    let frame = c.in-Some.frame in
+    let o = outcome_of c.frames.outcome in
+    let at = c.frames.invariant.comes last s fits in
+    let enters = unwound.Enters c.in-Enters.it c.in-Enters.levels c.in-Enters.value in
+    unwinds_from last new c.resume.new.state
+    (then_goes at.goes (top_goes last old rest frame at.status o c.in-Some.ensures)) enters
+    (subst (λ u. Unwinds last u new c.resume.new.state
+    (left_of last (next_of frame at.status o) rest)) c.in-Enters.is
+    (c.in_ok-next.ensures.unwinds last at.status at.fits))
+
+pub returns-in-Enters-clause-lightens : goal.returns-in-Enters-clause-lightens
+returns-in-Enters-clause-lightens g c =
+    let rest = stack c.pop.new.frames in
+    let frame = c.in-Some.frame in
+    let before = c.frames.invariant in
+    let weighs = ap weight c.in-Some.ensures in
+    let waits = ap words_in c.in-Some.ensures in
+    let light = subst (λ u. Lightens u (stack c.resume.new.frames) c.resume.new.state
+    (weight_of frame + weight rest) (again_of (outcome_of c.frames.outcome)
+    + (words_of_frame frame + words_in rest)) c.frames.state.left) c.in-Enters.is
+    c.in_ok-next.ensures.lightens in (
+      omega (arith, light.0, before.lighter, weighs),
+      omega (arith, light.1, before.waiting, waits),
+      omega (arith, light.2, before.left),
+    )
+
+pub returns-in-Enters-clause-lighter : goal.returns-in-Enters-clause-lighter
+returns-in-Enters-clause-lighter g c =
+    let rest = stack c.pop.new.frames in
+    let frame = c.in-Some.frame in
+    let before = c.frames.invariant in
+    let weighs = ap weight c.in-Some.ensures in
+    let light = subst (λ u. Lightens u (stack c.resume.new.frames) c.resume.new.state
+    (weight_of frame + weight rest) (again_of (outcome_of c.frames.outcome)
+    + (words_of_frame frame + words_in rest)) c.frames.state.left) c.in-Enters.is
+    c.in_ok-next.ensures.lightens in
+    omega (arith, light.0, before.lighter, weighs)

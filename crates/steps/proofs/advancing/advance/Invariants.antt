@@ -1,4 +1,4 @@
-use Rattle.std.proofs.Common.{◌≡◌, ◌+◌, ◌-◌, ◌*◌, ◌<◌, ◌≤◌, ◌⊎◌, [], length}
+use Rattle.std.proofs.Common.{◌≡◌, ℕ, ◌+◌, ◌-◌, ◌*◌, ◌<◌, ◌≤◌, ◌⊎◌, [], length}
 use Rattle.state.specs.Prelude.{Status}
 use Rattle.steps.specs.Does.{Arrives}
 use Rattle.steps.specs.Run.{IsQuiet}
@@ -14,9 +14,9 @@ invariant-steps g l =
     Arrives l.code (spot_of l.fn.spot) (with_parts l.fn.scopes l.fn.procs l.fn.left s)
     (Went (spot_of l.spot) (with_parts l.scopes l.fn.procs l.left s))) ×
     (l.left ≤ l.fn.left) × (l.left ≡ l.fn.left → l.fn.spot.place ≤ l.spot.place) ×
-    (IsQuiet l.code l.fn.spot.place → (spot_of l.fn.spot).handlers ≡ [] →
-    (l.left < l.fn.left) ⊎ (IsQuiet l.code l.spot.place × ((spot_of l.spot).handlers ≡ []) ×
-    (l.left ≡ l.fn.left))) ×
+    ((said : ℕ) → IsQuiet said l.code l.fn.spot.place → (spot_of l.fn.spot).handlers ≡ [] →
+    (l.left < l.fn.left) ⊎ (IsQuiet said l.code l.spot.place × ((spot_of l.spot).handlers ≡ [])
+    × (l.left ≡ l.fn.left))) ×
     (length l.code ≤ l.fn.spot.place → l.spot ≡ l.fn.spot)
 
 abbrev pub decreases-steps : goal.decreases-steps

@@ -62,6 +62,13 @@ returns-in-Leave-clause-does g c = λ s.
     does_so c.args.instruction.now _ spot t c.in-Leave.is
     (same_does (c.leave.ensures.does t))
 
+pub returns-in-Say-clause-does : goal.returns-in-Say-clause-does
+returns-in-Say-clause-does g c = λ s.
+    let spot = spot_of c.args.spot.now in
+    let t = with_parts c.args.scopes.now c.args.procs.now c.args.left.now s in
+    does_so c.args.instruction.now _ spot t c.in-Say.is
+    (same_does (c.say.ensures.does t))
+
 pub returns-in_ok-count-in-Count-clause-does : goal.returns-in_ok-count-in-Count-clause-does
 returns-in_ok-count-in-Count-clause-does g c = λ s.
     let spot = spot_of c.args.spot.now in

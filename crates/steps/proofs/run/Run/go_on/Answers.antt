@@ -1,12 +1,14 @@
-use Rattle.std.proofs.Common.{◌≡◌, ◌≢◌, ◌∙◌, ◌≤◌, ◌<◌, MatchOption, inl, inr, refl, rules, subst, sym, ⊎_elim, arith}
+use Rattle.std.proofs.Common.{◌≡◌, ◌≢◌, ◌∙◌, MatchOption, inl, inr, refl, rules, subst, sym, ap, ⊎_elim, arith}
 use Rattle.runs.specs.Commands.{command}
+use Rattle.state.specs.Budget.{again_of}
 use Rattle.state.specs.Prelude.{FitsState, outcome_of}
 use Rattle.steps.specs.Goes.{here}
-use Rattle.steps.specs.Run.{HasCome, IsDone, IsFresh, IsValue}
+use Rattle.steps.specs.Run.{HasCome, HasStopped, IsDone, IsFresh, IsIdle, IsValue}
 use Rattle.steps.specs.declared.progress.Progress.TheVariants as went
-use Rattle.steps.proofs.AtOnce.{begun_stops, comes_after, done_stands, fewer_commands, over_stops}
-use Rattle.steps.proofs.First.{again_small, ticked_by}
-use Rattle.steps.proofs.Goes.{begins}
+use Rattle.steps.specs.declared.run.Run.{Run}
+use Rattle.steps.proofs.AtOnce.{begun_stops, comes_after, done_stands, fewer_commands}
+use Rattle.steps.proofs.First.{again_small, idle_stays, ticked_by}
+use Rattle.steps.proofs.Goes.{begins, begun_call}
 use Rattle.steps.proofs.run.Run.go_on.Goals as goal
 
 pub commands-init : goal.commands-init
@@ -21,7 +23,7 @@ commands-init g c = record {
   left = omega arith;
   fewer = omega arith;
   onward = λ same. omega arith;
-  first = λ fresh value. inr (refl, refl, refl);
+  first = λ said fresh value. inr (refl, refl, refl);
   again = λ same. omega arith;
 }
 
@@ -31,10 +33,13 @@ returns-then-ne-clause-stops g c = λ last next s fits awaits.
     let progress = c.in_ok-progress.progress in
     let stood = c.commands.invariant.stands last next s fits awaits in
     let other : progress ≢ went.Begins = search rules in
-    over_stops last progress run c.reach_command.new.state (next s (outcome_of c.args.outcome)) other
-    (comes_after last progress run c.reach_command.new.state (next s (outcome_of c.args.outcome))
+    let state = c.reach_command.new.state in
+    let p = next s (outcome_of c.args.outcome) in
+    subst (λ stopped. HasStopped last stopped c.stop.new.self state p)
+    (sym c.in_ok-stop.ensures.same)
+    (c.in_ok-stop.ensures.stops last state p other (comes_after last progress run state p
     (stood.next stood.status (outcome_of c.commands.outcome)) stood.goes
-    (c.in_ok-progress.ensures.stops last stood.next stood.status stood.fits stood.awaits))
+    (c.in_ok-progress.ensures.stops last stood.next stood.status stood.fits stood.awaits)))
 
 pub returns-in-None-clause-stops : goal.returns-in-None-clause-stops
 returns-in-None-clause-stops g c = λ last next s fits awaits.
@@ -48,8 +53,8 @@ returns-in-None-clause-stops g c = λ last next s fits awaits.
     (subst (λ progress. HasCome last progress run c.reach_command.new.state
     (stood.next stood.status (outcome_of c.commands.outcome))) begun
     (c.in_ok-progress.ensures.stops last stood.next stood.status stood.fits stood.awaits)) in
-    begun_stops last run c.take_words.new.self c.reach_command.new.state c.perform.new.state
-    (next s (outcome_of c.args.outcome)) came
+    begun_stops last went.Begins run c.take_words.new.self c.reach_command.new.state
+    c.perform.new.state (next s (outcome_of c.args.outcome)) tt came
     (subst (λ done. MatchOption done (FitsState c.perform.new.state came.status)
     (λ outcome. IsDone (command run.spot.levels came.status c.words_on_top.result.now) outcome
     c.perform.new.state)) c.in-None.is
@@ -99,25 +104,27 @@ commands-preserved g c =
           omega (arith, same, c.in_ok-progress.ensures.left, c.perform.ensures.left, before.left) in
           let other : c.commands.state.left ≡ c.args.state.now.left =
           omega (arith, same, c.in_ok-progress.ensures.left, c.perform.ensures.left, before.left) in
-          let on = c.in_ok-progress.ensures.onward begun one in
+          let on = c.in_ok-progress.ensures.onward
+          (begun_call c.in_ok-progress.progress begun) one in
           let was = before.onward other in
           omega (arith, on, was, c.drop_words.ensures.place);
-      first = λ fresh value. inl (
+      first = λ said fresh value. inl (
           ⊎_elim
           (λ less. omega (arith, less, c.in_ok-progress.ensures.left, c.perform.ensures.left))
           (λ same.
-          let took = ticked_by c.in_ok-progress.progress run.spot c.reach_command.new.state.left
+          let took = ticked_by said c.reach_command.new.self.code.value.items c.in_ok-progress.progress run.spot c.reach_command.new.state.left
           c.commands.state.left begun c.in_ok-progress.ensures.left
-          (c.in_ok-progress.ensures.first (subst IsFresh (sym same.0) fresh)
+          (c.in_ok-progress.ensures.first said (subst (IsFresh said) (sym same.0) fresh)
           (subst IsValue (sym same.1) value)) in
           omega (arith, took, same.2, c.perform.ensures.left))
-          (before.first fresh value));
+          (before.first said fresh value));
       again = λ same.
           let one : c.reach_command.new.state.left ≡ c.commands.state.left =
           omega (arith, same, c.in_ok-progress.ensures.left, c.perform.ensures.left, before.left) in
           let other : c.commands.state.left ≡ c.args.state.now.left =
           omega (arith, same, c.in_ok-progress.ensures.left, c.perform.ensures.left, before.left) in
-          let on = c.in_ok-progress.ensures.onward begun one in
+          let on = c.in_ok-progress.ensures.onward
+          (begun_call c.in_ok-progress.progress begun) one in
           let was = before.again other in
           let small = again_small (outcome_of c.in-Some.done) in
           omega (arith, on, was, small, c.drop_words.ensures.place);
@@ -139,27 +146,40 @@ returns-then-ne-clause-again g c = λ over same.
     let other : c.commands.state.left ≡ c.args.state.now.left =
     omega (arith, same, c.in_ok-progress.ensures.left, before.left) in
     let was = before.again other in
-    let counts = c.in_ok-progress.ensures.again over in
-    omega (arith, was, counts)
+    let ended = sym c.in_ok-stop.ensures.same ∙ over in
+    let counts = c.in_ok-progress.ensures.again ended in
+    let stays = ap (λ (run : Run g.row.A.Denot). again_of (outcome_of run.spot.outcome))
+    (c.stop.ensures.outcome ended) in
+    omega (arith, was, counts, stays)
 
 pub returns-then-ne-clause-first : goal.returns-then-ne-clause-first
-returns-then-ne-clause-first g c = λ fresh value still.
+returns-then-ne-clause-first g c = λ said fresh value still.
     ⊎_elim (λ less. absurd (omega (arith, less, still, c.in_ok-progress.ensures.left)))
-    (λ same. c.in_ok-progress.ensures.first (subst IsFresh (sym same.0) fresh)
-    (subst IsValue (sym same.1) value) (omega (arith, still, same.2)))
-    (c.commands.invariant.first fresh value)
+    (λ same.
+    let progress = c.in_ok-progress.progress in
+    let run = c.reach_command.new.self in
+    let stopped = c.stop.new.self in
+    let idle = c.in_ok-progress.ensures.first said (subst (IsFresh said) (sym same.0) fresh)
+    (subst IsValue (sym same.1) value) (omega (arith, still, same.2)) in
+    subst (λ it. IsIdle said stopped.code.value.items it stopped.spot)
+    (sym c.in_ok-stop.ensures.same)
+    (subst (λ code. IsIdle said code progress stopped.spot) (sym c.stop.ensures.code)
+    (idle_stays said run.code.value.items progress run.spot stopped.spot c.stop.ensures.place
+    (λ ended. ap (λ (run : Run g.row.A.Denot). run.spot.outcome) (c.stop.ensures.outcome ended))
+    idle)))
+    (c.commands.invariant.first said fresh value)
 
 pub returns-in-None-clause-first : goal.returns-in-None-clause-first
-returns-in-None-clause-first g c = λ fresh value still.
+returns-in-None-clause-first g c = λ said fresh value still.
     let begun : c.in_ok-progress.progress ≡ went.Begins =
     begins c.in_ok-progress.progress (sym c.ne.ensures ∙ c.if-ne.false) in
     ⊎_elim
     (λ less.
     absurd (omega (arith, less, still, c.in_ok-progress.ensures.left, c.perform.ensures.left)))
     (λ same.
-    let took = ticked_by c.in_ok-progress.progress c.reach_command.new.self.spot
+    let took = ticked_by said c.reach_command.new.self.code.value.items c.in_ok-progress.progress c.reach_command.new.self.spot
     c.reach_command.new.state.left c.commands.state.left begun c.in_ok-progress.ensures.left
-    (c.in_ok-progress.ensures.first (subst IsFresh (sym same.0) fresh)
+    (c.in_ok-progress.ensures.first said (subst (IsFresh said) (sym same.0) fresh)
     (subst IsValue (sym same.1) value)) in
     absurd (omega (arith, took, same.2, still, c.perform.ensures.left)))
-    (c.commands.invariant.first fresh value)
+    (c.commands.invariant.first said fresh value)

@@ -1,4 +1,4 @@
-use Rattle.std.proofs.Common.{◌≡◌, ◌+◌, ◌*◌, ◌<◌, ◌≤◌, ◌⊎◌}
+use Rattle.std.proofs.Common.{◌≡◌, ℕ, ◌+◌, ◌*◌, ◌<◌, ◌≤◌, ◌⊎◌}
 use Rattle.runs.specs.Ending.{Over}
 use Rattle.state.specs.Budget.{again_of}
 use Rattle.state.specs.Prelude.{Dialogue, FitsState, Outcome, Status, outcome_of}
@@ -14,7 +14,7 @@ invariant-commands g l = record {
   left : l.state.left ≤ l.fn.state.left;
   fewer : most_commands l.self l.state.left ≤ most_commands l.fn.self l.fn.state.left;
   onward : l.state.left ≡ l.fn.state.left → places_left l.self ≤ places_left l.fn.self;
-  first : IsFresh l.fn.self → IsValue l.fn.outcome → (l.state.left < l.fn.state.left)
+  first : (said : ℕ) → IsFresh said l.fn.self → IsValue l.fn.outcome → (l.state.left < l.fn.state.left)
       ⊎ ((l.self ≡ l.fn.self) × (l.outcome ≡ l.fn.outcome) × (l.state.left ≡ l.fn.state.left));
   again : l.state.left ≡ l.fn.state.left →
       again_of (outcome_of l.outcome) + 2 * places_left l.self

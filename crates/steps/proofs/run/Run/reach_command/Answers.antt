@@ -4,12 +4,12 @@ use Rattle.state.specs.Prelude.{outcome_of}
 use Rattle.steps.specs.Does.{Arrives}
 use Rattle.steps.specs.Follows.{Follows, Resumes}
 use Rattle.steps.specs.Handling.{resumed}
-use Rattle.steps.specs.Run.{IsQuiet}
+use Rattle.steps.specs.Run.{IsIdle, IsQuiet}
 use Rattle.steps.specs.Spot.{Went}
 use Rattle.steps.specs.View.{did_of, spot_of, with_parts}
 use Rattle.steps.specs.declared.progress.Progress.TheVariants as went
 use Rattle.steps.proofs.First.{again_small, outcome_counts, places_bound, stands_still, value_idle}
-use Rattle.steps.proofs.Goes.{goes_on}
+use Rattle.steps.proofs.Goes.{begun_call, goes_on}
 use Rattle.steps.proofs.Handlers.{leads_nowhere}
 use Rattle.steps.proofs.Leads.Resumed.{resumes_so}
 use Rattle.steps.proofs.Measure.{command_falls}
@@ -38,7 +38,8 @@ returns-then-ne-clause-onward g c = λ begun same.
 pub returns-then-ne-clause-falls : goal.returns-then-ne-clause-falls
 returns-then-ne-clause-falls g c = λ begun.
     absurd (leads_nowhere c.in_ok-progress.progress c.resume.new.spot
-    (spot_of c.args.self.now.spot) (outcome_of c.args.outcome) c.in_ok-progress.ensures.does begun)
+    (spot_of c.args.self.now.spot) (outcome_of c.args.outcome) c.in_ok-progress.ensures.does
+    (begun_call c.in_ok-progress.progress begun))
 
 pub returns-clause-stops : goal.returns-clause-stops
 returns-clause-stops g c = λ last next s fits awaits.
@@ -96,12 +97,13 @@ returns-clause-falls g c = λ begun.
     c.advance.ensures.ticks (λ same.
     let fewer : length code - new < length code - mid =
     subst (λ items. length items - new < length items - mid) is_code
-    (c.in_ok-advance.ensures.onward begun same) in
+    (c.in_ok-advance.ensures.onward (begun_call c.in_ok-advance.field-0 begun) same) in
     omega (arith, fewer, c.resume.ensures.place))
 
 pub returns-then-ne-clause-first : goal.returns-then-ne-clause-first
-returns-then-ne-clause-first g c = λ fresh value still.
-    value_idle c.in_ok-progress.progress c.resume.new.spot c.args.self.now.spot c.args.outcome value
+returns-then-ne-clause-first g c = λ said fresh value still.
+    value_idle said c.args.self.now.code.value.items c.in_ok-progress.progress c.resume.new.spot
+    c.args.self.now.spot c.args.outcome value
     c.in_ok-progress.ensures.does
 
 pub returns-then-ne-clause-again : goal.returns-then-ne-clause-again
@@ -111,7 +113,7 @@ returns-then-ne-clause-again g c = λ over.
     omega (arith, counts)
 
 pub returns-clause-first : goal.returns-clause-first
-returns-clause-first g c = λ fresh value left.
+returns-clause-first g c = λ said fresh value left.
     let self = c.args.self.now in
     let mid = c.resume.new.spot in
     let code = self.code.value.items in
@@ -120,10 +122,11 @@ returns-clause-first g c = λ fresh value left.
     let is_code : c.deref-2.result.now ≡ code = search rules in
     let still = stands_still c.in_ok-progress.progress mid self.spot c.args.outcome value
     c.in_ok-progress.ensures.does goes in
-    c.in_ok-advance.ensures.first
-    (subst (λ items. IsQuiet items mid.place) (sym is_code)
-    (subst (λ n. IsQuiet code n) (sym still.0) fresh.quiet))
-    (still.1 ∙ fresh.handlers) left
+    subst (λ items. IsIdle said items c.in_ok-advance.field-0 c.advance.new.spot) is_code
+    (c.in_ok-advance.ensures.first said
+    (subst (λ items. IsQuiet said items mid.place) (sym is_code)
+    (subst (λ n. IsQuiet said code n) (sym still.0) fresh.quiet))
+    (still.1 ∙ fresh.handlers) left)
 
 pub returns-clause-again : goal.returns-clause-again
 returns-clause-again g c = λ over.

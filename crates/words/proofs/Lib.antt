@@ -1,5 +1,0 @@
-pub mod Steps
-pub mod Levels
-pub mod Command
-pub mod Closed
-pub mod Scripts
