@@ -14,6 +14,7 @@ pub mod Owns
 pub mod Sequences
 pub mod Foreach
 pub mod Evals
+pub mod Arguments
 pub mod Choices
 pub mod Texts
 pub mod Catches

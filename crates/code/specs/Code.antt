@@ -2,6 +2,7 @@
 use Rattle.std.specs.Prelude.{◌≡◌, ℕ, ◌+◌, ◌<◌, Bool, true, false, List, [], ◌∷◌, codes, length, Option, Some, None, Ok, Vec, is_some, slice_get}
 use Rattle.std.specs.List.{list_all}
 use Rattle.std.specs.Str.{bytes_eq}
+use Rattle.code.specs.Argument.{is_braced, takes_branches}
 use Rattle.code.specs.declared.instruction.Instruction.{Instruction}
 use Rattle.code.specs.declared.instruction.Instruction.TheVariants as i
 use Rattle.code.specs.declared.options.Options.{Options}
@@ -11,7 +12,7 @@ use Rattle.tclparse.specs.Fault.{Fault}
 use Rattle.tclparse.specs.Formula.{Formula, Formulas, Links}
 use Rattle.tclparse.specs.Formula as tree
 use Rattle.tclparse.specs.FormulaGrammar.{IsFormula}
-use Rattle.tclparse.specs.Grammar.{IsScript}
+use Rattle.tclparse.specs.Grammar.{IsArgument, IsScript}
 use Rattle.tclparse.specs.Seen.{fault_of}
 use Rattle.tclparse.specs.Tree.{Parts, no_parts, variable, element, script, Words, no_words, word, Commands, no_commands, command, bytes_then}
 use Rattle.tclparse.specs.declared.fault.Fault as read
@@ -204,9 +205,10 @@ mutual
 
   -- what the command of this name does with the words after it: if; while; for, whose start runs
   -- before its turns, and has its value dropped; eval, whose only word is a script once there is no
-  -- white space at its ends; catch, whose script may have its value taken by a variable; or expr,
-  -- whose only word is a formula in the same way (if(n); while(n); for(n); eval(n); concat(n);
-  -- catch(n); expr(n))
+  -- white space at its ends; catch, whose script may have its value taken by a variable; expr,
+  -- whose only word is a formula in the same way; or a command that takes branches, whose only word
+  -- is an argument in braces, with its name before the words of that (if(n); while(n); for(n);
+  -- eval(n); concat(n); catch(n); expr(n); expect(1), expect)
   pub data OwnAt {A : Type 0} (code : List (Instruction A)) :
       List ℕ → ℕ → List (List ℕ) → ℕ → Type 0 where
     conditional : {place end : ℕ} {args : List (List ℕ)} → BranchesAt code place args end →
@@ -227,6 +229,9 @@ mutual
     valued : {place mid : ℕ} {text : List ℕ} {f : Formula} →
         IsFormula (Ok f) (concatenated (text ∷ [])) → FormulaAt code place f mid →
         At code mid i.Result → OwnAt code (codes "expr") place (text ∷ []) (mid + 1)
+    argued : {place end : ℕ} {name text : List ℕ} {ws : Words} → takes_branches name ≡ true →
+        is_braced text ≡ true → IsArgument ws None text → At code place (i.Text name) →
+        WordsAt code true false 1 (place + 1) ws end → OwnAt code name place (text ∷ []) end
 
   -- the turns of a loop with this test, this script after each turn, if there is one, and this
   -- body: the body stands before the test, with which the loop begins, and after both of them the

@@ -4,6 +4,7 @@ pub mod Blocks
 pub mod Conditional
 pub mod Repeat
 pub mod Catch
+pub mod Argument
 pub mod Own
 pub mod ScriptTree
 pub mod StoredFormula

@@ -1,5 +1,6 @@
 -- What the words of a command that has code of its own are read as.
 use Rattle.std.specs.Prelude.{◌≡◌, ℕ, List, [], ◌∷◌, codes, None, Ok}
+use Rattle.code.specs.Argument.{IsArgued}
 use Rattle.code.specs.Catch.{IsCatch}
 use Rattle.code.specs.Conditional.{IsBody, IsConditional}
 use Rattle.code.specs.Repeat.{AreTurns, IsFor}
@@ -17,9 +18,10 @@ name_of (own.For it) = codes "for"
 name_of (own.Eval it) = codes "eval"
 name_of (own.Catch it) = codes "catch"
 name_of (own.Expr it) = codes "expr"
+name_of (own.Argued it) = it.name
 
 -- it is what the words after the name are read as (if(n); while(n); for(n); eval(n); catch(n);
--- expr(n))
+-- expr(n); expect(1), expect)
 abbrev pub IsOwn : {A : Type 0} → Own A → List (List ℕ) → Type 0
 IsOwn (own.If it) args = IsConditional it args
 IsOwn (own.While it) args =
@@ -34,3 +36,4 @@ IsOwn (own.Catch it) args =
 IsOwn (own.Expr it) args =
     (text : List ℕ) × (args ≡ text ∷ []) ×
     IsFormula (Ok (formula_of it)) (concatenated (text ∷ []))
+IsOwn (own.Argued it) args = (text : List ℕ) × (args ≡ text ∷ []) × IsArgued it text

@@ -2,6 +2,7 @@
 //! tree.
 #![tactic(auto)]
 
+mod argument;
 mod arms;
 mod branches;
 mod catch;
@@ -21,6 +22,7 @@ mod repeat;
 mod switch;
 mod whole;
 
+pub use argument::is_braced;
 pub use instruction::Instruction;
 pub use literal::texts_of;
 pub use made::{CodedArgument, CodedFormula, CodedScript, Entry, Made};

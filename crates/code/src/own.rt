@@ -10,6 +10,7 @@ ghost use Rattle.tclparse.specs.FormulaGrammar.{IsFormula};
 ghost use Rattle.tclparse.specs.Tree.{no_words};
 ghost use Rattle.tclparse.specs.View.{words_then};
 
+use crate::argument::{Argued, emit_argued, read_argued};
 use crate::catch::{Catch, emit_catch, read_catch};
 use crate::conditional::{Conditional, emit_body, emit_branches};
 use crate::emit::emit_words;
@@ -39,6 +40,8 @@ pub(crate) enum Own<A: Allocator> {
     Catch(Catch<A>),
     /// `expr`, with its formula.
     Expr(Formula<A>),
+    /// A command that takes branches, with an argument in braces.
+    Argued(Argued<A>),
 }
 
 impl<A: Allocator + Copy> Own<A> {
@@ -62,8 +65,11 @@ impl<A: Allocator + Copy> Own<A> {
         if let Some(own) = read_catch(alloc, words)? {
             return Ok(Some(Own::Catch(own)));
         }
-        match read_expr(alloc, words)? {
-            Some(own) => Ok(Some(Own::Expr(own))),
+        if let Some(own) = read_expr(alloc, words)? {
+            return Ok(Some(Own::Expr(own)));
+        }
+        match read_argued(alloc, words)? {
+            Some(own) => Ok(Some(Own::Argued(own))),
             None => Ok(None),
         }
     }
@@ -79,6 +85,7 @@ impl<A: Allocator + Copy> Own<A> {
             Own::Eval(_) => b"eval",
             Own::Catch(_) => b"catch",
             Own::Expr(_) => b"expr",
+            Own::Argued(own) => own.name.as_slice(),
         }
     }
 }
@@ -113,6 +120,7 @@ fn emit_its<A: Allocator + Copy, N: Nest<A>>(
         Own::Eval(own) => Ok(emit_body(code, own, 0, nest)?),
         Own::Catch(own) => Ok(emit_catch(code, own, nest)?),
         Own::Expr(own) => Ok(emit_expr(code, own, nest)?),
+        Own::Argued(own) => Ok(emit_argued(code, own, nest)?),
     }
 }
 

@@ -1,5 +1,5 @@
 -- The courses of the parts of a turn, where it is known what was found.
-use Rattle.std.proofs.Common.{◌≡◌, ◌∙◌, ℕ, ◌==◌, suc, Bool, true, false, List, [], ◌∷◌, length, Option, Some, None, Result, Err, ℤ, IfSome, refl, sym, ap, subst, arith}
+use Rattle.std.proofs.Common.{◌≡◌, ◌∙◌, ℕ, ◌==◌, suc, Bool, true, false, List, [], ◌∷◌, ◌++◌, length, Option, Some, None, Result, Err, ℤ, IfSome, refl, sym, ap, subst, arith}
 use Rattle.std.proofs.lemmas.Bool.Decides.{nat_tests}
 use Rattle.acts.specs.Deed as said
 use Rattle.state.specs.Prelude.{text_of, Id, Raise, Ends, Calls, Course, ask, gives, inside, raises, within, Outcome, Leaves, Error, TurnTree, Reaches, here, Status, lines, shut, outcome_of}
@@ -21,6 +21,7 @@ use Rattle.state.proofs.Ticks.{tick_taken}
 use Rattle.state.specs.Dialogue.{written}
 use Rattle.state.specs.Piece.{ArgumentText, BranchText, ChoiceText, Script, ScriptTree}
 use Rattle.state.specs.Reaches.{reads}
+use Rattle.state.specs.Words.{expanded, parts, words}
 use Rattle.state.specs.declared.outcome.Leave.{Leave}
 use Rattle.state.specs.declared.state.State.{State}
 use Rattle.tclparse.specs.Grammar.{IsArgument, IsScript}
@@ -29,11 +30,11 @@ use Rattle.tclparse.specs.Tree as tree
 use Rattle.expects.proofs.Comings.{begins, over_is}
 use Rattle.expects.proofs.Selecting.{selects_reaches, settled_is, settles_is}
 use Rattle.expects.specs.Clock.{later}
-use Rattle.expects.specs.Expect.{by_argument, by_words, first_turn, id_named, on_read, on_words, open_by, place_in, told}
+use Rattle.expects.specs.Expect.{by_argument, by_name, by_words, first_turn, id_named, on_read, on_words, of_form, open_by, place_in, told}
 use Rattle.expects.specs.Parts.{Tells}
 use Rattle.expects.specs.Turn.{again, arrives, begins_again, behind, comes, consumed_by, ends, first_of, leaving, named_by, renewed, settled, taken_by, timed, times_out, waited, waits_by}
 use Rattle.expects.specs.View.{Selected, notes, settles}
-use Rattle.expects.specs.Words.{Form, stands}
+use Rattle.expects.specs.Words.{Form, named, stands}
 
 -- a body that runs, or for which no level is left
 module _ (script : ScriptTree) (turn : TurnTree) (levels : ℕ) (text : List ℕ) (s : Status)
@@ -150,6 +151,18 @@ pub argument_reaches : (form : Form) (levels : ℕ) (text : List ℕ) (s : Statu
     Reaches (by_argument form levels text s) (on_words form levels s ws f)
 argument_reaches form levels text s ws f is =
     reads {text = ArgumentText text} (record { words = ws; fault = f }) is here
+
+-- the words of an argument in braces say what they say after the name of their command too
+pub after_name : (form : Form) (levels : ℕ) (name : List ℕ) → named name ≡ Some form →
+    (ws : tree.Words) (values : List (List ℕ)) (s : Status) →
+    words levels ws values s (by_words form levels)
+    ≡ words levels ws (name ∷ values) s (by_name levels)
+after_name form levels name is tree.no_words values s =
+    ap (λ f. of_form f levels s values) (sym is)
+after_name form levels name is (tree.word expands ps ws) values s =
+    ap (parts levels ps [] s)
+    (λ i t value. expanded expands value t
+    (λ more. after_name form levels name is ws (values ++ more) t i))
 
 -- the first turn of an expect, by its parts
 pub first_is : (b : Branches) (s : Status) (e : Effective) (seconds : Option ℤ) →

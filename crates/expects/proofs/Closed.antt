@@ -7,12 +7,13 @@ use Rattle.dialog.specs.Standing.{put_at}
 use Rattle.state.proofs.Closed.{Closed, Turns, raises_closed}
 use Rattle.state.specs.Prelude.{Course, gives, Gives, Status}
 use Rattle.state.specs.Faults.{flaw_of_fault}
+use Rattle.code.specs.Argument.{is_braced}
 use Rattle.state.specs.Piece.{ArgumentText, ArgumentTree, BranchText}
 use Rattle.tclparse.specs.Fault.{Fault}
 use Rattle.tclparse.specs.Tree as tree
 use Rattle.state.proofs.Words.{words_closed}
 use Rattle.expects.specs.Expect.{by_argument, by_words, expect, first_turn, on_branches, on_read, on_words, place_in, put, told}
-use Rattle.expects.specs.Words.{Form, Waits, Stands, is_braced}
+use Rattle.expects.specs.Words.{Form, Waits, Stands}
 
 module _ (P : Status → Course → Type 0) (closed : Closed P) (turns : Turns P) where
   branches_closed : (form : Form) (b : Branches) (levels : ℕ) (s : Status) →

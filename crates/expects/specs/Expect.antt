@@ -3,6 +3,7 @@ use Rattle.std.specs.Prelude.{ℕ, List, [], ◌∷◌, codes, Option, Some, Non
 use Rattle.state.specs.Prelude.{Id, Reads, Course, gives, raises, TurnTree, Status, lines}
 use Rattle.acts.specs.Flaw as flaw
 use Rattle.acts.specs.Id.{id_text}
+use Rattle.code.specs.Argument.{is_braced}
 use Rattle.dialog.specs.Branches.{Branches}
 use Rattle.dialog.specs.Channels.{named}
 use Rattle.dialog.specs.Reads as misread
@@ -11,7 +12,7 @@ use Rattle.dialog.specs.Standing.{all_of, put_at}
 use Rattle.dialog.specs.declared.choice.Trigger.TheVariants as after
 use Rattle.dialog.specs.declared.standing.Side.{Side}
 use Rattle.expects.specs.Words as form
-use Rattle.expects.specs.Words.{Form, Waits, Stands, stands, is_braced}
+use Rattle.expects.specs.Words.{Form, Waits, Stands, stands}
 use Rattle.plan.specs.Plan.{goes}
 use Rattle.state.specs.Faults.{flaw_of_fault}
 use Rattle.state.specs.Piece.{ArgumentText, ArgumentTree, BranchText, Turn}

@@ -1,6 +1,5 @@
--- The three commands that take branches, and the words of an argument in braces (expect(1), expect,
--- expect_before and expect_after).
-use Rattle.std.specs.Prelude.{ℕ, ◌==◌, ◌||◌, Bool, true, false, List, [], ◌∷◌, codes, Option, Some, None, if◌then◌else◌}
+-- The three commands that take branches (expect(1), expect, expect_before and expect_after).
+use Rattle.std.specs.Prelude.{ℕ, Bool, true, false, List, codes, Option, Some, None, if◌then◌else◌}
 use Rattle.std.specs.Str.{bytes_eq}
 use Rattle.dialog.specs.declared.standing.Side.{Side}
 use Rattle.dialog.specs.declared.standing.Side.TheVariants.{Before, After}
@@ -23,12 +22,3 @@ named name =
 abbrev pub stands : Form → Bool
 stands Waits = false
 stands (Stands side) = true
-
--- a blank, a tab, a vertical tab, a form feed or a carriage return
-abbrev pub is_white : ℕ → Bool
-is_white b = (b == 32) || ((b == 9) || ((b == 11) || ((b == 12) || (b == 13))))
-
--- the first byte that is not white is a newline (expect(1), expect)
-abbrev pub is_braced : List ℕ → Bool
-is_braced [] = false
-is_braced (b ∷ bs) = if is_white b then is_braced bs else b == 10

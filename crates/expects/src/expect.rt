@@ -9,11 +9,12 @@ ghost use Rattle.expects.specs.Parts.{Tells};
 ghost use Rattle.expects.specs.View.{Comes, IsPlainBegun, IsPlainOpening, course_of_begun, course_of_opening, form_of};
 ghost use Rattle.expects.specs.Words.{Form as Meant};
 
-use crate::form::{Form, is_braced};
+use crate::form::Form;
 use crate::resuming::shut;
 use crate::turn::{Begun, Opening, Turn};
 use acts::raise::{bad_flag, not_open};
 use acts::{Fault, Id, NoMemory, Raise};
+use code::is_braced;
 use dialog::{BranchError, Branches, Effective, Trigger};
 use kept::Argument;
 use kinds::failed;

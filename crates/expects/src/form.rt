@@ -50,25 +50,3 @@ impl Form {
         matches!(self, Form::Stands(_))
     }
 }
-
-/// Whether the first byte of an argument that is not white is a newline, so that the argument is
-/// one in braces (expect(1), expect).
-pub(crate) fn is_braced(text: &[u8]) -> bool
-    ensures { result ≡ definition.is_braced text.now }
-{
-    let mut rest = text;
-    while let Some((byte, behind)) = rest.split_first() {
-        if !is_white(*byte) {
-            return *byte == b'\n';
-        }
-        rest = behind;
-    }
-    false
-}
-
-/// Whether a byte is white and no newline.
-fn is_white(byte: u8) -> bool
-    ensures { result ≡ definition.is_white byte }
-{
-    byte == b' ' || byte == b'\t' || byte == 0x0b || byte == 0x0c || byte == b'\r'
-}

@@ -1,5 +1,5 @@
 -- Turns of expect under frames.
-use Rattle.std.proofs.Common.{◌≡◌, ℕ, List, [], ◌∷◌, ◌++◌, Box, Some, sym, ap}
+use Rattle.std.proofs.Common.{◌≡◌, ℕ, List, [], ◌∷◌, Box, sym, ap}
 use Rattle.code.specs.ScriptTree.{ScriptTree}
 use Rattle.code.specs.declared.made.Entry.TheVariants as entry
 use Rattle.code.specs.declared.made.Made.TheVariants as made
@@ -8,17 +8,13 @@ use Rattle.steps.specs.Goes.{Goes, here, calls}
 use Rattle.machine.specs.declared.frame.Frame.{Frame}
 use Rattle.machine.specs.declared.frame.Frame.TheVariants as frame
 use Rattle.steps.proofs.Leads.Silent.{same_goes, then_goes}
-use Rattle.expects.specs.Expect.{by_name, by_words, of_form}
 use Rattle.expects.specs.Turn.{turns}
 use Rattle.expects.specs.View.{course_of_turned}
-use Rattle.expects.specs.Words.{Form, named}
 use Rattle.expects.specs.declared.turn.Turn as turning
 use Rattle.expects.specs.declared.turn.Turned.TheVariants as came
 use Rattle.plan.specs.Plan.{goes}
 use Rattle.state.specs.Prelude.{gives, TurnTree, Status}
 use Rattle.state.specs.Piece.{Turn}
-use Rattle.state.specs.Words.{expanded, parts, words}
-use Rattle.tclparse.specs.Tree.{Words, no_words, word}
 
 module _ {A : Type 0} (last : Onward) (fs : List (Frame A)) where
   -- a turn begins
@@ -34,15 +30,3 @@ module _ {A : Type 0} (last : Onward) (fs : List (Frame A)) where
       (left_of last (gives [] s) new)
   body_goes tree levels turn new s on =
       then_goes (calls here) (same_goes (ap (λ l. left_of last (gives [] s) l) (sym on)))
-
--- the words of an argument in braces say what they say after the name of their command too
-pub after_name : (form : Form) (levels : ℕ) (name : List ℕ) → named name ≡ Some form →
-    (ws : Words) (values : List (List ℕ)) (s : Status) →
-    words levels ws values s (by_words form levels)
-    ≡ words levels ws (name ∷ values) s (by_name levels)
-after_name form levels name is no_words values s =
-    ap (λ f. of_form f levels s values) (sym is)
-after_name form levels name is (word expands ps ws) values s =
-    ap (parts levels ps [] s)
-    (λ i t value. expanded expands value t
-    (λ more. after_name form levels name is ws (values ++ more) t i))

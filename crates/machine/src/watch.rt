@@ -31,9 +31,9 @@ pub trait Watch<A: Allocator, R, S, L> {
     fn begins(&mut self, words: &[Value<A>])
         ensures { told self.old [] self.new };
 
-    /// These words give the branches of the command that began: its name, and those of its argument
-    /// in braces, which are substituted now. Who watches is told of no words that are texts as they
-    /// stand.
+    /// These words give the branches of a command: its name, and those of its argument in braces,
+    /// which are substituted now. The command began before, or begins with this, where the argument
+    /// stands in its text. Who watches is told of no words that are texts as they stand.
     fn says(&mut self, words: &[Value<A>])
         ensures { told self.old [] self.new };
 

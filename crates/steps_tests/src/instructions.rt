@@ -70,6 +70,7 @@ fn show<A: Allocator>(shown: &mut Vec<u8, A>, it: &Instruction<A>) -> Result<(),
         Instruction::Add(name) => (b"add to ", name.as_slice()),
         Instruction::Increment => (b"increment", b""),
         Instruction::Return => (b"return", b""),
+        Instruction::Say => (b"say", b""),
         _ => (b"another", b""),
     };
     shown.extend_from_slice(name)?;
@@ -223,6 +224,21 @@ fn the_value_of_a_formula_in_a_word_is_made_its_text(rt: HostRuntime) -> Result<
     }
     let wanted: &[u8] = b"next\nunhidden 6 expr\ntext expr\ntext $a + 1\ncommand 2\njump 10\n\
         variable a\nnumeral 1\nadd\nresult\n";
+    assert_eq!(&rt; shown.as_slice(), wanted);
+    Ok(())
+}
+
+#[test]
+fn the_words_of_an_argument_follow_the_name_of_its_command(rt: HostRuntime) -> Result<(), Fail> {
+    let script = Script::read(rt.alloc(), b"expect {\n$a}\nexpect {\na b}")?;
+    let code = code_of(rt.alloc(), &script)?;
+    let mut shown = Vec::new(rt.alloc());
+    for it in &code {
+        show(&mut shown, it)?;
+    }
+    let wanted: &[u8] = b"next\nunhidden 6 expect\ntext expect\ntext \n$a\ncommand 2\njump 10\n\
+        text expect\ncount 1\nvariable a\nsay\n\
+        next\ntext expect\ntext \na b\ncommand 2\n";
     assert_eq!(&rt; shown.as_slice(), wanted);
     Ok(())
 }

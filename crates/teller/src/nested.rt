@@ -3,6 +3,7 @@
 
 use acts::NoMemory;
 use code::Instruction;
+use expects::form::Form;
 use std::alloc::Allocator;
 use tcltext::{Value, split_values};
 
@@ -15,6 +16,8 @@ pub(crate) enum Stands<A: Allocator> {
     Bracket,
     /// In brackets, in a formula that is a word.
     Formula,
+    /// In brackets, in a word of an argument in braces, where that is known (expect(1), expect).
+    Argument(Option<Value<A>>),
     /// It is a word of a command, where that is known, and whether white space around it is left
     /// out (eval(n)).
     Body(Option<Value<A>>, bool),
@@ -86,7 +89,7 @@ fn pass<A: Allocator + Copy>(
             }
         }
         Instruction::Enter => {
-            let stands = bracket_in(code, own_of(levels));
+            let stands = bracket_in(code, own_of(levels))?;
             levels.push(Level::new(stands))?;
         }
         Instruction::Body(after) => {
@@ -106,11 +109,22 @@ fn own_of<A: Allocator>(levels: &[Level<A>]) -> Option<usize> {
     levels.last()?.own
 }
 
-/// How a script in brackets stands: in a word, but for one in the formula of a command.
-fn bracket_in<A: Allocator>(code: &[Instruction<A>], own: Option<usize>) -> Stands<A> {
-    match own.and_then(|at| code.get(at)) {
-        Some(Instruction::Unhidden(_, _)) => Stands::Formula,
-        Some(_) | None => Stands::Bracket,
+/// How a script in brackets stands: in a word, but for one in the formula of a command, or in its
+/// argument in braces.
+fn bracket_in<A: Allocator>(
+    code: &[Instruction<A>],
+    own: Option<usize>,
+) -> Result<Stands<A>, NoMemory> {
+    let Some(at) = own else {
+        return Ok(Stands::Bracket);
+    };
+    match code.get(at) {
+        Some(Instruction::Unhidden(name, _)) if Form::read(name.as_slice()).is_some() => {
+            let argument = word_in(code.get(at..).unwrap_or(&[]), 0);
+            Ok(Stands::Argument(shared(argument)?))
+        }
+        Some(Instruction::Unhidden(_, _)) => Ok(Stands::Formula),
+        Some(_) | None => Ok(Stands::Bracket),
     }
 }
 

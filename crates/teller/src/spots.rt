@@ -6,6 +6,7 @@ use crate::nested::{Level, Stands, levels_at};
 use crate::telling::Teller;
 use acts::NoMemory;
 use std::alloc::Allocator;
+use tcltext::Value;
 
 /// A part of a script's text, from one byte up to another.
 #[derive(Clone, Copy, Debug, PartialEq, Eq)]
@@ -96,12 +97,13 @@ impl<A: Allocator + Copy> Teller<A> {
                 Stands::Whole => {}
                 Stands::Bracket => in_word = true,
                 Stands::Formula => ground = None,
+                Stands::Argument(text) => {
+                    in_word = true;
+                    ground = self.word_spot(text, false, scripts);
+                }
                 Stands::Body(text, is_trimmed) => {
                     in_word = false;
-                    ground = match text {
-                        Some(text) => self.body_spot(text.as_slice(), *is_trimmed, scripts),
-                        None => None,
-                    };
+                    ground = self.word_spot(text, *is_trimmed, scripts);
                 }
             }
             let command = spot_of(level, ground, in_word);
@@ -110,8 +112,15 @@ impl<A: Allocator + Copy> Teller<A> {
         Ok(())
     }
 
-    /// Where a body stands, without the white space around it where that is left out.
-    fn body_spot(&self, text: &[u8], is_trimmed: bool, scripts: &[Progressing]) -> Option<Spot> {
+    /// Where a word that is a text stands, without the white space around it where that is left
+    /// out.
+    fn word_spot(
+        &self,
+        text: &Option<Value<A>>,
+        is_trimmed: bool,
+        scripts: &[Progressing],
+    ) -> Option<Spot> {
+        let text = text.as_ref()?.as_slice();
         let spot = found_in(&self.script, text, innermost(scripts))?;
         if !is_trimmed {
             return Some(spot);

@@ -5,11 +5,11 @@ ghost use Rattle.acts.specs.Id.{id_text};
 ghost use Rattle.story.specs.Line.{line};
 ghost use Rattle.teller.specs.Told.{over_text};
 
-use crate::branches::{Branch, Wanted};
+use crate::branches::Branch;
 use crate::spots::Spot;
 use crate::telling::{Detail, Teller};
 use crate::told::push_id;
-use crate::wait::{Over, Wait, cause_of};
+use crate::wait::{Over, Wait};
 use acts::{Id, NoMemory};
 use dialog::Keyword;
 use std::alloc::Allocator;

@@ -9,6 +9,7 @@ use crate::lines::Lines;
 use crate::telling::{Asker, Detail, Teller};
 use crate::told::push_act;
 use acts::{Act, NoMemory};
+use code::is_braced;
 use dialog::Trigger;
 use expects::form::Form;
 use expects::turn::Waits as TurnWaits;
@@ -39,20 +40,24 @@ impl<A: Allocator + Copy> Teller<A> {
     /// # Errors
     /// `NoMemory`.
     pub fn begins(&mut self, words: &[Value<A>]) -> Result<(), NoMemory> {
+        match self.branching(words) {
+            Some([text]) if is_braced(text.as_slice()) => self.begins_braced(text.as_slice()),
+            Some(args) => self.branches.read(self.alloc, args, self.stands),
+            None => Ok(()),
+        }
+    }
+
+    /// The words after the name of a command that takes branches, whose branches come next.
+    fn branching<'a>(&mut self, words: &'a [Value<A>]) -> Option<&'a [Value<A>]> {
         let [name, args @ ..] = words else {
-            return Ok(());
+            return None;
         };
-        let Some(form) = Form::read(name.as_slice()) else {
-            return Ok(());
-        };
+        let form = Form::read(name.as_slice())?;
         if !self.in_turn {
             self.branches.clear();
         }
         self.stands = matches!(form, Form::Stands(_));
-        match args {
-            [text] if is_braced(text.as_slice()) => self.begins_braced(text.as_slice()),
-            _ => self.branches.read(self.alloc, args, self.stands),
-        }
+        Some(args)
     }
 
     /// Takes note of the branches that the words of an argument in braces say, where these are
@@ -69,10 +74,10 @@ impl<A: Allocator + Copy> Teller<A> {
     /// # Errors
     /// `NoMemory`.
     pub fn says(&mut self, words: &[Value<A>]) -> Result<(), NoMemory> {
-        let [_, args @ ..] = words else {
-            return Ok(());
-        };
-        self.branches.read(self.alloc, args, self.stands)
+        match self.branching(words) {
+            Some(args) => self.branches.read(self.alloc, args, self.stands),
+            None => Ok(()),
+        }
     }
 
     /// Tells what has come of what began or was answered: an outcome, or an act.
@@ -220,12 +225,4 @@ impl<A: Allocator + Copy> Teller<A> {
         self.wait = Some(wait);
         Ok(())
     }
-}
-
-/// Whether the first byte of an argument that is not white is a newline, so that the argument is
-/// one in braces (expect(1), expect).
-fn is_braced(text: &[u8]) -> bool {
-    text.iter()
-        .find(|byte| !matches!(byte, b' ' | b'\t' | b'\r' | 0x0b | 0x0c))
-        .is_some_and(|byte| *byte == b'\n')
 }

@@ -1,17 +1,24 @@
 -- A command that has code of its own.
-use Rattle.std.proofs.Common.{◌≡◌, ◌∙◌, ℕ, ◌+◌, ◌≤◌, List, [], ◌∷◌, false, Option, Some, None, Ok, option_map, codes, refl, ap, subst, arith, if◌then◌else◌}
+use Rattle.std.proofs.Common.{◌≡◌, ◌∙◌, ℕ, ◌+◌, ◌≤◌, List, [], ◌∷◌, Bool, false, Option, Some, None, Ok, option_map, codes, true, refl, ap, subst, sym, arith, if◌then◌else◌}
+use Rattle.std.proofs.lemmas.Slice.Eq.{bytes_eq-Decides}
 use Rattle.std.specs.Prelude.{slice_get}
-use Rattle.code.specs.Code.{At, CommandAt, by_words, own, foreach_loop, switched, direct, OwnAt, conditional, while_loop, for_loop, evaluated, valued, BranchesAt, branch, BehindAt, no_else, at_last, else_if, IsBranch, without_then, with_then, IsLast, with_else, without_else, WordsAt, literals, caught}
+use Rattle.std.specs.Str.{bytes_eq}
+use Rattle.code.specs.Code.{At, CommandAt, by_words, own, foreach_loop, switched, direct, OwnAt, conditional, while_loop, for_loop, evaluated, valued, argued, BranchesAt, branch, BehindAt, no_else, at_last, else_if, IsBranch, without_then, with_then, IsLast, with_else, without_else, WordsAt, one, over, literals, caught, first as first_of, text as text_at}
+use Rattle.code.specs.Argument.{is_braced, takes_branches}
 use Rattle.code.specs.Switch.{words_before}
 use Rattle.code.specs.declared.instruction.Instruction.{Instruction}
 use Rattle.code.specs.declared.instruction.Instruction.TheVariants as i
 use Rattle.conditions.specs.Branches as definition
 use Rattle.conditions.specs.Branches.{Branch, Branches, alone, branches, last_body, no_branch, with_body, with_branch}
 use Rattle.conditions.specs.Conditional.{on_branches}
+use Rattle.dialog.specs.declared.standing.Side.TheVariants.{After, Before}
+use Rattle.expects.proofs.Answering.{after_name}
+use Rattle.expects.specs.Expect.{by_argument, by_name, by_words as said_by}
+use Rattle.expects.specs.Words.{Form, Stands, Waits, named}
 use Rattle.plan.specs.Plan.{and_then, onward}
 use Rattle.pure.specs.Concat.{concatenated}
 use Rattle.runs.specs.Commands.{called, command}
-use Rattle.state.specs.Piece.{FormulaText, ScriptText}
+use Rattle.state.specs.Piece.{ArgumentText, FormulaText, ScriptText}
 use Rattle.state.specs.Prelude.{Dialogue, Outcome, Status}
 use Rattle.steps.specs.Follows.{Comes, Follows}
 use Rattle.steps.specs.Goes.{here, reads}
@@ -115,6 +122,46 @@ module _ {A X : Type 0} (code : List (Instruction A)) (last : Status → Outcome
       (formula_leads code last levels end fs s (Condition first.body more otherwise ∷ []) place at.0
       at.1 at.3 at.4 behind fits)
 
+  -- a command that takes branches, with an argument in braces
+  record Takes (levels : ℕ) (name text : List ℕ) (s : Status) : Type 0 where
+    form : Form
+    is : named name ≡ Some form
+    does : called None levels name (text ∷ []) s ≡ by_argument form levels text s
+
+  takes_argument : (levels : ℕ) (name text : List ℕ) (s : Status) → takes_branches name ≡ true →
+      is_braced text ≡ true → Takes levels name text s
+  takes_argument levels name text s takes braced =
+      by_name_of (bytes_eq name (codes "expect")) (bytes_eq name (codes "expect_before")) refl refl
+      takes
+    where
+      known : (n : List ℕ) → bytes_eq name n ≡ true → Takes levels n text s →
+          Takes levels name text s
+      known n same it =
+          subst (λ it. Takes levels it text s) (sym ((bytes_eq-Decides name n).0 same)) it
+
+      by_name_of : (waits before : Bool) → bytes_eq name (codes "expect") ≡ waits →
+          bytes_eq name (codes "expect_before") ≡ before →
+          (if waits then true else if before then true else bytes_eq name (codes "expect_after"))
+          ≡ true → Takes levels name text s
+      by_name_of true before is same takes_it = known (codes "expect") is (record {
+        form = Waits;
+        is = refl;
+        does = ap (λ b. if b then by_argument Waits levels text s
+            else said_by Waits levels s (text ∷ [])) braced;
+      })
+      by_name_of false true is same takes_it = known (codes "expect_before") same (record {
+        form = Stands Before;
+        is = refl;
+        does = ap (λ b. if b then by_argument (Stands Before) levels text s
+            else said_by (Stands Before) levels s (text ∷ [])) braced;
+      })
+      by_name_of false false is same takes_it = known (codes "expect_after") takes_it (record {
+        form = Stands After;
+        is = refl;
+        does = ap (λ b. if b then by_argument (Stands After) levels text s
+            else said_by (Stands After) levels s (text ∷ [])) braced;
+      })
+
   -- the command of this name has code of its own, and no procedure hides it
   own_begins : (levels : ℕ) (fs : List Frame) (s : Status) (name : List ℕ) (place : ℕ)
       (args : List (List ℕ)) (end : ℕ) → found s.procedures name ≡ None →
@@ -168,6 +215,23 @@ module _ {A X : Type 0} (code : List (Instruction A)) (last : Status → Outcome
       ∙ ap (λ procedure. called procedure levels (codes "catch") args s) none)))
       (catch_begins code last levels fs s place mid text variable more end words begins body_at ended
       takes behind fits)
+  own_begins levels fs s name place args end none (argued {text = text} {ws = ws} takes braced
+      is named_at words_at) behind fits =
+      let it = takes_argument levels name text s takes braced in
+      sooner code last _ s
+      (same_goes (ap (λ c. and_then c (onward (onward_of last levels fs)))
+      (literal_words levels (name ∷ text ∷ []) [] s (command levels)
+      ∙ ap (λ procedure. called procedure levels name (text ∷ []) s) none ∙ it.does)))
+      (sooner code last _ s
+      (reads {text = ArgumentText text} (record { words = ws; fault = None }) is here)
+      (sooner code last _ s
+      (same_goes (ap (λ c. and_then c (onward (onward_of last levels fs)))
+      (after_name it.form levels name it.is ws [] s
+      ∙ sym (literal levels name no_parts [] s
+      (λ t value. words levels ws (value ∷ []) t (by_name levels))))))
+      (stands code last place levels
+      (Gathers true false [] (word false (bytes_then name no_parts) ws)) fs end s
+      (0, refl, one (text_at name named_at first_of over) words_at) behind fits)))
 
   -- a procedure hides it, or none does
   unhidden_leads : (procedure : Option Procedure) (levels : ℕ) (fs : List Frame) (s : Status)

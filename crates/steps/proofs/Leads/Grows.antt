@@ -1,6 +1,6 @@
 -- Code ends at its beginning, or after it.
 use Rattle.std.proofs.Common.{ℕ, ◌≤◌, List, Bool, Option, arith}
-use Rattle.code.specs.Code.{JoinsAt, first, joined, PartsAt, over, empty, text, value, item, bracket, WordsAt, begins, begins_counted, says, one, counts, spread, CommandAt, by_words, own, foreach_loop, direct, CommandsAt, done, next, FaultAt, none, fault, OwnAt, conditional, while_loop, for_loop, evaluated, valued, TurnsAt, turns, StepAt, no_step, steps, AssignsAt, all_set, sets, NextAt, next_turn, ForeachAt, with_names, DealAt, deals, switched, SwitchAt, with_arms, RestAt, no_match, some_arms, ArmsAt, otherwise, shares, takes, BranchesAt, branch, BehindAt, no_else, at_last, else_if, BodyAt, deeper, FormulaAt, number, parts, called, prefixed, in_row, chosen, LinksAt, no_more, both, and_also, or_else, ArgumentsAt, no_argument, argument, caught, TakenAt, dropped, taken}
+use Rattle.code.specs.Code.{JoinsAt, first, joined, PartsAt, over, empty, text, value, item, bracket, WordsAt, begins, begins_counted, says, one, counts, spread, CommandAt, by_words, own, foreach_loop, direct, CommandsAt, done, next, FaultAt, none, fault, OwnAt, conditional, while_loop, for_loop, evaluated, valued, argued, TurnsAt, turns, StepAt, no_step, steps, AssignsAt, all_set, sets, NextAt, next_turn, ForeachAt, with_names, DealAt, deals, switched, SwitchAt, with_arms, RestAt, no_match, some_arms, ArmsAt, otherwise, shares, takes, BranchesAt, branch, BehindAt, no_else, at_last, else_if, BodyAt, deeper, FormulaAt, number, parts, called, prefixed, in_row, chosen, LinksAt, no_more, both, and_also, or_else, ArgumentsAt, no_argument, argument, caught, TakenAt, dropped, taken}
 use Rattle.code.specs.declared.instruction.Instruction.{Instruction}
 use Rattle.code.specs.declared.options.Options.{Options}
 use Rattle.tclparse.specs.Fault.{Fault}
@@ -70,6 +70,7 @@ module _ {A : Type 0} (code : List (Instruction A)) where
     own_grows (for_loop start drops it) = omega (arith, body_grows start, turns_grow it)
     own_grows (evaluated body) = body_grows body
     own_grows (valued is it gives) = omega (arith, formula_grows it)
+    own_grows (argued branching braced is name ws) = omega (arith, words_grow ws)
     own_grows (caught words starts body ends stands) =
         omega (arith, body_grows body, taken_grows stands)
 

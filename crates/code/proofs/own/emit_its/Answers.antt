@@ -1,3 +1,4 @@
+use Rattle.code.proofs.Arguments.{argued_own_block}
 use Rattle.code.proofs.Catches.{catch_own_block}
 use Rattle.code.proofs.Evals.{eval_block, expr_own_block}
 use Rattle.code.proofs.Owns.{for_block, if_block, while_block}
@@ -32,3 +33,8 @@ pub returns-in_ok-emit_expr-in-Expr : goal.returns-in_ok-emit_expr-in-Expr
 returns-in_ok-emit_expr-in-Expr g c = λ args is.
     expr_own_block c.args.code.now.items c.emit_expr.new.code.items c.args.own.now c.in-Expr.own
     c.in-Expr.is c.in_ok-emit_expr-in-Expr.ensures args is
+
+pub returns-in_ok-emit_argued-in-Argued : goal.returns-in_ok-emit_argued-in-Argued
+returns-in_ok-emit_argued-in-Argued g c = λ args is.
+    argued_own_block c.args.code.now.items c.emit_argued.new.code.items c.args.own.now
+    c.in-Argued.own c.in-Argued.is c.in_ok-emit_argued-in-Argued.ensures args is

@@ -6,7 +6,7 @@ use Rattle.machine.specs.Frames.{onward_of, stack}
 use Rattle.machine.specs.declared.frame.Frame.TheVariants as frame
 use Rattle.machine.proofs.Machines.{over_goes}
 use Rattle.machine.proofs.Silent.{same_left}
-use Rattle.machine.proofs.Waiting.{after_name}
+use Rattle.expects.proofs.Answering.{after_name}
 use Rattle.state.specs.Outcome.{Gives}
 use Rattle.state.specs.Words.{words}
 use Rattle.steps.proofs.Leads.Silent.{same_goes, then_goes}

@@ -1,4 +1,5 @@
 use Rattle.std.proofs.Common.{ℕ, List, [], ◌∷◌, IfSome, None, Ok, codes, refl, subst}
+use Rattle.code.specs.Argument.{IsArgued}
 use Rattle.code.specs.Catch.{IsCatch}
 use Rattle.code.specs.Conditional.{Are, IsBody}
 use Rattle.code.specs.Repeat.{AreTurns, IsFor}
@@ -62,4 +63,13 @@ returns-in-Some-6 g c =
     subst (λ r. IfSome r (λ it. (text : List ℕ) × Are words (codes "expr" ∷ text ∷ []) ×
     IsFormula (Ok (formula_of it)) (concatenated (text ∷ [])))) c.in-Some-6.is
     c.in_ok-own-6.ensures in
+    (read.0 ∷ [], read.1, (read.0, refl, read.2))
+
+pub returns-in-Some-7 : goal.returns-in-Some-7
+returns-in-Some-7 g c =
+    let words = c.args.words.now in
+    let own = c.in-Some-7.own in
+    let read : (text : List ℕ) × Are words (own.name ∷ text ∷ []) × IsArgued own text =
+    subst (λ r. IfSome r (λ it. (text : List ℕ) × Are words (it.name ∷ text ∷ []) ×
+    IsArgued it text)) c.in-Some-7.is c.in_ok-own-7.ensures in
     (read.0 ∷ [], read.1, (read.0, refl, read.2))

@@ -1,6 +1,6 @@
 use Rattle.std.proofs.Common.{◌≡◌, length}
-use Rattle.expects.specs.Words.{is_braced}
-use Rattle.expects.proofs.form.is_braced.Given as goal
+use Rattle.code.specs.Argument.{is_braced}
+use Rattle.code.proofs.argument.is_braced.Given as goal
 
 -- the remaining bytes decide whether the text is one in braces
 abbrev pub invariant-loop-byte : goal.invariant-loop-byte
