@@ -55,9 +55,10 @@ module _ (xs : List Frame) (n : ℕ) (len : n ≡ length xs) (some : 0 < n) (x :
   linked_innermost op y e = (λ i. scopes (reverse_set xs n len some y i) g)
       ∙ sym (e (around xs n len some)) ∙ ap op by_innermost
 
-  pub trouble_innermost : (P : Result Scopes Trouble → Type 0) (op : Scopes → Result Scopes Trouble)
+  -- what holds of them, whatever frames are around the innermost one
+  pub holds_innermost : {X : Type 0} (P : X → Type 0) (op : Scopes → X)
       → ((outer : List Frame) → P (op (scopes (x ∷ outer) g))) → P (op s)
-  trouble_innermost P op h = subst (λ t. P (op t)) by_innermost (h (around xs n len some))
+  holds_innermost P op h = subst (λ t. P (op t)) by_innermost (h (around xs n len some))
 
   pub unchanged_innermost : (y g' : Frame) → y ≡ x → g' ≡ g → scopes (reverse (set xs (n - 1) y)) g'
       ≡ s

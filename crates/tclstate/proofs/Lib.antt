@@ -6,3 +6,4 @@ mod Reach
 mod Reading
 pub mod Rewritten
 mod Slots
+mod Sums

@@ -9,9 +9,9 @@ use Rattle.tclstate.specs.declared.local.Local.{Local}
 use Rattle.tclstate.specs.declared.local.Local.TheVariants as local
 use Rattle.tclstate.specs.declared.error.ScopeError.{ScopeError}
 use Rattle.tclstate.specs.Pairs.{found, put, without}
-use Rattle.tclstate.specs.Scopes.{Variable, Text, Array, Link, Frame, Scopes, Trouble, on_ok, is_link, in_frame, linked, scopes}
+use Rattle.tclstate.specs.Scopes.{Variable, Text, Array, Link, Frame, Scopes, Trouble, NoVariable, on_ok, is_link, in_frame, linked, read, scopes, value_of}
 use Rattle.tclstate.specs.ScopeError.{HasTrouble, HasTroubleOrRefusal}
-use Rattle.tclstate.specs.Stored.{local_of, locals_of, reached}
+use Rattle.tclstate.specs.Stored.{local_of, locals_of, reached, reached_value}
 use Rattle.tclstate.proofs.Entries.{put_insert}
 use Rattle.tclstate.proofs.Frames.{on_ok_trouble, on_ok_refusal, found_in, removed_from}
 
@@ -58,6 +58,26 @@ module _ (change : Frame → Result Frame Trouble) (f g : Frame) (name : List �
         (in_frame change (scopes (f ∷ outer) g) name)
     refusal_global e link h = rw (linked_frame true link)
         (on_ok_refusal (λ h. scopes (f ∷ outer) h) e (change g) h)
+
+-- what is read of a name that stands for something in the local frame
+pub read_reached : (f g : Frame) (name : List ℕ) (outer : List Frame) (index : Option (List ℕ))
+    (v : Variable) → found f name ≡ Some v →
+    read (scopes (f ∷ outer) g) name index ≡ reached_value name index v g
+read_reached f g name outer index (Text bytes) at =
+    ap (λ o. value_of (found (if is_link o then g else f) name) index) at
+    ∙ ap (λ o. value_of o index) at
+read_reached f g name outer index (Array elements) at =
+    ap (λ o. value_of (found (if is_link o then g else f) name) index) at
+    ∙ ap (λ o. value_of o index) at
+read_reached f g name outer index Link at =
+    ap (λ o. value_of (found (if is_link o then g else f) name) index) at
+
+-- nothing is read of a name that stands for nothing there
+pub read_absent : (f g : Frame) (name : List ℕ) (outer : List Frame) (index : Option (List ℕ)) →
+    found f name ≡ None → read (scopes (f ∷ outer) g) name index ≡ Err NoVariable
+read_absent f g name outer index at =
+    ap (λ o. value_of (found (if is_link o then g else f) name) index) at
+    ∙ ap (λ o. value_of o index) at
 
 -- two changes one after the other are one
 on_ok_on_ok : {X Y Z : Type 0} (f : X → Y) (h : Y → Z) (r : Result X Trouble) → on_ok h (on_ok f r)

@@ -6,3 +6,4 @@ pub mod Formals
 pub mod FormalsError
 pub mod Procs
 pub mod Marked
+pub mod Sum

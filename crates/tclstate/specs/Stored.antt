@@ -1,12 +1,13 @@
 -- What contracts see of the maps that hold variables.
-use Rattle.std.specs.Prelude.{ℕ, List, map, Result}
+use Rattle.std.specs.Prelude.{ℕ, List, Option, Some, map, Result}
 use Rattle.std.specs.declared.vec.Vec.{Vec}
 use Rattle.tclstate.specs.declared.content.Content.{Content}
 use Rattle.tclstate.specs.declared.content.Content.TheVariants as content
 use Rattle.tclstate.specs.declared.local.Local.{Local}
 use Rattle.tclstate.specs.declared.local.Local.TheVariants as local
+use Rattle.tclstate.specs.Pairs.{found}
 use Rattle.tclstate.specs.Procs.{Procedure, Procs}
-use Rattle.tclstate.specs.Scopes.{Variable, Text, Array, Link, Frame, Trouble, on_ok}
+use Rattle.tclstate.specs.Scopes.{Variable, Text, Array, Link, Frame, Trouble, on_ok, value_of}
 
 -- The entries of a map as keys with what is seen of their values.
 abbrev pub pairs_of : {A X Y : Type 0} → (X → Y) → List (Vec ℕ A × X) → List (List ℕ × Y)
@@ -40,6 +41,11 @@ abbrev pub reached : (Variable → Result Variable Trouble) → (Frame → Resul
     Variable → Frame → Result (Variable × Frame) Trouble
 reached own global Link globals = on_ok (λ g. (Link, g)) (global globals)
 reached own global v globals = on_ok (λ w. (w, globals)) (own v)
+
+-- What is read of a local name: for a link the global is read (global(n)).
+abbrev pub reached_value : List ℕ → Option (List ℕ) → Variable → Frame → Result (List ℕ) Trouble
+reached_value name index Link globals = value_of (found globals name) index
+reached_value name index v globals = value_of (Some v) index
 
 -- The procedures by their names.
 abbrev pub procedures_of : {A : Type 0} → List (Vec ℕ A × Procedure) → Procs

@@ -1,15 +1,18 @@
 //! What a variable holds: a text or an array.
-ghost use Rattle.std.specs.Prelude.{◌≡◌, Some, None, Ok, Err, IfOk, OnOk, IfErr, OnErr, option_copied, length};
+ghost use Rattle.std.specs.Prelude.{◌≡◌, [], Some, None, Ok, Err, IfSome, IfNone, IfOk, OnOk, IfErr, OnErr, option_copied, length};
 ghost use Rattle.tclstate.specs.Scopes.{value_of, changed, reduced, elements_of};
 ghost use Rattle.tclstate.specs.ScopeError.{HasTrouble, HasTroubleOrRefusal};
 ghost use Rattle.tclstate.specs.Pairs.{keys_of};
 ghost use Rattle.tclstate.specs.Stored.{variable_of};
+ghost use Rattle.tclstate.specs.Sum.{HasSum};
 
 use crate::error::ScopeError;
-use crate::table::{element, keys, put_element, remove_element};
+use crate::sum::add_to;
+use crate::table::{element, keys, put_element, remove_element, take_element};
 use hints::{Table, new_table};
 use memory::NoMemory;
 use std::alloc::Allocator;
+use std::mem;
 use tcltext::Value;
 
 /// A text or an array.
@@ -32,6 +35,40 @@ impl<A: Allocator> Content<A> {
             (Content::Text(_), Some(_)) => Err(ScopeError::NotArray),
             (Content::Array(_), None) => Err(ScopeError::IsArray),
             (Content::Array(elements), Some(index)) => element(elements, index),
+        }
+    }
+
+    /// Takes the text, or the element at an index, out of there; the empty text stands there then.
+    pub fn take(&mut self, index: Option<&[u8]>) -> Result<Value<A>, ScopeError>
+        ensures value { IfOk result (λ value.
+            value_of (Some (variable_of self.old)) (option_copied index.entry) ≡ Ok value) }
+        ensures emptied { OnOk result
+            (changed (Some (variable_of self.old)) (option_copied index.entry) []
+            ≡ Ok (variable_of self.new)) }
+        ensures trouble { IfErr result (λ e.
+            HasTrouble e (value_of (Some (variable_of self.old)) (option_copied index.entry))) }
+        ensures unchanged { OnErr result (variable_of self.new ≡ variable_of self.old) }
+    {
+        match (self, index) {
+            (Content::Text(text), None) => Ok(mem::replace(text, Value::empty())),
+            (Content::Text(_), Some(_)) => Err(ScopeError::NotArray),
+            (Content::Array(_), None) => Err(ScopeError::IsArray),
+            (Content::Array(elements), Some(index)) => take_element(elements, index),
+        }
+    }
+
+    /// Adds a number to the one that the text is, and gives the sum. `None` where it is no number
+    /// or an array, or where the sum does not lie in place: nothing has changed then.
+    pub fn add(&mut self, by: i64) -> Option<Value<A>>
+        ensures added { IfSome result (λ sum.
+            HasSum by sum (value_of (Some (variable_of self.old)) None)) }
+        ensures written { IfSome result (λ sum.
+            changed (Some (variable_of self.old)) None sum ≡ Ok (variable_of self.new)) }
+        ensures unchanged { IfNone result (variable_of self.new ≡ variable_of self.old) }
+    {
+        match self {
+            Content::Text(text) => add_to(text, by),
+            Content::Array(_) => None,
         }
     }
 

@@ -1,9 +1,10 @@
 //! The variables of a procedure that runs.
-ghost use Rattle.std.specs.Prelude.{◌≡◌, ◌∷◌, [], List, None, Some, Ok, OnOk, IfErr, OnErr, option_copied};
+ghost use Rattle.std.specs.Prelude.{◌≡◌, ◌∷◌, [], List, None, Some, Ok, IfSome, IfNone, IfOk, OnOk, IfErr, OnErr, option_copied};
 ghost use Rattle.std.specs.Option.{option_map};
 ghost use Rattle.tclstate.specs.Pairs.{found, put};
 ghost use Rattle.tclstate.specs.Scopes as spec;
 ghost use Rattle.tclstate.specs.ScopeError.{HasTrouble, HasTroubleOrRefusal};
+ghost use Rattle.tclstate.specs.Sum.{HasSum};
 
 use crate::content::Content;
 use crate::error::ScopeError;
@@ -40,6 +41,55 @@ impl<A: Allocator> LocalFrame<A> {
         ensures { option_map local_of (option_copied result) ≡ found self.now name.now }
     {
         found_near(&self.variables, self.hints.place(name), name)
+    }
+
+    /// Takes the text of a name, or of its element at an index, out of there, where the empty text
+    /// stands then; for a link, out of the global.
+    pub(crate) fn take(
+        &mut self,
+        globals: &mut Globals<A>,
+        name: &[u8],
+        index: Option<&[u8]>,
+    ) -> Result<Value<A>, ScopeError>
+        ensures value { IfOk result (λ value. (outer : List spec.Frame) →
+            spec.read (spec.scopes (self.old ∷ outer) globals.old) name.now
+            (option_copied index.entry) ≡ Ok value) }
+        ensures emptied { OnOk result ((outer : List spec.Frame) →
+            spec.written (spec.scopes (self.old ∷ outer) globals.old) name.now
+            (option_copied index.entry) []
+            ≡ Ok (spec.scopes (self.new ∷ outer) globals.new)) }
+        ensures trouble { IfErr result (λ e. (outer : List spec.Frame) → HasTrouble e
+            (spec.read (spec.scopes (self.old ∷ outer) globals.old) name.now
+            (option_copied index.entry))) }
+        ensures unchanged { OnErr result (self.new ≡ self.old) }
+        ensures unchanged_globals { OnErr result (globals.new ≡ globals.old) }
+    {
+        let Some(place) = place_near(&self.variables, self.hints.place(name), name) else {
+            return Err(ScopeError::NoVariable);
+        };
+        match self.variables.get_index_mut(place) {
+            Some(local) => local.take(globals, name, index),
+            None => unreachable!(),
+        }
+    }
+
+    /// Adds a number to the one that the text of a name is, for a link to that of the global, and
+    /// gives the sum. `None` where it is no number or an array, or where the sum does not lie in
+    /// place: nothing has changed then.
+    pub(crate) fn add(&mut self, globals: &mut Globals<A>, name: &[u8], by: i64) -> Option<Value<A>>
+        ensures added { IfSome result (λ sum. (outer : List spec.Frame) → HasSum by sum
+            (spec.read (spec.scopes (self.old ∷ outer) globals.old) name.now None)) }
+        ensures written { IfSome result (λ sum. (outer : List spec.Frame) →
+            spec.written (spec.scopes (self.old ∷ outer) globals.old) name.now None sum
+            ≡ Ok (spec.scopes (self.new ∷ outer) globals.new)) }
+        ensures unchanged { IfNone result (self.new ≡ self.old) }
+        ensures unchanged_globals { IfNone result (globals.new ≡ globals.old) }
+    {
+        let place = place_near(&self.variables, self.hints.place(name), name)?;
+        match self.variables.get_index_mut(place) {
+            Some(local) => local.add(globals, name, by),
+            None => unreachable!(),
+        }
     }
 
     /// Whether it has room for few names alone.

@@ -1,9 +1,10 @@
 //! The global variables.
-ghost use Rattle.std.specs.Prelude.{◌≡◌, [], Ok, OnOk, IfErr, OnErr, option_copied};
+ghost use Rattle.std.specs.Prelude.{◌≡◌, [], None, Ok, IfSome, IfNone, IfOk, OnOk, IfErr, OnErr, option_copied};
 ghost use Rattle.std.specs.Option.{option_map};
 ghost use Rattle.tclstate.specs.Pairs.{found, put};
-ghost use Rattle.tclstate.specs.Scopes.{frame_written, frame_without, frame_with_array};
+ghost use Rattle.tclstate.specs.Scopes.{frame_written, frame_without, frame_with_array, value_of};
 ghost use Rattle.tclstate.specs.ScopeError.{HasTrouble, HasTroubleOrRefusal};
+ghost use Rattle.tclstate.specs.Sum.{HasSum};
 
 use crate::content::Content;
 use crate::error::ScopeError;
@@ -39,6 +40,42 @@ impl<A: Allocator> Globals<A> {
         ensures { option_map variable_of (option_copied result) ≡ found self.now name.now }
     {
         found_near(&self.variables, self.hints.place(name), name)
+    }
+
+    /// Takes the text of a name, or of its element at an index, out of there, where the empty text
+    /// stands then.
+    pub fn take(&mut self, name: &[u8], index: Option<&[u8]>) -> Result<Value<A>, ScopeError>
+        ensures value { IfOk result (λ value.
+            value_of (found self.old name.now) (option_copied index.entry) ≡ Ok value) }
+        ensures emptied { OnOk result
+            (frame_written name.now (option_copied index.entry) [] self.old ≡ Ok self.new) }
+        ensures trouble { IfErr result (λ e.
+            HasTrouble e (value_of (found self.old name.now) (option_copied index.entry))) }
+        ensures unchanged { OnErr result (self.new ≡ self.old) }
+    {
+        let Some(place) = place_near(&self.variables, self.hints.place(name), name) else {
+            return Err(ScopeError::NoVariable);
+        };
+        match self.variables.get_index_mut(place) {
+            Some(content) => content.take(index),
+            None => unreachable!(),
+        }
+    }
+
+    /// Adds a number to the one that the text of a name is, and gives the sum. `None` where it is
+    /// no number or an array, or where the sum does not lie in place: nothing has changed then.
+    pub fn add(&mut self, name: &[u8], by: i64) -> Option<Value<A>>
+        ensures added { IfSome result (λ sum.
+            HasSum by sum (value_of (found self.old name.now) None)) }
+        ensures written { IfSome result (λ sum.
+            frame_written name.now None sum self.old ≡ Ok self.new) }
+        ensures unchanged { IfNone result (self.new ≡ self.old) }
+    {
+        let place = place_near(&self.variables, self.hints.place(name), name)?;
+        match self.variables.get_index_mut(place) {
+            Some(content) => content.add(by),
+            None => unreachable!(),
+        }
     }
 
     /// Removes a name.

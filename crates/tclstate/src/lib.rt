@@ -9,6 +9,7 @@ mod globals;
 mod local;
 mod procs;
 mod scopes;
+mod sum;
 mod table;
 
 pub use error::ScopeError;

@@ -1,8 +1,9 @@
 //! What a name stands for in a procedure that runs.
-ghost use Rattle.std.specs.Prelude.{◌≡◌, Some, Ok, OnOk, IfErr, OnErr, option_copied};
+ghost use Rattle.std.specs.Prelude.{◌≡◌, [], Some, None, Ok, IfSome, IfNone, IfOk, OnOk, IfErr, OnErr, option_copied};
 ghost use Rattle.tclstate.specs.Scopes.{changed, reduced, frame_written, frame_without};
 ghost use Rattle.tclstate.specs.ScopeError.{HasTrouble, HasTroubleOrRefusal};
-ghost use Rattle.tclstate.specs.Stored.{local_of, reached};
+ghost use Rattle.tclstate.specs.Stored.{local_of, reached, reached_value};
+ghost use Rattle.tclstate.specs.Sum.{HasSum};
 
 use crate::content::Content;
 use crate::error::ScopeError;
@@ -18,6 +19,52 @@ pub enum Local<A: Allocator> {
 }
 
 impl<A: Allocator> Local<A> {
+    /// Takes the text, or the element at an index, out of there, where the empty text stands then;
+    /// for a link, out of the global.
+    pub fn take(
+        &mut self,
+        globals: &mut Globals<A>,
+        name: &[u8],
+        index: Option<&[u8]>,
+    ) -> Result<Value<A>, ScopeError>
+        ensures value { IfOk result (λ value.
+            reached_value name.now (option_copied index.entry) (local_of self.old) globals.old
+            ≡ Ok value) }
+        ensures emptied { OnOk result
+            (reached (λ v. changed (Some v) (option_copied index.entry) [])
+            (frame_written name.now (option_copied index.entry) [])
+            (local_of self.old) globals.old
+            ≡ Ok (local_of self.new, globals.new)) }
+        ensures trouble { IfErr result (λ e. HasTrouble e
+            (reached_value name.now (option_copied index.entry) (local_of self.old) globals.old)) }
+        ensures unchanged { OnErr result (local_of self.new ≡ local_of self.old) }
+        ensures unchanged_globals { OnErr result (globals.new ≡ globals.old) }
+    {
+        match self {
+            Local::Own(content) => content.take(index),
+            Local::Link => globals.take(name, index),
+        }
+    }
+
+    /// Adds a number to the one that the text is, for a link to that of the global, and gives the
+    /// sum. `None` where it is no number or an array, or where the sum does not lie in place:
+    /// nothing has changed then.
+    pub fn add(&mut self, globals: &mut Globals<A>, name: &[u8], by: i64) -> Option<Value<A>>
+        ensures added { IfSome result (λ sum. HasSum by sum
+            (reached_value name.now None (local_of self.old) globals.old)) }
+        ensures written { IfSome result (λ sum.
+            reached (λ v. changed (Some v) None sum) (frame_written name.now None sum)
+            (local_of self.old) globals.old
+            ≡ Ok (local_of self.new, globals.new)) }
+        ensures unchanged { IfNone result (local_of self.new ≡ local_of self.old) }
+        ensures unchanged_globals { IfNone result (globals.new ≡ globals.old) }
+    {
+        match self {
+            Local::Own(content) => content.add(by),
+            Local::Link => globals.add(name, by),
+        }
+    }
+
     /// Removes the element at an index; for a link, the global's element.
     pub fn remove_element(
         &mut self,

@@ -49,12 +49,21 @@ impl<A: Allocator> Model for Procs<A> {
 
 impl<A: Allocator> Procs<A> {
     /// The procedure that was last defined for a name, if there is one.
+    #[inline(always)]
     pub fn get(&self, name: &[u8]) -> Option<&Procedure<A>>
         ensures { option_copied result ≡ found self.now name.now }
     {
         if !self.slots[slot_of(name)] {
             return None;
         }
+        self.sought(name)
+    }
+
+    /// The same, for a name that may be there. Most names are not, and nothing is called for them.
+    #[inline(never)]
+    fn sought(&self, name: &[u8]) -> Option<&Procedure<A>>
+        ensures { option_copied result ≡ found self.now name.now }
+    {
         found_near(&self.procedures, self.hints.place(name), name)
     }
 }

@@ -1,8 +1,9 @@
 //! Scopes: the variables of a script and of the procedures that run.
-ghost use Rattle.std.specs.Prelude.{◌≡◌, [], None, Some, Ok, IfOk, OnOk, IfErr, OnErr, option_copied};
+ghost use Rattle.std.specs.Prelude.{◌≡◌, [], None, Some, Ok, IfSome, IfNone, IfOk, OnOk, IfErr, OnErr, option_copied};
 ghost use Rattle.std.specs.Option.{option_map};
 ghost use Rattle.tclstate.specs.Scopes as spec;
 ghost use Rattle.tclstate.specs.ScopeError.{HasTrouble, HasTroubleOrRefusal};
+ghost use Rattle.tclstate.specs.Sum.{HasSum};
 
 use crate::content::Content;
 use crate::error::ScopeError;
@@ -91,6 +92,43 @@ impl<A: Allocator> Scopes<A> {
         match self.globals.get(name) {
             Some(content) => content.get(index),
             None => Err(ScopeError::NoVariable),
+        }
+    }
+
+    /// Takes the text of a name, or of its element at an index, out of there, to be changed and
+    /// written back. The empty text stands there meanwhile, so that no one else shares what was
+    /// taken unless a script copied it.
+    ///
+    /// # Errors
+    /// Those of [`get`](Scopes::get); nothing has changed after them.
+    pub fn take(&mut self, name: &[u8], index: Option<&[u8]>) -> Result<Value<A>, ScopeError>
+        ensures value { IfOk result
+            (λ value. spec.read self.old name.now (option_copied index.entry) ≡ Ok value) }
+        ensures emptied { OnOk result
+            (spec.written self.old name.now (option_copied index.entry) [] ≡ Ok self.new) }
+        ensures trouble { IfErr result
+            (λ e. HasTrouble e (spec.read self.old name.now (option_copied index.entry))) }
+        ensures unchanged { OnErr result (self.new ≡ self.old) }
+    {
+        match self.locals.last_mut() {
+            Some(frame) => frame.take(&mut self.globals, name, index),
+            None => self.globals.take(name, index),
+        }
+    }
+
+    /// Adds a number to the one that the text of a name is, and gives the sum, which stands there
+    /// then (incr(n)). `None` where it is no number or an array, or where the sum does not lie in
+    /// place: nothing has changed then. Takes no memory.
+    pub fn add(&mut self, name: &[u8], by: i64) -> Option<Value<A>>
+        ensures added { IfSome result
+            (λ sum. HasSum by sum (spec.read self.old name.now None)) }
+        ensures written { IfSome result
+            (λ sum. spec.written self.old name.now None sum ≡ Ok self.new) }
+        ensures unchanged { IfNone result (self.new ≡ self.old) }
+    {
+        match self.locals.last_mut() {
+            Some(frame) => frame.add(&mut self.globals, name, by),
+            None => self.globals.add(name, by),
         }
     }
 
@@ -218,31 +256,6 @@ impl<A: Allocator + Copy> Scopes<A> {
             Some(frame) => frame.set(&mut self.globals, alloc, name, index, value),
             None => self.globals.set(alloc, name, index, value),
         }
-    }
-
-    /// Takes the text of a name, or of its element at an index, out of there, to be changed and
-    /// written back. The empty text stands there meanwhile, so that no one else shares what was
-    /// taken unless a script copied it.
-    ///
-    /// # Errors
-    /// Those of [`get`](Scopes::get), and `NoMemory`; nothing has changed after them.
-    pub fn take(
-        &mut self,
-        alloc: A,
-        name: &[u8],
-        index: Option<&[u8]>,
-    ) -> Result<Value<A>, ScopeError>
-        ensures value { IfOk result
-            (λ value. spec.read self.old name.now (option_copied index.entry) ≡ Ok value) }
-        ensures emptied { OnOk result
-            (spec.written self.old name.now (option_copied index.entry) [] ≡ Ok self.new) }
-        ensures trouble { IfErr result (λ e. HasTroubleOrRefusal e
-            (spec.read self.old name.now (option_copied index.entry))) }
-        ensures unchanged { OnErr result (self.new ≡ self.old) }
-    {
-        let value = self.get(name, index)?.share()?;
-        self.set(alloc, name, index, Value::empty())?;
-        Ok(value)
     }
 
     /// Makes a name an array, unless it is one already (array(n), array set).

@@ -7,6 +7,7 @@ use crate::error::ScopeError;
 use hints::Table;
 use memory::NoMemory;
 use std::alloc::Allocator;
+use std::mem;
 use tcltext::Value;
 
 /// The element at an index.
@@ -21,6 +22,25 @@ pub fn element<'a, A: Allocator>(
 {
     match elements.get(index) {
         Some(value) => Ok(value),
+        None => Err(ScopeError::NoElement),
+    }
+}
+
+/// Takes the element at an index out of there; the empty text stands there then.
+pub fn take_element<A: Allocator>(
+    elements: &mut Table<Value<A>, A>,
+    index: &[u8],
+) -> Result<Value<A>, ScopeError>
+    ensures value { IfOk result (λ value.
+        found (texts_of elements.old.entries) index.now ≡ Some value) }
+    ensures emptied { OnOk result
+        (texts_of elements.new.entries ≡ put (texts_of elements.old.entries) index.now []) }
+    ensures absent { IfErr result (λ e. (e ≡ ScopeError.NoElement)
+        × (found (texts_of elements.old.entries) index.now ≡ None)) }
+    ensures unchanged { OnErr result (elements.new.entries ≡ elements.old.entries) }
+{
+    match elements.get_mut(index) {
+        Some(value) => Ok(mem::replace(value, Value::empty())),
         None => Err(ScopeError::NoElement),
     }
 }

@@ -3,3 +3,4 @@ pub mod Taking
 pub mod Elements
 pub mod Taken
 pub mod Indexed
+mod Sums

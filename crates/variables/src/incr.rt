@@ -1,6 +1,6 @@
 //! `incr n ?k?` (incr(n)).
 
-ghost use Rattle.std.specs.Prelude.{◌≡◌, ◌+ℤ◌, Ok, IfSome, option_copied};
+ghost use Rattle.std.specs.Prelude.{◌≡◌, ◌+ℤ◌, Ok, IfSome, IfNone, option_copied};
 ghost use Rattle.acts.specs.Raise.{Answers};
 ghost use Rattle.kinds.specs.Answers.{Stores};
 ghost use Rattle.variables.specs.Incr as definition;
@@ -48,8 +48,8 @@ fn add<'a, A: Allocator + Copy>(
     let Ok(Name { name, index }) = variable_name(word) else {
         return Err(Raise::Fault(Fault::BadVariable));
     };
-    match sum_of(scopes, name, index, by) {
-        Some(sum) => put(alloc, scopes, name, index, sum),
+    match added(scopes, name, index, by) {
+        Some(sum) => Ok(sum),
         None => add_to(alloc, scopes, name, index, by),
     }
 }
@@ -64,40 +64,29 @@ fn step_in<A: Allocator>(by: Option<&Value<A>>) -> Option<i64>
     }
 }
 
-/// The number that a variable or an element holds; `None` where it holds none.
-fn number_at<A: Allocator + Copy>(
-    scopes: &Scopes<A>,
-    name: &[u8],
-    index: Option<&[u8]>,
-) -> Option<i64>
-    ensures { IfSome result (λ n.
-        definition.number_in name.now (option_copied index.entry) scopes.now ≡ Ok n) }
-{
-    match scopes.get(name, index) {
-        Ok(value) => whole_number_in(value),
-        Err(_) => None,
-    }
-}
-
-/// The sum of the numbers that a variable holds and a word says. `None` says nothing: there may be
-/// no such number, or none of 64 bits.
-fn sum_of<A: Allocator + Copy>(
-    scopes: &Scopes<A>,
+/// Adds the number that a word says to that of a variable where it stands, and gives the sum.
+/// `None` where there are no such numbers, or where the sum does not lie in place: nothing has
+/// changed then.
+fn added<A: Allocator>(
+    scopes: &mut Scopes<A>,
     name: &[u8],
     index: Option<&[u8]>,
     by: Option<&Value<A>>,
-) -> Option<i64>
-    ensures { IfSome result (λ sum.
-        definition.adds_to name.now (option_copied index.entry) (option_copied by.entry) scopes.now
-        ≡ definition.put name.now (option_copied index.entry) sum scopes.now) }
+) -> Option<Value<A>>
+    ensures added { IfSome result (λ sum.
+        definition.adds_to name.now (option_copied index.entry) (option_copied by.entry)
+        scopes.old ≡ Ok (scopes.new, sum)) }
+    ensures unchanged { IfNone result (scopes.new ≡ scopes.old) }
 {
     let by = step_in(by)?;
-    let number = number_at(scopes, name, index)?;
-    number.checked_add(by)
+    match index {
+        Some(_) => None,
+        None => scopes.add(name, by),
+    }
 }
 
 /// Adds a number to that of a variable or an element. What it may answer is wide, so this is apart
-/// from sums of numbers that are there.
+/// from sums that are written where the variable stands.
 #[inline(never)]
 fn add_to<'a, A: Allocator + Copy>(
     alloc: A,

@@ -99,7 +99,7 @@ fn put<A: Allocator + Copy>(
         Keeps (puts name.now (option_copied index.entry) (canonical (v ++ more.now)) scopes.old)
         scopes.old result scopes.new }
 {
-    release(alloc, scopes, name, index)?;
+    release(scopes, name, index);
     let whole = list.push_elements(alloc, more)?;
     Ok(put_back(alloc, scopes, name, index, whole)?)
 }

@@ -1,14 +1,14 @@
 //! The values of variables: reading one that may be missing, and writing one, which gives the
 //! value.
 
-ghost use Rattle.std.specs.Prelude.{OnOk, option_copied};
+ghost use Rattle.std.specs.Prelude.{option_copied};
 ghost use Rattle.acts.specs.Raise.{Answers};
 ghost use Rattle.kinds.specs.Answers.{Keeps, Stores};
 ghost use Rattle.tclstate.specs.Scopes.{Scopes as Variables};
 ghost use Rattle.variables.specs.Taken.{Rewrites, Takes};
 ghost use Rattle.variables.specs.Values as definition;
 
-use acts::{NoMemory, Raise};
+use acts::Raise;
 use kinds::variables::{self, troubled};
 use std::alloc::Allocator;
 use tclstate::{ScopeError, Scopes};
@@ -39,7 +39,7 @@ pub fn held<'a, A: Allocator + Copy>(
 /// text stands there meanwhile. A missing one counts as empty, and stays missing.
 ///
 /// # Errors
-/// It can't be read; or memory is refused.
+/// It can't be read; or memory is refused for the error.
 pub fn taken<A: Allocator + Copy>(
     alloc: A,
     scopes: &mut Scopes<A>,
@@ -48,7 +48,7 @@ pub fn taken<A: Allocator + Copy>(
 ) -> Result<Value<A>, Raise<A>>
     ensures { Takes name.now (option_copied index.entry) scopes.old result scopes.new }
 {
-    match scopes.take(alloc, name, index) {
+    match scopes.take(name, index) {
         Ok(value) => Ok(value),
         Err(ScopeError::NoVariable) => Ok(Value::empty()),
         Err(ScopeError::NoElement) => Ok(Value::empty()),
@@ -57,24 +57,12 @@ pub fn taken<A: Allocator + Copy>(
 }
 
 /// Lets go of the text of a variable or an element, which is about to be written: the empty text
-/// stands there meanwhile. What is missing or can't be read stays as it is.
-///
-/// # Errors
-/// `NoMemory` where memory is refused.
-pub fn release<A: Allocator + Copy>(
-    alloc: A,
-    scopes: &mut Scopes<A>,
-    name: &[u8],
-    index: Option<&[u8]>,
-) -> Result<(), NoMemory>
-    ensures { OnOk result
-        (Rewrites name.now (option_copied index.entry) scopes.old scopes.new) }
+/// stands there meanwhile. What is missing or can't be read stays as it is. Takes no memory.
+pub fn release<A: Allocator + Copy>(scopes: &mut Scopes<A>, name: &[u8], index: Option<&[u8]>)
+    ensures { Rewrites name.now (option_copied index.entry) scopes.old scopes.new }
 {
-    match scopes.take(alloc, name, index) {
-        Ok(_) => Ok(()),
-        Err(ScopeError::NoMemory(refusal)) => Err(refusal),
-        Err(_) => Ok(()),
-    }
+    // The text is dropped, or there was none.
+    let _ = scopes.take(name, index);
 }
 
 /// Writes a variable or an element, and gives its value. On `Err` nothing changes.

@@ -2,7 +2,7 @@ use Rattle.std.proofs.Common.{refl, None}
 use Rattle.std.proofs.lemmas.Result.{on_ok_weaker, IfErr-weaker}
 use Rattle.tclstate.specs.Scopes.{removed}
 use Rattle.tclstate.specs.ScopeError.{HasTrouble}
-use Rattle.tclstate.proofs.Innermost.{on_err_both, changed_innermost, trouble_innermost, unchanged_innermost}
+use Rattle.tclstate.proofs.Innermost.{on_err_both, changed_innermost, holds_innermost, unchanged_innermost}
 use Rattle.tclstate.proofs.scopes.Scopes.remove.Goals as goal
 
 pub returns-in-Some-clause-ok : goal.returns-in-Some-clause-ok
@@ -16,7 +16,7 @@ returns-in-Some-clause-ok g c =
 pub returns-in-Some-clause-trouble : goal.returns-in-Some-clause-trouble
 returns-in-Some-clause-trouble g c =
     IfErr-weaker c.remove.result _ _
-    (λ e. trouble_innermost c.self.inside.locals.items _ c.self.inside.locals.ok.0
+    (λ e. holds_innermost c.self.inside.locals.items _ c.self.inside.locals.ok.0
     (c.in-Some.ensures.variant.0 refl) c.in-Some.frame.now c.in-Some.ensures.value
     c.self.inside.globals _ c.self.view_is (HasTrouble e) (λ s. removed s c.args.name.now None))
     c.remove.ensures.trouble

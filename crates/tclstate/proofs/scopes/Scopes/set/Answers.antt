@@ -2,7 +2,7 @@ use Rattle.std.proofs.Common.{refl, option_copied}
 use Rattle.std.proofs.lemmas.Result.{on_ok_weaker, IfErr-weaker}
 use Rattle.tclstate.specs.Scopes.{written}
 use Rattle.tclstate.specs.ScopeError.{HasTroubleOrRefusal}
-use Rattle.tclstate.proofs.Innermost.{on_err_both, changed_innermost, trouble_innermost, unchanged_innermost}
+use Rattle.tclstate.proofs.Innermost.{on_err_both, changed_innermost, holds_innermost, unchanged_innermost}
 use Rattle.tclstate.proofs.scopes.Scopes.set.Goals as goal
 
 pub returns-in-Some-clause-ok : goal.returns-in-Some-clause-ok
@@ -17,7 +17,7 @@ returns-in-Some-clause-ok g c =
 pub returns-in-Some-clause-trouble : goal.returns-in-Some-clause-trouble
 returns-in-Some-clause-trouble g c =
     IfErr-weaker c.set.result _ _
-    (λ e. trouble_innermost c.self.inside.locals.items _ c.self.inside.locals.ok.0
+    (λ e. holds_innermost c.self.inside.locals.items _ c.self.inside.locals.ok.0
     (c.in-Some.ensures.variant.0 refl) c.in-Some.frame.now c.in-Some.ensures.value
     c.self.inside.globals _ c.self.view_is (HasTroubleOrRefusal e)
     (λ s. written s c.args.name.now (option_copied c.args.index) c.args.value))

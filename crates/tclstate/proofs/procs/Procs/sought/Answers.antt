@@ -2,7 +2,7 @@ use Rattle.std.proofs.Common.{◌≡◌, Option, Some, None, refl, sym, ap, ◌�
 use Rattle.std.specs.Option.{option_map}
 use Rattle.tclstate.specs.Pairs.{found}
 use Rattle.tclstate.proofs.Entries.{found_lookup}
-use Rattle.tclstate.proofs.procs.Procs.get.Goals as goal
+use Rattle.tclstate.proofs.procs.Procs.sought.Goals as goal
 
 map_same : {X : Type 0} (o : Option X) → option_map (λ x. x) o ≡ o
 map_same None = refl
