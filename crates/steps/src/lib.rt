@@ -9,6 +9,7 @@ mod foreach;
 mod functions;
 mod handler;
 mod handling;
+mod joining;
 pub mod laws;
 mod looping;
 mod operating;

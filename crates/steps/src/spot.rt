@@ -9,6 +9,7 @@ ghost use Rattle.steps.specs.View.{IsOpen, below_words, did_of, spot_of, with_pa
 ghost use Rattle.steps.specs.declared.progress.Progress.TheVariants as went;
 
 use crate::handler::Handler;
+use crate::joining::joined;
 use crate::progress::Progress;
 use crate::stack::put_on;
 use memory::NoMemory;
@@ -158,7 +159,7 @@ impl<A: Allocator + Copy> Spot<A> {
         let Some(bytes) = self.operands.pop() else {
             return Ok(Progress::Stuck);
         };
-        let joined = bytes.append(alloc, value.as_slice())?;
+        let joined = joined(alloc, bytes, value.as_slice())?;
         put_on(&mut self.operands, joined)?;
         Ok(Progress::GoesOn)
     }
