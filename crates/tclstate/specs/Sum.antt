@@ -1,5 +1,5 @@
 -- What a number added to a text that is one makes (incr(n)).
-use Rattle.std.specs.Prelude.{◌≡◌, ℕ, List, Some, true, ℤ, ◌+ℤ◌, Result, Ok, Err}
+use Rattle.std.specs.Prelude.{◌≡◌, ◌<◌, ℕ, List, length, Some, true, ℤ, ◌+ℤ◌, Result, Ok, Err}
 use Rattle.std.specs.Fmt.{signed_decimal}
 use Rattle.tcltext.specs.Numbers.{numeral, is_in_range}
 use Rattle.tclstate.specs.Scopes.{Trouble}
@@ -17,3 +17,7 @@ pub record IsSum (by : ℤ) (text sum : List ℕ) : Type 0 where
 abbrev pub HasSum : ℤ → List ℕ → Result (List ℕ) Trouble → Type 0
 HasSum by sum (Ok text) = IsSum by text sum
 HasSum by sum (Err trouble) = ⊥
+
+-- No sum lies in place: where there is one, it has more than 14 bytes (incr(n)).
+abbrev pub NoSumInPlace : ℤ → Result (List ℕ) Trouble → Type 0
+NoSumInPlace by r = (sum : List ℕ) → HasSum by sum r → 14 < length sum

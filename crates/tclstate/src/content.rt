@@ -4,7 +4,7 @@ ghost use Rattle.tclstate.specs.Scopes.{value_of, changed, reduced, elements_of}
 ghost use Rattle.tclstate.specs.ScopeError.{HasTrouble, HasTroubleOrRefusal};
 ghost use Rattle.tclstate.specs.Pairs.{keys_of};
 ghost use Rattle.tclstate.specs.Stored.{variable_of};
-ghost use Rattle.tclstate.specs.Sum.{HasSum};
+ghost use Rattle.tclstate.specs.Sum.{HasSum, NoSumInPlace};
 
 use crate::error::ScopeError;
 use crate::sum::add_to;
@@ -57,14 +57,17 @@ impl<A: Allocator> Content<A> {
         }
     }
 
-    /// Adds a number to the one that the text is, and gives the sum. `None` where it is no number
-    /// or an array, or where the sum does not lie in place: nothing has changed then.
+    /// Adds a number to the one that the text is, and gives the sum. `None` where there is no text
+    /// that is a number, where 64 bits do not hold the sum, or where it does not lie in place (it
+    /// has more than 14 bytes): nothing has changed then.
     pub fn add(&mut self, by: i64) -> Option<Value<A>>
         ensures added { IfSome result (λ sum.
             HasSum by sum (value_of (Some (variable_of self.old)) None)) }
         ensures written { IfSome result (λ sum.
             changed (Some (variable_of self.old)) None sum ≡ Ok (variable_of self.new)) }
         ensures unchanged { IfNone result (variable_of self.new ≡ variable_of self.old) }
+        ensures missed { IfNone result
+            (NoSumInPlace by (value_of (Some (variable_of self.old)) None)) }
     {
         match self {
             Content::Text(text) => add_to(text, by),

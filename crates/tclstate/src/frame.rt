@@ -4,7 +4,7 @@ ghost use Rattle.std.specs.Option.{option_map};
 ghost use Rattle.tclstate.specs.Pairs.{found, put};
 ghost use Rattle.tclstate.specs.Scopes as spec;
 ghost use Rattle.tclstate.specs.ScopeError.{HasTrouble, HasTroubleOrRefusal};
-ghost use Rattle.tclstate.specs.Sum.{HasSum};
+ghost use Rattle.tclstate.specs.Sum.{HasSum, NoSumInPlace};
 
 use crate::content::Content;
 use crate::error::ScopeError;
@@ -74,8 +74,9 @@ impl<A: Allocator> LocalFrame<A> {
     }
 
     /// Adds a number to the one that the text of a name is, for a link to that of the global, and
-    /// gives the sum. `None` where it is no number or an array, or where the sum does not lie in
-    /// place: nothing has changed then.
+    /// gives the sum. `None` where there is no text that is a number, where 64 bits do not hold the
+    /// sum, or where it does not lie in place (it has more than 14 bytes): nothing has changed
+    /// then.
     pub(crate) fn add(&mut self, globals: &mut Globals<A>, name: &[u8], by: i64) -> Option<Value<A>>
         ensures added { IfSome result (λ sum. (outer : List spec.Frame) → HasSum by sum
             (spec.read (spec.scopes (self.old ∷ outer) globals.old) name.now None)) }
@@ -84,6 +85,8 @@ impl<A: Allocator> LocalFrame<A> {
             ≡ Ok (spec.scopes (self.new ∷ outer) globals.new)) }
         ensures unchanged { IfNone result (self.new ≡ self.old) }
         ensures unchanged_globals { IfNone result (globals.new ≡ globals.old) }
+        ensures missed { IfNone result ((outer : List spec.Frame) → NoSumInPlace by
+            (spec.read (spec.scopes (self.old ∷ outer) globals.old) name.now None)) }
     {
         let place = place_near(&self.variables, self.hints.place(name), name)?;
         match self.variables.get_index_mut(place) {

@@ -4,7 +4,7 @@ ghost use Rattle.std.specs.Option.{option_map};
 ghost use Rattle.tclstate.specs.Pairs.{found, put};
 ghost use Rattle.tclstate.specs.Scopes.{frame_written, frame_without, frame_with_array, value_of};
 ghost use Rattle.tclstate.specs.ScopeError.{HasTrouble, HasTroubleOrRefusal};
-ghost use Rattle.tclstate.specs.Sum.{HasSum};
+ghost use Rattle.tclstate.specs.Sum.{HasSum, NoSumInPlace};
 
 use crate::content::Content;
 use crate::error::ScopeError;
@@ -62,14 +62,17 @@ impl<A: Allocator> Globals<A> {
         }
     }
 
-    /// Adds a number to the one that the text of a name is, and gives the sum. `None` where it is
-    /// no number or an array, or where the sum does not lie in place: nothing has changed then.
+    /// Adds a number to the one that the text of a name is, and gives the sum. `None` where there
+    /// is no text that is a number, where 64 bits do not hold the sum, or where it does not lie in
+    /// place (it has more than 14 bytes): nothing has changed then.
     pub fn add(&mut self, name: &[u8], by: i64) -> Option<Value<A>>
         ensures added { IfSome result (λ sum.
             HasSum by sum (value_of (found self.old name.now) None)) }
         ensures written { IfSome result (λ sum.
             frame_written name.now None sum self.old ≡ Ok self.new) }
         ensures unchanged { IfNone result (self.new ≡ self.old) }
+        ensures missed { IfNone result
+            (NoSumInPlace by (value_of (found self.old name.now) None)) }
     {
         let place = place_near(&self.variables, self.hints.place(name), name)?;
         match self.variables.get_index_mut(place) {

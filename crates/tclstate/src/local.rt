@@ -3,7 +3,7 @@ ghost use Rattle.std.specs.Prelude.{◌≡◌, [], Some, None, Ok, IfSome, IfNon
 ghost use Rattle.tclstate.specs.Scopes.{changed, reduced, frame_written, frame_without};
 ghost use Rattle.tclstate.specs.ScopeError.{HasTrouble, HasTroubleOrRefusal};
 ghost use Rattle.tclstate.specs.Stored.{local_of, reached, reached_value};
-ghost use Rattle.tclstate.specs.Sum.{HasSum};
+ghost use Rattle.tclstate.specs.Sum.{HasSum, NoSumInPlace};
 
 use crate::content::Content;
 use crate::error::ScopeError;
@@ -47,8 +47,8 @@ impl<A: Allocator> Local<A> {
     }
 
     /// Adds a number to the one that the text is, for a link to that of the global, and gives the
-    /// sum. `None` where it is no number or an array, or where the sum does not lie in place:
-    /// nothing has changed then.
+    /// sum. `None` where there is no text that is a number, where 64 bits do not hold the sum, or
+    /// where it does not lie in place (it has more than 14 bytes): nothing has changed then.
     pub fn add(&mut self, globals: &mut Globals<A>, name: &[u8], by: i64) -> Option<Value<A>>
         ensures added { IfSome result (λ sum. HasSum by sum
             (reached_value name.now None (local_of self.old) globals.old)) }
@@ -58,6 +58,8 @@ impl<A: Allocator> Local<A> {
             ≡ Ok (local_of self.new, globals.new)) }
         ensures unchanged { IfNone result (local_of self.new ≡ local_of self.old) }
         ensures unchanged_globals { IfNone result (globals.new ≡ globals.old) }
+        ensures missed { IfNone result
+            (NoSumInPlace by (reached_value name.now None (local_of self.old) globals.old)) }
     {
         match self {
             Local::Own(content) => content.add(by),

@@ -3,7 +3,7 @@ ghost use Rattle.std.specs.Prelude.{◌≡◌, [], None, Some, Ok, IfSome, IfNon
 ghost use Rattle.std.specs.Option.{option_map};
 ghost use Rattle.tclstate.specs.Scopes as spec;
 ghost use Rattle.tclstate.specs.ScopeError.{HasTrouble, HasTroubleOrRefusal};
-ghost use Rattle.tclstate.specs.Sum.{HasSum};
+ghost use Rattle.tclstate.specs.Sum.{HasSum, NoSumInPlace};
 
 use crate::content::Content;
 use crate::error::ScopeError;
@@ -117,14 +117,17 @@ impl<A: Allocator> Scopes<A> {
     }
 
     /// Adds a number to the one that the text of a name is, and gives the sum, which stands there
-    /// then (incr(n)). `None` where it is no number or an array, or where the sum does not lie in
-    /// place: nothing has changed then. Takes no memory.
+    /// then (incr(n)). `None` where there is no text that is a number, where 64 bits do not hold
+    /// the sum, or where it does not lie in place (it has more than 14 bytes): nothing has changed
+    /// then. Takes no memory.
     pub fn add(&mut self, name: &[u8], by: i64) -> Option<Value<A>>
         ensures added { IfSome result
             (λ sum. HasSum by sum (spec.read self.old name.now None)) }
         ensures written { IfSome result
             (λ sum. spec.written self.old name.now None sum ≡ Ok self.new) }
         ensures unchanged { IfNone result (self.new ≡ self.old) }
+        ensures missed { IfNone result
+            (NoSumInPlace by (spec.read self.old name.now None)) }
     {
         match self.locals.last_mut() {
             Some(frame) => frame.add(&mut self.globals, name, by),
