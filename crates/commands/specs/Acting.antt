@@ -13,7 +13,7 @@ use Rattle.processes.specs.Wait.{wait}
 use Rattle.processes.specs.Sleep.{sleep}
 use Rattle.processes.specs.Socket.{socket}
 use Rattle.processes.specs.Spawn.{spawn}
-use Rattle.processes.specs.Send.{send}
+use Rattle.output.specs.Send.{send}
 use Rattle.output.specs.Puts.{puts}
 
 -- what each does with the words after its name (expect(1); puts(n), socket(n), close(n))

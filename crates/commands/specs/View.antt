@@ -8,7 +8,7 @@ use Rattle.processes.specs.Wait as wait
 use Rattle.processes.specs.Sleep as sleep
 use Rattle.processes.specs.Socket as socket
 use Rattle.processes.specs.Spawn as spawn
-use Rattle.processes.specs.Send as send
+use Rattle.output.specs.Send as send
 use Rattle.output.specs.Channel as channel
 
 -- what follows the answer to an act of a command

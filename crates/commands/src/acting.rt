@@ -9,8 +9,8 @@ ghost use Rattle.kinds.specs.Exchange.{talks};
 
 use crate::waits::Waits;
 use acts::{Act, Answer, Raise};
-use output::{channel, log_file, puts, send_error, send_log, send_user};
-use processes::{close, send, sleep, socket, spawn, wait};
+use output::{channel, log_file, puts, send, send_error, send_log, send_user};
+use processes::{close, sleep, socket, spawn, wait};
 use state::{Leaf, State};
 use std::alloc::Allocator;
 use tcltext::Value;

@@ -1,7 +1,7 @@
 //! The states of commands that wait for the answer to an act.
 
-use output::{channel, log_file};
-use processes::{close, send, sleep, socket, spawn, wait};
+use output::{channel, log_file, send};
+use processes::{close, sleep, socket, spawn, wait};
 use std::alloc::Allocator;
 
 /// The state of a command that waits for the answer to an act, for each command that asks for acts.

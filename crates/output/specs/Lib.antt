@@ -1,5 +1,6 @@
 pub mod Channel
 pub mod Puts
+pub mod Send
 pub mod SendUser
 pub mod SendLog
 pub mod SendError

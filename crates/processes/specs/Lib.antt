@@ -5,7 +5,6 @@ pub mod Sleep
 pub mod Socket
 pub mod Launch
 pub mod Spawn
-pub mod Send
 pub mod Close
 pub mod Requests
 pub mod RequestsView

@@ -1,5 +1,5 @@
-//! The commands that start programs and call servers, talk to them, wait for them and close them,
-//! and those that read and set the settings of each.
+//! The commands that start programs and call servers, wait for them and close them, and those that
+//! read and set the settings of each.
 #![tactic(auto)]
 
 pub mod close;
@@ -9,7 +9,6 @@ pub mod match_max;
 mod numbers;
 pub mod remove_nulls;
 pub mod requests;
-pub mod send;
 pub mod sleep;
 pub mod socket;
 pub mod spawn;

@@ -7,7 +7,7 @@ use Rattle.processes.specs.Wait as wait
 use Rattle.processes.specs.Sleep as sleep
 use Rattle.processes.specs.Socket as socket
 use Rattle.processes.specs.Spawn as spawn
-use Rattle.processes.specs.Send as send
+use Rattle.output.specs.Send as send
 use Rattle.state.specs.Leaf.{Shows}
 use Rattle.output.specs.Channel as channel
 use Rattle.output.specs.Puts.{puts}

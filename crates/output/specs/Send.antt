@@ -6,8 +6,8 @@ use Rattle.acts.specs.Flaw as flaw
 use Rattle.kinds.specs.Exchange.{Exchange, Performs, gives, fails, course}
 use Rattle.kinds.specs.Ids.{chosen_id}
 use Rattle.kinds.specs.Usage.{after_pair, text_in}
-use Rattle.processes.specs.declared.send.Waits.{Waits}
-use Rattle.processes.specs.declared.send.Waits.TheVariants as waits
+use Rattle.output.specs.declared.send.Waits.{Waits}
+use Rattle.output.specs.declared.send.Waits.TheVariants as waits
 
 -- what follows the answer to a send (expect(1), send)
 abbrev pub sent : Id → Reply → Exchange 3

@@ -3,7 +3,7 @@
 ghost use Rattle.std.specs.Prelude.{IfOk};
 ghost use Rattle.state.specs.Prelude.{reply_of, Status, FitsState};
 ghost use Rattle.kinds.specs.Answers.{Goes, GoesOn, Talks};
-ghost use Rattle.processes.specs.Send as definition;
+ghost use Rattle.output.specs.Send as definition;
 ghost use Rattle.state.specs.declared.state.State.{State as Kept};
 
 use acts::{Act, Answer, Fault, Id, NoMemory, Raise};
