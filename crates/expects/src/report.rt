@@ -8,6 +8,7 @@ ghost use Rattle.expects.specs.Report as definition;
 
 use acts::{Id, NoMemory, Raise};
 use dialog::Taken;
+use kinds::ids::name_of;
 use kinds::variables::put;
 use std::alloc::Allocator;
 use tclstate::Scopes;
@@ -57,7 +58,7 @@ fn tell<A: Allocator + Copy>(
 fn tell_id<A: Allocator + Copy>(alloc: A, scopes: &mut Scopes<A>, id: Id) -> Result<(), Raise<A>>
     ensures { Writes (definition.tells_id id scopes.old) result scopes.new }
 {
-    let name = Value::new(alloc, id.text(alloc)?)?;
+    let name = name_of(alloc, id)?;
     Ok(set(alloc, scopes, b"spawn_id", name)?)
 }
 

@@ -14,6 +14,7 @@ use crate::spawn::Waits;
 use acts::decimal::push_decimal;
 use acts::{Act, Answer, Fault, Id, NoMemory, Raise};
 use dialog::Kind;
+use kinds::ids;
 use kinds::variables::put;
 use state::leaf::gives;
 use state::variables::SPAWN_ID;
@@ -154,7 +155,7 @@ pub(crate) fn enter<A: Allocator + Copy>(
         Rebinds (definition.in_force id s.scopes) s result state.new }
     ensures left { state.new.left ≡ state.old.left }
 {
-    let name = Value::new(alloc, id.text(alloc)?)?;
+    let name = ids::name_of(alloc, id)?;
     Ok(put(alloc, &mut state.scopes, SPAWN_ID, None, name)?)
 }
 
