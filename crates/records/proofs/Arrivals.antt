@@ -10,12 +10,12 @@ use Rattle.acts.specs.Deed as said
 use Rattle.acts.specs.Id.{id_text}
 use Rattle.hex.proofs.HexLemmas.{length-encode_with}
 use Rattle.hex.specs.Hex.{IsBytes, encode_lower, encode_with, lower_digits}
-use Rattle.records.specs.Cut.{Lacks}
 use Rattle.records.specs.Digits.{is_value}
+use Rattle.records.specs.Numerals.{EndsNumber}
 use Rattle.records.specs.Record.{IsArrival, IsLine, arrival_text, is_lower_digit}
-use Rattle.records.proofs.Cuts.{same_cut}
 use Rattle.records.proofs.HexTexts.{lower_text}
-use Rattle.records.proofs.Lines.{Lacks-id, heads_differ}
+use Rattle.records.proofs.Lines.{heads_differ}
+use Rattle.records.proofs.Numerals.{same_id}
 
 -- the value of a lower case digit
 abbrev value : ℕ → ℕ
@@ -123,12 +123,12 @@ arrival_word (said.Ended id) line rest arrival is = absurd arrival
 arrival_word said.TimedOut line rest arrival is = absurd arrival
 arrival_word said.NoMore line rest arrival is = absurd arrival
 
--- where a text that follows the word of an arrival's line is cut at its first blank
-pub arrival_cut : (text name behind : List ℕ) (n : ℕ) (bytes rest : List ℕ) → n < 2 ^ 64
-    → text ≡ name ++ 32 ∷ behind → Lacks 32 name → text ≡ arrival_text n bytes ++ 10 ∷ rest
-    → (name ≡ id_text n) × (behind ≡ encode_lower bytes ++ 10 ∷ rest)
-arrival_cut text name behind n bytes rest below cut lacks e =
-    same_cut 32 name (id_text n) behind (encode_lower bytes ++ 10 ∷ rest) lacks (Lacks-id n below)
+-- where a text that follows the word of an arrival's line is cut after its id
+pub arrival_cut : (text behind : List ℕ) (id n : ℕ) (bytes rest : List ℕ) → id < 2 ^ 64 → n < 2 ^ 64
+    → EndsNumber behind → text ≡ id_text id ++ behind → text ≡ arrival_text n bytes ++ 10 ∷ rest
+    → (id ≡ n) × (behind ≡ 32 ∷ (encode_lower bytes ++ 10 ∷ rest))
+arrival_cut text behind id n bytes rest below below' ends cut e =
+    same_id id n behind (32 ∷ (encode_lower bytes ++ 10 ∷ rest)) below below' ends refl
     (sym cut ∙ e ∙ append_assoc (id_text n) (32 ∷ encode_lower bytes) (10 ∷ rest))
 
 -- the digits that are counted are those of the bytes
@@ -146,9 +146,9 @@ bytes_end behind count bytes rest small counted other e =
     )
 
 -- the parts of such a text, joined
-pub arrival_joined : (text name behind digits after rest bytes : List ℕ) (n : ℕ)
-    → text ≡ name ++ 32 ∷ behind → name ≡ id_text n → behind ≡ digits ++ after
-    → after ≡ 10 ∷ rest → digits ≡ encode_lower bytes → text ≡ arrival_text n bytes ++ 10 ∷ rest
-arrival_joined text name behind digits after rest bytes n cut named split end is =
-    cut ∙ ap₂ (λ a b. a ++ 32 ∷ b) named (split ∙ ap₂ ◌++◌ is end)
+pub arrival_joined : (text behind digits after rest bytes : List ℕ) (n : ℕ)
+    → text ≡ id_text n ++ (32 ∷ behind) → behind ≡ digits ++ after → after ≡ 10 ∷ rest
+    → digits ≡ encode_lower bytes → text ≡ arrival_text n bytes ++ 10 ∷ rest
+arrival_joined text behind digits after rest bytes n cut split end is =
+    cut ∙ ap (λ b. id_text n ++ 32 ∷ b) (split ∙ ap₂ ◌++◌ is end)
     ∙ sym (append_assoc (id_text n) (32 ∷ encode_lower bytes) (10 ∷ rest))

@@ -6,7 +6,7 @@ use Rattle.std.proofs.lemmas.Slice.Eq.{bytes_eq-Decides}
 use Rattle.std.proofs.lemmas.Bool.{eq-eqb, eqb-true, false≢true}
 use Rattle.std.proofs.lemmas.List.{take_all, drop_more, take_rest}
 use Rattle.memchr.specs.Find.{IsFirstByte, Passes, is_byte}
-use Rattle.records.specs.Cut.{Lacks, StartsAt}
+use Rattle.records.specs.Cut.{Lacks}
 
 pub head : {a b : ℕ} {x y : List ℕ} → a ∷ x ≡ b ∷ y → a ≡ b
 head e = cc e
@@ -14,7 +14,7 @@ head e = cc e
 pub tail : {a b : ℕ} {x y : List ℕ} → a ∷ x ≡ b ∷ y → x ≡ y
 tail e = cc e
 
-cons_same : (c d : ℕ) (a b : List ℕ) → c ≡ d → a ≡ b → c ∷ a ≡ d ∷ b
+pub cons_same : (c d : ℕ) (a b : List ℕ) → c ≡ d → a ≡ b → c ∷ a ≡ d ∷ b
 cons_same c d a b e f = cc (e, f)
 
 -- the front of a text lacks a byte that is at none of its places
@@ -93,28 +93,3 @@ pub no_prefix : (text word rest : List ℕ) → bytes_eq (take (length word) tex
 no_prefix text word rest differs e =
     absurd (false≢true (sym differs ∙ (bytes_eq-Decides (take (length word) text) word).1
     (ap (take (length word)) e ∙ take-append_seam word rest)))
-
--- a text is the part before the first byte of a value and the part from it on
-pub cut_rest : (byte : ℕ) (text : List ℕ) (place : ℕ) → IsFirstByte (is_byte byte) text (Some place)
-    → (text ≡ take place text ++ take (length text - place) (drop place text))
-    × Lacks byte (take place text) × StartsAt byte (take (length text - place) (drop place text))
-cut_rest byte text place (within, here) =
-    let same : slice_index text place ≡ byte = eqb-true (slice_index text place) byte here in
-    let whole = take_rest text place in
-    let tail = whole ∙ drop_more text place 0 within.high in (
-      sym (take-append-drop place text) ∙ ap (λ after. take place text ++ after) (sym whole),
-      Lacks-take byte text place (λ k below. within.before k (omega arith) below),
-      rw tail same,
-    )
-
--- two cuts before the first byte of one value give the same parts
-pub same_before : (byte : ℕ) (a b x y : List ℕ) → Lacks byte a → Lacks byte b → StartsAt byte x
-    → StartsAt byte y → a ++ x ≡ b ++ y → (a ≡ b) × (x ≡ y)
-same_before byte [] [] x y la lb sx sy e = (refl, e)
-same_before byte [] (c ∷ b) [] y la lb sx sy e = cc e
-same_before byte [] (c ∷ b) (d ∷ x) y la lb sx sy e = absurd (lb.0 (sym (head e) ∙ sx))
-same_before byte (c ∷ a) [] x [] la lb sx sy e = cc e
-same_before byte (c ∷ a) [] x (d ∷ y) la lb sx sy e = absurd (la.0 (head e ∙ sy))
-same_before byte (c ∷ a) (d ∷ b) x y la lb sx sy e =
-    let (front, rest) = same_before byte a b x y la.1 lb.1 sx sy (tail e) in
-    (cons_same c d a b (head e) front, rest)

@@ -8,6 +8,7 @@ mod Lanes
 pub mod Letters
 mod Lines
 pub mod Notes
+mod Numerals
 pub mod Readings
 pub mod Records
 mod RowTexts

@@ -1,46 +1,49 @@
 -- The rows of waits: each text of rows is of one list, and where a text of rows is cut.
 use Rattle.std.proofs.Common.{◌≡◌, ◌≢◌, ◌<◌, ◌^◌, ◌==◌, true, ℕ, List, [], ◌∷◌, ◌++◌, length, drop, codes, decimal, refl, sym, ap, ◌∙◌, append-nil, arith}
 use Rattle.std.proofs.lemmas.Bool.{eqb-true}
-use Rattle.std.proofs.lemmas.Fmt.{decimal_injective}
 use Rattle.std.proofs.lemmas.List.{append_assoc}
 use Rattle.std.specs.List.{AllByRecursion}
 use Rattle.acts.specs.declared.id.Id.{Id}
 use Rattle.acts.specs.declared.row.Row.{Row}
 use Rattle.acts.specs.Id.{id_text}
 use Rattle.records.specs.Cut.{Lacks, StartsAt}
+use Rattle.records.specs.Numerals.{EndsNumber, is_numeral}
 use Rattle.records.specs.Rows.{AreRows, IsRow, IsWait, row_text, rows_text, wanted}
-use Rattle.records.proofs.Cuts.{Lacks-append, same_before, same_cut}
-use Rattle.records.proofs.Lines.{Lacks-decimal, Lacks-decimal_above, same_name}
+use Rattle.records.proofs.Cuts.{Lacks-append, tail}
+use Rattle.records.proofs.Lines.{Lacks-decimal}
+use Rattle.records.proofs.Numerals.{same_id, same_number}
 
--- an id has no colon
-pub Lacks-colon : (n : ℕ) → n < 2 ^ 64 → Lacks 58 (id_text n)
-Lacks-colon n below = (
-  (λ e. absurd (omega arith)),
-  (
-    (λ e. absurd (omega arith)),
-    ((λ e. absurd (omega arith)), Lacks-decimal_above 58 n (omega arith) below),
-  ),
-)
+-- a row's text and what follows it, number by number
+row_whole : (row : Row) (rest : List ℕ) → row_text row ++ rest
+    ≡ id_text row.id.0 ++ 58 ∷ (decimal row.held ++ 58 ∷ (decimal row.max ++ rest))
+row_whole row rest =
+    append_assoc (id_text row.id.0) (58 ∷ (decimal row.held ++ 58 ∷ decimal row.max)) rest
+    ∙ ap (λ sizes. id_text row.id.0 ++ 58 ∷ sizes)
+    (append_assoc (decimal row.held) (58 ∷ decimal row.max) rest)
 
--- the sizes of a row
-abbrev pub sizes_text : Row → List ℕ
-sizes_text row = decimal row.held ++ (codes ":" ++ decimal row.max)
+-- a text that is cut after the size that it begins with
+pub size_cut : (text x y : List ℕ) (m n : ℕ) → m < 2 ^ 64 → n < 2 ^ 64 → EndsNumber x → EndsNumber y
+    → text ≡ 58 ∷ (decimal m ++ x) → text ≡ 58 ∷ (decimal n ++ y) → (m ≡ n) × (x ≡ y)
+size_cut text x y m n below below' ends ends' e f =
+    same_number m n x y below below' ends ends' (tail (sym e ∙ f))
 
--- a row's text that is cut at its first colon gives the name and the sizes
-pub row_cut : (text name sizes : List ℕ) (row : Row) → IsRow row → text ≡ name ++ 58 ∷ sizes
-    → Lacks 58 name → text ≡ row_text row → (name ≡ id_text row.id.0) × (sizes ≡ sizes_text row)
-row_cut text name sizes row is cut lacks e =
-    same_cut 58 name (id_text row.id.0) sizes (sizes_text row) lacks (Lacks-colon row.id.0 is.0)
-    (sym cut ∙ e)
+-- the text of a row that is cut after its id
+pub id_cut : (text sizes rest : List ℕ) (id : ℕ) (row : Row) → IsRow row
+    → (id < 2 ^ 64) × (text ≡ id_text id ++ sizes) × EndsNumber sizes → text ≡ row_text row ++ rest
+    → (id ≡ row.id.0) × (sizes ≡ 58 ∷ (decimal row.held ++ 58 ∷ (decimal row.max ++ rest)))
+id_cut text sizes rest id row is (below, cut, ends) e =
+    same_id id row.id.0 sizes (58 ∷ (decimal row.held ++ 58 ∷ (decimal row.max ++ rest))) below is.0
+    ends refl (sym cut ∙ e ∙ row_whole row rest)
 
--- the sizes' text that is cut at its colon gives the two sizes
-pub sizes_cut : (sizes held max : List ℕ) (row : Row) → IsRow row → sizes ≡ held ++ 58 ∷ max
-    → Lacks 58 held → sizes ≡ sizes_text row → (held ≡ decimal row.held) × (max ≡ decimal row.max)
-sizes_cut sizes held max row is cut lacks e =
-    let (id, some, most, fits, want) = is in
-    let below : row.held < 2 ^ 64 = omega arith in
-    same_cut 58 held (decimal row.held) max (decimal row.max) lacks
-    (Lacks-decimal_above 58 row.held (omega arith) below) (sym cut ∙ e)
+-- and after how many bytes are held
+pub held_cut : (text sizes behind rest : List ℕ) (id held : ℕ) (row : Row) → IsRow row
+    → (id < 2 ^ 64) × (text ≡ id_text id ++ sizes) × EndsNumber sizes
+    → (held < 2 ^ 64) × (sizes ≡ 58 ∷ (decimal held ++ behind)) × EndsNumber behind
+    → text ≡ row_text row ++ rest → (held ≡ row.held) × (behind ≡ 58 ∷ (decimal row.max ++ rest))
+held_cut text sizes behind rest id held row is cut (below, cut', ends) e =
+    let (_, some, most, fits, want) = is in
+    size_cut sizes behind (58 ∷ (decimal row.max ++ rest)) held row.held below (omega arith) ends refl
+    cut' (id_cut text sizes rest id row is cut e).1
 
 -- rows whose parts are equal are equal
 same_parts : (a b : Row) → a.id ≡ b.id → a.held ≡ b.held → a.max ≡ b.max → a.want ≡ b.want → a ≡ b
@@ -57,18 +60,24 @@ same_row a b is is' e f g =
     same_parts a b e f g (is.4 ∙ ap (λ n. wanted n a.max) f ∙ ap (λ n. wanted b.held n) g
     ∙ sym is'.4)
 
--- rows that are spelled alike are the same
-pub same_spelled : (a b : Row) → IsRow a → IsRow b → row_text a ≡ row_text b → a ≡ b
-same_spelled a b is is' e =
-    let (name, sizes) = row_cut (row_text a) (id_text a.id.0) (sizes_text a) b is' refl
-    (Lacks-colon a.id.0 is.0) e in
+-- a row and what follows it are known by their text
+pub same_first : (a b : Row) (x y : List ℕ) → IsRow a → IsRow b → EndsNumber x → EndsNumber y
+    → row_text a ++ x ≡ row_text b ++ y → (a ≡ b) × (x ≡ y)
+same_first a b x y is is' ends ends' e =
     let (id, some, most, fits, want) = is in
     let (id', some', most', fits', want') = is' in
-    let (held, max) = sizes_cut (sizes_text a) (decimal a.held) (decimal a.max) b is' refl
-    (Lacks-decimal_above 58 a.held (omega arith) (omega arith)) sizes in
-    same_row a b is is' (same_name a.id b.id id id' name)
-    (decimal_injective a.held b.held (omega arith) (omega arith) held)
-    (decimal_injective a.max b.max (omega arith) (omega arith) max)
+    let cut : (a.id.0 < 2 ^ 64) × _ × _ = (id, row_whole a x, refl) in
+    let (name, _) = id_cut (row_text a ++ x) _ y a.id.0 b is' cut e in
+    let below : a.held < 2 ^ 64 = omega arith in
+    let (held, sizes) = held_cut (row_text a ++ x) _ (58 ∷ (decimal a.max ++ x)) y a.id.0 a.held b is'
+    cut (below, refl, refl) e in
+    let (max, rest) = size_cut _ x y a.max b.max (omega arith) (omega arith) ends ends' refl sizes in
+    (same_row a b is is' (ap (λ n. record { 0 = n }) name) held max, rest)
+
+-- a blank ends a number
+pub ends_blank : (rest : List ℕ) → StartsAt 32 rest → EndsNumber rest
+ends_blank [] blank = tt
+ends_blank (b ∷ rest) blank = ap is_numeral blank
 
 -- a row's text lacks what its parts lack
 Lacks-row : (byte : ℕ) (row : Row) → IsRow row → Lacks byte (id_text row.id.0)
@@ -77,17 +86,6 @@ Lacks-row : (byte : ℕ) (row : Row) → IsRow row → Lacks byte (id_text row.i
 Lacks-row byte row is name colon held max =
     Lacks-append byte (id_text row.id.0) _ name (Lacks-append byte (codes ":") _ colon
     (Lacks-append byte (decimal row.held) _ held (Lacks-append byte (codes ":") _ colon max)))
-
--- a row's text has no blank
-pub Lacks-blank : (row : Row) → IsRow row → Lacks 32 (row_text row)
-Lacks-blank row is =
-    let (id, some, most, fits, want) = is in
-    let name = Lacks-append 32 (codes "exp") (decimal row.id.0)
-    ((λ e. absurd (omega arith)), ((λ e. absurd (omega arith)), ((λ e. absurd (omega arith)), tt)))
-    (Lacks-decimal 32 row.id.0 (omega arith) id) in
-    Lacks-row 32 row is name ((λ e. absurd (omega arith)), tt)
-    (Lacks-decimal 32 row.held (omega arith) (omega arith))
-    (Lacks-decimal 32 row.max (omega arith) (omega arith))
 
 -- a row's text has no newline
 Lacks-end : (row : Row) → IsRow row → Lacks 10 (row_text row)
@@ -132,14 +130,13 @@ pub starts : (rows : List Row) → StartsAt 32 (rows_text rows)
 starts [] = tt
 starts (row ∷ rows) = refl
 
--- two ways to take a first row from a text give the same row's text and the same rest
+-- two ways to take a first row from a text give the same row and the same rest
 pub after_row : (row first : Row) (more : List Row) (rest after : List ℕ) → IsRow row → IsRow first
     → StartsAt 32 after → rest ≡ 32 ∷ (row_text row ++ after)
-    → rest ≡ 32 ∷ (row_text first ++ rows_text more)
-    → (row_text row ≡ row_text first) × (after ≡ rows_text more)
+    → rest ≡ 32 ∷ (row_text first ++ rows_text more) → (row ≡ first) × (after ≡ rows_text more)
 after_row row first more rest after is is' blank e f =
-    same_before 32 (row_text row) (row_text first) after (rows_text more) (Lacks-blank row is)
-    (Lacks-blank first is') blank (starts more) (ap (drop 1) (sym e ∙ f))
+    same_first row first after (rows_text more) is is' (ends_blank after blank)
+    (ends_blank (rows_text more) (starts more)) (ap (drop 1) (sym e ∙ f))
 
 -- a text of rows is of one list
 pub same_rows : (a b : List Row) (text : List ℕ) → AreRows a text → AreRows b text → a ≡ b
@@ -149,9 +146,8 @@ same_rows (row ∷ rows) [] text la lb = cc (sym la.1 ∙ lb.1)
 same_rows (row ∷ rows) (first ∷ more) text la lb =
     let (here, others) = after_row row first more text (rows_text rows) la.0.0 lb.0.0 (starts rows)
     la.1 lb.1 in
-    let one = same_spelled row first la.0.0 lb.0.0 here in
     let tail = same_rows rows more (rows_text rows) (la.0.1, refl) (lb.0.1, others) in
-    cc (one, tail)
+    cc (here, tail)
 
 -- one more row at the end
 pub AllRows-more : (rows : List Row) (row : Row) → AllByRecursion IsRow rows → IsRow row →

@@ -8,9 +8,8 @@ ghost use Rattle.hex.specs.Hex.{IsBytes, encode_lower};
 ghost use Rattle.records.specs.Cut.{Lacks};
 ghost use Rattle.records.specs.Record.{IsArrival, IsLine, arrival_text, newline};
 
-use crate::cut::cut_at;
 use crate::digits::{count_digits, read_digits};
-use crate::numbers::{read_decimal, read_id};
+use crate::numbers::{cut_id, read_decimal, read_id};
 use acts::{Answer, Id, NoMemory};
 use std::alloc::{Allocator, Global};
 
@@ -101,8 +100,8 @@ pub fn cut_arrival(text: &[u8]) -> Option<(Id, &[u8], &[u8])>
         × (parts.1.now ≡ encode_lower bytes)
         × (text.now ≡ arrival_text parts.0.0 bytes ++ newline ∷ parts.2.now)) }
 {
-    let (name, behind) = cut_at(text, b' ')?;
-    let id = read_id(name)?;
+    let (id, name_end) = cut_id(text)?;
+    let behind = name_end.strip_prefix(b" ")?;
     let (digits, after) = behind.split_at(count_digits(behind));
     let rest = after.strip_prefix(b"\n")?;
     if digits.len() % 2 == 0 {

@@ -1,15 +1,16 @@
 //! The rows of waits, as records spell them.
 
-ghost use Rattle.std.specs.Prelude.{◌≡◌, ◌≢◌, ◌≤◌, ◌∷◌, ◌++◌, ◌↔◌, ℕ, List, codes, MatchOption, IfOk, IfSome, IfNone, IsTrue};
+ghost use Rattle.std.specs.Prelude.{◌≡◌, ◌≢◌, ◌≤◌, ◌<◌, ◌^◌, ◌∷◌, ◌++◌, ◌↔◌, ℕ, List, codes, decimal, MatchBool, MatchOption, IfOk, IfSome, IfNone, IsTrue};
 ghost use Rattle.std.specs.List.{AllByRecursion};
 ghost use Rattle.acts.specs.declared.row.Row.{Row as WaitRow};
 ghost use Rattle.records.specs.Cut.{StartsAt};
+ghost use Rattle.records.specs.Numerals.{EndsNumber};
 ghost use Rattle.records.specs.Rows.{AreRows, BeginsWithWait, IsRow, IsWait, row_text};
 ghost use Rattle.records.specs.Rows as spec;
 ghost use Rattle.records.specs.Record.{newline};
 
-use crate::cut::{cut_at, cut_before};
-use crate::numbers::{read_decimal, read_id};
+use crate::cut::cut_at;
+use crate::numbers::{cut_decimal, cut_id};
 use acts::{Id, NoMemory, Row};
 use std::alloc::Allocator;
 
@@ -66,22 +67,44 @@ pub(crate) fn read_first_row(text: &[u8]) -> Option<(Row, &[u8])>
         → text.now ≢ 32 ∷ (row_text row ++ rest)) }
 {
     let behind = text.strip_prefix(b" ")?;
-    let (front, after) = cut_before(behind, b' ');
-    let row = read_row(front)?;
-    Some((row, after))
+    let (row, rest) = cut_row(behind)?;
+    if is_cut(rest) {
+        Some((row, rest))
+    } else {
+        None
+    }
 }
 
-/// The row that this text spells.
-fn read_row(text: &[u8]) -> Option<Row>
-    ensures row { IfSome result (λ row. IsRow row × (text.now ≡ row_text row)) }
-    ensures none { IfNone result ((row : WaitRow) → IsRow row → text.now ≢ row_text row) }
+/// The row that a text begins with, and what follows its last digit.
+fn cut_row(text: &[u8]) -> Option<(Row, &[u8])>
+    ensures row { IfSome result (λ parts. IsRow parts.0 × EndsNumber parts.1.now
+        × (text.now ≡ row_text parts.0 ++ parts.1.now)) }
+    ensures none { IfNone result ((row : WaitRow) (rest : List ℕ) → IsRow row → EndsNumber rest
+        → text.now ≢ row_text row ++ rest) }
 {
-    let (name, sizes) = cut_at(text, b':')?;
-    let (held, max) = cut_at(sizes, b':')?;
-    let id = read_id(name)?;
-    let held = read_decimal(held)?;
-    let max = read_decimal(max)?;
-    row_of(id, held, max)
+    let (id, sizes) = cut_id(text)?;
+    let (held, behind) = cut_size(sizes)?;
+    let (max, rest) = cut_size(behind)?;
+    let row = row_of(id, held, max)?;
+    Some((row, rest))
+}
+
+/// The number after the colon that a text begins with, and what follows its last digit.
+fn cut_size(text: &[u8]) -> Option<(u64, &[u8])>
+    ensures spelled { IfSome result (λ parts. (parts.0 < 2 ^ 64)
+        × (text.now ≡ 58 ∷ (decimal parts.0 ++ parts.1.now)) × EndsNumber parts.1.now) }
+    ensures none { IfNone result ((n : ℕ) (rest : List ℕ) → n < 2 ^ 64 → EndsNumber rest
+        → text.now ≢ 58 ∷ (decimal n ++ rest)) }
+{
+    let digits = text.strip_prefix(b":")?;
+    cut_decimal(digits)
+}
+
+/// Whether a text is empty or begins with a blank.
+fn is_cut(text: &[u8]) -> bool
+    ensures { MatchBool result (StartsAt 32 text.now) (¬ StartsAt 32 text.now) }
+{
+    text.is_empty() || text[0] == b' '
 }
 
 /// The row of an id whose buffer holds `held` bytes and may hold `max`; `None` where these sizes
