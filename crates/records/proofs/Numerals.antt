@@ -1,9 +1,8 @@
 -- Numbers that a text begins with: their digits go up to a byte that is none.
-use Rattle.std.proofs.Common.{◌≡◌, ◌+◌, ◌%◌, ◌<◌, ◌^◌, ℕ, zero, suc, true, false, List, [], ◌∷◌, ◌++◌, length, take, drop, slice_index, decimal, refl, sym, ap, ◌∙◌, arith, take-append-drop}
+use Rattle.std.proofs.Common.{◌≡◌, ◌+◌, ◌%◌, ◌<◌, ◌^◌, ℕ, true, false, List, [], ◌∷◌, ◌++◌, take, drop, decimal, refl, sym, ap, ◌∙◌, arith, take-append-drop}
 use Rattle.std.proofs.lemmas.Bool.{and_from, and_parts, false≢true}
 use Rattle.std.proofs.lemmas.Bool.Decides.{nat_tests}
 use Rattle.std.proofs.lemmas.Fmt.{decimal_by_steps, decimal_injective}
-use Rattle.std.proofs.lemmas.List.{take_more}
 use Rattle.std.proofs.lemmas.List.Folds.{list_all-append}
 use Rattle.std.specs.List.{list_all}
 use Rattle.acts.specs.Id.{id_text}
@@ -14,7 +13,7 @@ numeral_digit : (d : ℕ) → d < 10 → is_numeral (48 + d) ≡ true
 numeral_digit d small = grind (arith, nat_tests)
 
 -- a number is spelled by digits alone
-pub decimal_numerals : (n : ℕ) → n < 2 ^ 64 → list_all is_numeral (decimal n) ≡ true
+decimal_numerals : (n : ℕ) → n < 2 ^ 64 → list_all is_numeral (decimal n) ≡ true
 decimal_numerals n below =
     decimal_by_steps (λ _ text. list_all is_numeral text ≡ true)
     (λ d small. and_from (is_numeral (48 + d)) true (numeral_digit d small) refl)
@@ -23,7 +22,7 @@ decimal_numerals n below =
     (and_from (is_numeral (48 + m % 10)) true (numeral_digit (m % 10) (omega arith)) refl)) n below
 
 -- digits up to a byte that is none are cut in one way
-pub same_front : (a b x y : List ℕ) → list_all is_numeral a ≡ true → list_all is_numeral b ≡ true
+same_front : (a b x y : List ℕ) → list_all is_numeral a ≡ true → list_all is_numeral b ≡ true
     → EndsNumber x → EndsNumber y → a ++ x ≡ b ++ y → (a ≡ b) × (x ≡ y)
 same_front [] [] x y la lb ends ends' e = (refl, e)
 same_front [] (c ∷ b) [] y la lb ends ends' e = cc e
@@ -46,7 +45,7 @@ same_number m n x y below below' ends ends' e =
     (decimal_numerals n below') ends ends' e in
     (decimal_injective m n below below' front, rest)
 
--- and so are an id and what follows it
+-- an id and what follows it are known by their text
 pub same_id : (m n : ℕ) (x y : List ℕ) → m < 2 ^ 64 → n < 2 ^ 64 → EndsNumber x → EndsNumber y
     → id_text m ++ x ≡ id_text n ++ y → (m ≡ n) × (x ≡ y)
 same_id m n x y below below' ends ends' e =
@@ -59,23 +58,3 @@ pub number_counted : (text rest : List ℕ) (count n : ℕ) → n < 2 ^ 64 → E
 number_counted text rest count n below ends counted ends' e =
     (same_front (take count text) (decimal n) (drop count text) rest counted
     (decimal_numerals n below) ends' ends (take-append-drop count text ∙ e)).0
-
--- where a text has no digit, none begins what is left of it there
-pub ends_at : (text : List ℕ) (place : ℕ)
-    → (place < length text → is_numeral (slice_index text place) ≡ false)
-    → EndsNumber (drop place text)
-ends_at [] zero other = tt
-ends_at [] (suc place) other = tt
-ends_at (b ∷ text) zero other = other (omega arith)
-ends_at (b ∷ text) (suc place) other = ends_at text place (λ below. other (omega arith))
-
--- one digit more
-pub numeral_more : (text : List ℕ) (count digit : ℕ) → count < length text → digit < 10
-    → slice_index text count ≡ 48 + digit → list_all is_numeral (take count text) ≡ true
-    → list_all is_numeral (take (count + 1) text) ≡ true
-numeral_more text count digit within small is counted =
-    ap (list_all is_numeral) (take_more text count 0 within)
-    ∙ list_all-append is_numeral (take count text) (slice_index text count ∷ [])
-    ∙ and_from (list_all is_numeral (take count text)) _ counted
-    (and_from (is_numeral (slice_index text count)) true
-    (ap is_numeral is ∙ numeral_digit digit small) refl)

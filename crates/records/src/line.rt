@@ -5,7 +5,6 @@ ghost use Rattle.acts.specs.Deed.{Reply, reply_of};
 ghost use Rattle.acts.specs.Fits.{greatest_status};
 ghost use Rattle.acts.specs.Id.{id_text};
 ghost use Rattle.hex.specs.Hex.{IsBytes, encode_lower};
-ghost use Rattle.records.specs.Cut.{Lacks};
 ghost use Rattle.records.specs.Record.{IsArrival, IsLine, arrival_text, newline};
 
 use crate::digits::{count_digits, read_digits};
@@ -100,8 +99,8 @@ pub fn cut_arrival(text: &[u8]) -> Option<(Id, &[u8], &[u8])>
         × (parts.1.now ≡ encode_lower bytes)
         × (text.now ≡ arrival_text parts.0.0 bytes ++ newline ∷ parts.2.now)) }
 {
-    let (id, name_end) = cut_id(text)?;
-    let behind = name_end.strip_prefix(b" ")?;
+    let (id, after_id) = cut_id(text)?;
+    let behind = after_id.strip_prefix(b" ")?;
     let (digits, after) = behind.split_at(count_digits(behind));
     let rest = after.strip_prefix(b"\n")?;
     if digits.len() % 2 == 0 {

@@ -14,16 +14,16 @@ returns-in_err-id c = rw c.from_residual.ensures (λ n bytes rest below small e.
 pub returns-in_err-behind : goal.returns-in_err-behind
 returns-in_err-behind c = rw c.from_residual-in_err-behind.ensures (λ n bytes rest below small e.
     let (id, cut, ends) = c.in_ok-id.ensures.spelled in
-    let behind = (arrival_cut c.args.text.now c.in_ok-id.name_end.now c.in_ok-id.id.0 n bytes rest id
+    let behind = (arrival_cut c.args.text.now c.in_ok-id.after_id.now c.in_ok-id.id.0 n bytes rest id
     below ends cut e).1 in
-    no_prefix c.in_ok-id.name_end.now (codes " ") (encode_lower bytes ++ 10 ∷ rest)
+    no_prefix c.in_ok-id.after_id.now (codes " ") (encode_lower bytes ++ 10 ∷ rest)
     c.in_err-behind.ensures.cases behind)
 
 pub returns-in_err-rest : goal.returns-in_err-rest
 returns-in_err-rest c = rw c.from_residual-in_err-rest.ensures (λ n bytes rest below small e.
     let (id, cut, ends) = c.in_ok-id.ensures.spelled in
     let (test, is, room) = c.in_ok-behind.ensures.cases in
-    let blank = (arrival_cut c.args.text.now c.in_ok-id.name_end.now c.in_ok-id.id.0 n bytes rest id
+    let blank = (arrival_cut c.args.text.now c.in_ok-id.after_id.now c.in_ok-id.id.0 n bytes rest id
     below ends cut e).1 in
     let (count, end) = bytes_end c.in_ok-behind.behind.now c.count_digits.result bytes rest small
     c.count_digits.ensures.lower c.count_digits.ensures.other (is ∙ ap (drop 1) blank) in
@@ -48,7 +48,7 @@ returns-then-digits-eq0 c =
       arrival_joined c.args.text.now behind (take count behind) c.split_at.result.1.now
           c.in_ok-rest.rest.now bytes c.in_ok-id.id.0
           (cut ∙ ap (λ rest. id_text c.in_ok-id.id.0 ++ rest)
-          (prefix_split c.in_ok-id.name_end.now (codes " ") behind blank is))
+          (prefix_split c.in_ok-id.after_id.now (codes " ") behind blank is))
           (sym (take-append-drop count behind)
           ∙ ap (λ l. take count behind ++ l) (sym c.split_at.ensures.back))
           (prefix_split c.split_at.result.1.now (codes "\n") c.in_ok-rest.rest.now test end) spells,
@@ -59,7 +59,7 @@ returns-else-digits-eq0 c = λ n bytes rest below small e.
     let (id, cut, ends) = c.in_ok-id.ensures.spelled in
     let (test, is, room) = c.in_ok-behind.ensures.cases in
     let behind = c.in_ok-behind.behind.now in
-    let blank = (arrival_cut c.args.text.now c.in_ok-id.name_end.now c.in_ok-id.id.0 n bytes rest id
+    let blank = (arrival_cut c.args.text.now c.in_ok-id.after_id.now c.in_ok-id.id.0 n bytes rest id
     below ends cut e).1 in
     let (count, end) = bytes_end behind c.count_digits.result bytes rest small
     c.count_digits.ensures.lower c.count_digits.ensures.other (is ∙ ap (drop 1) blank) in
