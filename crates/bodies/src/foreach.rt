@@ -21,12 +21,22 @@ use tcltext::Value;
 
 /// What the loop holds while its body runs: the variables with their remaining elements, how many
 /// turns are to come, the body, and how many levels may still nest in the loop.
-#[derive(Drop)]
 pub struct Held<A: Allocator> {
     pub pairs: Vec<Pair<A>, A>,
     pub turns: usize,
     pub body: CodedScript<A>,
     pub levels: u8,
+}
+
+impl<A: Allocator> Drop for Held<A> {
+    fn drop(self) {
+        let Held {
+            pairs: _,
+            turns: _,
+            body: _,
+            levels: _,
+        } = self;
+    }
 }
 
 /// Reads the words, and begins the first turn.

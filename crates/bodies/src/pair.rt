@@ -15,10 +15,18 @@ use tclparse::{Name, variable_name};
 use tcltext::Value;
 
 /// Variables, and the elements that they are still to take.
-#[derive(Drop)]
 pub struct Pair<A: Allocator> {
     pub names: Vec<Value<A>, A>,
     pub elements: VecDeque<Value<A>, A>,
+}
+
+impl<A: Allocator> Drop for Pair<A> {
+    fn drop(self) {
+        let Pair {
+            names: _,
+            elements: _,
+        } = self;
+    }
 }
 
 impl<A: Allocator + Copy> Pair<A> {

@@ -17,10 +17,15 @@ use std::rc::Rc;
 use tclparse::{Script, Word};
 
 /// A script's code, with the tree that it is made of. Contracts see the tree.
-#[derive(Drop)]
 pub struct CodedScript<A: Allocator> {
     tree: Script<A>,
     code: Rc<Vec<Instruction<A>, A>, A>,
+}
+
+impl<A: Allocator> Drop for CodedScript<A> {
+    fn drop(self) {
+        let CodedScript { tree: _, code: _ } = self;
+    }
 }
 
 impl<A: Allocator> Model for CodedScript<A> {
@@ -79,10 +84,18 @@ impl<A: Allocator + Copy> CodedScript<A> {
 }
 
 /// A formula's code, with the formula that it is made of. Contracts see the formula.
-#[derive(Drop)]
 pub struct CodedFormula<A: Allocator> {
     formula: Formula<A>,
     code: Rc<Vec<Instruction<A>, A>, A>,
+}
+
+impl<A: Allocator> Drop for CodedFormula<A> {
+    fn drop(self) {
+        let CodedFormula {
+            formula: _,
+            code: _,
+        } = self;
+    }
 }
 
 impl<A: Allocator> Model for CodedFormula<A> {
@@ -157,10 +170,15 @@ impl<A: Allocator + Copy> Readable<A> for CodedFormula<A> {
 }
 
 /// The code of the words of an argument in braces, with these words. Contracts see the words.
-#[derive(Drop)]
 pub struct CodedArgument<A: Allocator> {
     words: Rc<Vec<Word<A>, A>, A>,
     code: Rc<Vec<Instruction<A>, A>, A>,
+}
+
+impl<A: Allocator> Drop for CodedArgument<A> {
+    fn drop(self) {
+        let CodedArgument { words: _, code: _ } = self;
+    }
 }
 
 impl<A: Allocator> Model for CodedArgument<A> {

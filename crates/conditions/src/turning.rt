@@ -22,12 +22,22 @@ use tcltext::Value;
 
 /// A loop: its test, its body, the script that stands after each turn, if there is one, and how
 /// many levels may still be nested in the loop.
-#[derive(Drop)]
 pub struct Loop<A: Allocator> {
     pub test: CodedFormula<A>,
     pub body: CodedScript<A>,
     pub step: Option<CodedScript<A>>,
     pub levels: u8,
+}
+
+impl<A: Allocator> Drop for Loop<A> {
+    fn drop(self) {
+        let Loop {
+            test: _,
+            body: _,
+            step: _,
+            levels: _,
+        } = self;
+    }
 }
 
 /// Where a loop stands while a part of it runs.

@@ -64,13 +64,23 @@ pub struct Flags {
 }
 
 /// A branch of `expect`: what it waits for, and the script that runs then (expect(1), expect).
-#[derive(Drop)]
 pub struct Branch<A: Allocator> {
     awaited: Awaited<A>,
     /// What is sought first, where the branch seeks a pattern.
     lead: Option<Lead<A>>,
     flags: Flags,
     body: Value<A>,
+}
+
+impl<A: Allocator> Drop for Branch<A> {
+    fn drop(self) {
+        let Branch {
+            awaited: _,
+            lead: _,
+            flags: _,
+            body: _,
+        } = self;
+    }
 }
 
 impl<A: Allocator> Model for Branch<A> {
@@ -106,20 +116,31 @@ impl<A: Allocator> Branch<A> {
         requires { Leads self.awaited lead }
         ensures { result ≡ self }
     {
+        let Branch {
+            awaited,
+            lead: _,
+            flags,
+            body,
+        } = self;
         Branch {
-            awaited: self.awaited,
+            awaited,
             lead,
-            flags: self.flags,
-            body: self.body,
+            flags,
+            body,
         }
     }
 }
 
 /// A branch for one id (expect(1), expect, `-i`).
-#[derive(Drop)]
 pub struct Pair<A: Allocator> {
     pub(crate) id: Id,
     pub(crate) branch: Rc<Branch<A>, A>,
+}
+
+impl<A: Allocator> Drop for Pair<A> {
+    fn drop(self) {
+        let Pair { id: _, branch: _ } = self;
+    }
 }
 
 impl<A: Allocator> Model for Pair<A> {

@@ -9,11 +9,20 @@ use std::marker::Model;
 
 /// What the words of `expect`, `expect_before` or `expect_after` say: the ids that they name, a
 /// pair for each branch and each of its ids, and the seconds of the timer (expect(1), expect).
-#[derive(Drop)]
 pub struct Branches<A: Allocator> {
     named: Vec<Id, A>,
     pairs: Vec<Pair<A>, A>,
     timeout: Option<i64>,
+}
+
+impl<A: Allocator> Drop for Branches<A> {
+    fn drop(self) {
+        let Branches {
+            named: _,
+            pairs: _,
+            timeout: _,
+        } = self;
+    }
 }
 
 impl<A: Allocator> Model for Branches<A> {

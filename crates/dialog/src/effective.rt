@@ -13,10 +13,15 @@ use std::marker::Model;
 
 /// What an `expect` chooses among: the pairs that stand before, its own, those that stand after;
 /// and the ids that it waits for, each once (expect(1), expect).
-#[derive(Drop)]
 pub struct Effective<A: Allocator> {
     pairs: Vec<Pair<A>, A>,
     ids: Vec<Id, A>,
+}
+
+impl<A: Allocator> Drop for Effective<A> {
+    fn drop(self) {
+        let Effective { pairs: _, ids: _ } = self;
+    }
 }
 
 impl<A: Allocator> Model for Effective<A> {

@@ -21,12 +21,22 @@ use tcltext::{Found, Pattern};
 
 /// An open id: what it was opened for, its match buffer, and whether nulls are removed from what
 /// arrives.
-#[derive(Drop)]
 pub(crate) struct Entry<A: Allocator> {
     id: Id,
     kind: Kind,
     buffer: Searched<A>,
     drops_nulls: bool,
+}
+
+impl<A: Allocator> Drop for Entry<A> {
+    fn drop(self) {
+        let Entry {
+            id: _,
+            kind: _,
+            buffer: _,
+            drops_nulls: _,
+        } = self;
+    }
 }
 
 impl<A: Allocator> Model for Entry<A> {

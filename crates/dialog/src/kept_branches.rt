@@ -66,9 +66,14 @@ impl<A: Allocator> Reading<A> {
 
 /// The branches that words said last, the latest last. Contracts see nothing of what is kept: what
 /// words say does not depend on it.
-#[derive(Drop)]
 pub struct KeptBranches<A: Allocator> {
     readings: Vec<Reading<A>, A>,
+}
+
+impl<A: Allocator> Drop for KeptBranches<A> {
+    fn drop(self) {
+        let KeptBranches { readings: _ } = self;
+    }
 }
 
 impl<A: Allocator> Model for KeptBranches<A> {

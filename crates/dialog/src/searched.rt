@@ -29,7 +29,6 @@ pub(crate) struct Round {
 ///
 /// Each pattern that is sought for a choice has a slot, the first one the first slot. So the same
 /// patterns, sought in the same order after each arrival, find in their slots where they ended.
-#[derive(Drop)]
 pub(crate) struct Searched<A: Allocator> {
     buffer: MatchBuf<A>,
     vains: Vec<Vain<A>, A>,
@@ -39,6 +38,18 @@ pub(crate) struct Searched<A: Allocator> {
     slot: usize,
     /// How many bytes are gone from the front since no search was remembered.
     gone: usize,
+}
+
+impl<A: Allocator> Drop for Searched<A> {
+    fn drop(self) {
+        let Searched {
+            buffer: _,
+            vains: _,
+            round: _,
+            slot: _,
+            gone: _,
+        } = self;
+    }
 }
 
 impl<A: Allocator> Model for Searched<A> {

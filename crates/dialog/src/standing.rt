@@ -19,10 +19,18 @@ pub enum Side {
 
 /// The pairs that stand before and after those of each `expect` (expect(1), expect_before and
 /// expect_after).
-#[derive(Drop)]
 pub struct Standing<A: Allocator> {
     before: Vec<Pair<A>, A>,
     after: Vec<Pair<A>, A>,
+}
+
+impl<A: Allocator> Drop for Standing<A> {
+    fn drop(self) {
+        let Standing {
+            before: _,
+            after: _,
+        } = self;
+    }
 }
 
 impl<A: Allocator> Model for Standing<A> {

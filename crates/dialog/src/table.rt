@@ -27,7 +27,6 @@ const FIRST_NUMBER: u64 = 4;
 pub const FIRST_SIZE: u32 = 2000;
 
 /// The open ids in the order in which they were opened, each with its match buffer.
-#[derive(Drop)]
 pub struct Table<A: Allocator> {
     pub(crate) entries: Vec<Entry<A>, A>,
     next: Option<u64>,
@@ -35,6 +34,17 @@ pub struct Table<A: Allocator> {
     pub(crate) rounds: u64,
     /// The pattern that the last choice found, by the place of its pair, and where it was found.
     pub(crate) found: Option<(usize, Found)>,
+}
+
+impl<A: Allocator> Drop for Table<A> {
+    fn drop(self) {
+        let Table {
+            entries: _,
+            next: _,
+            rounds: _,
+            found: _,
+        } = self;
+    }
 }
 
 impl<A: Allocator> Model for Table<A> {

@@ -13,7 +13,6 @@ use std::alloc::Allocator;
 use std::mem;
 
 /// A turn of `expect`.
-#[derive(Drop)]
 pub struct Turn<A: Allocator> {
     /// What it chooses among, and the ids that it waits for.
     pub effective: Effective<A>,
@@ -27,6 +26,19 @@ pub struct Turn<A: Allocator> {
     pub clock: Option<Timer>,
     /// How many levels may still be nested in it.
     pub levels: u8,
+}
+
+impl<A: Allocator> Drop for Turn<A> {
+    fn drop(self) {
+        let Turn {
+            effective: _,
+            rows: _,
+            seconds: _,
+            trigger: _,
+            clock: _,
+            levels: _,
+        } = self;
+    }
 }
 
 /// What waits for the answer to an act.

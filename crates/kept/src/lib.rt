@@ -29,10 +29,18 @@ pub const MOST_KEPT: usize = 256;
 ///
 /// A look-up compares one text in most cases, and else computes one hash. A script lives as long as
 /// a frame holds it, whether it is still kept or not.
-#[derive(Drop)]
 pub struct Kept<A: Allocator> {
     scripts: Table<CodedScript<A>, A>,
     hints: Hints<256>,
+}
+
+impl<A: Allocator> Drop for Kept<A> {
+    fn drop(self) {
+        let Kept {
+            scripts: _,
+            hints: _,
+        } = self;
+    }
 }
 
 impl<A: Allocator> Model for Kept<A> {

@@ -1,21 +1,17 @@
 //! The open ids that commands are about, and their names as values.
 
-ghost use Rattle.std.specs.Prelude.{◌≡◌, option_copied, IfOk, IfSome};
+ghost use Rattle.std.specs.Prelude.{◌≡◌, option_copied, IfOk};
 ghost use Rattle.acts.specs.Id.{id_text};
 ghost use Rattle.state.specs.Prelude.{Answers, Status, FitsState};
 ghost use Rattle.kinds.specs.Ids as definition;
 
 use acts::raise::not_open;
 use acts::{Fault, Id, NoMemory, Raise};
-use arrayvec::ArrayVec;
 use itoa::Buffer;
 use state::State;
 use state::variables::{SPAWN_ID, consulted};
 use std::alloc::Allocator;
 use tcltext::Value;
-
-/// The bytes that a value keeps within itself.
-const IN_PLACE: usize = 14;
 
 /// The open id that a text spells (expect(1), spawn).
 ///
@@ -85,20 +81,6 @@ pub fn connection_id<A: Allocator + Copy>(
     }
 }
 
-/// The name of an id as a value that lies in place; `None` where it is too long for that.
-fn name_in_place<A: Allocator>(id: Id) -> Option<Value<A>>
-    ensures { IfSome result (λ name. name ≡ id_text id.0) }
-{
-    let mut bytes = ArrayVec::<u8, IN_PLACE>::new();
-    let Ok(()) = bytes.try_extend_from_slice(b"exp") else {
-        return None;
-    };
-    let Ok(()) = bytes.try_extend_from_slice(Buffer::new().format(id.0).as_bytes()) else {
-        return None;
-    };
-    Value::in_place(bytes.as_slice())
-}
-
 /// The name of an id (expect(1), spawn). Each is short enough to lie in place, without memory.
 ///
 /// # Errors
@@ -106,7 +88,7 @@ fn name_in_place<A: Allocator>(id: Id) -> Option<Value<A>>
 pub fn name_of<A: Allocator + Copy>(alloc: A, id: Id) -> Result<Value<A>, NoMemory>
     ensures { IfOk result (λ name. name ≡ id_text id.0) }
 {
-    match name_in_place(id) {
+    match Value::joined_in_place(b"exp", Buffer::new().format(id.0).as_bytes()) {
         Some(name) => Ok(name),
         None => Value::new(alloc, id.text(alloc)?),
     }

@@ -35,7 +35,6 @@ pub struct Part<A: Allocator> {
 }
 
 /// What a session has still to do.
-#[derive(Drop)]
 pub struct Running<A: Allocator> {
     /// The frames, the top one last.
     pub frames: Vec<Frame<A>, A>,
@@ -44,6 +43,16 @@ pub struct Running<A: Allocator> {
     pub code: Option<Run<A>>,
     /// What waits for this code, the last one first.
     pub parts: Vec<Part<A>, A>,
+}
+
+impl<A: Allocator> Drop for Running<A> {
+    fn drop(self) {
+        let Running {
+            frames: _,
+            code: _,
+            parts: _,
+        } = self;
+    }
 }
 
 /// Where an outcome led.

@@ -25,7 +25,6 @@ const LEAST_SPARE: usize = 16_384;
 /// size; expect(1), `match_max`.
 ///
 /// Only [`new`](MatchBuf::new) and [`set_max`](MatchBuf::set_max) take memory.
-#[derive(Drop)]
 pub struct MatchBuf<A: Allocator> {
     /// All that was ever written to its block, from the front: nothing is taken from it, so it
     /// never goes round the end of the block. It has room beyond the size, see `room_for`: the
@@ -37,6 +36,17 @@ pub struct MatchBuf<A: Allocator> {
     /// Where they end.
     end: usize,
     size: u32,
+}
+
+impl<A: Allocator> Drop for MatchBuf<A> {
+    fn drop(self) {
+        let MatchBuf {
+            ring: _,
+            begin: _,
+            end: _,
+            size: _,
+        } = self;
+    }
 }
 
 impl<A: Allocator> Model for MatchBuf<A> {

@@ -18,7 +18,6 @@ pub struct Unreaped {
 }
 
 /// The spawn ids of a run, and what is set for later ones.
-#[derive(Drop)]
 pub struct Ids<A: Allocator> {
     /// The open ids with their match buffers, and the number of the next id.
     pub table: Table<A>,
@@ -30,6 +29,18 @@ pub struct Ids<A: Allocator> {
     pub size: Size,
     /// Whether nulls are removed from what arrives at later ids (expect(1), remove_nulls -d).
     pub drops_nulls: bool,
+}
+
+impl<A: Allocator> Drop for Ids<A> {
+    fn drop(self) {
+        let Ids {
+            table: _,
+            unreaped: _,
+            standing: _,
+            size: _,
+            drops_nulls: _,
+        } = self;
+    }
 }
 
 impl<A: Allocator + Copy> Ids<A> {

@@ -7,7 +7,6 @@ use std::alloc::Allocator;
 use tclstate::{Procs, Scopes};
 
 /// What a run keeps between acts.
-#[derive(Drop)]
 pub struct State<A: Allocator> {
     /// The variables.
     pub scopes: Scopes<A>,
@@ -29,4 +28,20 @@ pub struct State<A: Allocator> {
     pub arguments: Arguments<A>,
     /// The branches that words said last, with the words, of which the same is true.
     pub branches: KeptBranches<A>,
+}
+
+impl<A: Allocator> Drop for State<A> {
+    fn drop(self) {
+        let State {
+            scopes: _,
+            procs: _,
+            ids: _,
+            log: _,
+            left: _,
+            kept: _,
+            formulas: _,
+            arguments: _,
+            branches: _,
+        } = self;
+    }
 }

@@ -21,10 +21,15 @@ use tcltext::Value;
 
 /// The run of a code, which waits for an outcome: at its beginning for the empty text, and then for
 /// that of the command that began last.
-#[derive(Drop)]
 pub struct Run<A: Allocator> {
     pub code: Rc<Vec<Instruction<A>, A>, A>,
     pub spot: Spot<A>,
+}
+
+impl<A: Allocator> Drop for Run<A> {
+    fn drop(self) {
+        let Run { code: _, spot: _ } = self;
+    }
 }
 
 impl<A: Allocator + Copy> Run<A> {

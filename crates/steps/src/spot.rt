@@ -18,7 +18,6 @@ use std::alloc::Allocator;
 use tcltext::Value;
 
 /// Where the run of a code stands.
-#[derive(Drop)]
 pub struct Spot<A: Allocator> {
     /// The place of the next instruction.
     pub place: usize,
@@ -37,6 +36,21 @@ pub struct Spot<A: Allocator> {
     pub words: Vec<Value<A>, A>,
     /// The outcome of the code, once it is over.
     pub outcome: Outcome<A>,
+}
+
+impl<A: Allocator> Drop for Spot<A> {
+    fn drop(self) {
+        let Spot {
+            place: _,
+            operands: _,
+            marks: _,
+            levels: _,
+            handlers: _,
+            below: _,
+            words: _,
+            outcome: _,
+        } = self;
+    }
 }
 
 impl<A: Allocator + Copy> Spot<A> {

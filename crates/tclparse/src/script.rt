@@ -15,7 +15,6 @@ use std::alloc::Allocator;
 use std::rc::Rc;
 
 /// A script's tree (Tcl(n)).
-#[derive(Drop)]
 pub struct Script<A: Allocator> {
     /// The commands before the end or the fault. A frame can keep the list alive by a clone of the
     /// pointer.
@@ -23,6 +22,15 @@ pub struct Script<A: Allocator> {
     /// What ends the reading early: the first fault from the left, which is in the command after
     /// the last one of `commands`.
     pub fault: Option<Fault>,
+}
+
+impl<A: Allocator> Drop for Script<A> {
+    fn drop(self) {
+        let Script {
+            commands: _,
+            fault: _,
+        } = self;
+    }
 }
 
 impl<A: Allocator + Copy> Script<A> {

@@ -71,9 +71,14 @@ impl<A: Allocator> Model for Formal<A> {
 }
 
 /// The formal arguments of a procedure, in order (proc(n)).
-#[derive(Drop)]
 pub struct Formals<A: Allocator> {
     list: Vec<Formal<A>, A>,
+}
+
+impl<A: Allocator> Drop for Formals<A> {
+    fn drop(self) {
+        let Formals { list: _ } = self;
+    }
 }
 
 impl<A: Allocator> Model for Formals<A> {

@@ -17,10 +17,18 @@ use std::marker::Model;
 use tcltext::Value;
 
 /// The variables of one procedure that runs, in the order in which they were first set (proc(n)).
-#[derive(Drop)]
 pub struct LocalFrame<A: Allocator> {
     variables: Table<Local<A>, A>,
     hints: Hints<16>,
+}
+
+impl<A: Allocator> Drop for LocalFrame<A> {
+    fn drop(self) {
+        let LocalFrame {
+            variables: _,
+            hints: _,
+        } = self;
+    }
 }
 
 impl<A: Allocator> Model for LocalFrame<A> {

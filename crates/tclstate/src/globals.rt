@@ -16,10 +16,18 @@ use tcltext::Value;
 
 /// The names of the global frame, in the order in which they were first set. None of them is a
 /// link.
-#[derive(Drop)]
 pub struct Globals<A: Allocator> {
     variables: Table<Content<A>, A>,
     hints: Hints<256>,
+}
+
+impl<A: Allocator> Drop for Globals<A> {
+    fn drop(self) {
+        let Globals {
+            variables: _,
+            hints: _,
+        } = self;
+    }
 }
 
 impl<A: Allocator> Model for Globals<A> {

@@ -10,10 +10,18 @@ use std::marker::Model;
 use tcltext::Value;
 
 /// A procedure: its formal arguments and the script that it runs (proc(n)).
-#[derive(Drop)]
 pub struct Procedure<A: Allocator> {
     pub formals: Formals<A>,
     pub body: Value<A>,
+}
+
+impl<A: Allocator> Drop for Procedure<A> {
+    fn drop(self) {
+        let Procedure {
+            formals: _,
+            body: _,
+        } = self;
+    }
 }
 
 impl<A: Allocator> Model for Procedure<A> {
@@ -26,12 +34,21 @@ impl<A: Allocator> Model for Procedure<A> {
 
 /// The procedures that are defined, each name once, with what was last defined for it (proc(n)).
 /// A look-up takes at most one hash, and none for most names that are not defined.
-#[derive(Drop)]
 pub struct Procs<A: Allocator> {
     procedures: Table<Procedure<A>, A>,
     /// The slots of the names that are defined.
     slots: [bool; 256],
     hints: Hints<256>,
+}
+
+impl<A: Allocator> Drop for Procs<A> {
+    fn drop(self) {
+        let Procs {
+            procedures: _,
+            slots: _,
+            hints: _,
+        } = self;
+    }
 }
 
 impl<A: Allocator> Model for Procs<A> {

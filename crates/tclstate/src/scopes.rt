@@ -21,12 +21,21 @@ use tcltext::Value;
 /// The current frame is that of the innermost procedure, else the global one. A look-up takes at
 /// most one hash, in a procedure a second one for a name that is linked to a global, and none where
 /// the name stands where it was put last.
-#[derive(Drop)]
 pub struct Scopes<A: Allocator> {
     locals: Vec<LocalFrame<A>, A>,
     globals: Globals<A>,
     /// Frames without names, whose room later procedures use again.
     spares: Vec<LocalFrame<A>, A>,
+}
+
+impl<A: Allocator> Drop for Scopes<A> {
+    fn drop(self) {
+        let Scopes {
+            locals: _,
+            globals: _,
+            spares: _,
+        } = self;
+    }
 }
 
 impl<A: Allocator> Model for Scopes<A> {

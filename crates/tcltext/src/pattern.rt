@@ -54,13 +54,23 @@ fn text_alone<A: Allocator + Copy>(alloc: A, text: &[u8]) -> Result<Runs<A>, NoM
 }
 
 /// A pattern: a glob, or a text that is sought as it stands.
-#[derive(Drop)]
 pub struct Pattern<A: Allocator> {
     runs: Runs<A>,
     ties: Ties,
     folds: bool,
     /// A text that stands in every window in which the pattern is found.
     needs: Value<A>,
+}
+
+impl<A: Allocator> Drop for Pattern<A> {
+    fn drop(self) {
+        let Pattern {
+            runs: _,
+            ties: _,
+            folds: _,
+            needs: _,
+        } = self;
+    }
 }
 
 impl<A: Allocator> Model for Pattern<A> {
@@ -133,9 +143,15 @@ impl<A: Allocator> Pattern<A> {
     pub fn fold(self) -> Pattern<A>
         ensures { result ≡ folded self }
     {
+        let Pattern {
+            runs,
+            ties,
+            folds: _,
+            needs: _,
+        } = self;
         Pattern {
-            runs: self.runs,
-            ties: self.ties,
+            runs,
+            ties,
             folds: true,
             needs: Value::empty(),
         }

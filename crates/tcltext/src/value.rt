@@ -8,6 +8,7 @@ ghost use Rattle.tcltext.specs.Numeral.{IsNumeral, IsInRange};
 use crate::kept::keep;
 use crate::kept_elements::Elements;
 use crate::short::{IN_PLACE, Short};
+use arrayvec::ArrayVec;
 use counted_slot::Counted;
 use memory::NoMemory;
 use std::alloc::Allocator;
@@ -19,9 +20,14 @@ const DIGITS: usize = 10;
 
 /// The text of a literal, a variable or a command's value, which contracts see as a list of bytes:
 /// a few bytes in place, more behind a counted pointer.
-#[derive(Drop)]
 pub struct Value<A: Allocator> {
     pub(crate) form: Form<A>,
+}
+
+impl<A: Allocator> Drop for Value<A> {
+    fn drop(self) {
+        let Value { form: _ } = self;
+    }
 }
 
 /// Where the bytes lie.
@@ -77,6 +83,21 @@ impl<A: Allocator> Value<A> {
         Some(Value {
             form: Form::Short(short),
         })
+    }
+
+    /// Two texts as one value, or `None` where they are together too long to lie in place.
+    pub fn joined_in_place(first: &[u8], second: &[u8]) -> Option<Value<A>>
+        ensures bytes { IfSome result (λ joined. joined ≡ first.now ++ second.now) }
+        ensures room { IfNone result (14 < length (first.now ++ second.now)) }
+    {
+        let mut bytes = ArrayVec::<u8, IN_PLACE>::new();
+        let Ok(()) = bytes.try_extend_from_slice(first) else {
+            return None;
+        };
+        let Ok(()) = bytes.try_extend_from_slice(second) else {
+            return None;
+        };
+        Value::in_place(bytes.as_slice())
     }
 
     /// A value of a few bytes.
@@ -233,7 +254,8 @@ impl<A: Allocator + Copy> Value<A> {
     pub fn into_vec(self, alloc: A) -> Result<Vec<u8, A>, NoMemory>
         ensures { IfOk result (λ bytes. bytes.items ≡ self) }
     {
-        let text = match self.form {
+        let Value { form } = self;
+        let text = match form {
             Form::Number(digits, _) => return Ok(Vec::from_slice(alloc, digits.as_slice())?),
             Form::Short(short) => return Ok(Vec::from_slice(alloc, short.as_slice())?),
             Form::Long(text) => text,
@@ -260,7 +282,8 @@ impl<A: Allocator + Copy> Value<A> {
         ensures bytes { IfOk result (λ parts. parts.0.items ≡ self) }
         ensures elements { IfOk result (λ parts. IfSome parts.1 (λ v. IsList v self)) }
     {
-        let text = match self.form {
+        let Value { form } = self;
+        let text = match form {
             Form::Number(digits, _) => {
                 return Ok((Vec::from_slice(alloc, digits.as_slice())?, None));
             }
