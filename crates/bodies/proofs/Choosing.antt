@@ -11,9 +11,9 @@ use Rattle.state.specs.Prelude.{Course, raises, Reaches, here, Status}
 use Rattle.state.specs.Listed.{with_list}
 use Rattle.state.specs.Piece.{TestText}
 use Rattle.state.specs.Reaches.{reads}
-use Rattle.tcltext.specs.Pattern.Glob.{plain}
-use Rattle.tcltext.specs.Pattern.Item.{Reading}
-use Rattle.tcltext.specs.Pattern.Match.{Whole}
+use Rattle.patterns.specs.Glob.{plain}
+use Rattle.patterns.specs.Item.{Reading}
+use Rattle.patterns.specs.Match.{Whole}
 
 -- the last of an odd number of patterns and bodies, by its place
 odd_over : (arms : List (List ℕ)) (i : ℕ) (last : List ℕ) → length arms ≡ suc i →

@@ -9,7 +9,7 @@ use Rattle.state.proofs.Closed.{Closed, listed_closed, raises_closed, within_clo
 use Rattle.state.specs.Arguments.{begins_with_dash}
 use Rattle.state.specs.Prelude.{Course, Gives, Status}
 use Rattle.state.specs.Piece.{TestText}
-use Rattle.tcltext.specs.Pattern.Glob.{plain}
+use Rattle.patterns.specs.Glob.{plain}
 
 module _ (P : Status → Course → Type 0) (closed : Closed P) where
   either_closed : (test : Bool) (one other : Course) (s : Status) → P s one → P s other →

@@ -9,7 +9,7 @@ use Rattle.bodies.specs.declared.switch.Mode.TheVariants as mode
 use Rattle.state.specs.Arguments.{begins_with_dash}
 use Rattle.state.specs.Listed.{with_list}
 use Rattle.state.specs.Piece.{TestText}
-use Rattle.tcltext.specs.Pattern.Glob.{plain}
+use Rattle.patterns.specs.Glob.{plain}
 
 -- how a pattern is compared with the text: byte by byte, or as string match does (switch(n))
 pub data Mode : Type 0 where

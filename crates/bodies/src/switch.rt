@@ -11,11 +11,12 @@ use crate::arguments::{bad_argument, wrong_args};
 use crate::eval::{Held, run};
 use crate::listed::elements_of;
 use acts::{Fault, NoMemory};
+use patterns::{Pattern, PatternError};
 use state::arguments::begins_with_dash;
 use state::outcome::raised;
 use state::{Nesting, State};
 use std::alloc::Allocator;
-use tcltext::{Pattern, PatternError, Value};
+use tcltext::Value;
 
 /// How a pattern is compared with the text.
 #[derive(Clone, Copy, Debug, PartialEq, Eq)]

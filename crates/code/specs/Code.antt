@@ -22,7 +22,7 @@ use Rattle.tclparse.specs.declared.operator.Infix.TheVariants.{Both, AndAlso, Or
 use Rattle.tclparse.specs.declared.operator.Unary.{Unary}
 use Rattle.tclparse.specs.Variable.{named}
 use Rattle.tcltext.specs.Elements.{IsList}
-use Rattle.tcltext.specs.Pattern.Glob.{plain}
+use Rattle.patterns.specs.Glob.{plain}
 
 -- this instruction stands at this place
 abbrev pub At : {A : Type 0} → List (Instruction A) → ℕ → Instruction A → Type 0

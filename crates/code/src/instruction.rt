@@ -1,9 +1,10 @@
 //! What is done at one place of the code.
 
 use crate::options::Options;
+use patterns::Pattern;
 use std::alloc::Allocator;
 use tclparse::{Binary, Fault, Function, Unary};
-use tcltext::{Pattern, Value};
+use tcltext::Value;
 
 /// What is done at one place of the code. The operands are a stack of texts.
 #[derive(Drop)]

@@ -16,9 +16,10 @@ use crate::instruction::Instruction;
 use crate::literal::texts_of;
 use crate::nest::Nest;
 use memory::NoMemory;
+use patterns::{Pattern, PatternError};
 use std::alloc::Allocator;
 use tclparse::{Script, Word};
-use tcltext::{Pattern, PatternError, Value};
+use tcltext::Value;
 
 /// What compares the string with a pattern that is not too long: where that takes it, the first
 /// place is next, else the second.

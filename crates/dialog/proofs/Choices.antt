@@ -1,10 +1,10 @@
 -- Of pairs one is chosen, or none: there is always a choice, and never a second one.
 use Rattle.std.proofs.Common.{◌≡◌, ◌⊎◌, inl, inr, ℕ, Bool, true, false, List, [], ◌∷◌, Option, Some, None, refl, sym, ap, ◌∙◌}
-use Rattle.tcltext.specs.Pattern.Item.{Reading}
-use Rattle.tcltext.specs.Pattern.Match.{IsFound, SitsNowhere}
-use Rattle.tcltext.specs.declared.pattern.search.Found.{Found}
-use Rattle.tcltext.proofs.Sought.{found_or_nowhere, one_place}
-use Rattle.tcltext.proofs.Tests.{Decided}
+use Rattle.patterns.specs.Item.{Reading}
+use Rattle.patterns.specs.Match.{IsFound, SitsNowhere}
+use Rattle.patterns.specs.declared.search.Found.{Found}
+use Rattle.patterns.proofs.Sought.{found_or_nowhere, one_place}
+use Rattle.patterns.proofs.Decided.{Decided}
 use Rattle.dialog.specs.Branches.{Awaited, Pair, Sought, FullBuffer, Eof, Timeout, Default}
 use Rattle.dialog.specs.Choice.{Chosen, chosen, Chooses, IsChosen, FindsIn, Finds, IsFoundFor, IsMet, IsFirst, IsNone, looks_at, is_met}
 use Rattle.dialog.specs.Lines.{Line, line_of}

@@ -4,7 +4,7 @@ use Rattle.std.specs.Prelude.{IfSome, ⊤}
 use Rattle.matchbuf.specs.Held.{held}
 use Rattle.matchbuf.specs.Journal.{IsJournal, Fits, window, size_of}
 use Rattle.matchbuf.proofs.Windows.{fits_consumed}
-use Rattle.tcltext.specs.declared.pattern.search.Found.{Found}
+use Rattle.patterns.specs.declared.search.Found.{Found}
 use Rattle.dialog.specs.Branches.{Awaited, Pair, Sought}
 use Rattle.dialog.specs.Choice.{Chosen, chosen, IsChosen, IsFirst, IsNone, IsFoundFor, IsMet, FindsIn, Finds, Share, Nothing, Front, Whole, takes, share_by, share_of, consumed_to, shortened_to, lines_after, peers_after, taken_of}
 use Rattle.dialog.specs.Lines.{Line, line_of, shortened}

@@ -1,8 +1,8 @@
 -- What a search in the window of an id finds for a pair.
 use Rattle.std.proofs.Common.{◌≡◌, IsTrue, List, sym, Option, Some, None, MatchOption}
-use Rattle.tcltext.specs.Pattern.Item.{Reading}
-use Rattle.tcltext.specs.Pattern.Match.{IsFound, SitsNowhere}
-use Rattle.tcltext.specs.declared.pattern.search.Found.{Found}
+use Rattle.patterns.specs.Item.{Reading}
+use Rattle.patterns.specs.Match.{IsFound, SitsNowhere}
+use Rattle.patterns.specs.declared.search.Found.{Found}
 use Rattle.dialog.specs.Branches.{Awaited, Pair, Sought}
 use Rattle.dialog.specs.Choice.{FindsIn, Finds, IsFoundFor, looks_at}
 use Rattle.dialog.specs.Lines.{Line, line_of}

@@ -9,8 +9,8 @@ use Rattle.acts.specs.Id.{id_text}
 use Rattle.acts.specs.declared.id.Id.{Id}
 use Rattle.tcltext.specs.Elements.{IsList, HasFlaw}
 use Rattle.tcltext.specs.Flaw as flaws
-use Rattle.tcltext.proofs.Sought.{up_to}
-use Rattle.tcltext.proofs.Tests.{Decided}
+use Rattle.patterns.proofs.Sought.{up_to}
+use Rattle.patterns.proofs.Decided.{Decided}
 use Rattle.tcltext.proofs.Total.{list_or_flaw}
 use Rattle.tcltext.proofs.Unique.{one_list, no_list_with_flaw}
 use Rattle.dialog.specs.Lines.{Line, id_of}

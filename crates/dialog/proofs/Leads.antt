@@ -5,17 +5,17 @@ use Rattle.std.proofs.lemmas.Bool.{cases_lt, false≢true, true_from_ne_false}
 use Rattle.std.proofs.lemmas.List.{length-drop, length-append, length-map, length-take-le, take-append-le, drop-append-le, drop-drop, take_all, take_at, drop_at}
 use Rattle.std.proofs.lemmas.Slice.Eq.{bytes_eq-Decides}
 use Rattle.std.specs.Str.{bytes_eq}
-use Rattle.tcltext.specs.Pattern.Glob.{exact}
-use Rattle.tcltext.specs.Pattern.Item.{Item, Reading, literal, any_byte, one_of, any_run}
-use Rattle.tcltext.specs.Pattern.Match.{Whole, Sits, SitsNowhere, IsFound, compared}
-use Rattle.tcltext.specs.Pattern.Passed.{Needs, Passed}
-use Rattle.tcltext.specs.Pattern.Runs.{IsFixed}
-use Rattle.tcltext.specs.declared.pattern.search.Found.{Found}
-use Rattle.tcltext.proofs.Patterns.Folds.{compared-length, compared-range}
-use Rattle.tcltext.proofs.Patterns.Items.{IsFixed-text}
-use Rattle.tcltext.proofs.Patterns.Shifts.{Passed-here, Sits-on}
-use Rattle.tcltext.proofs.Patterns.Spans.{slice_range-joined}
-use Rattle.tcltext.proofs.Patterns.Stars.{drop_behind}
+use Rattle.patterns.specs.Glob.{exact}
+use Rattle.patterns.specs.Item.{Item, Reading, literal, any_byte, one_of, any_run}
+use Rattle.patterns.specs.Match.{Whole, Sits, SitsNowhere, IsFound, compared}
+use Rattle.patterns.specs.Passed.{Needs, Passed}
+use Rattle.patterns.specs.Runs.{IsFixed}
+use Rattle.patterns.specs.declared.search.Found.{Found}
+use Rattle.patterns.proofs.Folds.{compared-length, compared-range}
+use Rattle.patterns.proofs.RunItems.{IsFixed-text}
+use Rattle.patterns.proofs.Shifts.{Passed-here, Sits-on}
+use Rattle.patterns.proofs.Spans.{slice_range-joined}
+use Rattle.patterns.proofs.Stars.{drop_behind}
 use Rattle.dialog.specs.Lead.{IsRun, IsNeeded, Seeks, is_all, run_of}
 use Rattle.dialog.specs.declared.lead.Key.{Key}
 use Rattle.dialog.specs.declared.lead.Seeker.{Seeker}

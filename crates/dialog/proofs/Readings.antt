@@ -3,7 +3,7 @@ use Rattle.std.proofs.Common.{◌≡◌, inl, inr, ℕ, ℤ, Bool, true, false, 
 use Rattle.acts.specs.declared.id.Id.{Id}
 use Rattle.tcltext.specs.Numbers.{is_number}
 use Rattle.tcltext.proofs.Numerals.{one_value}
-use Rattle.tcltext.proofs.Tests.{Decided}
+use Rattle.patterns.proofs.Decided.{Decided}
 use Rattle.tcltext.proofs.Within.{number_is_numeral}
 use Rattle.dialog.specs.Branches.{branches}
 use Rattle.dialog.specs.Parts.{Part, Ids, Seconds, Stays, TellsPlaces, Folds, Awaits, Lacks, Regex, Bad, Wanted, parts}

@@ -5,12 +5,12 @@ use Rattle.std.proofs.Math.Seq.{take-add}
 use Rattle.std.proofs.lemmas.Bool.{false≢true}
 use Rattle.std.proofs.lemmas.List.{append-nil, append_assoc, length-append, length-drop, length-map, map-append, take-append-drop}
 use Rattle.std.specs.List.{AllByRecursion}
-use Rattle.tcltext.proofs.Patterns.Items.{IsFixed-text}
-use Rattle.tcltext.proofs.Patterns.Tests.{false_from_not_true}
-use Rattle.tcltext.specs.Pattern.Glob.{Sign, bare, quoted, a_set, signs, signs_in_set, signs_behind_backslash, item_of, ends_in_dollar, begins_in_caret, after_caret, glob, plain, exact, folded}
-use Rattle.tcltext.specs.Pattern.Item.{Item, Reading, literal, any_byte, one_of, any_run}
-use Rattle.tcltext.specs.Pattern.Match.{Sits, Whole, compared}
-use Rattle.tcltext.specs.Pattern.Runs.{IsFixed}
+use Rattle.patterns.proofs.RunItems.{IsFixed-text}
+use Rattle.patterns.proofs.Tests.{false_from_not_true}
+use Rattle.patterns.specs.Glob.{Sign, bare, quoted, a_set, signs, signs_in_set, signs_behind_backslash, item_of, ends_in_dollar, begins_in_caret, after_caret, glob, plain, exact, folded}
+use Rattle.patterns.specs.Item.{Item, Reading, literal, any_byte, one_of, any_run}
+use Rattle.patterns.specs.Match.{Sits, Whole, compared}
+use Rattle.patterns.specs.Runs.{IsFixed}
 use Rattle.dialog.specs.Branches.{Awaited, Sought, FullBuffer, Eof, Timeout, Default}
 use Rattle.dialog.specs.Lead.{IsLead, IsRun, IsNeeded, Leads, pattern_by}
 use Rattle.dialog.specs.declared.lead.Lead.{Lead}

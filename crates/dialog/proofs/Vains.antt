@@ -9,8 +9,8 @@ use Rattle.dialog.specs.declared.lead.Key.{Key}
 use Rattle.dialog.specs.declared.sign.Style.{Style}
 use Rattle.dialog.specs.declared.sign.Style.TheVariants as style
 use Rattle.dialog.specs.declared.vain.Vain.{Vain}
-use Rattle.tcltext.proofs.Patterns.Shifts.{Passed-drop, Passed-more}
-use Rattle.tcltext.specs.Pattern.Passed.{Passed}
+use Rattle.patterns.proofs.Shifts.{Passed-drop, Passed-more}
+use Rattle.patterns.specs.Passed.{Passed}
 
 pub all_so : {X : Type 0} (P Q : X → Type 0) → ((x : X) → P x → Q x) → (xs : List X) →
     AllByRecursion P xs → AllByRecursion Q xs

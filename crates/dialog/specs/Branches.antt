@@ -2,7 +2,7 @@
 use Rattle.std.specs.Prelude.{ℕ, List, Option, ℤ}
 use Rattle.acts.specs.declared.id.Id.{Id}
 use Rattle.dialog.specs.declared.branch.Flags.{Flags}
-use Rattle.tcltext.specs.Pattern.Item.{Reading}
+use Rattle.patterns.specs.Item.{Reading}
 
 -- what a branch waits for: a pattern, or what a keyword names (expect(1), expect)
 pub data Awaited : Type 0 where

@@ -1,8 +1,8 @@
 -- Which pair an expect chooses, and what its choice takes.
 use Rattle.std.specs.Prelude.{◌≡◌, ◌⊎◌, ℕ, ◌==◌, ◌&&◌, Bool, true, false, IsTrue, List, [], ◌∷◌, length, take, Option, Some, None, is_some, if◌then◌else◌}
 use Rattle.acts.specs.declared.id.Id.{Id}
-use Rattle.tcltext.specs.Pattern.Match.{IsFound}
-use Rattle.tcltext.specs.declared.pattern.search.Found.{Found}
+use Rattle.patterns.specs.Match.{IsFound}
+use Rattle.patterns.specs.declared.search.Found.{Found}
 use Rattle.dialog.specs.Branches.{Awaited, Pair, Sought, FullBuffer, Eof, Timeout, Default}
 use Rattle.dialog.specs.Lines.{Line, line_of, at_line, shortened}
 use Rattle.matchbuf.specs.Journal.{window}

@@ -1,9 +1,9 @@
 -- What a search for a pattern seeks first: a run, which takes as many bytes wherever it stands.
 use Rattle.std.specs.Prelude.{◌≡◌, ℕ, Bool, true, false, List, length, Option, Some, None}
-use Rattle.tcltext.specs.Pattern.Glob.{glob, plain, exact}
-use Rattle.tcltext.specs.Pattern.Item.{Reading}
-use Rattle.tcltext.specs.Pattern.Match.{SitsNowhere}
-use Rattle.tcltext.specs.Pattern.Runs.{IsFixed}
+use Rattle.patterns.specs.Glob.{glob, plain, exact}
+use Rattle.patterns.specs.Item.{Reading}
+use Rattle.patterns.specs.Match.{SitsNowhere}
+use Rattle.patterns.specs.Runs.{IsFixed}
 use Rattle.dialog.specs.Branches.{Awaited, Sought}
 use Rattle.dialog.specs.Reads.{sought_by}
 use Rattle.dialog.specs.declared.lead.Key.{Key}

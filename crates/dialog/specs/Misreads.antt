@@ -1,7 +1,7 @@
 -- What the errors of the code stand for.
 use Rattle.std.specs.Prelude.{Option, Some, None}
-use Rattle.tcltext.specs.declared.pattern.error.PatternError.{PatternError}
-use Rattle.tcltext.specs.declared.pattern.error.PatternError.TheVariants as pattern
+use Rattle.patterns.specs.declared.error.PatternError.{PatternError}
+use Rattle.patterns.specs.declared.error.PatternError.TheVariants as pattern
 use Rattle.dialog.specs.Reads as flaw
 use Rattle.dialog.specs.Reads.{Flaw}
 use Rattle.dialog.specs.declared.branch_error.BranchError.{BranchError}

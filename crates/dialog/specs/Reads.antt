@@ -5,8 +5,8 @@ use Rattle.acts.specs.Id.{id_text}
 use Rattle.acts.specs.declared.id.Id.{Id}
 use Rattle.tcltext.specs.Elements.{IsList}
 use Rattle.tcltext.specs.Numeral.{IsNumeral, IsInRange}
-use Rattle.tcltext.specs.Pattern.Glob.{glob, exact, folded}
-use Rattle.tcltext.specs.Pattern.Item.{Reading}
+use Rattle.patterns.specs.Glob.{glob, exact, folded}
+use Rattle.patterns.specs.Item.{Reading}
 use Rattle.dialog.specs.Branches.{Awaited, Sought, Branch, Pair, pair, Branches, branches}
 use Rattle.dialog.specs.Lines.{Line}
 use Rattle.dialog.specs.Parts.{Glob, Exact, Wanted, Seeks, Names, Part, Ids, Seconds, Stays, TellsPlaces, Folds, Awaits, Lacks, Regex, Bad, parts}

@@ -1,8 +1,8 @@
 -- Runs of a glob: parts of its text whose signs take one byte each.
 use Rattle.std.specs.Prelude.{◌≡◌, ◌==◌, ℕ, ◌≤◌, Bool, true, false, List, [], ◌∷◌, ◌++◌, length, take, if◌then◌else◌}
 use Rattle.std.specs.List.{AllByRecursion}
-use Rattle.tcltext.specs.Pattern.Glob.{Sign, bare, signs, glob, plain, is_dollar, item_of}
-use Rattle.tcltext.specs.Pattern.Runs.{IsFixed}
+use Rattle.patterns.specs.Glob.{Sign, bare, signs, glob, plain, is_dollar, item_of}
+use Rattle.patterns.specs.Runs.{IsFixed}
 
 -- the byte is a sign by itself, and neither a `*` nor a `$` (string(n), match)
 abbrev pub is_bare : ℕ → Bool

@@ -3,7 +3,7 @@ use Rattle.std.specs.Prelude.{ℕ, ◌-◌, List}
 use Rattle.std.specs.List.{AllByRecursion}
 use Rattle.dialog.specs.Lead.{run_of}
 use Rattle.dialog.specs.declared.vain.Vain.{Vain}
-use Rattle.tcltext.specs.Pattern.Passed.{Passed}
+use Rattle.patterns.specs.Passed.{Passed}
 
 -- Each run begins nowhere before its place, whatever follows the bytes; the places are counted
 -- with the bytes that are gone from the front (this project's own rule).

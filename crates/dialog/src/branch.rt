@@ -5,14 +5,15 @@ ghost use Rattle.dialog.specs.Choice.{takes_full, takes_end, takes_timeout};
 ghost use Rattle.dialog.specs.Branches.{pair, Sought};
 ghost use Rattle.dialog.specs.Lead.{IsLead, Leads};
 ghost use Rattle.dialog.specs.Views.{awaited_of, branch_of};
-ghost use Rattle.tcltext.specs.Pattern.Item.{Reading};
+ghost use Rattle.patterns.specs.Item.{Reading};
 
 use crate::lead::Lead;
 use acts::{Id, NoMemory};
+use patterns::Pattern;
 use std::alloc::Allocator;
 use std::marker::Model;
 use std::rc::Rc;
-use tcltext::{Pattern, Value};
+use tcltext::Value;
 
 /// What a branch waits for (expect(1), expect).
 #[derive(Drop)]

@@ -1,6 +1,6 @@
 //! Why the words of an `expect` give no branches.
 use acts::{Id, NoMemory};
-use tcltext::PatternError;
+use patterns::PatternError;
 
 /// Why the words of an `expect` give no branches (expect(1), expect).
 #[derive(Clone, Copy, Debug, PartialEq, Eq)]

@@ -2,7 +2,7 @@
 ghost use Rattle.std.specs.Prelude.{◌≡◌, ◌==◌, ◌&&◌, ◌≤◌, length, IfOk, OnOk, OnErr, IfSome, MatchOption, Some, None};
 ghost use Rattle.dialog.specs.Choice.{Chosen, Chooses, chosen, looks_at, takes, is_full, is_filled, is_met, Finds, FindsIn, IsFoundFor, IsMet, IsFirst, IsNone, share_at, shortened_to, lines_after, taken_at, taken_of};
 ghost use Rattle.dialog.specs.Branches.{Sought};
-ghost use Rattle.tcltext.specs.declared.pattern.search.Found as found;
+ghost use Rattle.patterns.specs.declared.search.Found as found;
 ghost use Rattle.dialog.specs.Lead.{IsLead};
 ghost use Rattle.dialog.specs.Lines.{Line, line_of, at_line, listing};
 ghost use Rattle.dialog.specs.Selects.{Selects, taken_by};
@@ -12,8 +12,9 @@ use crate::lead::Lead;
 use crate::searched::Round;
 use crate::table::Table;
 use acts::{Id, NoMemory};
+use patterns::{Found, Pattern};
 use std::alloc::Allocator;
-use tcltext::{Found, Pattern, Value};
+use tcltext::Value;
 
 /// The event after which a pair is looked for (expect(1), expect).
 #[derive(Clone, Copy, Debug, PartialEq, Eq)]

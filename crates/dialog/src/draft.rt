@@ -14,10 +14,11 @@ use crate::branches::Branches;
 use crate::lead::Lead;
 use crate::sign::{Keyword, Mark, Style};
 use acts::{Id, NoMemory};
+use patterns::{Pattern, PatternError};
 use std::alloc::Allocator;
 use std::marker::Model;
 use std::rc::Rc;
-use tcltext::{Pattern, PatternError, Value};
+use tcltext::Value;
 
 /// The flags of a branch before which no flag stands.
 const NO_FLAGS: Flags = Flags {

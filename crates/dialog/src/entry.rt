@@ -7,7 +7,7 @@ ghost use Rattle.circular_buffer.specs.Buffer.{keep_last};
 ghost use Rattle.matchbuf.specs.Held.{held};
 ghost use Rattle.matchbuf.specs.Size.{IsSize};
 ghost use Rattle.dialog.specs.Views.{line_by, kind_of};
-ghost use Rattle.tcltext.specs.Pattern.Match.{IsFound, SitsNowhere};
+ghost use Rattle.patterns.specs.Match.{IsFound, SitsNowhere};
 
 use crate::kind::Kind;
 use crate::lead::Lead;
@@ -15,9 +15,9 @@ use crate::searched::{Round, Searched};
 use acts::{Id, NoMemory, Row};
 use matchbuf::{MatchBuf, MatchBufError};
 use memchr::memchr;
+use patterns::{Found, Pattern};
 use std::alloc::Allocator;
 use std::marker::Model;
-use tcltext::{Found, Pattern};
 
 /// An open id: what it was opened for, its match buffer, and whether nulls are removed from what
 /// arrives.

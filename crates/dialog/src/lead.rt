@@ -4,14 +4,15 @@ ghost use Rattle.std.specs.Prelude.{◌≡◌, ℕ, ◌≤◌, false, drop, leng
 ghost use Rattle.dialog.specs.Lead.{IsLead, is_all, pattern_by, run_of};
 ghost use Rattle.dialog.specs.Reads.{sought_by};
 ghost use Rattle.dialog.specs.Runs.{IsAlone, IsWithin};
-ghost use Rattle.tcltext.specs.Pattern.Glob.{exact, glob, plain};
-ghost use Rattle.tcltext.specs.Pattern.Match.{IsFound, Sits, SitsNowhere};
+ghost use Rattle.patterns.specs.Glob.{exact, glob, plain};
+ghost use Rattle.patterns.specs.Match.{IsFound, Sits, SitsNowhere};
 
 use crate::run::{LastRun, last_run};
 use crate::sign::Style;
 use acts::NoMemory;
+use patterns::{Found, Pattern, PatternError, Scratch, find_text};
 use std::alloc::Allocator;
-use tcltext::{Found, Pattern, PatternError, Scratch, Value, find_text};
+use tcltext::Value;
 
 /// A run that is sought: a text, in which way it is sought, and whether the letters of the window
 /// are folded.

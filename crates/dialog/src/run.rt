@@ -2,7 +2,7 @@
 
 ghost use Rattle.std.specs.Prelude.{◌≡◌, ◌∷◌, IfSome, IsTrue};
 ghost use Rattle.dialog.specs.Runs.{IsAlone, IsFront, IsSign, IsWithin, is_bare};
-ghost use Rattle.tcltext.specs.Pattern.Glob.{begins_in_caret};
+ghost use Rattle.patterns.specs.Glob.{begins_in_caret};
 
 use memchr::memchr;
 

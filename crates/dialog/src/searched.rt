@@ -5,15 +5,15 @@ ghost use Rattle.circular_buffer.specs.Buffer.{keep_last};
 ghost use Rattle.dialog.specs.Lead.{IsLead, is_all, run_of};
 ghost use Rattle.matchbuf.specs.Held.{held};
 ghost use Rattle.matchbuf.specs.Size.{IsSize};
-ghost use Rattle.tcltext.specs.Pattern.Match.{IsFound, SitsNowhere};
+ghost use Rattle.patterns.specs.Match.{IsFound, SitsNowhere};
 
 use crate::lead::Lead;
 use crate::vain::{Vain, forget, make_slot, note, place_of, room};
 use acts::NoMemory;
 use matchbuf::{MatchBuf, MatchBufError};
+use patterns::{Found, Pattern, Scratch};
 use std::alloc::Allocator;
 use std::marker::Model;
-use tcltext::{Found, Pattern, Scratch};
 
 /// The searches of one choice. All windows are searched for the same choice by the same number.
 #[derive(Clone, Copy)]

@@ -12,9 +12,9 @@ use crate::error::OpenError;
 use crate::kind::Kind;
 use acts::{Id, NoMemory};
 use matchbuf::{MatchBuf, MatchBufError};
+use patterns::Found;
 use std::alloc::Allocator;
 use std::marker::Model;
-use tcltext::Found;
 
 /// How many ids may be open at a time.
 pub const MOST_OPEN: usize = 64;

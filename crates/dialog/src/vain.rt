@@ -3,7 +3,7 @@
 ghost use Rattle.std.specs.Prelude.{◌≡◌, ◌-◌, ◌≤◌, [], ℕ, List, IfOk, drop, length};
 ghost use Rattle.dialog.specs.Lead.{run_of};
 ghost use Rattle.dialog.specs.Vain.{ArePassed};
-ghost use Rattle.tcltext.specs.Pattern.Passed.{Passed};
+ghost use Rattle.patterns.specs.Passed.{Passed};
 
 use crate::lead::Key;
 use acts::NoMemory;

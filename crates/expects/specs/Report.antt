@@ -5,7 +5,7 @@ use Rattle.std.specs.Fmt.{signed_decimal}
 use Rattle.acts.specs.Id.{id_text}
 use Rattle.dialog.specs.Choice.{Taken}
 use Rattle.kinds.specs.Variables as variables
-use Rattle.tcltext.specs.declared.pattern.search.Found.{Found}
+use Rattle.patterns.specs.declared.search.Found.{Found}
 
 -- the variables that writes leave, and the error of the first that could not be made, if there was
 -- one; those before it stay

@@ -10,9 +10,10 @@ use acts::{Id, NoMemory, Raise};
 use dialog::Taken;
 use kinds::ids::name_of;
 use kinds::variables::put;
+use patterns::Found;
 use std::alloc::Allocator;
 use tclstate::Scopes;
-use tcltext::{Found, Value, print_int, print_nat};
+use tcltext::{Value, print_int, print_nat};
 
 /// The array whose elements a choice sets (expect(1), expect).
 const EXPECT_OUT: &[u8] = b"expect_out";

@@ -5,8 +5,8 @@ use Rattle.acts.specs.Flaw.{Flaw}
 use Rattle.acts.specs.Flaw as flaw
 use Rattle.tcltext.specs.Elements.{IsList, HasFlaw}
 use Rattle.tcltext.specs.Flaw as list
-use Rattle.tcltext.specs.Pattern.Item.{Item}
-use Rattle.tcltext.specs.Pattern.Match.{Whole}
+use Rattle.patterns.specs.Item.{Item}
+use Rattle.patterns.specs.Match.{Whole}
 
 -- a value; an error; what follows the elements of a text that is read as a list; what follows the
 -- test whether a pattern matches a text (Tcl(n), rule 2; expr(n))

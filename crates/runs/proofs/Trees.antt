@@ -6,7 +6,7 @@ use Rattle.formulas.proofs.Exists.{each_formula}
 use Rattle.formulas.proofs.Unique.{one_formula}
 use Rattle.meanings.proofs.Once.{same_truth}
 use Rattle.plan.specs.Answers.{OneTree}
-use Rattle.tcltext.proofs.Tests.{tested}
+use Rattle.patterns.proofs.Decided.{tested}
 use Rattle.state.specs.Piece.{Text, ScriptText, ListText, FormulaText, ArgumentText, TestText, BranchText, ChoiceText, ScriptTree, ArgumentTree, Tree, IsTree}
 use Rattle.tclparse.specs.Fault.{Fault}
 use Rattle.tclparse.specs.Tree.{Commands, Words}
@@ -16,7 +16,7 @@ use Rattle.tcltext.proofs.Total.{list_or_flaw}
 use Rattle.tcltext.proofs.Unique.{one_list, one_flaw, no_list_with_flaw}
 use Rattle.tcltext.specs.Elements.{IsList, HasFlaw}
 use Rattle.tcltext.specs.Flaw as list
-use Rattle.tcltext.specs.Pattern.Match.{Whole}
+use Rattle.patterns.specs.Match.{Whole}
 
 -- a script's tree by its parts
 abbrev script_tree : Commands → Option Fault → ScriptTree

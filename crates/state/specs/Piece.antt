@@ -10,8 +10,8 @@ use Rattle.dialog.specs.Standing.{Effective}
 use Rattle.dialog.specs.declared.choice.Trigger.{Trigger}
 use Rattle.meanings.specs.Meaning.{IsSplit}
 use Rattle.tcltext.specs.Flaw.{Flaw}
-use Rattle.tcltext.specs.Pattern.Item.{Item}
-use Rattle.tcltext.specs.Pattern.Match.{Whole}
+use Rattle.patterns.specs.Item.{Item}
+use Rattle.patterns.specs.Match.{Whole}
 use Rattle.tclparse.specs.Tree.{Words}
 use Rattle.tclparse.specs.Grammar.{IsScript, IsArgument}
 use Rattle.tclparse.specs.Fault.{Fault}

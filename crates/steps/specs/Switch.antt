@@ -9,7 +9,7 @@ use Rattle.state.specs.Prelude.{Status}
 use Rattle.steps.specs.Moves.{jumping, on_top}
 use Rattle.steps.specs.Spot.{Spot, Did, Went, Reads, Begins, Stuck}
 use Rattle.tclstate.specs.Procs.{Procedure}
-use Rattle.tcltext.specs.Pattern.Item.{Reading}
+use Rattle.patterns.specs.Item.{Reading}
 
 -- the string is no option: it stands after `--`, or is the first of two words, or begins with no
 -- dash (switch(n))

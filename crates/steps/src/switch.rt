@@ -13,10 +13,11 @@ use crate::progress::Progress;
 use crate::spot::Spot;
 use acts::NoMemory;
 use code::{Flag, Options};
+use patterns::Pattern;
 use state::arguments::begins_with_dash;
 use std::alloc::Allocator;
 use tclstate::Procs;
-use tcltext::{Pattern, Value};
+use tcltext::Value;
 
 /// Whether the string of a `switch` is no option: it stands after `--`, or is the first of two
 /// words, or begins with no dash.

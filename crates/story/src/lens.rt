@@ -1,8 +1,8 @@
 //! How a window and a pattern are looked at so that some differences between them vanish.
 
 use memory::NoMemory;
+use patterns::Found;
 use std::alloc::Allocator;
-use tcltext::Found;
 
 /// Which bytes are left out.
 #[derive(Clone, Copy, Debug, PartialEq, Eq)]

@@ -5,8 +5,8 @@ use crate::shape::{Item, Ties, without_last_runs};
 use crate::why::Why;
 use crate::window::Look;
 use memory::NoMemory;
+use patterns::Found;
 use std::alloc::Allocator;
-use tcltext::Found;
 
 /// Up to how many bytes a beginning of the pattern is sought at the end of the window.
 const MOST_TRIED: usize = 255;

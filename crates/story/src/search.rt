@@ -3,8 +3,8 @@
 use crate::lens::Lens;
 use crate::shape::{Item, Ties, glob_text};
 use memory::NoMemory;
+use patterns::{Found, Pattern, PatternError, Scratch};
 use std::alloc::Allocator;
-use tcltext::{Found, Pattern, PatternError, Scratch};
 
 /// Where the items stand in a window, as they are looked at: the first place, and the place in the
 /// window itself.

@@ -6,8 +6,8 @@ use crate::cause::Cause;
 use crate::track::Track;
 use acts::Id;
 use memory::NoMemory;
+use patterns::Found;
 use std::alloc::Allocator;
-use tcltext::Found;
 
 /// How many bytes a stretch counts as.
 const STRETCH_WEIGHT: usize = 16;

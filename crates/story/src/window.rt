@@ -8,8 +8,9 @@ use crate::vain::{Ending, Vain};
 use crate::why::{Difference, Why};
 use memchr::memmem;
 use memory::NoMemory;
+use patterns::Found;
 use std::alloc::Allocator;
-use tcltext::{Found, ListFault, split_list};
+use tcltext::{ListFault, split_list};
 
 /// How many bytes of a pattern say enough, unless they stand at the end of the window.
 const TELLING: usize = 2;

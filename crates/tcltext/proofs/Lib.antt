@@ -11,9 +11,6 @@ pub mod Numerals
 pub mod Range
 pub mod Within
 pub mod Spellings
-pub mod Patterns
-pub mod Sought
-pub mod Tests
 pub mod Grown
 pub mod Room
 pub mod Decimals

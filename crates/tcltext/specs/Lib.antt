@@ -11,7 +11,6 @@ pub mod Numeral
 pub mod Numbers
 pub mod Spellings
 pub mod Canonical
-pub mod Pattern
 pub mod Value
 pub mod Both
 pub mod KeptElement

@@ -1,4 +1,4 @@
-//! Reading and writing of texts: escapes, braces that pair up, lists, numbers and patterns.
+//! Reading and writing of texts: escapes, braces that pair up, lists and numbers.
 #![tactic(auto)]
 
 pub mod braces;
@@ -11,16 +11,10 @@ mod kept_elements;
 pub mod laws;
 mod list;
 mod number;
-mod pattern;
 mod short;
 mod value;
 mod white;
 
 pub use list::{ListFault, join_list, join_values, push_element, split_list, split_values};
 pub use number::{print_int, print_nat, read_int};
-pub use pattern::Pattern;
-pub use pattern::error::PatternError;
-pub use pattern::scratch::Scratch;
-pub use pattern::search::{Found, Search};
-pub use pattern::text::find_text;
 pub use value::Value;

@@ -7,10 +7,10 @@ use acts::decimal::push_decimal;
 use acts::{Id, NoMemory};
 use dialog::{Keyword, Pair};
 use expects::turn::Turn;
+use patterns::Found;
 use state::State;
 use std::alloc::Allocator;
 use story::{Difference, Ending, Vain, Why, push_line, push_sought, push_why, why_in_vain};
-use tcltext::Found;
 
 impl<A: Allocator + Copy> Teller<A> {
     /// The wait of a turn that begins.

@@ -3,12 +3,12 @@
 //! searches.
 #![tactic(auto)]
 
-mod patterns;
+mod matching;
 mod scripts;
 mod slow;
 mod texts;
 
-use crate::patterns::{Long, Patterns, run_starved};
+use crate::matching::{Long, Patterns, run_starved};
 use crate::scripts::{LongScripts, Trees};
 use crate::slow::run_random;
 use crate::texts::{Escapes, Lists, Numbers};

@@ -3,11 +3,11 @@
 
 ghost use Rattle.std.specs.Prelude.{◌≤◌, length};
 
-use crate::patterns::search_in;
+use crate::matching::search_in;
 use memory::NoMemory;
+use patterns::{Found, Pattern, PatternError};
 use std::alloc::{AllocError, Global};
 use std::io;
-use tcltext::{Found, Pattern, PatternError};
 
 /// One item of a glob.
 #[derive(Clone, Copy)]

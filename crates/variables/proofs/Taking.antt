@@ -6,8 +6,8 @@ use Rattle.std.specs.declared.vec.Vec.{Vec}
 use Rattle.state.specs.Prelude.{Raise, Scopes}
 use Rattle.kinds.proofs.Readings.{then_comes}
 use Rattle.kinds.specs.Readings.{ComesTo, Finds, Found, Reading}
-use Rattle.tcltext.specs.Pattern.Item.{Item}
-use Rattle.tcltext.specs.Pattern.Match.{Whole}
+use Rattle.patterns.specs.Item.{Item}
+use Rattle.patterns.specs.Match.{Whole}
 use Rattle.variables.specs.Array.Indexes.{indexes, indexes_of, matched, taken}
 
 -- the texts that were found so far come before those that are found among the rest

@@ -2,7 +2,7 @@
 use Rattle.std.specs.Prelude.{ℕ, List, [], ◌∷◌, length, nat_lt, codes, if◌then◌else◌}
 use Rattle.acts.specs.Flaw as flaw
 use Rattle.meanings.specs.Meaning.{Meaning, Gives, Raises, Matches, truth}
-use Rattle.tcltext.specs.Pattern.Glob.{plain}
+use Rattle.patterns.specs.Glob.{plain}
 
 -- whether a pattern matches a whole text; a pattern has at most 1,000,000 bytes (string(n), match;
 -- the limit is this project's own rule)

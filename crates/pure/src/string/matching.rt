@@ -6,8 +6,9 @@ ghost use Rattle.meanings.specs.View.{Answers};
 use crate::words::wrong_args;
 use acts::{Fault, Raise};
 use meanings::truth;
+use patterns::{Pattern, PatternError};
 use std::alloc::Allocator;
-use tcltext::{Pattern, PatternError, Value};
+use tcltext::Value;
 
 /// Whether a pattern matches a whole string.
 pub fn matches<A: Allocator + Copy>(alloc: A, words: &[Value<A>]) -> Result<Value<A>, Raise<A>>

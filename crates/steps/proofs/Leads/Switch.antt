@@ -25,7 +25,7 @@ use Rattle.steps.proofs.Leads.Grows.{body_grows, rest_grows, taken_ahead}
 use Rattle.steps.proofs.Leads.Meanings.{jump_leads}
 use Rattle.steps.proofs.Leads.Silent.{same_goes}
 use Rattle.steps.proofs.Leads.Standing.{by, silently, stands}
-use Rattle.tcltext.specs.Pattern.Glob.{plain}
+use Rattle.patterns.specs.Glob.{plain}
 
 -- the bodies of patterns, from that of the first one on
 abbrev bodies : List (List ℕ) → List (List ℕ)

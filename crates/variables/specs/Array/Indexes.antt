@@ -5,8 +5,8 @@ use Rattle.acts.specs.Flaw.{Flaw}
 use Rattle.kinds.specs.Readings.{Reading, Found, Reads, and_then}
 use Rattle.state.specs.Piece.{TestText}
 use Rattle.tclstate.specs.Scopes.{Scopes, names_of}
-use Rattle.tcltext.specs.Pattern.Glob.{plain}
-use Rattle.tcltext.specs.Pattern.Item.{Item}
+use Rattle.patterns.specs.Glob.{plain}
+use Rattle.patterns.specs.Item.{Item}
 
 -- the indexes of the array that a name means, in order; where it means none, as the name of an
 -- element does, there are none (array(n), array names)

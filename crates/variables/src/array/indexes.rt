@@ -5,9 +5,10 @@ ghost use Rattle.kinds.specs.Readings.{ComesTo, Finds};
 ghost use Rattle.variables.specs.Array.Indexes as definition;
 
 use acts::{Fault, NoMemory, Raise};
+use patterns::{Pattern, PatternError};
 use std::alloc::Allocator;
 use tclstate::Scopes;
-use tcltext::{Pattern, PatternError, Value};
+use tcltext::Value;
 
 /// The indexes of the array that a name means, in order, all of them or those that a pattern takes;
 /// none where the name means no array.

@@ -1,5 +1,5 @@
 use Rattle.std.proofs.Common.{◌≡◌, Result, Ok, Err, subst}
-use Rattle.tcltext.proofs.Patterns.Tests.{false_from_not_true}
+use Rattle.patterns.proofs.Tests.{false_from_not_true}
 use Rattle.dialog.specs.Drafts.{wanted_of}
 use Rattle.dialog.specs.Reads.{is_too_long}
 use Rattle.dialog.proofs.draft.shared_branch.Goals as goal

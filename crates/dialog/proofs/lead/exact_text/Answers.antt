@@ -1,7 +1,7 @@
 use Rattle.std.proofs.Common.{◌≡◌, ◌∙◌, Bool, ap, length, subst, arith}
-use Rattle.tcltext.specs.Pattern.Glob.{exact}
-use Rattle.tcltext.specs.Pattern.Item.{Reading}
-use Rattle.tcltext.specs.Pattern.Passed.{Needs}
+use Rattle.patterns.specs.Glob.{exact}
+use Rattle.patterns.specs.Item.{Reading}
+use Rattle.patterns.specs.Passed.{Needs}
 use Rattle.dialog.specs.Reads.{sought_by}
 use Rattle.dialog.proofs.Leads.{needs_all}
 use Rattle.dialog.proofs.lead.exact_text.Goals as goal

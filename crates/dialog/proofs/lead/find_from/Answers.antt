@@ -1,6 +1,6 @@
 use Rattle.std.proofs.Common.{List, ℕ, subst}
 use Rattle.dialog.proofs.Leads.{found_on, nowhere_on}
-use Rattle.tcltext.specs.Pattern.Match.{IsFound, SitsNowhere}
+use Rattle.patterns.specs.Match.{IsFound, SitsNowhere}
 use Rattle.dialog.proofs.lead.find_from.Goals as goal
 
 pub returns-in-None : goal.returns-in-None

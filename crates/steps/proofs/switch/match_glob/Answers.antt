@@ -9,7 +9,7 @@ use Rattle.steps.specs.Switch.{going}
 use Rattle.steps.specs.View.{did_of, spot_of}
 use Rattle.steps.proofs.Does.{same_does}
 use Rattle.steps.proofs.Strings.{last_on_top}
-use Rattle.tcltext.specs.Pattern.Match.{Whole}
+use Rattle.patterns.specs.Match.{Whole}
 use Rattle.steps.proofs.switch.match_glob.Goals as goal
 
 pub returns-in_default-clause-does : goal.returns-in_default-clause-does

@@ -1,7 +1,7 @@
 use Rattle.std.proofs.Common.{List, ℕ, length, sym, ap, refl, subst}
 use Rattle.dialog.proofs.Leads.{text_run}
 use Rattle.dialog.specs.Lead.{IsNeeded, IsRun}
-use Rattle.tcltext.specs.Pattern.Glob.{exact}
+use Rattle.patterns.specs.Glob.{exact}
 use Rattle.dialog.proofs.lead.Lead.of_needs.Goals as goal
 
 pub returns : goal.returns

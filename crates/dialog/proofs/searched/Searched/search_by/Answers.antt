@@ -1,6 +1,6 @@
 use Rattle.std.proofs.Common.{◌∙◌, IsTrue, sym, subst}
-use Rattle.tcltext.specs.Pattern.Item.{Reading}
-use Rattle.tcltext.specs.Pattern.Match.{IsFound}
+use Rattle.patterns.specs.Item.{Reading}
+use Rattle.patterns.specs.Match.{IsFound}
 use Rattle.dialog.specs.Lead.{is_all}
 use Rattle.dialog.proofs.Leads.{all_is}
 use Rattle.dialog.proofs.searched.Searched.search_by.Goals as goal

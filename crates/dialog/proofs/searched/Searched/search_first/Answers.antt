@@ -3,9 +3,9 @@ use Rattle.matchbuf.specs.Held.{Held}
 use Rattle.dialog.specs.Lead.{run_of}
 use Rattle.dialog.specs.Vain.{ArePassed}
 use Rattle.dialog.specs.declared.lead.Key.{Key}
-use Rattle.tcltext.specs.Pattern.Match.{Sits, SitsNowhere}
-use Rattle.tcltext.specs.Pattern.Passed.{Passed}
-use Rattle.tcltext.proofs.Patterns.Shifts.{Passed-here}
+use Rattle.patterns.specs.Match.{Sits, SitsNowhere}
+use Rattle.patterns.specs.Passed.{Passed}
+use Rattle.patterns.proofs.Shifts.{Passed-here}
 use Rattle.dialog.proofs.Leads.{nowhere_short, run_passed}
 use Rattle.dialog.proofs.searched.Searched.search_first.Goals as goal
 

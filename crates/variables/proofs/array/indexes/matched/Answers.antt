@@ -3,7 +3,7 @@ use Rattle.acts.specs.Flaw as flaw
 use Rattle.acts.specs.Flaw.{Flaw}
 use Rattle.kinds.proofs.Readings.{then_comes}
 use Rattle.kinds.specs.Readings.{ComesTo, Found, Reading, and_then}
-use Rattle.tcltext.specs.Pattern.Glob.{plain}
+use Rattle.patterns.specs.Glob.{plain}
 use Rattle.variables.specs.Array.Indexes as definition
 use Rattle.variables.proofs.array.indexes.matched.Goals as goal
 

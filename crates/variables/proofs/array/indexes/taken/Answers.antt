@@ -2,7 +2,7 @@ use Rattle.std.proofs.Common.{◌≡◌, ◌++◌, ◌∷◌, [], ◌+◌, drop}
 use Rattle.std.proofs.Math.ListN.{drop_of_length-le}
 use Rattle.std.specs.Prelude.{◌↔◌, IsTrue, true, false}
 use Rattle.state.proofs.Lists.{split_at}
-use Rattle.tcltext.specs.Pattern.Match.{Whole}
+use Rattle.patterns.specs.Match.{Whole}
 use Rattle.variables.proofs.Taking.{all_taken, one_taken, one_passed}
 use Rattle.variables.proofs.array.indexes.taken.Goals as goal
 use Rattle.variables.proofs.array.indexes.taken.Goals.{then-whole+in_ok-share+in_ok-push, else-whole}

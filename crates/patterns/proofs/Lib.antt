@@ -1,0 +1,15 @@
+pub mod Spans
+pub mod Stars
+pub mod Sets
+pub mod Signs
+pub mod Tests
+pub mod Places
+pub mod Texts
+pub mod Finds
+pub mod Folds
+pub mod Bytes
+pub mod RunItems
+pub mod Needs
+pub mod Shifts
+pub mod Decided
+pub mod Sought

@@ -1,7 +1,0 @@
-use Rattle.tcltext.proofs.Patterns.Finds.{text_found}
-use Rattle.tcltext.proofs.pattern.text.find_text.Goals as goal
-
-pub returns : goal.returns
-returns c =
-    text_found c.args.text.now c.args.window.now c.args.from c.first_place.result c.requires.low
-    c.first_place.ensures.place
