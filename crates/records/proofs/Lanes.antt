@@ -2,7 +2,7 @@
 use Rattle.std.proofs.Common.{◌≡◌, ℕ, ◌+◌, ◌-◌, ◌*◌, ◌/◌, ◌%◌, ◌^◌, ◌<◌, ◌≤◌, ◌&&◌, ◌||◌, zero, suc, Bool, true, false, not, cond, ltb, List, [], ◌∷◌, ◌++◌, length, map, get_or, take, drop, slice_index, nat_eq, replicate, bit_or, Fits, w8, refl, subst, sym, ap, ap₂, ◌∙◌, arith}
 use Rattle.std.proofs.lemmas.Bool.{agree_below, agree_below_at, and_parts, eqb-true, ne_eqb, ltb-true}
 use Rattle.std.proofs.lemmas.Bool.Decides.{nat_tests}
-use Rattle.std.proofs.lemmas.List.{append-nil, append_assoc, drop_all, length-drop, take_all, take-append-drop, length-append, get_or_append_left, get_or-append_right, get_or-drop, length-map, get_or-map}
+use Rattle.std.proofs.lemmas.List.{append-nil, append_assoc, drop_all, drop-drop, length-drop, take_rest, take-append-drop, length-append, get_or_append_left, get_or-append_right, get_or-drop, length-map, get_or-map}
 use Rattle.std.proofs.lemmas.List.Folds.{list_all-append}
 use Rattle.std.proofs.lemmas.Nat.{or_shifted}
 use Rattle.std.proofs.lemmas.Simd.{bitmask_splat, chunk-drop, length-chunk, take_more_put_chunk, length-put_chunk}
@@ -324,13 +324,15 @@ twice_read n done bytes digits first second twice within one two so_far =
     (subst (λ i. chunk i (2 * n) digits ≡ encode_lower second) here two)
     (more_read n done bytes digits twice (omega arith) first one so_far))
 
--- the rest of a list after a front, by its length
-to_end : (i : ℕ) (xs : List ℕ) → take (length xs - i) (drop i xs) ≡ drop i xs
-to_end i xs = take_all (length xs - i) (drop i xs) (omega (arith, length-drop i xs))
-
 -- the front of the rest of a list
 pub front_of_rest : (i n : ℕ) (xs : List ℕ) → chunk i n xs ≡ take n (take (length xs - i) (drop i xs))
-front_of_rest i n xs = sym (ap (take n) (to_end i xs))
+front_of_rest i n xs = sym (ap (take n) (take_rest xs i))
+
+-- what follows the front of the rest of a list
+pub back_of_rest : (i n : ℕ) (xs : List ℕ)
+    → chunk (i + n) n xs ≡ take n (drop n (take (length xs - i) (drop i xs)))
+back_of_rest i n xs =
+    ap (take n) (sym (drop-drop n i xs) ∙ ap (drop n) (sym (take_rest xs i)))
 
 -- where the front is read, and the rest too, all is read
 pub rest_read : (i done : ℕ) (digits bytes rest : List ℕ)
@@ -340,7 +342,7 @@ pub rest_read : (i done : ℕ) (digits bytes rest : List ℕ)
 rest_read i done digits bytes rest front back =
     let none = drop_all (length bytes - done) (drop done bytes)
     (omega (arith, length-drop done bytes)) in
-    sym (take-append-drop i digits) ∙ ap₂ ◌++◌ front (sym (to_end i digits) ∙ back)
+    sym (take-append-drop i digits) ∙ ap₂ ◌++◌ front (sym (take_rest digits i) ∙ back)
     ∙ sym (encode-append lower_digits (take done bytes) rest)
     ∙ ap (λ l. encode_lower (take done bytes ++ l))
     (sym (append-nil rest) ∙ ap (λ l. rest ++ l) (sym none))
@@ -368,6 +370,14 @@ part_lower i n text lower =
     (and_parts _ _ (sym (list_all-append is_lower_digit (take n (drop i text))
     (drop n (drop i text))) ∙ split)).0
 
+-- two parts of lower case digits, one after the other
+pub lower_halves : (n : ℕ) (text : List ℕ) → list_all is_lower_digit (take (n + n) text) ≡ true
+    → (list_all is_lower_digit (take n text) ≡ true)
+    × (list_all is_lower_digit (chunk n n text) ≡ true)
+lower_halves n text lower =
+    and_parts _ _ (sym (list_all-append is_lower_digit (take n text) (chunk n n text))
+    ∙ ap (list_all is_lower_digit) (sym (take-add n n text)) ∙ lower)
+
 -- each of some lower case digits is one
 pub lower_at : (text : List ℕ) (i : ℕ) → list_all is_lower_digit text ≡ true → i < length text
     → is_lower_digit (slice_index text i) ≡ true
@@ -386,16 +396,16 @@ module _ (done : ℕ) (text : List ℕ) (front : list_all is_lower_digit (take d
       → list_all is_lower_digit (take (done + more) text) ≡ true
   rest_counted more lower =
       more_lower done more text front
-      (ap (λ l. list_all is_lower_digit (take more l)) (sym (to_end done text)) ∙ lower)
+      (ap (λ l. list_all is_lower_digit (take more l)) (sym (take_rest text done)) ∙ lower)
 
   -- what follows them is none
   pub rest_other : (more : ℕ)
       → (more < length rest → is_lower_digit (slice_index rest more) ≡ false)
       → done + more < length text → is_lower_digit (slice_index text (done + more)) ≡ false
   rest_other more other below =
-      let long = ap length (to_end done text) ∙ length-drop done text in
+      let long = ap length (take_rest text done) ∙ length-drop done text in
       ap is_lower_digit (sym (get_or-drop done text more 0) ∙ ap (λ l. get_or l more 0)
-      (sym (to_end done text))) ∙ other (omega (arith, long))
+      (sym (take_rest text done))) ∙ other (omega (arith, long))
 
 -- the lesser marks of two halves are marks just where the block is of lower case digits
 pub block_lower : (text m1 m2 b : List ℕ)
@@ -405,7 +415,7 @@ pub block_lower : (text m1 m2 b : List ℕ)
     → list_all is_mark b ≡ list_all is_lower_digit (take 128 text)
 block_lower text m1 m2 b one two both =
     both ∙ list_all-append is_mark m1 m2
-    ∙ ap₂ ◌&&◌ one (two ∙ ap (λ l. list_all is_lower_digit (take 64 l)) (to_end 64 text))
+    ∙ ap₂ ◌&&◌ one (two ∙ ap (λ l. list_all is_lower_digit (take 64 l)) (take_rest text 64))
     ∙ sym (list_all-append is_lower_digit (take 64 text) (chunk 64 64 text))
     ∙ ap (list_all is_lower_digit) (sym (take-add 64 64 text))
 

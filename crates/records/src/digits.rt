@@ -1,6 +1,6 @@
 //! Bytes as lower case hexadecimal digits, two a byte.
 
-ghost use Rattle.std.specs.Prelude.{◌≡◌, ◌*◌, ◌<◌, ◌≤◌, ◌++◌, length, map, slice_index, take, true, false, nat_lt};
+ghost use Rattle.std.specs.Prelude.{◌≡◌, ◌*◌, ◌<◌, ◌≤◌, ◌++◌, drop, length, map, slice_index, take, true, false, nat_lt, IsTrue, MatchOption};
 ghost use Rattle.std.specs.List.{list_all};
 ghost use Rattle.hex.specs.Hex.{IsBytes, encode_lower, lower_digits};
 ghost use Rattle.records.specs.Digits.{is_mark, is_value};
@@ -178,6 +178,31 @@ pub fn read_digits(digits: &[u8], bytes: &mut [u8])
     read_lanes(&digits[2 * done..], &mut bytes[done..]);
 }
 
+/// Reads bytes as `read_digits` does, from a text that may have other bytes than digits, each of
+/// which is looked at once. `false` says nothing of the text.
+pub fn read_checked(text: &[u8], bytes: &mut [u8]) -> bool
+    requires { length text.now ≡ 2 * length bytes.old }
+    ensures { IsTrue result → (text.now ≡ encode_lower bytes.new) × IsBytes bytes.new }
+{
+    let mut done = 0;
+    while WIDE <= bytes.len() - done {
+        let Some(pair) = wide_of(&text[2 * done..]) else {
+            return false;
+        };
+        let first = pair.0;
+        let second = pair.1;
+        first.copy_to_slice(&mut bytes[done..]);
+        second.copy_to_slice(&mut bytes[done + LANES..]);
+        done += WIDE;
+    }
+    let rest = &text[2 * done..];
+    if count_lanes(rest) < rest.len() {
+        return false;
+    }
+    read_lanes(rest, &mut bytes[done..]);
+    true
+}
+
 /// Reads bytes from their two digits each, `LANES` bytes at a time while at least that many remain.
 fn read_lanes(digits: &[u8], bytes: &mut [u8])
     requires twice { length digits.now ≡ 2 * length bytes.old }
@@ -204,6 +229,22 @@ fn read_rest(digits: &[u8], bytes: &mut [u8])
         let high = value_of(digits[2 * place]);
         let low = value_of(digits[2 * place + 1]);
         bytes[place] = high * 16 + low;
+    }
+}
+
+/// The bytes that the first `HALF` bytes of a text spell as digits, `LANES` and `LANES`; `None`
+/// where they are not all digits.
+fn wide_of(text: &[u8]) -> Option<(u8x16, u8x16)>
+    requires { HALF ≤ length text.now }
+    ensures { MatchOption result
+        (list_all is_lower_digit (take HALF text.now) ≡ false)
+        (λ pair. (take WIDE text.now ≡ encode_lower pair.0) × IsBytes pair.0
+        × (take WIDE (drop WIDE text.now) ≡ encode_lower pair.1) × IsBytes pair.1) }
+{
+    if are_marked(marks_of_half(text)) {
+        Some((bytes_of(&text[..WIDE]), bytes_of(&text[WIDE..HALF])))
+    } else {
+        None
     }
 }
 

@@ -10,7 +10,7 @@ ghost use Rattle.records.specs.Record.{HasHeader, IsRecord};
 use crate::entry::Entry;
 use crate::record::{RecordFault, read_first, read_record};
 use crate::rows::read_wait;
-use acts::{Answer, NoMemory};
+use acts::{Answer, NoMemory, Row};
 use std::alloc::Allocator;
 
 /// The first line of a record of version 2, with its newline.
@@ -112,16 +112,25 @@ pub(crate) fn read_entry<A: Allocator + Copy>(
         (λ fault. IsNoteFault line text.now fault) }
 {
     let Some((rows, behind)) = read_wait(alloc, text)? else {
-        let Some((answer, rest)) = read_first(alloc, text)? else {
+        let Some((answer, rest)) = read_first(alloc, text, 0)? else {
             return Err(RecordFault::Line(line));
         };
         return Ok((Entry { rows: None, answer }, rest));
     };
-    let Some((answer, rest)) = read_first(alloc, behind)? else {
+    let Some((answer, rest)) = read_first(alloc, behind, likely_len(&rows))? else {
         return Err(RecordFault::Line(line + 1));
     };
     let rows = Some(rows);
     Ok((Entry { rows, answer }, rest))
+}
+
+/// How many bytes an arrival most likely has that answers a wait for these rows: as many as are
+/// wanted for the first of them.
+fn likely_len(rows: &[Row]) -> usize {
+    match rows.first() {
+        Some(row) => row.want as usize,
+        None => 0,
+    }
 }
 
 /// How many lines an entry has.

@@ -1,13 +1,13 @@
 //! The lines of records.
 
-ghost use Rattle.std.specs.Prelude.{◌≡◌, ◌≢◌, ◌^◌, ◌<◌, ◌≤◌, ◌∷◌, ◌++◌, ℕ, List, codes, decimal, MatchOption, IfOk, IfSome, IfNone, MatchBool};
+ghost use Rattle.std.specs.Prelude.{◌≡◌, ◌≢◌, ◌^◌, ◌<◌, ◌≤◌, ◌*◌, ◌∷◌, ◌++◌, ℕ, List, codes, decimal, length, MatchOption, IfOk, IfSome, IfNone, MatchBool};
 ghost use Rattle.acts.specs.Deed.{Reply, reply_of};
 ghost use Rattle.acts.specs.Fits.{greatest_status};
 ghost use Rattle.acts.specs.Id.{id_text};
 ghost use Rattle.hex.specs.Hex.{IsBytes, encode_lower};
 ghost use Rattle.records.specs.Record.{IsArrival, IsLine, arrival_text, newline};
 
-use crate::digits::{count_digits, read_digits};
+use crate::digits::{count_digits, read_checked, read_digits};
 use crate::numbers::{cut_id, read_decimal, read_id};
 use acts::{Answer, Id, NoMemory};
 use std::alloc::{Allocator, Global};
@@ -108,6 +108,44 @@ pub fn cut_arrival(text: &[u8]) -> Option<(Id, &[u8], &[u8])>
     } else {
         None
     }
+}
+
+/// The id and the bytes of an arrival of `len` bytes in the text that follows the word of its line,
+/// and what follows the line. `None` says nothing of the text.
+pub fn read_likely<A: Allocator>(
+    alloc: A,
+    text: &[u8],
+    len: usize,
+) -> Result<Option<(Id, Vec<u8, A>, &[u8])>, NoMemory>
+    ensures { IfOk result (λ found. IfSome found (λ parts. (parts.0.0 < 2 ^ 64)
+        × IsBytes parts.1.items
+        × (text.now ≡ arrival_text parts.0.0 parts.1.items ++ newline ∷ parts.2.now))) }
+{
+    let Some((id, digits, rest)) = cut_likely(text, len) else {
+        return Ok(None);
+    };
+    let mut bytes = vec![in alloc; 0u8; len]?;
+    if read_checked(digits, &mut bytes) {
+        Ok(Some((id, bytes, rest)))
+    } else {
+        Ok(None)
+    }
+}
+
+/// The id of an arrival, the part of its line where the digits of `len` bytes stand, and what
+/// follows the line, where it ends there. It is not looked whether they are digits.
+fn cut_likely(text: &[u8], len: usize) -> Option<(Id, &[u8], &[u8])>
+    ensures { IfSome result (λ parts. (parts.0.0 < 2 ^ 64) × (length parts.1.now ≡ 2 * len)
+        × (text.now ≡ id_text parts.0.0 ++ 32 ∷ (parts.1.now ++ newline ∷ parts.2.now))) }
+{
+    let (id, after_id) = cut_id(text)?;
+    let behind = after_id.strip_prefix(b" ")?;
+    if behind.len() / 2 < len {
+        return None;
+    }
+    let (digits, end) = behind.split_at(2 * len);
+    let rest = end.strip_prefix(b"\n")?;
+    Some((id, digits, rest))
 }
 
 /// The bytes that lower case digits spell, two a byte.

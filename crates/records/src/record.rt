@@ -9,7 +9,7 @@ ghost use Rattle.records.specs.Record.{AreLines, BeginsWithLine, HasHeader, HasL
 ghost use Rattle.records.specs.declared.record.RecordFault.TheVariants as fault;
 
 use crate::cut::cut_at;
-use crate::line::{cut_arrival, read_hex, read_other};
+use crate::line::{cut_arrival, read_hex, read_likely, read_other};
 use acts::{Answer, NoMemory};
 use std::alloc::{AllocFailed, Allocator};
 use thiserror::Error;
@@ -79,7 +79,7 @@ fn read_lines<A: Allocator + Copy>(alloc: A, lines: &[u8]) -> Result<Vec<Answer<
     let mut answers = Vec::new(alloc);
     let mut rest = lines;
     while !rest.is_empty() {
-        let Some((answer, after)) = read_first(alloc, rest)? else {
+        let Some((answer, after)) = read_first(alloc, rest, 0)? else {
             return Err(RecordFault::Line(answers.len() as u64 + 2));
         };
         answers.push(answer)?;
@@ -89,10 +89,11 @@ fn read_lines<A: Allocator + Copy>(alloc: A, lines: &[u8]) -> Result<Vec<Answer<
 }
 
 /// The answer whose line a text begins with, and what follows that line; `None` where it begins
-/// with the line of no answer.
-pub(crate) fn read_first<A: Allocator>(
+/// with the line of no answer. An arrival of `len` bytes is read fastest.
+pub(crate) fn read_first<A: Allocator + Copy>(
     alloc: A,
     text: &[u8],
+    len: usize,
 ) -> Result<Option<(Answer<A>, &[u8])>, NoMemory>
     ensures { IfOk result (λ found. MatchOption found
         (¬ BeginsWithLine text.now)
@@ -100,19 +101,27 @@ pub(crate) fn read_first<A: Allocator>(
         × (text.now ≡ line ++ newline ∷ first.1.now))) }
 {
     match text.strip_prefix(b"arrive ") {
-        Some(behind) => read_arrival(alloc, behind),
+        Some(behind) => read_arrival(alloc, behind, len),
         None => Ok(read_short(text)),
     }
 }
 
-/// The arrival whose line a text ends that follows its word, and what follows that line.
-fn read_arrival<A: Allocator>(alloc: A, text: &[u8]) -> Result<Option<(Answer<A>, &[u8])>, NoMemory>
+/// The arrival whose line a text ends that follows its word, and what follows that line. One of
+/// `len` bytes is read fastest.
+fn read_arrival<A: Allocator + Copy>(
+    alloc: A,
+    text: &[u8],
+    len: usize,
+) -> Result<Option<(Answer<A>, &[u8])>, NoMemory>
     ensures { IfOk result (λ found. MatchOption found
         ((n : ℕ) (bytes rest : List ℕ) → n < 2 ^ 64 → IsBytes bytes
         → text.now ≢ arrival_text n bytes ++ newline ∷ rest)
         (λ first. (line : List ℕ) × IsLine (reply_of first.0) (codes "arrive " ++ line)
         × (text.now ≡ line ++ newline ∷ first.1.now))) }
 {
+    if let Some((id, bytes, rest)) = read_likely(alloc, text, len)? {
+        return Ok(Some((Answer::Arrive(id, bytes), rest)));
+    }
     let Some((id, digits, rest)) = cut_arrival(text) else {
         return Ok(None);
     };
