@@ -19,13 +19,23 @@ use tcltext::Value;
 
 /// A run of a script that stops at each act. It is started, and then asked for its next step again
 /// and again, with the answer to the last act, until it gives the end.
-#[derive(Drop)]
 pub struct Session<A: Allocator> {
     running: Running<A>,
     state: State<A>,
     /// How many answers it has got.
     answers: u64,
     phase: Phase<A>,
+}
+
+impl<A: Allocator> Drop for Session<A> {
+    fn drop(self) {
+        let Session {
+            running: _,
+            state: _,
+            answers: _,
+            phase: _,
+        } = self;
+    }
 }
 
 /// What a session gives: an act to be performed, or the end.

@@ -43,7 +43,6 @@ pub(crate) struct Asker {
 
 /// One who tells the story of a run line by line as the run goes: each call gives the lines of what
 /// happened, which may be none. After an `Err` the story has a gap.
-#[derive(Drop)]
 pub struct Teller<A: Allocator> {
     pub(crate) alloc: A,
     /// How many bytes of the script are the texts of `-c`.
@@ -74,6 +73,31 @@ pub struct Teller<A: Allocator> {
     pub(crate) refusal: Option<Refusal>,
     /// Whether a write that failed ended the run.
     pub(crate) is_cut: bool,
+}
+
+impl<A: Allocator> Drop for Teller<A> {
+    fn drop(self) {
+        let Teller {
+            alloc: _,
+            commands: _,
+            script: _,
+            lines: _,
+            heard: _,
+            branches: _,
+            stands: _,
+            wait: _,
+            asked: _,
+            vains: _,
+            waiting: _,
+            in_turn: _,
+            ended: _,
+            report: _,
+            answered: _,
+            failed_at: _,
+            refusal: _,
+            is_cut: _,
+        } = self;
+    }
 }
 
 impl<A: Allocator + Copy> Teller<A> {
