@@ -1,8 +1,8 @@
 -- Runs that are sought first, and what a search for one says of the whole pattern.
-use Rattle.std.proofs.Common.{◌≡◌, ℕ, ◌+◌, ◌-◌, ◌≤◌, ◌<◌, false, Bool, List, [], ◌∷◌, ◌++◌, IsTrue, length, map, take, drop, refl, sym, ◌∙◌, ap, subst, inl, inr, arith, append_assoc, Option, Some, None, MatchOption}
+use Rattle.std.proofs.Common.{◌≡◌, ℕ, ◌+◌, ◌-◌, ◌≤◌, ◌<◌, false, Bool, List, [], ◌∷◌, ◌++◌, IsTrue, length, map, take, drop, refl, sym, ◌∙◌, ap, subst, inl, inr, arith, Option, Some, None, MatchOption}
 use Rattle.std.specs.Prelude.{IfNone, slice_range}
 use Rattle.std.proofs.lemmas.Bool.{cases_lt, false≢true, true_from_ne_false}
-use Rattle.std.proofs.lemmas.List.{length-drop, length-append, length-map, length-take-le, take-append-le, drop-append-le, drop-drop, take_all, take_at, drop_at}
+use Rattle.std.proofs.lemmas.List.{length-drop, length-append, length-map, length-take-le, take-append-le, drop-append-le, drop-drop, take_all}
 use Rattle.std.proofs.lemmas.Slice.Eq.{bytes_eq-Decides}
 use Rattle.std.specs.Str.{bytes_eq}
 use Rattle.patterns.specs.Glob.{exact}
@@ -12,10 +12,9 @@ use Rattle.patterns.specs.Passed.{Needs, Passed}
 use Rattle.patterns.specs.Runs.{IsFixed}
 use Rattle.patterns.specs.declared.search.Found.{Found}
 use Rattle.patterns.proofs.Folds.{compared-length, compared-range}
+use Rattle.patterns.proofs.Needs.{range_inside, whole_parts}
 use Rattle.patterns.proofs.RunItems.{IsFixed-text}
 use Rattle.patterns.proofs.Shifts.{Passed-here, Sits-on}
-use Rattle.patterns.proofs.Spans.{slice_range-joined}
-use Rattle.patterns.proofs.Stars.{drop_behind}
 use Rattle.dialog.specs.Lead.{IsRun, IsNeeded, Seeks, is_all, run_of}
 use Rattle.dialog.specs.declared.lead.Key.{Key}
 use Rattle.dialog.specs.declared.lead.Seeker.{Seeker}
@@ -168,38 +167,6 @@ text_run text = record {
   fixed = IsFixed-text text;
   long = length-map text literal;
 }
-
--- the parts of a text that the items in front and those after them take
-whole_parts : (items more : List Item) (t : List ℕ) → Whole (items ++ more) t →
-    (front rest : List ℕ) × (t ≡ front ++ rest) × Whole items front × Whole more rest
-whole_parts [] more t whole = ([], t, refl, refl, whole)
-whole_parts (item ∷ items) more t (piece, rest, joined, taken, whole) =
-    let (front, back, split, ours, theirs) = whole_parts items more rest whole in (
-      piece ++ front,
-      back,
-      joined ∙ ap (λ (x : List ℕ). piece ++ x) split ∙ sym (append_assoc piece front back),
-      (piece, front, refl, taken, ours),
-      theirs,
-    )
-
--- a part of what stands from s up to e
-range_inside : (w front part rest : List ℕ) (s e : ℕ) → s ≤ e →
-    slice_range w s e ≡ front ++ (part ++ rest) →
-    slice_range w (s + length front) (s + length front + length part) ≡ part
-range_inside w front part rest s e ordered split =
-    let whole : drop s w ≡ front ++ (part ++ (rest ++ drop e w)) =
-    sym (slice_range-joined w s e ordered)
-    ∙ ap (λ (x : List ℕ). x ++ drop e w) split
-    ∙ append_assoc front (part ++ rest) (drop e w)
-    ∙ ap (λ (x : List ℕ). front ++ x) (append_assoc part rest (drop e w)) in
-    let behind : drop (s + length front) w ≡ part ++ (rest ++ drop e w) =
-    sym (drop_behind w s (length front) (s + length front) refl)
-    ∙ ap (λ (x : List ℕ). drop (length front) x) whole
-    ∙ drop_at front (part ++ (rest ++ drop e w)) (length front) refl in
-    let size : s + length front + length part - (s + length front) ≡ length part = omega arith in
-    ap (λ (n : ℕ). take n (drop (s + length front) w)) size
-    ∙ ap (take (length part)) behind
-    ∙ take_at part (rest ++ drop e w) (length part) refl
 
 -- a run among the items stands where the pattern sits
 pub part_needed : (p run : Reading) (before after : List Item) → run.at_start ≡ false →

@@ -2,11 +2,10 @@
 use Rattle.std.proofs.Common.{◌≡◌, ℕ, zero, suc, ◌+◌, ◌-◌, ◌≤◌, ◌<◌, ◌==◌, Bool, true, false, cond, List, [], ◌∷◌, ◌++◌, length, map, take, drop, refl, sym, ◌∙◌, ap, subst, arith, slice_index, Some}
 use Rattle.std.specs.Prelude.{slice_range}
 use Rattle.std.proofs.Math.Seq.{take-add}
-use Rattle.std.proofs.lemmas.Bool.{false≢true}
+use Rattle.std.proofs.lemmas.Bool.{false_from_ne_true, false≢true}
 use Rattle.std.proofs.lemmas.List.{append-nil, append_assoc, length-append, length-drop, length-map, map-append, take-append-drop}
 use Rattle.std.specs.List.{AllByRecursion}
 use Rattle.patterns.proofs.RunItems.{IsFixed-text}
-use Rattle.patterns.proofs.Tests.{false_from_not_true}
 use Rattle.patterns.specs.Glob.{Sign, bare, quoted, a_set, signs, signs_in_set, signs_behind_backslash, item_of, ends_in_dollar, begins_in_caret, after_caret, glob, plain, exact, folded}
 use Rattle.patterns.specs.Item.{Item, Reading, literal, any_byte, one_of, any_run}
 use Rattle.patterns.specs.Match.{Sits, Whole, compared}
@@ -124,7 +123,7 @@ closed so_far (c ∷ text) zero rest within before here =
     here
     ∙ ap (λ (x : List ℕ). a_set x ∷ signs rest) (sym (append-nil so_far))
 closed so_far (c ∷ text) (suc k) rest within before here =
-    let open' : (c == 93) ≡ false = false_from_not_true (c == 93)
+    let open' : (c == 93) ≡ false = false_from_ne_true (c == 93)
     (before 0 (omega arith) (omega arith)) in
     ap (λ (b : Bool). cond b (a_set so_far ∷ signs (take (suc k) text ++ rest))
     (signs_in_set (so_far ++ c ∷ []) (take (suc k) text ++ rest))) open'

@@ -2,7 +2,6 @@ pub mod Spans
 pub mod Stars
 pub mod Sets
 pub mod Signs
-pub mod Tests
 pub mod Places
 pub mod Texts
 pub mod Finds

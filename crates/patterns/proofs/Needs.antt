@@ -11,7 +11,7 @@ use Rattle.patterns.proofs.Spans.{slice_range-joined}
 use Rattle.patterns.proofs.Stars.{drop_behind}
 
 -- the parts of a text that the items in front and those after them take
-whole_parts : (items more : List Item) (t : List ℕ) → Whole (items ++ more) t →
+pub whole_parts : (items more : List Item) (t : List ℕ) → Whole (items ++ more) t →
     (front rest : List ℕ) × (t ≡ front ++ rest) × Whole items front × Whole more rest
 whole_parts [] more t whole = ([], t, refl, refl, whole)
 whole_parts (item ∷ items) more t (piece, rest, joined, taken, whole) =
@@ -24,7 +24,7 @@ whole_parts (item ∷ items) more t (piece, rest, joined, taken, whole) =
     )
 
 -- a part of what stands from s up to e
-range_inside : (w front part rest : List ℕ) (s e : ℕ) → s ≤ e →
+pub range_inside : (w front part rest : List ℕ) (s e : ℕ) → s ≤ e →
     slice_range w s e ≡ front ++ (part ++ rest) →
     slice_range w (s + length front) (s + length front + length part) ≡ part
 range_inside w front part rest s e ordered split =

@@ -1,8 +1,8 @@
 -- How a set ends, and which sign is the last.
 use Rattle.std.proofs.Common.{◌≡◌, ℕ, zero, suc, ◌<◌, ◌≤◌, Bool, true, false, cond, List, [], ◌∷◌, ◌++◌, length, take, drop, refl, sym, ◌∙◌, ap, arith, slice_index, ◌==◌}
+use Rattle.std.proofs.lemmas.Bool.{false_from_ne_true}
 use Rattle.std.proofs.lemmas.List.{append-nil, append_assoc}
 use Rattle.patterns.specs.Glob.{Sign, a_set, signs, signs_in_set, is_dollar, ends_in_dollar}
-use Rattle.patterns.proofs.Tests.{false_from_not_true}
 
 -- the first `]` ends a set
 pub signs_in_set-closed : (so_far text : List ℕ) (k : ℕ) → k < length text →
@@ -15,7 +15,7 @@ signs_in_set-closed so_far (c ∷ text) zero within before here =
     here
     ∙ ap (λ (x : List ℕ). a_set x ∷ signs text) (sym (append-nil so_far))
 signs_in_set-closed so_far (c ∷ text) (suc k) within before here =
-    let open' : (c == 93) ≡ false = false_from_not_true (c == 93)
+    let open' : (c == 93) ≡ false = false_from_ne_true (c == 93)
     (before 0 (omega arith) (omega arith)) in
     ap (λ (b : Bool). cond b (a_set so_far ∷ signs text) (signs_in_set (so_far ++ c ∷ []) text))
     open'
@@ -30,7 +30,7 @@ pub signs_in_set-open : (so_far text : List ℕ) →
     signs_in_set so_far text ≡ a_set (so_far ++ text) ∷ []
 signs_in_set-open so_far [] before = ap (λ (x : List ℕ). a_set x ∷ []) (sym (append-nil so_far))
 signs_in_set-open so_far (c ∷ text) before =
-    let open' : (c == 93) ≡ false = false_from_not_true (c == 93)
+    let open' : (c == 93) ≡ false = false_from_ne_true (c == 93)
     (before 0 (omega arith) (omega arith)) in
     ap (λ (b : Bool). cond b (a_set so_far ∷ signs text) (signs_in_set (so_far ++ c ∷ []) text))
     open'

@@ -1,6 +1,6 @@
-//! Tests of the public calls of `tcltext` and `tclparse`: tables of what tclsh 8.6 makes of texts
-//! and scripts, and of this project's own rules, long texts, and patterns compared with two slow
-//! searches.
+//! Tests of the public calls of `tcltext`, `patterns` and `tclparse`: tables of what tclsh 8.6
+//! makes of texts and scripts, and of this project's own rules, long texts, and patterns compared
+//! with two slow searches.
 #![tactic(auto)]
 
 mod matching;

@@ -1,5 +1,5 @@
 use Rattle.std.proofs.Common.{◌≡◌, Result, Ok, Err, subst}
-use Rattle.patterns.proofs.Tests.{false_from_not_true}
+use Rattle.std.proofs.lemmas.Bool.{false_from_ne_true}
 use Rattle.dialog.specs.Drafts.{wanted_of}
 use Rattle.dialog.specs.Reads.{is_too_long}
 use Rattle.dialog.proofs.draft.shared_branch.Goals as goal
@@ -13,5 +13,5 @@ no_error x e is = subst IsOk is tt
 
 pub returns-clause-short : goal.returns-clause-short
 returns-clause-short g c =
-    false_from_not_true (is_too_long (wanted_of c.args.wanted))
+    false_from_ne_true (is_too_long (wanted_of c.args.wanted))
     (λ long. no_error _ _ (c.in_ok-awaited.ensures.too_long.1 long))
