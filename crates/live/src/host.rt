@@ -18,17 +18,27 @@ use std::thread;
 use std::time::{Duration, Instant};
 
 /// The system of this process.
-#[derive(Drop)]
 pub struct Host<'a, R> {
     rt: &'a R,
     polling: Polling,
 }
 
+impl<R> Drop for Host<'_, R> {
+    fn drop(self) {
+        let Host { rt: _, polling: _ } = self;
+    }
+}
+
 /// The open ends that an id is written to and read from.
-#[derive(Drop)]
 pub struct Wire {
     id: Id,
     pub ends: Ends,
+}
+
+impl Drop for Wire {
+    fn drop(self) {
+        let Wire { id: _, ends: _ } = self;
+    }
 }
 
 /// The open ends of a program or a server.
@@ -44,10 +54,15 @@ pub enum Ends {
 }
 
 /// A program that was started under an id and not waited for yet.
-#[derive(Drop)]
 pub struct Started {
     id: Id,
     child: Child<SystemProcess>,
+}
+
+impl Drop for Started {
+    fn drop(self) {
+        let Started { id: _, child: _ } = self;
+    }
 }
 
 impl Owned for Wire {

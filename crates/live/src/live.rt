@@ -23,7 +23,6 @@ use std::rt::{Clock, Files};
 
 /// The live world: it starts programs over pipes, connects to servers over TCP, and writes what
 /// goes out to two writers.
-#[derive(Drop)]
 pub struct Live<S: System, O, E> {
     system: S,
     out: O,
@@ -34,6 +33,20 @@ pub struct Live<S: System, O, E> {
     peers: Peers<S::Link>,
     /// The programs that were not waited for yet.
     programs: Vec<S::Program>,
+}
+
+impl<S: System + Drop, O: Drop, E: Drop> Drop for Live<S, O, E> {
+    fn drop(self) {
+        let Live {
+            system: _,
+            out: _,
+            err: _,
+            log: _,
+            refusal: _,
+            peers: _,
+            programs: _,
+        } = self;
+    }
 }
 
 impl<'a, R, O: Write + Drop, E: Write + Drop> Live<Host<'a, R>, O, E>

@@ -26,11 +26,16 @@ const EARLY_FOR_EACH: usize = 2;
 const MOST_READ: usize = 65_536;
 
 /// A program or a server that is open.
-#[derive(Drop)]
 pub struct Peer<L> {
     pub link: L,
     /// Bytes that came while something was sent and were not handed on yet.
     early: VecDeque<u8>,
+}
+
+impl<L: Drop> Drop for Peer<L> {
+    fn drop(self) {
+        let Peer { link: _, early: _ } = self;
+    }
 }
 
 /// Looks once for bytes from a peer, and puts them at the start of the room: bytes that were kept
@@ -125,7 +130,6 @@ fn room_left(early: &VecDeque<u8>, size: usize) -> usize
 }
 
 /// All that is open, and what waiting for it needs.
-#[derive(Drop)]
 pub struct Peers<L> {
     pub alloc: Global,
     pub list: Vec<Peer<L>>,
@@ -135,6 +139,18 @@ pub struct Peers<L> {
     pub deadline: Option<Instant>,
     /// Where reads put their bytes. It is made with the first link.
     pub room: Vec<u8>,
+}
+
+impl<L: Drop> Drop for Peers<L> {
+    fn drop(self) {
+        let Peers {
+            alloc: _,
+            list: _,
+            last: _,
+            deadline: _,
+            room: _,
+        } = self;
+    }
 }
 
 impl<L: Owned + Drop> Peers<L> {

@@ -18,12 +18,21 @@ const MOST_EVENTS: usize = 64;
 const ANY: Token = Token(0);
 
 /// The links that are watched.
-#[derive(Drop)]
 pub struct Polling {
     poll: Poll,
     /// This one is asked about one end at a time, so that `poll` still reports what is new.
     single: Poll,
     events: Events<Global>,
+}
+
+impl Drop for Polling {
+    fn drop(self) {
+        let Polling {
+            poll: _,
+            single: _,
+            events: _,
+        } = self;
+    }
 }
 
 impl Polling {

@@ -12,11 +12,20 @@ use std::io;
 /// A record's file, over a sink. What is put is gathered until an entry is whole, and then goes out
 /// at once, so that a run that is killed leaves the record of its beginning. It fails at the first
 /// text of which its sink takes nothing.
-#[derive(Drop)]
 pub struct RecordFile<S> {
     file: S,
     gathered: Room,
     failed: bool,
+}
+
+impl<S: Drop> Drop for RecordFile<S> {
+    fn drop(self) {
+        let RecordFile {
+            file: _,
+            gathered: _,
+            failed: _,
+        } = self;
+    }
 }
 
 impl<S: Sink> RecordFile<S> {

@@ -14,10 +14,15 @@ use std::alloc::Allocator;
 /// A world that passes each act to another world, and writes each answer, with the rows of its
 /// wait, to a sink as it comes: a record of version 2. A recorder keeps no answers. Nothing more is
 /// written to a sink that has failed; acts are answered all the same.
-#[derive(Drop)]
 pub struct Recorder<W, S> {
     world: W,
     sink: S,
+}
+
+impl<W: Drop, S: Drop> Drop for Recorder<W, S> {
+    fn drop(self) {
+        let Recorder { world: _, sink: _ } = self;
+    }
 }
 
 impl<W, S: Sink> Recorder<W, S> {

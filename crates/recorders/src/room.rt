@@ -9,11 +9,16 @@ use std::alloc::{AllocError, Global};
 pub const ROOM: usize = 65_536;
 
 /// Room for bytes that are gathered. Once it is made, no memory is asked for.
-#[derive(Drop)]
 pub struct Room {
     bytes: Vec<u8>,
     ghost enough: { 65536 ≤ vec_capacity bytes },
     ghost within: { vec_len bytes ≤ 65536 },
+}
+
+impl Drop for Room {
+    fn drop(self) {
+        let Room { bytes: _ } = self;
+    }
 }
 
 impl Room {

@@ -9,12 +9,21 @@ use std::alloc::Allocator;
 /// Bytes that were read and not used yet, which are used from the front. They lie in one block, and
 /// a piece is read to their end. Where the block ends they are moved to its front, but only where
 /// at least as many bytes were used: so a byte is moved once on average. Else the block grows.
-#[derive(Drop)]
 pub struct Ahead<A: Allocator> {
     block: Vec<u8, A>,
     start: usize,
     end: usize,
     ghost within: { (start ≤ end) × (end ≤ vec_len block) × (0 < vec_len block) },
+}
+
+impl<A: Allocator> Drop for Ahead<A> {
+    fn drop(self) {
+        let Ahead {
+            block: _,
+            start: _,
+            end: _,
+        } = self;
+    }
 }
 
 impl<A: Allocator + Copy> Ahead<A> {

@@ -38,12 +38,21 @@ impl<W: Write> Writer for W {
 
 /// A sink over an `io::Write`. It fails at the first write that fails, or that takes none of a text
 /// that is not empty; a write that was interrupted is tried again.
-#[derive(Drop)]
 pub struct Counted<W> {
     writer: W,
     failed: bool,
     /// The error of the last write that failed.
     fault: Option<io::Error>,
+}
+
+impl<W: Drop> Drop for Counted<W> {
+    fn drop(self) {
+        let Counted {
+            writer: _,
+            failed: _,
+            fault: _,
+        } = self;
+    }
 }
 
 impl<W> Counted<W> {

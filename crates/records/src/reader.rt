@@ -46,12 +46,22 @@ impl From<NoMemory> for ReadFault {
 
 /// A record that is read as its bytes come. Nothing is kept of what was read but what begins the
 /// next entry.
-#[derive(Drop)]
 pub struct EntryReader<A: Allocator, S> {
     alloc: A,
     source: S,
     ahead: Ahead<A>,
     ended: bool,
+}
+
+impl<A: Allocator, S: Drop> Drop for EntryReader<A, S> {
+    fn drop(self) {
+        let EntryReader {
+            alloc: _,
+            source: _,
+            ahead: _,
+            ended: _,
+        } = self;
+    }
 }
 
 impl<A: Allocator + Copy, S: Source + Drop> EntryReader<A, S> {

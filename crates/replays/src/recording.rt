@@ -16,12 +16,21 @@ use std::alloc::Allocator;
 /// the entry of an answer states the rows of a wait, only a wait with these rows gets the answer;
 /// any other act differs from the run that was recorded, and from that act on there are no more
 /// answers.
-#[derive(Drop)]
 pub struct Recording<A: Allocator> {
     left: Left<A>,
     answered: u64,
     differs: Option<u64>,
     ghost counted: { answered + left_len left < 2 ^ 64 },
+}
+
+impl<A: Allocator> Drop for Recording<A> {
+    fn drop(self) {
+        let Recording {
+            left: _,
+            answered: _,
+            differs: _,
+        } = self;
+    }
 }
 
 impl<A: Allocator> Recording<A> {
@@ -76,6 +85,6 @@ impl<A: Allocator> Answerer<A> for Recording<A> {
             return Answer::NoMore;
         }
         self.answered += 1;
-        next.answer
+        next.into_answer()
     }
 }

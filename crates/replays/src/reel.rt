@@ -14,7 +14,6 @@ use std::alloc::Allocator;
 /// A recorded run that is read as it is replayed, an entry for each act, so that it takes no more
 /// memory the longer it is. It answers as a `Recording` does, as long as entries are read. From
 /// the first entry on that can't be read there are no more answers, and `halt` says why.
-#[derive(Drop)]
 pub struct Reel<A: Allocator, S> {
     entries: EntryReader<A, S>,
     /// How many entries are left.
@@ -22,6 +21,17 @@ pub struct Reel<A: Allocator, S> {
     answered: u64,
     halt: Option<Halt>,
     ghost counted: { answered + left < 2 ^ 64 },
+}
+
+impl<A: Allocator, S: Drop> Drop for Reel<A, S> {
+    fn drop(self) {
+        let Reel {
+            entries: _,
+            left: _,
+            answered: _,
+            halt: _,
+        } = self;
+    }
 }
 
 impl<A: Allocator + Copy, S: Source + Drop> Reel<A, S> {
@@ -94,7 +104,7 @@ impl<A: Allocator + Copy, S: Source + Drop> Reel<A, S> {
             return Answer::NoMore;
         }
         self.answered = number;
-        entry.answer
+        entry.into_answer()
     }
 
     /// Why there are no more answers, though entries are left; `None` where the run went on so far.

@@ -16,11 +16,20 @@ use std::alloc::Allocator;
 /// A world that answers from a recorded run, the first answer first, and then `Answer::NoMore`. It
 /// writes the bytes that go out by the acts Out and Err to its two writers, and only answers the
 /// others.
-#[derive(Drop)]
 pub struct Replay<A: Allocator, O, E> {
     recording: Recording<A>,
     out: O,
     err: E,
+}
+
+impl<A: Allocator, O: Drop, E: Drop> Drop for Replay<A, O, E> {
+    fn drop(self) {
+        let Replay {
+            recording: _,
+            out: _,
+            err: _,
+        } = self;
+    }
 }
 
 impl<A: Allocator, O: Sink, E: Sink> Replay<A, O, E> {

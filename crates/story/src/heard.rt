@@ -18,11 +18,16 @@ pub const MOST_IDS: usize = 128;
 /// What was heard of all ids, within limits: where more than [`MOST_KEPT`] is kept, the id with the
 /// most loses its older half, and where there are more than [`MOST_IDS`], the one that spoke first
 /// is forgotten.
-#[derive(Drop)]
 pub struct Heard<A: Allocator> {
     alloc: A,
     /// The ids in the order in which they first spoke.
     tapes: Vec<Tape<A>, A>,
+}
+
+impl<A: Allocator> Drop for Heard<A> {
+    fn drop(self) {
+        let Heard { alloc: _, tapes: _ } = self;
+    }
 }
 
 impl<A: Allocator + Copy> Heard<A> {

@@ -12,11 +12,16 @@ use replays::Reel;
 use std::alloc::Global;
 
 /// The bytes of a file, as a source of a record.
-#[derive(Drop)]
 pub struct FileSource<R> {
     file: R,
     /// How many bytes may still be asked for, so that a source comes to an end.
     left: u64,
+}
+
+impl<R: Drop> Drop for FileSource<R> {
+    fn drop(self) {
+        let FileSource { file: _, left: _ } = self;
+    }
 }
 
 impl<R> FileSource<R> {
