@@ -3,13 +3,13 @@ use Rattle.std.proofs.Common.{◌≡◌, inl, inr, ℕ, ◌&&◌, Bool, true, fa
 use Rattle.std.proofs.lemmas.List.Folds.{list_all-append}
 use Rattle.std.specs.List.{list_all}
 use Rattle.acts.specs.declared.id.Id.{Id}
-use Rattle.dialog.specs.Branches.{Branches, branches}
+use Rattle.choices.specs.Branches.{Branches, branches}
 use Rattle.dialog.specs.KeptBranches.{SaysAlways}
-use Rattle.dialog.specs.Lines.{Line}
+use Rattle.choices.specs.Lines.{Line}
 use Rattle.dialog.specs.Parts.{Part, Ids, Seconds, Stays, TellsPlaces, Folds, Awaits, Lacks, Regex, Bad, parts}
 use Rattle.dialog.specs.Reads.{Outcome, Reads, first_shut, IsRead, beside, branch_at, in_front, named_at, named_or, no_flags, place}
 use Rattle.dialog.specs.Standing.{is_open_in}
-use Rattle.dialog.specs.declared.branch.Flags.{Flags}
+use Rattle.choices.specs.declared.branch.Flags.{Flags}
 use Rattle.dialog.proofs.IdLists.{none_shut}
 
 -- all of these ids are open

@@ -4,7 +4,7 @@ use mathlib.Core.Logic.{inl, inr}
 use Rattle.std.proofs.lemmas.Result.{err_from_is_err_and}
 use Rattle.std.specs.Prelude.{IfOk, IfErr, IfSome, IsErrAnd, length}
 use Rattle.acts.specs.declared.id.Id.{Id}
-use Rattle.dialog.specs.Branches.{Branches, branches}
+use Rattle.choices.specs.Branches.{Branches, branches}
 use Rattle.dialog.specs.Drafts.{Draft, blank, with_ids, with_seconds, with_flag, with_branch, GoesOn, Fails}
 use Rattle.dialog.specs.Parts.{Part, Wanted, Ids, Seconds, Awaits, Sign, Alone, alone_part, expected_by, sign, AList, ANumber, ABody, parts, parts_from}
 use Rattle.dialog.specs.Reads.{Place, Outcome, Flaw, HasIds, MissesIds, IsSeconds, later, beside, branch_at, branch_flaw, ids_for, in_front, at_end, named_at, named_or, IsRead}

@@ -11,7 +11,7 @@ use Rattle.tcltext.specs.Flaw.{Flaw}
 use Rattle.tcltext.specs.Elements.{IsList, HasFlaw}
 use Rattle.tcltext.specs.Seen.{texts}
 use Rattle.tcltext.proofs.Unique.{one_list, no_list_with_flaw}
-use Rattle.dialog.specs.Lines.{Line}
+use Rattle.choices.specs.Lines.{Line}
 use Rattle.dialog.specs.Reads.{AreSmall, AreSpelled, IsIds, first_shut}
 use Rattle.dialog.specs.Standing.{is_open_in}
 

@@ -13,7 +13,7 @@ use Rattle.patterns.proofs.Sought.{up_to}
 use Rattle.patterns.proofs.Decided.{Decided}
 use Rattle.tcltext.proofs.Total.{list_or_flaw}
 use Rattle.tcltext.proofs.Unique.{one_list, no_list_with_flaw}
-use Rattle.dialog.specs.Lines.{Line, id_of}
+use Rattle.choices.specs.Lines.{Line, id_of}
 use Rattle.dialog.specs.Reads.{AreSmall, AreSpelled, IsIds, HasIds, MissesIds, NotIds, NotOpen, Flaw, first_shut}
 use Rattle.dialog.specs.Standing.{is_open_in}
 use Rattle.dialog.proofs.IdLists.{texts_of, none_shut}

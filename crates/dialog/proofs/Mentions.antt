@@ -2,7 +2,7 @@
 use Rattle.std.proofs.Common.{◌≡◌, ℕ, ◌==◌, ◌<◌, Bool, true, false, List, [], ◌∷◌, ◌++◌, if◌then◌else◌, refl, sym, ap, ◌∙◌, append_assoc, append-nil, arith, rules}
 use Rattle.std.proofs.lemmas.Bool.Decides.{nat_tests}
 use Rattle.acts.specs.declared.id.Id.{Id}
-use Rattle.dialog.specs.Branches.{Pair, Branches}
+use Rattle.choices.specs.Branches.{Pair, Branches}
 use Rattle.dialog.specs.Standing.{Standing, RiseAfter, is_among, first_mentions, ids_of, waited}
 
 -- one id further

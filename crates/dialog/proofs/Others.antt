@@ -1,7 +1,7 @@
 -- The pairs whose ids are not among named ones, one by one.
 use Rattle.std.proofs.Common.{◌≡◌, Bool, true, false, cond, not, List, [], ◌∷◌, ◌++◌, refl, sym, ap, ◌∙◌, append_assoc}
 use Rattle.acts.specs.declared.id.Id.{Id}
-use Rattle.dialog.specs.Branches.{Pair}
+use Rattle.choices.specs.Branches.{Pair}
 use Rattle.dialog.specs.Standing.{is_among, others}
 
 -- a pair whose id is named is left out, and a pair of another id is kept

@@ -5,10 +5,10 @@ use Rattle.tcltext.specs.Numbers.{is_number}
 use Rattle.tcltext.proofs.Numerals.{one_value}
 use Rattle.patterns.proofs.Decided.{Decided}
 use Rattle.tcltext.proofs.Within.{number_is_numeral}
-use Rattle.dialog.specs.Branches.{branches}
+use Rattle.choices.specs.Branches.{branches}
 use Rattle.dialog.specs.Parts.{Part, Ids, Seconds, Stays, TellsPlaces, Folds, Awaits, Lacks, Regex, Bad, Wanted, parts}
 use Rattle.dialog.specs.Reads.{Place, Outcome, Flaw, NoPattern, RegexNotHere, BadFlag, IsSeconds, Reads, IsRead, at_end, branch_at, branch_flaw, ids_for, in_front, named_at, no_flags}
-use Rattle.dialog.specs.declared.branch.Flags.{Flags}
+use Rattle.choices.specs.declared.branch.Flags.{Flags}
 use Rattle.dialog.proofs.IdsRead.{Lists, lists, one_list_of_ids, one_miss, not_missed}
 
 -- a text is a number of seconds, or none

@@ -1,11 +1,11 @@
 -- What the words of an expect have said so far.
 use Rattle.std.specs.Prelude.{◌≡◌, ℕ, true, List, [], ℤ, Option, Some, None, Err, Vec}
 use Rattle.acts.specs.declared.id.Id.{Id}
-use Rattle.dialog.specs.Branches.{Branches, branches}
+use Rattle.choices.specs.Branches.{Branches, branches}
 use Rattle.dialog.specs.Parts.{Part, Wanted, Seeks, Names}
 use Rattle.dialog.specs.Reads.{Place, Outcome, Flaw, Reads, beside, branch_at, in_front, no_flags}
 use Rattle.dialog.specs.Signs.{style_of, named_by_keyword}
-use Rattle.dialog.specs.declared.branch.Flags.{Flags}
+use Rattle.choices.specs.declared.branch.Flags.{Flags}
 use Rattle.dialog.specs.declared.draft.Wanted as coded
 use Rattle.dialog.specs.declared.draft.Wanted.TheVariants as wanted
 use Rattle.dialog.specs.declared.sign.Mark as marks

@@ -2,8 +2,8 @@
 use Rattle.std.specs.Prelude.{ℕ, IsTrue, Bool, List, Option, Ok}
 use Rattle.std.specs.List.{All, list_all}
 use Rattle.acts.specs.declared.id.Id.{Id}
-use Rattle.dialog.specs.Branches.{Branches}
-use Rattle.dialog.specs.Lines.{Line}
+use Rattle.choices.specs.Branches.{Branches}
+use Rattle.choices.specs.Lines.{Line}
 use Rattle.dialog.specs.Reads.{IsRead, place}
 use Rattle.dialog.specs.Standing.{is_open_in}
 use Rattle.dialog.specs.declared.kept_branches.Reading.{Reading}

@@ -1,7 +1,7 @@
 -- What the words of an expect say, one part after another.
 use Rattle.std.specs.Prelude.{ℕ, ◌==◌, ◌||◌, Bool, false, List, [], ◌∷◌, ◌++◌, codes, if◌then◌else◌}
 use Rattle.std.specs.Str.{bytes_eq}
-use Rattle.dialog.specs.Branches.{Awaited, FullBuffer, Eof, Timeout, Default}
+use Rattle.choices.specs.Branches.{Awaited, FullBuffer, Eof, Timeout, Default}
 
 -- how a text is sought: as a glob, or as it stands (expect(1), -gl and -ex)
 pub data Style : Type 0 where

@@ -5,13 +5,14 @@ use Rattle.acts.specs.Id.{id_text}
 use Rattle.acts.specs.declared.id.Id.{Id}
 use Rattle.tcltext.specs.Elements.{IsList}
 use Rattle.tcltext.specs.Numeral.{IsNumeral, IsInRange}
-use Rattle.patterns.specs.Glob.{glob, exact, folded}
+use Rattle.patterns.specs.Glob.{glob, exact}
 use Rattle.patterns.specs.Item.{Reading}
-use Rattle.dialog.specs.Branches.{Awaited, Sought, Branch, Pair, pair, Branches, branches}
-use Rattle.dialog.specs.Lines.{Line}
+use Rattle.choices.specs.Branches.{Awaited, Sought, Branch, Pair, pair, Branches, branches}
+use Rattle.choices.specs.Lines.{Line}
+use Rattle.searches.specs.Lead.{sought_by}
 use Rattle.dialog.specs.Parts.{Glob, Exact, Wanted, Seeks, Names, Part, Ids, Seconds, Stays, TellsPlaces, Folds, Awaits, Lacks, Regex, Bad, parts}
 use Rattle.dialog.specs.Standing.{is_open_in}
-use Rattle.dialog.specs.declared.branch.Flags.{Flags}
+use Rattle.choices.specs.declared.branch.Flags.{Flags}
 
 -- why words give no branches: a text is no list of ids, or an empty one; an id is not open; none is
 -- in force that is open; a flag has no word or no branch after it; -re; a word that is no flag; a
@@ -119,11 +120,6 @@ at_end flags = if has_flags flags then Err NoPattern else Ok (branches [] [] Non
 abbrev pub is_too_long : Wanted → Bool
 is_too_long (Seeks style text) = nat_lt 1000000 (length text)
 is_too_long (Names keyword) = false
-
--- a pattern, for which the letters of a window are folded where the branch asks for it; the pattern
--- itself stays (expect(1), -nocase)
-abbrev pub sought_by : Bool → Reading → Reading
-sought_by folds pattern = if folds then folded pattern else pattern
 
 -- what a branch waits for; a keyword is the same where letters are folded (expect(1), -gl, -ex and
 -- -nocase)

@@ -1,6 +1,6 @@
 -- What the signs of the code stand for.
 use Rattle.std.specs.Prelude.{ℕ, List}
-use Rattle.dialog.specs.Branches as awaited
+use Rattle.choices.specs.Branches as awaited
 use Rattle.dialog.specs.Parts as part
 use Rattle.dialog.specs.Parts.{Part, AList, ANumber, APattern, ABody, Sign, Alone, Leaves, Seeks, Names}
 use Rattle.dialog.specs.declared.sign.Keyword as keywords
@@ -9,8 +9,8 @@ use Rattle.dialog.specs.declared.sign.Mark as marks
 use Rattle.dialog.specs.declared.sign.Mark.TheVariants as mark
 use Rattle.dialog.specs.declared.sign.Sign as signs
 use Rattle.dialog.specs.declared.sign.Sign.TheVariants as sign
-use Rattle.dialog.specs.declared.sign.Style as styles
-use Rattle.dialog.specs.declared.sign.Style.TheVariants as style
+use Rattle.searches.specs.declared.style.Style as styles
+use Rattle.searches.specs.declared.style.Style.TheVariants as style
 
 -- how a text is sought
 abbrev pub style_of : styles.Style → part.Style

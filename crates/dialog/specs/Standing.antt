@@ -2,8 +2,8 @@
 use Rattle.std.specs.Prelude.{◌==◌, ◌<◌, not, Bool, List, [], ◌∷◌, ◌++◌, map, filter, is_some, if◌then◌else◌}
 use Rattle.std.specs.List.{list_any}
 use Rattle.acts.specs.declared.id.Id.{Id}
-use Rattle.dialog.specs.Branches.{Pair, Branches}
-use Rattle.dialog.specs.Lines.{Line, line_of}
+use Rattle.choices.specs.Branches.{Pair, Branches}
+use Rattle.choices.specs.Lines.{Line, line_of}
 use Rattle.dialog.specs.declared.standing.Side.{Side}
 use Rattle.dialog.specs.declared.standing.Side.TheVariants.{Before, After}
 

@@ -1,9 +1,9 @@
 //! The branches that the words of an `expect` say.
 ghost use Rattle.std.specs.Prelude.{◌≡◌};
-ghost use Rattle.dialog.specs.Branches.{branches};
+ghost use Rattle.choices.specs.Branches.{branches};
 
-use crate::branch::Pair;
 use acts::Id;
+use choices::Pair;
 use std::alloc::Allocator;
 use std::marker::Model;
 
@@ -26,7 +26,7 @@ impl<A: Allocator> Drop for Branches<A> {
 }
 
 impl<A: Allocator> Model for Branches<A> {
-    ghost use Rattle.dialog.specs.Branches.{Branches as Plain, branches};
+    ghost use Rattle.choices.specs.Branches.{Branches as Plain, branches};
 
     ghost Value = { Plain };
 

@@ -1,20 +1,21 @@
 //! What the words of an `expect` have said so far.
 ghost use Rattle.std.specs.Prelude.{◌≡◌, ◌↔◌, ◌++◌, map, true, false, None, Some, Ok, Err, IfOk, OnOk, IfErr, IfSome};
-ghost use Rattle.dialog.specs.Branches.{pair, Sought};
+ghost use Rattle.choices.specs.Branches.{pair, Sought};
 ghost use Rattle.dialog.specs.Drafts.{blank, with_ids, with_seconds, with_flag, with_branch, wanted_of};
-ghost use Rattle.dialog.specs.Lead.{Leads};
+ghost use Rattle.choices.specs.Leads.{Leads};
+ghost use Rattle.searches.specs.Lead.{sought_by};
 ghost use Rattle.dialog.specs.Misreads.{flaw_of};
 ghost use Rattle.dialog.specs.Reads as reads;
-ghost use Rattle.dialog.specs.Reads.{alone, at_end, awaited_by, branch_by, branch_flaw, ids_for, in_front, is_too_long, named_at, sought_by};
-ghost use Rattle.dialog.specs.Views.{awaited_of};
+ghost use Rattle.dialog.specs.Reads.{alone, at_end, awaited_by, branch_by, branch_flaw, ids_for, in_front, is_too_long, named_at};
+ghost use Rattle.choices.specs.Views.{awaited_of};
 
-use crate::branch::{Awaited, Branch, Flags, Pair};
 use crate::branch_error::BranchError;
 use crate::branches::Branches;
-use crate::lead::Lead;
-use crate::sign::{Keyword, Mark, Style};
+use crate::sign::{Keyword, Mark};
 use acts::{Id, NoMemory};
+use choices::{Awaited, Branch, Flags, Pair};
 use patterns::{Pattern, PatternError};
+use searches::{Lead, Style};
 use std::alloc::Allocator;
 use std::marker::Model;
 use std::rc::Rc;
@@ -47,7 +48,7 @@ pub(crate) struct Draft<A: Allocator> {
 }
 
 impl<A: Allocator> Model for Draft<A> {
-    ghost use Rattle.dialog.specs.Branches.{branches};
+    ghost use Rattle.choices.specs.Branches.{branches};
     ghost use Rattle.dialog.specs.Drafts.{Draft as Plain, draft, listed};
 
     ghost Value = { Plain };

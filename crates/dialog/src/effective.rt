@@ -2,12 +2,11 @@
 ghost use Rattle.std.specs.Prelude.{◌≡◌, ◌++◌, ◌∷◌, [], filter, IfOk, OnOk, IsTrue};
 ghost use Rattle.dialog.specs.Standing.{RiseAfter, effective_of, first_mentions, ids_of, waited, all_of, is_open_in, pruned};
 
-use crate::branch::Pair;
 use crate::branches::Branches;
 use crate::draft::push_ids;
 use crate::standing::{Standing, is_among, push_pairs};
-use crate::table::Table;
 use acts::{Id, NoMemory};
+use choices::{Pair, Table};
 use std::alloc::Allocator;
 use std::marker::Model;
 

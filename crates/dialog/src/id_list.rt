@@ -7,8 +7,8 @@ ghost use Rattle.dialog.specs.Reads.{AreSpelled, IsIds, HasIds, MissesIds, first
 ghost use Rattle.dialog.specs.Misreads.{flaw_of};
 
 use crate::branch_error::BranchError;
-use crate::table::Table;
 use acts::{Id, NoMemory};
+use choices::Table;
 use std::alloc::Allocator;
 use tcltext::{ListFault, split_list};
 

@@ -10,9 +10,10 @@ use crate::branch_error::BranchError;
 use crate::branches::Branches;
 use crate::draft::{Draft, Wanted};
 use crate::id_list::open_ids;
-use crate::sign::{Sign, Style};
-use crate::table::Table;
+use crate::sign::Sign;
 use acts::Id;
+use choices::Table;
+use searches::Style;
 use std::alloc::Allocator;
 use tcltext::{Value, read_int};
 

@@ -3,14 +3,7 @@ ghost use Rattle.std.specs.Prelude.{◌≡◌};
 ghost use Rattle.dialog.specs.Parts.{begins_with_dash, timeout_sign, alone_sign, flag_sign, plain_sign, sign};
 ghost use Rattle.dialog.specs.Signs.{sign_by};
 
-/// How a text is sought (expect(1), expect).
-#[derive(Clone, Copy, Debug, PartialEq, Eq)]
-pub enum Style {
-    /// As a glob.
-    Glob,
-    /// As it stands.
-    Exact,
-}
+use searches::Style;
 
 /// A flag of the next branch (expect(1), expect).
 #[derive(Clone, Copy, Debug, PartialEq, Eq)]

@@ -7,13 +7,13 @@ use Rattle.acts.specs.Flaw as flaw
 use Rattle.acts.specs.declared.act.Timer.{Timer}
 use Rattle.acts.specs.declared.raise.Raise.TheVariants as raise
 use Rattle.acts.specs.declared.row.Row.{Row}
-use Rattle.dialog.specs.Branches.{Branches}
-use Rattle.dialog.specs.Lines.{Line, rows_of}
+use Rattle.choices.specs.Branches.{Branches}
+use Rattle.choices.specs.Lines.{Line, rows_of}
 use Rattle.dialog.specs.Reads.{Flaw, IsRead, Outcome as Said, place}
-use Rattle.dialog.specs.LogState.{goes_out, is_logged}
+use Rattle.choices.specs.LogState.{goes_out, is_logged}
 use Rattle.dialog.specs.Standing.{Effective, all_of, pruned}
-use Rattle.dialog.specs.declared.choice.Choice.{Choice}
-use Rattle.dialog.specs.declared.choice.Trigger.TheVariants as after
+use Rattle.choices.specs.declared.choice.Choice.{Choice}
+use Rattle.choices.specs.declared.choice.Trigger.TheVariants as after
 use Rattle.kinds.specs.Answers.{IsFailure}
 use Rattle.state.proofs.Nestings.{inside_over, text_reaches}
 use Rattle.state.proofs.Reaches.{same_reaches, then_reaches}

@@ -1,7 +1,7 @@
 -- A property that holds of each turn, and is closed under how courses are put together, holds of
 -- each expect.
 use Rattle.std.proofs.Common.{ℕ, Bool, true, false, List, [], ◌∷◌, Option, Some, None, Ok, Err, if◌then◌else◌}
-use Rattle.dialog.specs.Branches.{Branches}
+use Rattle.choices.specs.Branches.{Branches}
 use Rattle.dialog.specs.Reads.{Outcome as Said}
 use Rattle.dialog.specs.Standing.{put_at}
 use Rattle.state.proofs.Closed.{Closed, Turns, raises_closed}

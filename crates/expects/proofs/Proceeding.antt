@@ -5,14 +5,14 @@ use Rattle.state.specs.Prelude.{Id, Deed, Reply, Flaw, Peer, Ends, worth, Course
 use Rattle.acts.specs.declared.row.Row.{Row}
 use Rattle.acts.specs.Deed as said
 use Rattle.acts.specs.Fits.{fits}
-use Rattle.dialog.specs.Choice.{Chosen, Share, Nothing, Front, Whole, Taken, consumed_to, share_of}
-use Rattle.dialog.specs.Lines.{line_of, with_row, rows_of}
-use Rattle.dialog.specs.LogState.{goes_out, is_logged}
-use Rattle.dialog.specs.Peers.{arrived, line, opened}
+use Rattle.choices.specs.Choice.{Chosen, Share, Nothing, Front, Whole, Taken, consumed_to, share_of}
+use Rattle.choices.specs.Lines.{line_of, with_row, rows_of}
+use Rattle.choices.specs.LogState.{goes_out, is_logged}
+use Rattle.choices.specs.Peers.{arrived, line, opened}
 use Rattle.dialog.specs.Standing.{Effective, pruned}
-use Rattle.dialog.specs.declared.choice.Trigger.{Trigger}
-use Rattle.dialog.specs.declared.choice.Trigger.TheVariants as after
-use Rattle.dialog.proofs.Opened.{count_arrived, count_kept, count_shut}
+use Rattle.choices.specs.declared.choice.Trigger.{Trigger}
+use Rattle.choices.specs.declared.choice.Trigger.TheVariants as after
+use Rattle.choices.proofs.Opened.{count_arrived, count_kept, count_shut}
 use Rattle.matchbuf.proofs.Windows.{windows_hold}
 use Rattle.plan.specs.Plan.{goes}
 use Rattle.state.proofs.Judged.{replied_cut}

@@ -2,7 +2,7 @@
 use Rattle.std.proofs.Common.{◌≡◌, ◌∙◌, List, ℕ, Option, Some, None, Result, refl, sym, ap}
 use Rattle.state.specs.Prelude.{Flaw, flaw_of, Fault, Raise, Ends, Course, raises, Outcome, Status, outcome_of, Scopes}
 use Rattle.acts.specs.declared.raise.Raise.TheVariants as raise
-use Rattle.dialog.specs.Choice.{Taken}
+use Rattle.choices.specs.Choice.{Taken}
 use Rattle.expects.specs.Report.{Written, on_written, reported, reports}
 use Rattle.kinds.specs.Answers.{IsFailure}
 use Rattle.state.specs.declared.outcome.Leave.{Leave}

@@ -1,14 +1,14 @@
 -- What follows a choice of the code.
 use Rattle.std.proofs.Common.{◌≡◌, ◌∙◌, ℕ, List, [], Option, Some, None, IfSome, refl, sym, ap}
 use Rattle.state.specs.Prelude.{Id, Course, gives, TurnTree, Reaches, Status, lines, FitsState}
-use Rattle.dialog.proofs.Choices.{one_choice}
-use Rattle.dialog.specs.Branches.{Pair}
-use Rattle.dialog.specs.Choice.{Chosen, Chooses, Share, Nothing, Front, Whole, Taken, consumed_to, share_of}
-use Rattle.dialog.specs.Lines.{Line, Listing}
-use Rattle.dialog.specs.Peers.{FitsPeers, arrived, at_peer}
-use Rattle.dialog.specs.Selects.{Selects, taken_by as taken_of_code}
-use Rattle.dialog.specs.declared.choice.Choice.{Choice}
-use Rattle.dialog.specs.declared.choice.Trigger.{Trigger}
+use Rattle.choices.proofs.Choices.{one_choice}
+use Rattle.choices.specs.Branches.{Pair}
+use Rattle.choices.specs.Choice.{Chosen, Chooses, Share, Nothing, Front, Whole, Taken, consumed_to, share_of}
+use Rattle.choices.specs.Lines.{Line, Listing}
+use Rattle.choices.specs.Peers.{FitsPeers, arrived, at_peer}
+use Rattle.choices.specs.Selects.{Selects, taken_by as taken_of_code}
+use Rattle.choices.specs.declared.choice.Choice.{Choice}
+use Rattle.choices.specs.declared.choice.Trigger.{Trigger}
 use Rattle.state.proofs.FitIds.{StaysReapable, peers_fit}
 use Rattle.state.proofs.Fits.{ids_fit}
 use Rattle.state.proofs.Reaches.{same_reaches}

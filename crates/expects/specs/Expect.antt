@@ -4,12 +4,12 @@ use Rattle.state.specs.Prelude.{Id, Reads, Course, gives, raises, TurnTree, Stat
 use Rattle.acts.specs.Flaw as flaw
 use Rattle.acts.specs.Id.{id_text}
 use Rattle.code.specs.Argument.{is_braced}
-use Rattle.dialog.specs.Branches.{Branches}
-use Rattle.dialog.specs.Channels.{named}
+use Rattle.choices.specs.Branches.{Branches}
+use Rattle.choices.specs.Channels.{named}
 use Rattle.dialog.specs.Reads as misread
 use Rattle.dialog.specs.Reads.{Place, Outcome, place}
 use Rattle.dialog.specs.Standing.{all_of, put_at}
-use Rattle.dialog.specs.declared.choice.Trigger.TheVariants as after
+use Rattle.choices.specs.declared.choice.Trigger.TheVariants as after
 use Rattle.dialog.specs.declared.standing.Side.{Side}
 use Rattle.expects.specs.Words as form
 use Rattle.expects.specs.Words.{Form, Waits, Stands, stands}

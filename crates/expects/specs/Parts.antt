@@ -2,8 +2,8 @@
 use Rattle.std.specs.Prelude.{◌≡◌, Option, Some, None, Result, Ok, Err}
 use Rattle.state.specs.Prelude.{flaw_of, Raises, Raise, Status, Scopes}
 use Rattle.acts.specs.declared.raise.Raise.TheVariants as raise
-use Rattle.dialog.specs.Choice.{Taken}
-use Rattle.dialog.specs.declared.choice.Taken as coded
+use Rattle.choices.specs.Choice.{Taken}
+use Rattle.choices.specs.declared.choice.Taken as coded
 use Rattle.dialog.specs.Reads as misread
 use Rattle.expects.specs.Expect.{told}
 use Rattle.expects.specs.Report.{Written}

@@ -3,7 +3,7 @@ use Rattle.std.specs.Prelude.{ℕ, pos, Bool, true, false, List, codes, decimal,
 use Rattle.state.specs.Prelude.{Id, Flaw, Course, raises, Status, Scopes}
 use Rattle.std.specs.Fmt.{signed_decimal}
 use Rattle.acts.specs.Id.{id_text}
-use Rattle.dialog.specs.Choice.{Taken}
+use Rattle.choices.specs.Choice.{Taken}
 use Rattle.kinds.specs.Variables as variables
 use Rattle.patterns.specs.declared.search.Found.{Found}
 

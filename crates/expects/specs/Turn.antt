@@ -6,12 +6,12 @@ use Rattle.acts.specs.declared.act.Timer.{Timer}
 use Rattle.acts.specs.Deed as said
 use Rattle.acts.specs.Flaw as flaw
 use Rattle.acts.specs.Id.{id_text}
-use Rattle.dialog.specs.Choice.{Chosen, Taken, peers_after, taken_of}
-use Rattle.dialog.specs.Lines.{rows_of}
-use Rattle.dialog.specs.Peers.{arrived}
+use Rattle.choices.specs.Choice.{Chosen, Taken, peers_after, taken_of}
+use Rattle.choices.specs.Lines.{rows_of}
+use Rattle.choices.specs.Peers.{arrived}
 use Rattle.dialog.specs.Standing.{Effective, pruned}
-use Rattle.dialog.specs.declared.choice.Trigger.{Trigger}
-use Rattle.dialog.specs.declared.choice.Trigger.TheVariants as after
+use Rattle.choices.specs.declared.choice.Trigger.{Trigger}
+use Rattle.choices.specs.declared.choice.Trigger.TheVariants as after
 use Rattle.expects.specs.Clock.{clock_of, later}
 use Rattle.expects.specs.Report.{reports}
 use Rattle.kinds.specs.Kinds.{on_ok}

@@ -3,11 +3,11 @@ use Rattle.std.specs.Prelude.{◌≡◌, ℕ, List, [], Option, Some, None, Err}
 use Rattle.state.specs.Prelude.{Deed, Reply, deed_of, Id, Ends, Asks, Calls, Course, gives, Outcome, TurnTree, Reaches, Status, lines, shut, FitsState, outcome_of}
 use Rattle.acts.specs.Deed as said
 use Rattle.acts.specs.declared.row.Row.{Row}
-use Rattle.dialog.specs.Branches.{Pair}
-use Rattle.dialog.specs.Choice.{Chosen, Chooses, Taken}
-use Rattle.dialog.specs.Selects.{taken_by as taken_of_code}
-use Rattle.dialog.specs.declared.choice.Choice.{Choice}
-use Rattle.dialog.specs.declared.choice.Trigger.{Trigger}
+use Rattle.choices.specs.Branches.{Pair}
+use Rattle.choices.specs.Choice.{Chosen, Chooses, Taken}
+use Rattle.choices.specs.Selects.{taken_by as taken_of_code}
+use Rattle.choices.specs.declared.choice.Choice.{Choice}
+use Rattle.choices.specs.declared.choice.Trigger.{Trigger}
 use Rattle.expects.specs.declared.form.Form as coded
 use Rattle.expects.specs.declared.form.Form.TheVariants as form
 use Rattle.expects.specs.declared.turn.Begun.{Begun}
@@ -25,8 +25,8 @@ use Rattle.expects.specs.Expect.{by_words}
 use Rattle.expects.specs.Turn.{arrives, behind, consumed_by, does, taken_by, waited}
 use Rattle.expects.specs.Words.{Form, Waits, Stands}
 use Rattle.plan.specs.Plan.{goes}
-use Rattle.dialog.specs.Lines.{Line}
-use Rattle.dialog.specs.LogState.{is_logged}
+use Rattle.choices.specs.Lines.{Line}
+use Rattle.choices.specs.LogState.{is_logged}
 use Rattle.state.specs.Budget.{again_of}
 use Rattle.state.specs.Dialogue.{replied, written}
 use Rattle.state.specs.Piece.{Script, Turn}

@@ -2,7 +2,7 @@
 
 ghost use Rattle.std.specs.Prelude.{◌≡◌, ◌-ℤ◌, drop, pos, IfOk};
 ghost use Rattle.std.specs.Fmt.{signed_decimal};
-ghost use Rattle.dialog.specs.Selects.{taken_by};
+ghost use Rattle.choices.specs.Selects.{taken_by};
 ghost use Rattle.expects.specs.Parts.{Writes, taken_of};
 ghost use Rattle.expects.specs.Report as definition;
 

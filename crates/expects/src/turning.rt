@@ -14,7 +14,7 @@ ghost use Rattle.std.specs.Prelude.{
   OnErr,
   vec_capacity,
 };
-ghost use Rattle.dialog.specs.Choice.{Chooses};
+ghost use Rattle.choices.specs.Choice.{Chooses};
 ghost use Rattle.expects.specs.Turn as definition;
 ghost use Rattle.expects.specs.View.{Comes, HasChoice, IsPlain, Selected, course_of_turned, done, settles, turn_of};
 ghost use Rattle.state.specs.Prelude.{within, Status, FitsState};

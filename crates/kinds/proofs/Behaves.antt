@@ -1,7 +1,7 @@
 -- What the commands of a kind keep to, whatever they mean.
 use Rattle.std.proofs.Common.{◌≡◌, ℕ, ◌+◌, ◌-◌, ◌≤◌, Result, Ok, Err, refl, arith}
 use Rattle.state.specs.Prelude.{Flaw, Behaves, worth, Outcome, Status}
-use Rattle.dialog.proofs.Opened.{count_set_nulls, count_shut, count_sized}
+use Rattle.choices.proofs.Opened.{count_set_nulls, count_shut, count_sized}
 use Rattle.kinds.proofs.Opened.{worth_opened}
 use Rattle.kinds.proofs.Reaped.{count_reaped}
 use Rattle.kinds.specs.Edits.{Edit, Binds, Sizes, SizesLater, DropsNulls, DropsNullsLater, Shuts, Reaps, Skips, ShowsArrivals, EndsLog, Opening, OpensId, OpensLog, edited, opened_by}

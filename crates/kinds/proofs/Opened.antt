@@ -1,7 +1,7 @@
 -- What there is to be closed once something was opened.
 use Rattle.std.proofs.Common.{◌≡◌, ◌+◌, ◌≤◌, Bool, true, false, List, [], ◌∷◌, ◌++◌, length, if◌then◌else◌, refl, arith}
 use Rattle.state.specs.Prelude.{Peer, worth, Status}
-use Rattle.dialog.specs.Peers.{fresh, opened}
+use Rattle.choices.specs.Peers.{fresh, opened}
 use Rattle.kinds.specs.Edits.{Opening, OpensId, OpensLog, opened_by}
 
 count_more : (p : Peer) (ps : List Peer) → p.is_open ≡ true →

@@ -1,9 +1,9 @@
 -- What becomes of the ids where one was waited for.
 use Rattle.std.proofs.Common.{◌≡◌, ◌==◌, ◌||◌, not, suc, Bool, true, false, List, [], ◌∷◌, length, map, filter, if◌then◌else◌, refl, sym, ap, ◌∙◌}
 use Rattle.acts.specs.declared.id.Id.{Id}
-use Rattle.dialog.proofs.Peers.{have}
-use Rattle.dialog.specs.Lines.{Line}
-use Rattle.dialog.specs.Peers.{Peer, opened, line, HaveJournals, FitsPeers}
+use Rattle.choices.proofs.Peers.{have}
+use Rattle.choices.specs.Lines.{Line}
+use Rattle.choices.specs.Peers.{Peer, opened, line, HaveJournals, FitsPeers}
 use Rattle.kinds.specs.Edits.{reaped}
 use Rattle.state.specs.Ids.{Unreaped, unreaped}
 use Rattle.state.specs.View.{unreaped_of}

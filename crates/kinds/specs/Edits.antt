@@ -1,8 +1,8 @@
 -- The changes that commands make of what a run keeps.
 use Rattle.std.specs.Prelude.{ℕ, ◌==◌, ◌||◌, Bool, true, false, map}
 use Rattle.state.specs.Prelude.{Id, Peer, Status, shut, Scopes}
-use Rattle.dialog.specs.Kinds.{Kind}
-use Rattle.dialog.specs.Peers.{set_nulls, sized}
+use Rattle.choices.specs.Kinds.{Kind}
+use Rattle.choices.specs.Peers.{set_nulls, sized}
 use Rattle.state.specs.Ids.{Ids, skipped, with_fresh}
 use Rattle.state.specs.Status.{at_id}
 

@@ -2,7 +2,7 @@
 use Rattle.std.specs.Prelude.{ℕ, List, codes, Option, Some, None, Result, Ok, Err}
 use Rattle.state.specs.Prelude.{Id, Flaw, Status, lines}
 use Rattle.acts.specs.Flaw as flaw
-use Rattle.dialog.specs.Channels.{named, connection}
+use Rattle.choices.specs.Channels.{named, connection}
 use Rattle.state.specs.Variables.{consulted}
 
 -- an id that is open, or the error that the text spells none

@@ -3,7 +3,7 @@ use Rattle.std.proofs.Common.{◌≡◌, List, [], ◌∷◌, map, true, false, 
 use Rattle.state.specs.Prelude.{Id, Deed, Reply, Peer, Ends, Dialogue, Status, lines, shut}
 use Rattle.acts.specs.Deed as said
 use Rattle.acts.specs.Fits.{fits}
-use Rattle.dialog.specs.Peers.{opened, line}
+use Rattle.choices.specs.Peers.{opened, line}
 use Rattle.runs.specs.Closing.{does, ends_with}
 use Rattle.runs.specs.Ending.{Ending, With}
 use Rattle.state.specs.Dialogue.{judged, is_no_more}

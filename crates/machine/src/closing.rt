@@ -2,7 +2,7 @@
 
 ghost use Rattle.std.specs.Prelude.{◌≡◌, ℕ, List, [], IfOk};
 ghost use Rattle.state.specs.Prelude.{deed_of, reply_of, Status, FitsState, outcome_of};
-ghost use Rattle.dialog.specs.Peers.{opened};
+ghost use Rattle.choices.specs.Peers.{opened};
 ghost use Rattle.machine.specs.Frames.{Onward};
 ghost use Rattle.machine.specs.Phases.{IsTold, Stands, closing_on};
 ghost use Rattle.machine.specs.View.{ending_of};

@@ -1,9 +1,9 @@
 -- The states fit again where an open id was changed and may be waited for as before.
 use Rattle.std.proofs.Common.{◌≡◌, ◌==◌, ℕ, Bool, true, false, List, [], ◌∷◌, Some, is_some, if◌then◌else◌, refl, ap}
 use Rattle.state.specs.Prelude.{Id, Status, FitsState}
-use Rattle.dialog.proofs.Changes.{fits_size}
-use Rattle.dialog.specs.Lines.{Line, Listing, at_line, line_of, resized}
-use Rattle.dialog.specs.Peers.{FitsPeers, at_peer, set_nulls, sized}
+use Rattle.choices.proofs.Changes.{fits_size}
+use Rattle.choices.specs.Lines.{Line, Listing, at_line, line_of, resized}
+use Rattle.choices.specs.Peers.{FitsPeers, at_peer, set_nulls, sized}
 use Rattle.kinds.specs.Edits.{DropsNulls, Sizes, edited}
 use Rattle.state.proofs.FitIds.{peers_fit}
 use Rattle.state.proofs.Fits.{ids_fit}

@@ -2,7 +2,7 @@
 use Rattle.std.proofs.Common.{ℕ, Result, Ok, Err}
 use Rattle.state.specs.Prelude.{Id, Raise, Deed, Reply, Course, Status, FitsState}
 use Rattle.acts.specs.declared.raise.Raise.TheVariants as raise
-use Rattle.dialog.specs.Kinds.{Process}
+use Rattle.choices.specs.Kinds.{Process}
 use Rattle.kinds.specs.Answers.{GoesOn}
 use Rattle.kinds.specs.Edits.{OpensId, opened_by}
 use Rattle.processes.specs.Launch.{enters_process, running}

@@ -3,7 +3,7 @@ use Rattle.std.proofs.Common.{◌≡◌, ℕ, List, Result, Ok, Err, refl}
 use Rattle.std.specs.Prelude.{decimal}
 use Rattle.state.specs.Prelude.{Id, Reply, Flaw, bind, ask, Status, Scopes}
 use Rattle.acts.specs.Deed as said
-use Rattle.dialog.specs.Kinds.{Process}
+use Rattle.choices.specs.Kinds.{Process}
 use Rattle.kinds.specs.Edits.{Binds, OpensId, opened_by}
 use Rattle.kinds.specs.Exchange.{Edits, course, gives, settled, written}
 use Rattle.processes.specs.Launch.{in_force, runs, started, starts}

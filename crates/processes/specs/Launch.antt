@@ -4,8 +4,8 @@ use Rattle.state.specs.Prelude.{Id, Reply, Flaw, bind, Status, Scopes}
 use Rattle.acts.specs.Deed as said
 use Rattle.acts.specs.Flaw as flaw
 use Rattle.acts.specs.Id.{id_text}
-use Rattle.dialog.specs.Kinds.{Process}
-use Rattle.dialog.specs.LogState.{goes_out, is_logged}
+use Rattle.choices.specs.Kinds.{Process}
+use Rattle.choices.specs.LogState.{goes_out, is_logged}
 use Rattle.kinds.specs.Edits.{Binds, OpensId, Skips}
 use Rattle.kinds.specs.Exchange.{Exchange, Edits, Opens, Performs, fails, gives, settled, written}
 use Rattle.kinds.specs.Variables.{put}

@@ -2,7 +2,7 @@
 use Rattle.std.specs.Prelude.{ℕ, ◌&&◌, nat_le, Bool, ℤ, pos, negsuc, List, [], codes, decimal, Option, Some, None, option_map, Result, Ok, Err, if◌then◌else◌}
 use Rattle.state.specs.Prelude.{Id, Flaw, bind, Status, lines}
 use Rattle.acts.specs.Flaw as flaw
-use Rattle.dialog.specs.Lines.{line_of}
+use Rattle.choices.specs.Lines.{line_of}
 use Rattle.kinds.specs.Edits.{Sizes, SizesLater}
 use Rattle.kinds.specs.Exchange.{Exchange, Edits, gives}
 use Rattle.kinds.specs.Ids.{chosen_id}

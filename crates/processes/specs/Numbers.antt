@@ -3,7 +3,7 @@ use Rattle.std.specs.Prelude.{◌≡◌, Option, Some, None, Result, Ok, Err}
 use Rattle.state.specs.Prelude.{Id, Raise, Flaw, flaw_of, Status, FitsState}
 use Rattle.acts.specs.declared.raise.Raise.TheVariants as raise
 use Rattle.acts.specs.Flaw as flaw
-use Rattle.dialog.specs.Kinds.{Kind}
+use Rattle.choices.specs.Kinds.{Kind}
 use Rattle.kinds.specs.Edits.{OpensId, opened_by}
 use Rattle.state.specs.declared.state.State.{State}
 use Rattle.state.specs.Ids.{next_in}

@@ -3,7 +3,7 @@ use Rattle.std.specs.Prelude.{ℕ, Bool, true, false, List, [], codes, Option, S
 use Rattle.state.specs.Prelude.{Id, Flaw, bind, Status, lines}
 use Rattle.std.specs.Str.{bytes_eq}
 use Rattle.acts.specs.Flaw as flaw
-use Rattle.dialog.specs.Lines.{line_of}
+use Rattle.choices.specs.Lines.{line_of}
 use Rattle.kinds.specs.Edits.{DropsNulls, DropsNullsLater}
 use Rattle.kinds.specs.Exchange.{Exchange, Edits, gives}
 use Rattle.kinds.specs.Ids.{chosen_id}

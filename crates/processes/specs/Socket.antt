@@ -3,8 +3,8 @@ use Rattle.std.specs.Prelude.{ℕ, nat_le, ◌&&◌, Bool, ℤ, pos, negsuc, Lis
 use Rattle.state.specs.Prelude.{Id, Deed, Reply, Flaw, bind, Course, Status}
 use Rattle.acts.specs.Deed as said
 use Rattle.acts.specs.Flaw as flaw
-use Rattle.dialog.specs.Channels.{channel_text}
-use Rattle.dialog.specs.Kinds.{Socket}
+use Rattle.choices.specs.Channels.{channel_text}
+use Rattle.choices.specs.Kinds.{Socket}
 use Rattle.kinds.specs.Edits.{OpensId, Skips}
 use Rattle.kinds.specs.Exchange.{Exchange, Edits, Opens, Performs, course, fails, gives, settled}
 use Rattle.kinds.specs.Words.{number}

@@ -5,7 +5,7 @@ use Rattle.std.specs.Str.{bytes_eq}
 use Rattle.acts.specs.Deed as said
 use Rattle.acts.specs.Flaw as flaw
 use Rattle.acts.specs.Id.{id_text}
-use Rattle.dialog.specs.Kinds.{Kind, Process, Socket}
+use Rattle.choices.specs.Kinds.{Kind, Process, Socket}
 use Rattle.kinds.specs.Edits.{Reaps}
 use Rattle.kinds.specs.Exchange.{Exchange, Edits, Performs, gives, course}
 use Rattle.kinds.specs.Usage.{after_pair, no_more}

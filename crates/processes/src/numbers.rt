@@ -2,7 +2,7 @@
 
 ghost use Rattle.std.specs.Prelude.{◌≡◌};
 ghost use Rattle.state.specs.Prelude.{Answers, Status, FitsState};
-ghost use Rattle.dialog.specs.Views.{kind_of};
+ghost use Rattle.choices.specs.Views.{kind_of};
 ghost use Rattle.kinds.specs.Edits.{Skips, edited};
 ghost use Rattle.processes.specs.Numbers as definition;
 

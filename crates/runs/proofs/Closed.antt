@@ -5,9 +5,9 @@ use Rattle.acts.specs.Deed as said
 use Rattle.acts.specs.Fits.{fits}
 use Rattle.acts.specs.Flaw as flaw
 use Rattle.acts.specs.History.{History}
-use Rattle.dialog.specs.Lines.{Rise}
-use Rattle.dialog.specs.Peers.{numbers_of, opened}
-use Rattle.dialog.proofs.Rising.{rise_front}
+use Rattle.choices.specs.Lines.{Rise}
+use Rattle.choices.specs.Peers.{numbers_of, opened}
+use Rattle.choices.proofs.Rising.{rise_front}
 use Rattle.plan.specs.Runs.{Runs}
 use Rattle.plan.proofs.Exact as exact
 use Rattle.runs.specs.Closed.{closed_at, closed_by}

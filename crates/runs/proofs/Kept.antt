@@ -6,7 +6,7 @@ use Rattle.acts.specs.Fits.{fits}
 use Rattle.acts.specs.Flaw as flaw
 use Rattle.commands.specs.Commands as leaf
 use Rattle.commands.proofs.Behaves.{command_behaves}
-use Rattle.dialog.specs.Peers.{opened}
+use Rattle.choices.specs.Peers.{opened}
 use Rattle.expects.proofs.Proceeding.{turns_proceed}
 use Rattle.expects.specs.Turn.{turns}
 use Rattle.plan.specs.Kept.{Keeps, EachKeeps}

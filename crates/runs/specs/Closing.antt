@@ -3,7 +3,7 @@ use Rattle.std.specs.Prelude.{ℕ, pos, Bool, true, false, List, [], ◌∷◌, 
 use Rattle.state.specs.Prelude.{Deed, Reply, text_of, Peer, Ends, Asks, Dialogue, Outcome, Gives, Leaves, Stops, Code, Error, Return, Break, Continue, Again, AgainRunning, Status}
 use Rattle.acts.specs.Deed as said
 use Rattle.acts.specs.Flaw as flaw
-use Rattle.dialog.specs.Peers.{opened}
+use Rattle.choices.specs.Peers.{opened}
 use Rattle.runs.specs.Ending.{Ending, Over, With, Unfit, stopped}
 use Rattle.runs.specs.Ending as ending
 use Rattle.state.specs.Dialogue.{judged}

@@ -2,8 +2,8 @@
 use Rattle.std.specs.Prelude.{◌≡◌, ℕ, ◌≤◌, List, [], ◌∷◌, ◌++◌, length}
 use Rattle.state.specs.Prelude.{Deed, Reply, Outcome, IsTree, Status}
 use Rattle.acts.specs.History.{History}
-use Rattle.dialog.specs.Lines.{Rise}
-use Rattle.dialog.specs.Peers.{numbers_of, opened}
+use Rattle.choices.specs.Lines.{Rise}
+use Rattle.choices.specs.Peers.{numbers_of, opened}
 use Rattle.plan.specs.Answers.{GoAlike, answers}
 use Rattle.plan.specs.Last.{ClosesAt}
 use Rattle.plan.specs.Runs.{Runs}

@@ -4,15 +4,15 @@ use Rattle.std.proofs.lemmas.Bool.Decides.{nat_tests}
 use Rattle.std.proofs.lemmas.List.{length-map}
 use Rattle.std.specs.Option.{option_map}
 use Rattle.acts.specs.declared.id.Id.{Id}
-use Rattle.dialog.specs.Kinds.{Kind}
-use Rattle.dialog.specs.Lines.{Line, Listing, listing, id_of, next_id, number_after, fresh_line}
-use Rattle.dialog.specs.Peers.{Peer, FitsPeers, at_peer, is_open_at, opened, shut as closed, line, fresh}
+use Rattle.choices.specs.Kinds.{Kind}
+use Rattle.choices.specs.Lines.{Line, Listing, listing, id_of, next_id, number_after, fresh_line}
+use Rattle.choices.specs.Peers.{Peer, FitsPeers, at_peer, is_open_at, opened, shut as closed, line, fresh}
 use Rattle.dialog.specs.Standing.{Standing, unpaired}
-use Rattle.dialog.specs.Views.{kind_of}
+use Rattle.choices.specs.Views.{kind_of}
 use Rattle.state.specs.Ids as definition
 use Rattle.state.specs.Ids.{Unreaped, next_in, unreaped, with_fresh, without_id, with_peer}
-use Rattle.dialog.specs.declared.kind.Kind as kinds
-use Rattle.dialog.proofs.Opened.{others_left}
+use Rattle.choices.specs.declared.kind.Kind as kinds
+use Rattle.choices.proofs.Opened.{others_left}
 use Rattle.state.specs.View.{FitsIds, FirstCloses, IsNext, unreaped_by, unreaped_of}
 use Rattle.state.specs.declared.ids.Ids.{Ids}
 use Rattle.state.specs.declared.ids.Unreaped as reapable

@@ -1,6 +1,6 @@
 -- The two states fit again where one part of both has changed.
 use Rattle.std.proofs.Common.{ℕ, List, refl}
-use Rattle.dialog.specs.declared.log_state.LogState.{LogState}
+use Rattle.choices.specs.declared.log_state.LogState.{LogState}
 use Rattle.state.specs.Ids as definition
 use Rattle.state.specs.Prelude.{Status, FitsState, Scopes}
 use Rattle.state.specs.View.{FitsIds}

@@ -6,7 +6,7 @@ use Rattle.state.specs.Cut.{CutsOff, IsCutOff}
 use Rattle.state.specs.Dialogue.{Course}
 use Rattle.state.specs.Piece.{Tree, IsTree}
 use Rattle.state.specs.Rows.{Holds}
-use Rattle.dialog.specs.Peers.{opened}
+use Rattle.choices.specs.Peers.{opened}
 use Rattle.state.specs.Status.{Status}
 
 -- an open log is closed by one act

@@ -1,9 +1,9 @@
 -- The spawn ids of a run, open and closed, and what is set for later ones.
 use Rattle.std.specs.Prelude.{ℕ, ◌+◌, ◌^◌, nat_le, Bool, List, [], ◌∷◌, ◌++◌, length, map, Option, Some, None, if◌then◌else◌}
 use Rattle.acts.specs.declared.id.Id.{Id}
-use Rattle.dialog.specs.Kinds.{Kind}
-use Rattle.dialog.specs.Lines.{Line}
-use Rattle.dialog.specs.Peers.{Peer, fresh, opened, at_peer, shut as closed, line}
+use Rattle.choices.specs.Kinds.{Kind}
+use Rattle.choices.specs.Lines.{Line}
+use Rattle.choices.specs.Peers.{Peer, fresh, opened, at_peer, shut as closed, line}
 use Rattle.dialog.specs.Standing.{Standing, unpaired}
 
 -- the ids in the order of their numbers, with all that ever happened to them; the standing pairs;

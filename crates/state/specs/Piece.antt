@@ -2,12 +2,12 @@
 use Rattle.std.specs.Prelude.{◌↔◌, ℕ, ℤ, List, Option, Bool, IsTrue, Result}
 use Rattle.acts.specs.declared.act.Timer.{Timer}
 pub use Rattle.code.specs.ScriptTree.{ScriptTree}
-use Rattle.dialog.specs.Branches.{Pair}
-use Rattle.dialog.specs.Choice.{Chosen, Chooses}
-use Rattle.dialog.specs.Lines.{Line}
+use Rattle.choices.specs.Branches.{Pair}
+use Rattle.choices.specs.Choice.{Chosen, Chooses}
+use Rattle.choices.specs.Lines.{Line}
 use Rattle.dialog.specs.Reads.{Place, Outcome, IsRead}
 use Rattle.dialog.specs.Standing.{Effective}
-use Rattle.dialog.specs.declared.choice.Trigger.{Trigger}
+use Rattle.choices.specs.declared.choice.Trigger.{Trigger}
 use Rattle.meanings.specs.Meaning.{IsSplit}
 use Rattle.tcltext.specs.Flaw.{Flaw}
 use Rattle.patterns.specs.Item.{Item}

@@ -1,7 +1,7 @@
 -- Where bytes that arrive are written.
 use Rattle.std.specs.Prelude.{ℕ, Bool, true, false, List, [], ◌∷◌}
 use Rattle.acts.specs.Deed as said
-use Rattle.dialog.specs.LogState.{goes_out, is_logged}
+use Rattle.choices.specs.LogState.{goes_out, is_logged}
 use Rattle.state.specs.Dialogue.{Course, ask, written}
 use Rattle.state.specs.Status.{Status}
 

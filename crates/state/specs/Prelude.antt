@@ -9,7 +9,7 @@ pub use Rattle.acts.specs.declared.fault.Fault.{Fault}
 pub use Rattle.acts.specs.declared.id.Id.{Id}
 pub use Rattle.acts.specs.declared.raise.Raise.{Raise}
 pub use Rattle.tclstate.specs.Scopes.{Scopes}
-pub use Rattle.dialog.specs.Peers.{Peer}
+pub use Rattle.choices.specs.Peers.{Peer}
 pub use Rattle.state.specs.Behaves.{Behaves, worth}
 pub use Rattle.state.specs.Dialogue.{Course, Dialogue, ask, gives, inside, leaves, on_value, raises, stops, within}
 pub use Rattle.state.specs.Leaf.{Shows}

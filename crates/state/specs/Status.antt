@@ -1,9 +1,9 @@
 -- What the definition of a run keeps between acts.
 use Rattle.std.specs.Prelude.{ℕ, List}
 use Rattle.acts.specs.declared.id.Id.{Id}
-use Rattle.dialog.specs.Lines.{Line}
-use Rattle.dialog.specs.Peers.{Peer}
-use Rattle.dialog.specs.declared.log_state.LogState.{LogState}
+use Rattle.choices.specs.Lines.{Line}
+use Rattle.choices.specs.Peers.{Peer}
+use Rattle.choices.specs.declared.log_state.LogState.{LogState}
 use Rattle.state.specs.Ids as ids
 use Rattle.state.specs.Ids.{Ids}
 use Rattle.tclstate.specs.Procs.{Procs}

@@ -3,10 +3,10 @@ use Rattle.std.specs.Prelude.{◌≡◌, ℕ, ◌≤◌, ◌<◌, ◌^◌, List,
 use Rattle.acts.specs.declared.fault.Fault.{Fault}
 use Rattle.acts.specs.declared.id.Id.{Id}
 use Rattle.acts.specs.Flaw.{flaw_of, text_of}
-use Rattle.dialog.specs.Peers.{Peer, FitsPeers, opened}
+use Rattle.choices.specs.Peers.{Peer, FitsPeers, opened}
 use Rattle.dialog.specs.Standing.{standing}
-use Rattle.dialog.specs.Views.{kind_of}
-use Rattle.dialog.specs.declared.kind.Kind as kinds
+use Rattle.choices.specs.Views.{kind_of}
+use Rattle.choices.specs.declared.kind.Kind as kinds
 use Rattle.state.specs.declared.outcome.Code as codes
 use Rattle.state.specs.declared.outcome.Code.TheVariants as code
 use Rattle.state.specs.declared.outcome.Stop as halted

@@ -2,7 +2,7 @@
 
 ghost use Rattle.std.specs.Prelude.{◌≡◌, ◌↔◌, ◌++◌, ◌∷◌, [], Err, None, Some, IfOk, OnOk, MatchOption};
 ghost use Rattle.state.specs.Ids as definition;
-ghost use Rattle.dialog.specs.Views.{kind_of};
+ghost use Rattle.choices.specs.Views.{kind_of};
 ghost use Rattle.state.specs.View.{FitsIds, FirstCloses, no_ids, unreaped_by};
 
 use crate::size::Size;

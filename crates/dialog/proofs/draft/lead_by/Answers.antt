@@ -1,6 +1,6 @@
 use Rattle.std.proofs.Common.{ap}
-use Rattle.dialog.specs.Views.{awaited_of}
-use Rattle.dialog.proofs.Scans.{led}
+use Rattle.choices.specs.Views.{awaited_of}
+use Rattle.dialog.proofs.Leads.{led}
 use Rattle.dialog.proofs.draft.lead_by.Goals as goal
 
 pub returns : goal.returns

@@ -1,5 +1,5 @@
 use Rattle.std.proofs.Common.{◌≡◌, ◌++◌, drop, map}
-use Rattle.dialog.specs.Branches.{pair}
+use Rattle.choices.specs.Branches.{pair}
 use Rattle.dialog.proofs.draft.push_for_each.Given as goal
 
 -- the pairs so far, and those still to be added

@@ -1,5 +1,5 @@
 use Rattle.std.proofs.Common.{Ok, subst, sym}
-use Rattle.dialog.specs.Branches.{Branches}
+use Rattle.choices.specs.Branches.{Branches}
 use Rattle.dialog.specs.Misreads.{flaw_of}
 use Rattle.dialog.specs.Reads.{IsRead, place}
 use Rattle.expects.proofs.Answering.{misread_reaches, words_reach}

@@ -1,6 +1,6 @@
 use Rattle.std.proofs.Common.{subst}
 use Rattle.acts.specs.Flaw.{flaw_of}
-use Rattle.dialog.specs.Selects.{taken_by}
+use Rattle.choices.specs.Selects.{taken_by}
 use Rattle.expects.proofs.Comings.{comes_as, from_ok}
 use Rattle.expects.proofs.Reporting.{failed_is, reports_go, reports_stop}
 use Rattle.expects.specs.Parts.{Stops}

@@ -1,5 +1,5 @@
 use Rattle.std.proofs.Common.{◌≡◌, ◌∙◌, ◌-◌, suc, sym, ap, arith}
-use Rattle.dialog.specs.Lines.{rows_of}
+use Rattle.choices.specs.Lines.{rows_of}
 use Rattle.expects.proofs.Answering.{waits_is}
 use Rattle.expects.proofs.Comings.{comes_as}
 use Rattle.expects.specs.Clock.{later}

@@ -1,6 +1,6 @@
 use Rattle.std.proofs.Common.{◌≡◌, ◌∙◌, sym, ap}
-use Rattle.dialog.specs.Peers.{arrived}
-use Rattle.dialog.specs.declared.choice.Trigger.TheVariants as after
+use Rattle.choices.specs.Peers.{arrived}
+use Rattle.choices.specs.declared.choice.Trigger.TheVariants as after
 use Rattle.expects.proofs.Comings.{begins_as, comes_as}
 use Rattle.expects.proofs.Selecting.{arrival_fits}
 use Rattle.expects.specs.Turn.{begun_by}

@@ -1,4 +1,4 @@
-use Rattle.dialog.specs.declared.choice.Trigger.TheVariants as after
+use Rattle.choices.specs.declared.choice.Trigger.TheVariants as after
 use Rattle.expects.proofs.Answering.{ends_reaches}
 use Rattle.expects.proofs.Comings.{comes_reading}
 use Rattle.expects.specs.Turn.{consumed_by}

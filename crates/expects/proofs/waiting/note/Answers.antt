@@ -1,5 +1,5 @@
 use Rattle.std.proofs.Common.{◌≡◌, ◌∙◌, true, sym, ap}
-use Rattle.dialog.specs.LogState.{is_logged}
+use Rattle.choices.specs.LogState.{is_logged}
 use Rattle.expects.proofs.Answering.{notes_is}
 use Rattle.expects.proofs.Comings.{comes_as}
 use Rattle.expects.specs.View.{course_of_talk, turn_of}

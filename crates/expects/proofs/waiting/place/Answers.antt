@@ -1,5 +1,5 @@
 use Rattle.std.proofs.Common.{◌≡◌, ◌∙◌, ◌==◌, true, false, length, sym, ap}
-use Rattle.dialog.specs.LogState.{goes_out}
+use Rattle.choices.specs.LogState.{goes_out}
 use Rattle.expects.proofs.Answering.{comes_is}
 use Rattle.expects.proofs.Comings.{comes_as}
 use Rattle.expects.specs.View.{course_of_talk, turn_of}

@@ -1,5 +1,5 @@
 use Rattle.std.proofs.Common.{◌≡◌, ◌∙◌, false, true, refl, ap}
-use Rattle.dialog.specs.declared.log_state.LogState.{LogState}
+use Rattle.choices.specs.declared.log_state.LogState.{LogState}
 use Rattle.machine.specs.View.{ending_of}
 use Rattle.machine.proofs.Closings.{closes_log_last, closes_none}
 use Rattle.steps.proofs.Leads.Silent.{same_goes}

@@ -1,6 +1,6 @@
 use Rattle.std.proofs.Common.{Ok, subst, sym}
 use Rattle.dialog.proofs.Elsewhere.{says_always}
-use Rattle.dialog.specs.Branches.{Branches}
+use Rattle.choices.specs.Branches.{Branches}
 use Rattle.dialog.specs.Reads.{IsRead, place}
 use Rattle.dialog.proofs.kept_branches.KeptBranches.read.Goals as goal
 

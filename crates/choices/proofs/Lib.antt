@@ -1,0 +1,12 @@
+pub mod Changes
+pub mod Choices
+pub mod Chosen
+pub mod Finds
+pub mod Firsts
+pub mod Lines
+pub mod Nulls
+pub mod Opened
+pub mod Peers
+pub mod Refused
+pub mod Rising
+pub mod RowsMade

@@ -1,0 +1,10 @@
+pub mod Branches
+pub mod Channels
+pub mod Choice
+pub mod Kinds
+pub mod Leads
+pub mod Lines
+pub mod LogState
+pub mod Peers
+pub mod Selects
+pub mod Views

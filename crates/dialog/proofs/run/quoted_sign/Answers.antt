@@ -1,5 +1,0 @@
-use Rattle.dialog.proofs.Scans.{quoted_sign}
-use Rattle.dialog.proofs.run.quoted_sign.Goals as goal
-
-pub returns-in-Some : goal.returns-in-Some
-returns-in-Some c = quoted_sign c.args.rest.now _ _ c.in-Some.ensures.cases.0

@@ -1,7 +1,0 @@
-use Rattle.dialog.proofs.Rising.{sound_skipped}
-use Rattle.dialog.proofs.table.Table.skip.Goals as goal
-
-pub invariant_of-self : goal.invariant_of-self
-invariant_of-self g c =
-    sound_skipped c.self.inside.entries.items c.self.inside.next
-    c.number_after-self-inside.result c.number_after-self-inside.ensures c.self.invariant

@@ -1,0 +1,3 @@
+pub mod Leads
+pub mod Scans
+pub mod Vains

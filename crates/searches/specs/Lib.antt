@@ -1,0 +1,3 @@
+pub mod Lead
+pub mod Runs
+pub mod Vain
