@@ -109,7 +109,7 @@ row_joined id held max =
     ++ (max ++ [])) ∙ ap (λ text. id ++ 58 ∷ text) sizes)
 
 -- a list that is found to be empty
-none_left : {T : Type 0} (bytes : List T) → (length bytes == 0) ≡ true → bytes ≡ []
+pub none_left : {T : Type 0} (bytes : List T) → (length bytes == 0) ≡ true → bytes ≡ []
 none_left [] test = refl
 none_left (b ∷ bytes) test =
     let none = eqb-true (length (b ∷ bytes)) 0 test in
