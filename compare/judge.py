@@ -20,8 +20,12 @@ MAY_BE_UNREAD = re.compile(
     rb"\.\d|\d\.|(?<![\w$])(?!(?:abs|min|max)\()[a-zA-Z_]\w*\("
     rb"|(?<![\w$])(?i:t|tr|tru|f|fa|fal|fals|y|ye|n|of)(?!\w)|(?<![\w$])(?!true|false|yes|no|on|off)(?i:true|false|yes|no|on|off)(?!\w)"
 )
-# A text that stands against a list of an array's elements, whose order Tcl leaves open.
-BESIDE_ELEMENTS = re.compile(rb"\[\s*array\s+(names|get)[^\]]*\][^\s\];}\"]|[^\s\[{;\"]\[\s*array\s+(names|get)")
+# A text that stands against a list of an array's elements, whose order Tcl leaves open. A quote after the list is such a
+# text where none is open: where there is none in its command before it.
+BESIDE_ELEMENTS = re.compile(
+    rb"\[\s*array\s+(names|get)[^\]]*\][^\s\];}\"]|[^\s\[{;\"]\[\s*array\s+(names|get)"
+    rb"|(?:^|[;{\[\n])[^\";{\[\n]*\s\[\s*array\s+(names|get)[^\]\"]*\]\""
+)
 # The kinds of errors: this project's text, and Tcl's. Where a text is the same on both sides no kind is asked for.
 KINDS = [
     (rb"wrong # args for \".*\"", rb"wrong # args: .*"),
