@@ -82,7 +82,8 @@ impl<A: Allocator> Table<A> {
 
     /// The place of an open id in the table.
     pub(crate) fn place(&self, id: Id) -> Option<usize>
-        ensures { result ≡ position (λ l. l.id.0 == id.0) self.now.lines }
+        ensures place { result ≡ position (λ l. l.id.0 == id.0) self.now.lines }
+        ensures inside { IfSome result (λ place. place < length self.now.lines) }
     {
         let guess = self.guess(id);
         if guess < self.entries.len() && self.entries[guess].id() == id {

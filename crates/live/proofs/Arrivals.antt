@@ -1,6 +1,7 @@
 -- What answers a wait.
-use Rattle.std.proofs.Common.{◌≡◌, true, false, Bool, ◌&&◌, ◌||◌, ℕ, List, [], ◌∷◌, refl}
+use Rattle.std.proofs.Common.{◌≡◌, true, false, Bool, ◌&&◌, ◌||◌, ℕ, List, [], ◌∷◌, ◌++◌, refl, ap, ◌∙◌}
 use Rattle.std.proofs.lemmas.Bool.{false≢true}
+use Rattle.std.proofs.lemmas.List.Folds.{list_any-append}
 use Rattle.std.specs.List.{list_any}
 use Rattle.acts.specs.declared.id.Id.{Id}
 use Rattle.acts.specs.declared.row.Row.{Row}
@@ -10,9 +11,10 @@ use Rattle.acts.specs.Deed as said
 use Rattle.acts.specs.Fits.{fits_wait, has_row}
 use Rattle.std.specs.Prelude.{None, Option}
 use Rattle.std.specs.declared.time.Instant.{Instant}
-use Rattle.live.specs.Arriving.{IsDue, IsLate, comes}
+use Rattle.live.specs.Arriving.{IsDue, IsLate, comes, is_of, is_wanted}
 use Rattle.live.specs.Calls.{Call}
 use Rattle.live.specs.Live.{IsWhy}
+use Rattle.live.proofs.Silence.{either_first, either_second}
 
 -- no row passes a test that is always false
 no_row : (rows : List Row) → list_any {X = Row} (λ row. false) rows ≡ true → ⊥
@@ -42,6 +44,32 @@ comes_fits rows timer said.Refused found = absurd (no_row rows found)
 comes_fits rows timer (said.Exited status) found = absurd (no_row rows found)
 comes_fits rows timer said.TimedOut found = absurd (no_row rows found)
 comes_fits rows timer said.NoMore found = refl
+
+-- what answers one of the first rows, or one of those after them, answers one of all
+pub comes_front : (rows front back : List Row) (reply : Reply) → rows ≡ front ++ back →
+    comes front reply ≡ true → comes rows reply ≡ true
+comes_front rows front back reply is found =
+    ap (λ all. comes all reply) is ∙ list_any-append (λ row. is_of row reply) front back
+    ∙ either_first (comes front reply) (comes back reply) found
+
+pub comes_back : (rows front back : List Row) (reply : Reply) → rows ≡ front ++ back →
+    comes back reply ≡ true → comes rows reply ≡ true
+comes_back rows front back reply is found =
+    ap (λ all. comes all reply) is ∙ list_any-append (λ row. is_of row reply) front back
+    ∙ either_second (comes front reply) (comes back reply) found
+
+-- what answers one of the rows is wanted
+pub comes_wanted : (rows : List Row) (reply : Reply) → comes rows reply ≡ true →
+    is_wanted rows reply ≡ true
+comes_wanted rows (said.Arrive id bytes) found = found
+comes_wanted rows (said.Ended id) found = refl
+comes_wanted rows said.Done found = refl
+comes_wanted rows (said.Failed sent) found = refl
+comes_wanted rows (said.Started pid) found = refl
+comes_wanted rows said.Refused found = refl
+comes_wanted rows (said.Exited status) found = refl
+comes_wanted rows said.TimedOut found = refl
+comes_wanted rows said.NoMore found = refl
 
 -- what answers one of the rows tells of no time
 pub comes_due : (ids : List Id) (rows : List Row) (which : Timer) (reply : Reply)

@@ -25,10 +25,10 @@ all_parts P [] ys all = (tt, all)
 all_parts P (x ∷ xs) ys (one, all) =
     let (first, more) = all_parts P xs ys all in ((one, first), more)
 
-either_first : (a b : Bool) → a ≡ true → (a || b) ≡ true
+pub either_first : (a b : Bool) → a ≡ true → (a || b) ≡ true
 either_first a b is = ap (λ one. one || b) is
 
-either_second : (a b : Bool) → b ≡ true → (a || b) ≡ true
+pub either_second : (a b : Bool) → b ≡ true → (a || b) ≡ true
 either_second true b is = refl
 either_second false b is = is
 

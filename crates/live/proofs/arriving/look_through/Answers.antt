@@ -1,8 +1,9 @@
 use Rattle.std.proofs.Common.{◌∙◌, [], Some, None, ap, arith, drop, refl, suc, sym, subst, take}
 use Rattle.std.proofs.lemmas.List.{take_all, take_more}
+use Rattle.std.proofs.lemmas.List.Folds.{list_any_at}
 use Rattle.std.proofs.Math.Seq.{split_at}
 use Rattle.acts.specs.Deed.{reply_of}
-use Rattle.live.specs.Arriving.{Sees}
+use Rattle.live.specs.Arriving.{Sees, is_of}
 use Rattle.live.specs.Kept.{ArePast, ids_of, kept_of}
 use Rattle.live.specs.Turns.{last_of}
 use Rattle.live.proofs.Order.{first_here}
@@ -94,3 +95,15 @@ returns-in-Some-clause-first g c =
     (reply_of c.in-Some.answer) (split_at c.args.rows.now i _ c.loop-row-test.true)
     (rw c.in-Some.is at c.in_ok-answer.ensures.of_row) c.loop-row.invariant.sees
     c.loop-row.invariant.same (rw c.in-Some.is at c.in_ok-answer.ensures.sees)
+
+pub returns-in-Some-clause-of_rows : goal.returns-in-Some-clause-of_rows
+returns-in-Some-clause-of_rows g c =
+    list_any_at (λ row. is_of row (reply_of c.in-Some.answer)) c.args.rows.now
+    c.loop-row.row-index _ c.loop-row-test.true
+    (rw c.in-Some.is at c.in_ok-answer.ensures.of_row)
+
+pub place_from-place-requires : goal.place_from-place-requires
+place_from-place-requires g c = rw c.deref.ensures.value c.loop-row.invariant.past
+
+pub look_at-requires : goal.look_at-requires
+look_at-requires g c = rw c.deref.ensures.value at c.place_from-place.ensures.place

@@ -1,7 +1,7 @@
 use Rattle.std.proofs.Common.{◌∙◌, None, refl}
 use Rattle.acts.specs.Deed.{reply_of}
 use Rattle.live.specs.Kept.{ids_of}
-use Rattle.live.proofs.Arrivals.{comes_due}
+use Rattle.live.proofs.Arrivals.{comes_due, comes_fits, comes_wanted}
 use Rattle.live.proofs.Order.{turns_rest, turns_so, turns_up}
 use Rattle.live.proofs.Turns.{begins_then, both_so, hears_none, hears_paused, hears_seen, waits_over, waits_rest, waits_so}
 use Rattle.live.proofs.arriving.next.Goals as goal
@@ -78,3 +78,33 @@ returns-then-branch-clause-waits g c =
           (rw c.if-branch.true at c.in_ok-is_over.ensures.shows),
       turns_up g.S.System.step _ _ ids c.args.rows.now _ _ _ refl,
     )
+
+pub returns-in-Some-clause-fits : goal.returns-in-Some-clause-fits
+returns-in-Some-clause-fits g c =
+    comes_fits c.args.rows.now c.args.timer (reply_of c.in-Some.heard)
+    (rw c.in-Some.is at c.in_ok-heard.ensures.of_rows)
+
+pub returns-in-Some-clause-wanted : goal.returns-in-Some-clause-wanted
+returns-in-Some-clause-wanted g c =
+    comes_wanted c.args.rows.now (reply_of c.in-Some.heard)
+    (rw c.in-Some.is at c.in_ok-heard.ensures.of_rows)
+
+pub returns-in-Some-2-clause-fits : goal.returns-in-Some-2-clause-fits
+returns-in-Some-2-clause-fits g c =
+    let (fits, wanted) = rw c.in-Some-2.is at c.in_ok-ended.ensures.fits in fits
+
+pub returns-in-Some-2-clause-wanted : goal.returns-in-Some-2-clause-wanted
+returns-in-Some-2-clause-wanted g c =
+    let (fits, wanted) = rw c.in-Some-2.is at c.in_ok-ended.ensures.fits in wanted
+
+pub returns-in-Some-2-clause-ids : goal.returns-in-Some-2-clause-ids
+returns-in-Some-2-clause-ids g c = c.look_round.ensures.ids ∙ c.looks.invariant.same
+
+pub returns-in_err-heard-clause-ids : goal.returns-in_err-heard-clause-ids
+returns-in_err-heard-clause-ids g c = c.look_round.ensures.ids ∙ c.looks.invariant.same
+
+pub returns-in_err-ended-clause-ids : goal.returns-in_err-ended-clause-ids
+returns-in_err-ended-clause-ids g c = c.look_round.ensures.ids ∙ c.looks.invariant.same
+
+pub returns-clause-ids : goal.returns-clause-ids
+returns-clause-ids g c = c.looks.invariant.same

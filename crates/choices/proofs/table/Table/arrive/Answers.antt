@@ -9,7 +9,7 @@ pub returns-in-Some-clause-lines : goal.returns-in-Some-clause-lines
 returns-in-Some-clause-lines g c =
     put_in c.args.id c.args.self.now.lines c.self.inside.entries.items c.in-Some.place
     c.index_mut.result.now c.arrive.new.self (reached c.args.bytes.now)
-    (ap (λ t. t.lines) c.self.view_is) c.in-Some.ensures c.index_mut.ensures.value
+    (ap (λ t. t.lines) c.self.view_is) c.in-Some.ensures.place c.index_mut.ensures.value
     c.arrive.ensures
 
 pub returns-in-Some-clause-fits : goal.returns-in-Some-clause-fits
@@ -18,7 +18,8 @@ returns-in-Some-clause-fits g c =
 
 pub returns-in_default-clause-lines : goal.returns-in_default-clause-lines
 returns-in_default-clause-lines g c =
-    sym (absent_in c.args.id c.args.self.now.lines (reached c.args.bytes.now) c.in_default.ensures).unchanged
+    sym (absent_in c.args.id c.args.self.now.lines (reached c.args.bytes.now)
+    c.in_default.ensures.place).unchanged
 
 pub returns-in_default-clause-fits : goal.returns-in_default-clause-fits
 returns-in_default-clause-fits g c =

@@ -8,7 +8,7 @@ pub returns-in-Some-clause-lines : goal.returns-in-Some-clause-lines
 returns-in-Some-clause-lines g c =
     c.remove.ensures.items
     ∙ gone_in c.args.id c.args.self.now.lines c.self.inside.entries.items c.in-Some.place
-    (ap (λ t. t.lines) c.self.view_is) c.in-Some.ensures
+    (ap (λ t. t.lines) c.self.view_is) c.in-Some.ensures.place
 
 pub returns-in-Some-clause-fits : goal.returns-in-Some-clause-fits
 returns-in-Some-clause-fits g c =
@@ -16,7 +16,7 @@ returns-in-Some-clause-fits g c =
 
 pub returns-in_default-clause-lines : goal.returns-in_default-clause-lines
 returns-in_default-clause-lines g c =
-    sym (absent_in c.args.id c.args.self.now.lines (λ l. l) c.in_default.ensures).all_left
+    sym (absent_in c.args.id c.args.self.now.lines (λ l. l) c.in_default.ensures.place).all_left
 
 pub returns-in_default-clause-fits : goal.returns-in_default-clause-fits
 returns-in_default-clause-fits g c =

@@ -5,5 +5,5 @@ use Rattle.choices.proofs.table.Table.is_open.Goals as goal
 pub returns : goal.returns
 returns g c =
     let lines = c.args.self.now.lines in
-    c.is_some.ensures ∙ ap is_some (c.place.ensures ∙ place-position c.args.id lines)
+    c.is_some.ensures ∙ ap is_some (c.place.ensures.place ∙ place-position c.args.id lines)
     ∙ opens c.args.id lines

@@ -8,7 +8,7 @@ use Rattle.choices.proofs.table.Table.set_max.Goals as goal
 
 pub unreachable-requires : goal.unreachable-requires
 unreachable-requires g c =
-    let none = absent_in c.args.id c.args.self.now.lines (λ l. l) c.in_default.ensures in
+    let none = absent_in c.args.id c.args.self.now.lines (λ l. l) c.in_default.ensures.place in
     let never : false ≡ true = rw none.no_line at c.requires in
     cc
 
@@ -16,7 +16,7 @@ pub returns-clause-lines : goal.returns-clause-lines
 returns-clause-lines g c =
     ok_from c.set_max.result (λ new. put_in c.args.id c.args.self.now.lines
     c.self.inside.entries.items c.in-Some.place c.index_mut.result.now c.set_max.new.self
-    (resized c.args.max) (ap (λ t. t.lines) c.self.view_is) c.in-Some.ensures
+    (resized c.args.max) (ap (λ t. t.lines) c.self.view_is) c.in-Some.ensures.place
     c.index_mut.ensures.value new) c.set_max.ensures.line
 
 pub returns-clause-fits : goal.returns-clause-fits
