@@ -90,8 +90,19 @@ pub fn found_near<'a, X, A: Allocator>(
 {
     match table.get_index(place) {
         Some((other, value)) if other.as_slice() == key => Some(value),
-        _ => table.get(key),
+        _ => found_by_hash(table, key),
     }
+}
+
+/// What stands at a key, which is hashed. That a key stands elsewhere than where it was put is
+/// rare, so this is apart from the look at that place.
+#[cold]
+#[inline(never)]
+fn found_by_hash<'a, X, A: Allocator>(table: &'a Table<X, A>, key: &[u8]) -> Option<&'a X>
+    ensures { option_copied result
+        ≡ lookup (λ k. pointwise nat_eq key.now k.items) table.now.entries }
+{
+    table.get(key)
 }
 
 /// The place at which a key stands, which is looked for at this place first.
@@ -104,6 +115,18 @@ pub fn place_near<X, A: Allocator>(table: &Table<X, A>, place: usize, key: &[u8]
 {
     match table.get_index(place) {
         Some((other, _)) if other.as_slice() == key => Some(place),
-        _ => table.get_index_of(key),
+        _ => place_by_hash(table, key),
     }
+}
+
+/// The place at which a key stands, which is hashed.
+#[cold]
+#[inline(never)]
+fn place_by_hash<X, A: Allocator>(table: &Table<X, A>, key: &[u8]) -> Option<usize>
+    ensures stands { IfSome result (λ i.
+        option_map (λ e. e.0.items) (slice_get table.now.entries i) ≡ Some key.now) }
+    ensures absent { IfNone result
+        (lookup (λ k. pointwise nat_eq key.now k.items) table.now.entries ≡ None) }
+{
+    table.get_index_of(key)
 }

@@ -60,6 +60,7 @@ impl<A: Allocator> Content<A> {
     /// Adds a number to the one that the text is, and gives the sum. `None` where there is no text
     /// that is a number, where 64 bits do not hold the sum, or where it does not lie in place (it
     /// has more than 14 bytes): nothing has changed then.
+    #[inline(always)]
     pub fn add(&mut self, by: i64) -> Option<Value<A>>
         ensures added { IfSome result (λ sum.
             HasSum by sum (value_of (Some (variable_of self.old)) None)) }
@@ -128,6 +129,7 @@ impl<A: Allocator + Copy> Content<A> {
     }
 
     /// Overwrites the text, or writes the element at an index.
+    #[inline(always)]
     pub fn set(&mut self, alloc: A, index: Option<&[u8]>, value: Value<A>) -> Result<(), ScopeError>
         ensures ok { OnOk result
             (changed (Some (variable_of self.old)) (option_copied index.entry) value

@@ -214,12 +214,35 @@ impl<A: Allocator + Copy> LocalFrame<A> {
                 Some(local) => local.set(globals, alloc, name, index, value),
                 None => unreachable!(),
             },
-            None => {
-                let content = Content::new(alloc, index, value)?;
-                self.put(alloc, name, Local::Own(content))?;
-                Ok(())
-            }
+            None => self.set_new(alloc, name, index, value),
         }
+    }
+
+    /// Makes a text, or an array with one element, of a name that stands for nothing yet. This is
+    /// rare, so it is apart from writing what is there.
+    #[cold]
+    #[inline(never)]
+    fn set_new(
+        &mut self,
+        alloc: A,
+        name: &[u8],
+        index: Option<&[u8]>,
+        value: Value<A>,
+    ) -> Result<(), ScopeError>
+        ensures ok { found self.old name.now ≡ None → OnOk result (
+            (outer : List spec.Frame) (globals : spec.Frame) →
+            spec.written (spec.scopes (self.old ∷ outer) globals) name.now
+            (option_copied index.entry) value
+            ≡ Ok (spec.scopes (self.new ∷ outer) globals)) }
+        ensures trouble { found self.old name.now ≡ None → IfErr result (λ e.
+            (outer : List spec.Frame) (globals : spec.Frame) → HasTroubleOrRefusal e
+            (spec.written (spec.scopes (self.old ∷ outer) globals) name.now
+            (option_copied index.entry) value)) }
+        ensures unchanged { OnErr result (self.new ≡ self.old) }
+    {
+        let content = Content::new(alloc, index, value)?;
+        self.put(alloc, name, Local::Own(content))?;
+        Ok(())
     }
 
     /// Makes a name an array, unless it is one already; for a link, this is done to the global.

@@ -44,6 +44,7 @@ impl<A: Allocator> Globals<A> {
     ghost use Rattle.tclstate.specs.Stored.{variable_of};
 
     /// What a name stands for.
+    #[inline(never)]
     pub fn get(&self, name: &[u8]) -> Option<&Content<A>>
         ensures { option_map variable_of (option_copied result) ≡ found self.now name.now }
     {
@@ -148,12 +149,31 @@ impl<A: Allocator + Copy> Globals<A> {
                 Some(content) => content.set(alloc, index, value),
                 None => unreachable!(),
             },
-            None => {
-                let content = Content::new(alloc, index, value)?;
-                self.put(alloc, name, content)?;
-                Ok(())
-            }
+            None => self.set_new(alloc, name, index, value),
         }
+    }
+
+    /// Makes a text, or an array with one element, of a name that stands for nothing yet. This is
+    /// rare, so it is apart from writing what is there.
+    #[cold]
+    #[inline(never)]
+    fn set_new(
+        &mut self,
+        alloc: A,
+        name: &[u8],
+        index: Option<&[u8]>,
+        value: Value<A>,
+    ) -> Result<(), ScopeError>
+        ensures ok { found self.old name.now ≡ None → OnOk result
+            (frame_written name.now (option_copied index.entry) value self.old ≡ Ok self.new) }
+        ensures trouble { found self.old name.now ≡ None → IfErr result (λ e.
+            HasTroubleOrRefusal e
+            (frame_written name.now (option_copied index.entry) value self.old)) }
+        ensures unchanged { OnErr result (self.new ≡ self.old) }
+    {
+        let content = Content::new(alloc, index, value)?;
+        self.put(alloc, name, content)?;
+        Ok(())
     }
 
     /// Makes a name an array, unless it is one already.

@@ -56,6 +56,7 @@ impl<A: Allocator> Scopes<A> {
     ghost use Rattle.tclstate.specs.Stored.{variable_of};
 
     /// What a name means in the current frame; a link means the global.
+    #[inline(always)]
     fn variable(&self, name: &[u8]) -> Option<&Content<A>>
         ensures { option_map variable_of (option_copied result) ≡ spec.variable self.now name.now }
     {
@@ -75,6 +76,7 @@ impl<A: Allocator> Scopes<A> {
     /// `NoVariable` where the name means nothing, `IsArray` where it means an array and there is no
     /// index; with an index `NotArray` where it means a text, `NoElement` where the array has no
     /// such element.
+    #[inline(always)]
     pub fn get(&self, name: &[u8], index: Option<&[u8]>) -> Result<&Value<A>, ScopeError>
         ensures value { IfOk result
             (λ value. spec.read self.now name.now (option_copied index.entry) ≡ Ok value.now) }

@@ -1,40 +1,11 @@
-use Rattle.std.proofs.Common.{Some, None, refl, sym, ap, ◌∙◌, option_copied}
-use Rattle.std.proofs.lemmas.Result.{on_ok_weaker, on_err_weaker, IfErr-weaker, err_from_is_err_and}
-use Rattle.tclstate.specs.declared.error.ScopeError.TheVariants as error
-use Rattle.tclstate.specs.Scopes.{changed, is_link, frame_written}
-use Rattle.tclstate.specs.Stored.{variable_of, local_of}
-use Rattle.tclstate.proofs.Frames.{makes, found_in, changed_absent, refusal_absent, unchanged_in_place, put_in_place}
+use Rattle.std.proofs.Common.{Some, None, refl, sym, ◌∙◌, option_copied}
+use Rattle.std.proofs.lemmas.Result.{on_ok_weaker, on_err_weaker, IfErr-weaker}
+use Rattle.tclstate.specs.Scopes.{changed, frame_written}
+use Rattle.tclstate.specs.Stored.{local_of}
+use Rattle.tclstate.proofs.Frames.{found_in, unchanged_in_place, put_in_place}
 use Rattle.hints.proofs.Places.{lookup_at, set_at}
-use Rattle.tclstate.proofs.Reach.{changed_here, refusal_here, changed_reached, refusal_reached}
+use Rattle.tclstate.proofs.Reach.{changed_reached, refusal_reached}
 use Rattle.tclstate.proofs.frame.LocalFrame.set.Goals as goal
-
-pub returns-in_err-content-in-None-clause-trouble :
-    goal.returns-in_err-content-in-None-clause-trouble
-returns-in_err-content-in-None-clause-trouble g c =
-    let p = err_from_is_err_and c.from_residual.result c.from_residual.ensures.1 in
-    rw (p.1, p.2)
-    (λ outer. refusal_here (frame_written c.args.name.now (option_copied c.args.index) c.args.value)
-    c.args.self.now c.args.globals.now c.args.name.now outer (error.NoMemory _)
-    (ap is_link (found_in local_of c.self.inside.variables.entries _ c.self.view_is c.args.name.now
-    None (sym c.in-None.ensures.absent)))
-    (refusal_absent local_of c.self.inside.variables.entries _ c.self.view_is c.args.name.now
-    (λ v. changed v (option_copied c.args.index) c.args.value)
-    (sym c.in-None.ensures.absent) (error.NoMemory _)
-    (makes (option_copied c.args.index) c.args.value)))
-
-pub returns-in_err-put-in-None-clause-trouble : goal.returns-in_err-put-in-None-clause-trouble
-returns-in_err-put-in-None-clause-trouble g c =
-    let p = err_from_is_err_and c.from_residual-in_err-put-in-None.result
-    c.from_residual-in_err-put-in-None.ensures.1 in
-    rw (p.1, p.2)
-    (λ outer. refusal_here (frame_written c.args.name.now (option_copied c.args.index) c.args.value)
-    c.args.self.now c.args.globals.now c.args.name.now outer (error.NoMemory _)
-    (ap is_link (found_in local_of c.self.inside.variables.entries _ c.self.view_is c.args.name.now
-    None (sym c.in-None.ensures.absent)))
-    (refusal_absent local_of c.self.inside.variables.entries _ c.self.view_is c.args.name.now
-    (λ v. changed v (option_copied c.args.index) c.args.value)
-    (sym c.in-None.ensures.absent) (error.NoMemory _)
-    (makes (option_copied c.args.index) c.args.value)))
 
 pub returns-in-Some-get_index_mut-clause-ok : goal.returns-in-Some-get_index_mut-clause-ok
 returns-in-Some-get_index_mut-clause-ok g c =
@@ -82,14 +53,14 @@ returns-in-Some-get_index_mut-clause-unchanged g c =
     _ _ c.set.new.self (c.in-Some-get_index_mut.ensures.value ∙ at) is)
     c.set.ensures.unchanged
 
-pub returns-in_ok-put-in-None-clause-ok : goal.returns-in_ok-put-in-None-clause-ok
-returns-in_ok-put-in-None-clause-ok g c =
-    λ outer. changed_here (frame_written c.args.name.now (option_copied c.args.index) c.args.value)
-    c.args.self.now c.args.globals.now c.args.name.now outer _
-    (ap is_link (found_in local_of c.self.inside.variables.entries _ c.self.view_is c.args.name.now
-    None (sym c.in-None.ensures.absent)))
-    (changed_absent local_of c.self.inside.variables.entries _ c.self.view_is c.args.name.now
-    (λ v. changed v (option_copied c.args.index) c.args.value)
-    c.put.new.self (variable_of c.in_ok-content-in-None.content) (sym c.in-None.ensures.absent)
-    c.in_ok-content-in-None.ensures
-    c.in_ok-put-in-None.ensures.ok)
+pub returns-in-None-clause-ok : goal.returns-in-None-clause-ok
+returns-in-None-clause-ok g c =
+    on_ok_weaker c.set_new.result (λ e outer. e outer c.args.globals.now)
+    (c.set_new.ensures.ok (found_in local_of c.self.inside.variables.entries _ c.self.view_is
+    c.args.name.now None (sym c.in-None.ensures.absent)))
+
+pub returns-in-None-clause-trouble : goal.returns-in-None-clause-trouble
+returns-in-None-clause-trouble g c =
+    IfErr-weaker c.set_new.result _ _ (λ e h outer. h outer c.args.globals.now)
+    (c.set_new.ensures.trouble (found_in local_of c.self.inside.variables.entries _ c.self.view_is
+    c.args.name.now None (sym c.in-None.ensures.absent)))
