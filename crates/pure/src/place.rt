@@ -30,6 +30,19 @@ pub fn fixed_place<A: Allocator>(word: &Value<A>) -> Option<usize>
     }
 }
 
+/// The place that an index word names among `len` elements, which may lie before or after them all;
+/// `None` where the word is not an index (string(n), string index). A number that is kept with the
+/// word is not read.
+#[inline(always)]
+pub fn place_in<A: Allocator>(word: &Value<A>, len: usize) -> Option<i128>
+    ensures { result ≡ meant.place_of word.now len }
+{
+    match fixed_place(word) {
+        Some(place) => Some(place as i128),
+        None => place_of(word.as_slice(), len),
+    }
+}
+
 /// The place that `end` with this text after it names.
 fn behind_end(text: &[u8], len: usize) -> Option<i128>
     ensures { result ≡ meant.behind_end len text.now }

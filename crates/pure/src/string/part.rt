@@ -5,7 +5,7 @@ ghost use Rattle.pure.specs.Strings.Length as lengths;
 ghost use Rattle.pure.specs.Strings.Range as ranges;
 ghost use Rattle.meanings.specs.View.{Answers};
 
-use crate::place::{item_at, items_from, place_of};
+use crate::place::{item_at, items_from, place_in};
 use crate::words::{bad_argument, number, wrong_args};
 use acts::Raise;
 use std::alloc::Allocator;
@@ -26,17 +26,21 @@ pub fn index<A: Allocator + Copy>(alloc: A, words: &[Value<A>]) -> Result<Value<
     ensures { Answers (bytes.index words.now) result }
 {
     match words {
-        [string, index] => byte_at(alloc, string.as_slice(), index.as_slice()),
+        [string, index] => byte_at(alloc, string.as_slice(), index),
         _ => wrong_args(alloc, b"string"),
     }
 }
 
 /// The byte at the place that an index names, or the empty text where it lies outside.
-fn byte_at<A: Allocator + Copy>(alloc: A, string: &[u8], index: &[u8]) -> Result<Value<A>, Raise<A>>
+fn byte_at<A: Allocator + Copy>(
+    alloc: A,
+    string: &[u8],
+    index: &Value<A>,
+) -> Result<Value<A>, Raise<A>>
     ensures { Answers (bytes.byte_at string.now index.now) result }
 {
-    let Some(place) = place_of(index, string.len()) else {
-        return bad_argument(alloc, index, b"string");
+    let Some(place) = place_in(index, string.len()) else {
+        return bad_argument(alloc, index.as_slice(), b"string");
     };
     match item_at(string, place) {
         Some(byte) => Ok(Value::from_slice(alloc, &[*byte])?),
@@ -49,9 +53,7 @@ pub fn range<A: Allocator + Copy>(alloc: A, words: &[Value<A>]) -> Result<Value<
     ensures { Answers (ranges.range words.now) result }
 {
     match words {
-        [string, first, last] => {
-            part(alloc, string.as_slice(), first.as_slice(), last.as_slice())
-        }
+        [string, first, last] => part(alloc, string.as_slice(), first, last),
         _ => wrong_args(alloc, b"string"),
     }
 }
@@ -60,16 +62,16 @@ pub fn range<A: Allocator + Copy>(alloc: A, words: &[Value<A>]) -> Result<Value<
 fn part<A: Allocator + Copy>(
     alloc: A,
     string: &[u8],
-    first: &[u8],
-    last: &[u8],
+    first: &Value<A>,
+    last: &Value<A>,
 ) -> Result<Value<A>, Raise<A>>
     ensures { Answers (ranges.part string.now first.now last.now) result }
 {
-    let Some(from) = place_of(first, string.len()) else {
-        return bad_argument(alloc, first, b"string");
+    let Some(from) = place_in(first, string.len()) else {
+        return bad_argument(alloc, first.as_slice(), b"string");
     };
-    let Some(to) = place_of(last, string.len()) else {
-        return bad_argument(alloc, last, b"string");
+    let Some(to) = place_in(last, string.len()) else {
+        return bad_argument(alloc, last.as_slice(), b"string");
     };
     Ok(Value::from_slice(alloc, items_from(string, from, to))?)
 }
