@@ -1,6 +1,6 @@
 //! Texts of a few bytes, in place.
 
-ghost use Rattle.std.specs.Prelude.{◌≡◌, ◌<◌, [], length, min, IfSome, IfNone};
+ghost use Rattle.std.specs.Prelude.{◌≡◌, ◌<◌, ◌++◌, [], length, min, IfSome, IfNone};
 
 use std::marker::Model;
 
@@ -48,6 +48,25 @@ impl<const MOST: usize> Short<MOST> {
         };
         let mut bytes = [0; MOST];
         bytes[..text.len()].copy_from_slice(text);
+        Some(Short { len, bytes })
+    }
+
+    /// Two texts as one, or `None` where they are together more than `MOST` bytes or more than 255.
+    pub(crate) fn joined(first: &[u8], second: &[u8]) -> Option<Short<MOST>>
+        ensures bytes { IfSome result (λ short. short ≡ first.now ++ second.now) }
+        ensures room { IfNone result (min MOST 255 < length (first.now ++ second.now)) }
+    {
+        let whole = first.len() + second.len();
+        if whole > MOST {
+            return None;
+        }
+        let Ok(len) = u8::try_from(whole) else {
+            return None;
+        };
+        let mut bytes = [0; MOST];
+        let room = &mut bytes[..];
+        room[..first.len()].copy_from_slice(first);
+        room[first.len()..whole].copy_from_slice(second);
         Some(Short { len, bytes })
     }
 

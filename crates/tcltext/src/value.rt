@@ -8,7 +8,6 @@ ghost use Rattle.tcltext.specs.Numeral.{IsNumeral, IsInRange};
 use crate::kept::keep;
 use crate::kept_elements::Elements;
 use crate::short::{IN_PLACE, Short};
-use arrayvec::ArrayVec;
 use counted_slot::Counted;
 use memory::NoMemory;
 use std::alloc::Allocator;
@@ -90,14 +89,7 @@ impl<A: Allocator> Value<A> {
         ensures bytes { IfSome result (λ joined. joined ≡ first.now ++ second.now) }
         ensures room { IfNone result (14 < length (first.now ++ second.now)) }
     {
-        let mut bytes = ArrayVec::<u8, IN_PLACE>::new();
-        let Ok(()) = bytes.try_extend_from_slice(first) else {
-            return None;
-        };
-        let Ok(()) = bytes.try_extend_from_slice(second) else {
-            return None;
-        };
-        Value::in_place(bytes.as_slice())
+        Some(Value::short(Short::joined(first, second)?))
     }
 
     /// A value of a few bytes.
