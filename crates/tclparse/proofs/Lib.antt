@@ -16,3 +16,4 @@ pub mod SpelledTrees
 pub mod SpelledScripts
 pub mod Normal
 pub mod Operands
+pub mod Elements

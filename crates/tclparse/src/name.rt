@@ -68,6 +68,9 @@ pub(crate) fn split_before(byte: u8, text: &[u8]) -> (&[u8], &[u8])
 fn split_element(name: &[u8]) -> Option<(&[u8], &[u8])>
     ensures { element_seen result ≡ element_of name.now }
 {
+    if !ends_with(b')', name) {
+        return None;
+    }
     let (array, rest) = split_before(b'(', name);
     match rest {
         [_, index @ ..] => {
