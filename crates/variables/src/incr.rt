@@ -21,6 +21,7 @@ use tcltext::Value;
 /// The wrong number of words; a word that is no variable name; no number, in a word or in the
 /// variable; a variable that can't be read; a sum beyond 64 bits; or memory is refused. Nothing
 /// changes.
+#[inline(always)]
 pub fn begin<A: Allocator + Copy>(
     alloc: A,
     scopes: &mut Scopes<A>,
@@ -35,8 +36,46 @@ pub fn begin<A: Allocator + Copy>(
     }
 }
 
-/// Adds a number to that of the variable or the element that a word names.
+/// Adds a number to that of the variable or the element that a word names. All but a sum that is
+/// written where the variable stands is apart, since it may answer an error, which is wide.
+#[inline(always)]
 fn add<'a, A: Allocator + Copy>(
+    alloc: A,
+    scopes: &mut Scopes<A>,
+    word: &'a [u8],
+    by: Option<&'a Value<A>>,
+) -> Result<Value<A>, Raise<A>>
+    ensures { Stores (definition.adds word.now (option_copied by.entry) scopes.old)
+        scopes.old result scopes.new }
+{
+    match add_in_place(scopes, word, by) {
+        Some(sum) => Ok(sum),
+        None => add_elsewhere(alloc, scopes, word, by),
+    }
+}
+
+/// Adds a number to that of the variable that a word names, where it stands, and gives the sum.
+/// `None` where there is no such variable, where one of the two is no number, or where the sum does
+/// not lie in place: nothing has changed then.
+fn add_in_place<A: Allocator>(
+    scopes: &mut Scopes<A>,
+    word: &[u8],
+    by: Option<&Value<A>>,
+) -> Option<Value<A>>
+    ensures added { IfSome result (λ sum.
+        definition.adds word.now (option_copied by.entry) scopes.old ≡ Ok (scopes.new, sum)) }
+    ensures unchanged { IfNone result (scopes.new ≡ scopes.old) }
+{
+    let Ok(Name { name, index }) = variable_name(word) else {
+        return None;
+    };
+    added(scopes, name, index, by)
+}
+
+/// Adds a number to that of the variable or the element that a word names, by a look-up and a
+/// write.
+#[inline(never)]
+fn add_elsewhere<'a, A: Allocator + Copy>(
     alloc: A,
     scopes: &mut Scopes<A>,
     word: &'a [u8],
@@ -48,10 +87,7 @@ fn add<'a, A: Allocator + Copy>(
     let Ok(Name { name, index }) = variable_name(word) else {
         return Err(Raise::Fault(Fault::BadVariable));
     };
-    match added(scopes, name, index, by) {
-        Some(sum) => Ok(sum),
-        None => add_to(alloc, scopes, name, index, by),
-    }
+    add_to(alloc, scopes, name, index, by)
 }
 
 /// The number that a word says, one where there is none; `None` where the word is no number.
@@ -85,9 +121,7 @@ fn added<A: Allocator>(
     }
 }
 
-/// Adds a number to that of a variable or an element. What it may answer is wide, so this is apart
-/// from sums that are written where the variable stands.
-#[inline(never)]
+/// Adds a number to that of a variable or an element.
 fn add_to<'a, A: Allocator + Copy>(
     alloc: A,
     scopes: &mut Scopes<A>,
