@@ -1,9 +1,9 @@
 -- Substitutions that stand alone, as the code takes them.
-use Rattle.std.proofs.Common.{◌≡◌, ℕ, ◌-◌, List, Option, Some, None, Result, Ok, Err, refl, sym, ap, subst, ◌∙◌}
+use Rattle.std.proofs.Common.{◌≡◌, ℕ, ◌-◌, List, Ok, Err, refl, sym, ap, subst}
 use Rattle.std.specs.Borrow.{Bor}
 use Rattle.tclparse.specs.Fault.{Fault}
 use Rattle.tclparse.specs.Tree.{Parts, no_parts, variable, element, script, Commands, bytes_then}
-use Rattle.tclparse.specs.Piece.{Next, fault, a_name, an_index, an_element, a_bracket, next_part}
+use Rattle.tclparse.specs.Piece.{fault, a_name, an_index, an_element, a_bracket, next_part}
 use Rattle.tclparse.specs.FormulaFault.{of_words}
 use Rattle.tclparse.specs.FormulaGrammar.{from_words, IsSubstitution}
 use Rattle.tclparse.specs.FormulaReads.{ReadSome, ReadsSubstitution}

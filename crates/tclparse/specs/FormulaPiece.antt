@@ -1,5 +1,5 @@
 -- What the next bytes of a formula are.
-use Rattle.std.specs.Prelude.{ℕ, ◌+◌, ◌==◌, nat_le, nat_lt, ◌&&◌, ◌||◌, List, [], ◌∷◌, codes, drop, take, Bool, true, false, Option, Some, None, if◌then◌else◌}
+use Rattle.std.specs.Prelude.{ℕ, ◌+◌, ◌==◌, nat_le, ◌&&◌, ◌||◌, List, [], ◌∷◌, codes, drop, take, Bool, false, Option, Some, None, if◌then◌else◌}
 use Rattle.std.specs.Str.{bytes_eq}
 use Rattle.tcltext.specs.White.{skip_white}
 use Rattle.tcltext.specs.Digit.{is_digit}

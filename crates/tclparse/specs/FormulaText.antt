@@ -1,5 +1,4 @@
 -- How a formula is written: operands and what joins them, before operators group.
-use Rattle.std.specs.Prelude.{ℕ, List}
 use Rattle.tclparse.specs.declared.operator.Unary.{Unary}
 use Rattle.tclparse.specs.declared.operator.Infix.{Infix}
 use Rattle.tclparse.specs.declared.operator.Function.{Function}

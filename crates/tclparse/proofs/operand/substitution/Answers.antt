@@ -1,7 +1,6 @@
 use Rattle.std.proofs.Common.{rules, ◌≡◌, sym, ap, subst, ◌∙◌, Ok}
 use Rattle.tclparse.specs.Tree.{no_parts, variable}
 use Rattle.tclparse.specs.Seen.{fault_of}
-use Rattle.tclparse.specs.View.{parts_then}
 use Rattle.tclparse.specs.Piece.{next_part}
 use Rattle.tclparse.specs.FormulaGrammar.{IsSubstitution}
 use Rattle.tclparse.proofs.Exits.{passed_on}
