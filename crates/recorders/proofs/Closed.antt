@@ -8,11 +8,11 @@ use Rattle.std.proofs.lemmas.List.Folds.{list_any-append}
 use Rattle.std.proofs.Math.Seq.{drop-append_seam, take-append_seam}
 use Rattle.acts.specs.declared.row.Row.{Row}
 use Rattle.acts.specs.Deed.{Reply}
-use Rattle.records.specs.Cut.{Lacks}
+use Rattle.lines.specs.Cut.{Lacks}
+use Rattle.lines.specs.Line.{IsWholeLine, newline}
+use Rattle.lines.proofs.Cuts.{Lacks-append}
+use Rattle.lines.proofs.Letters.{lacks_line, lacks_word, letter}
 use Rattle.records.specs.Entry.{AreLinesOf, AreNotes, IsSecondRecord, Note, second_header}
-use Rattle.records.specs.Record.{IsWholeLine, newline}
-use Rattle.records.proofs.Cuts.{Lacks-append}
-use Rattle.records.proofs.Letters.{lacks_line, lacks_word, letter}
 use Rattle.recorders.specs.RecordFile.{is_wait, is_whole}
 
 lacks_back : (front back : List ℕ) → Lacks letter (front ++ back) → Lacks letter back

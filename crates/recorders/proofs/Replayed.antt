@@ -1,5 +1,5 @@
 -- A replay of what was recorded.
-use Rattle.std.proofs.Common.{◌≡◌, ◌≢◌, ◌+◌, ◌⊎◌, ℕ, suc, Bool, true, false, List, [], ◌∷◌, ◌++◌, Option, Some, None, map, take, refl, sym, ap, ◌∙◌, subst, inl, inr}
+use Rattle.std.proofs.Common.{◌≡◌, ◌+◌, ◌⊎◌, ℕ, suc, Bool, true, false, List, [], ◌∷◌, ◌++◌, Some, None, refl, sym, ap, ◌∙◌, subst, inl, inr}
 use Rattle.acts.specs.declared.row.Row.{Row}
 use Rattle.acts.specs.Deed.{Deed, Reply}
 use Rattle.acts.specs.Deed as said
@@ -7,7 +7,7 @@ use Rattle.acts.specs.History.{History, Past}
 use Rattle.records.specs.Entry.{Note}
 use Rattle.records.proofs.Records.{same_cons}
 use Rattle.std.specs.List.{list_all}
-use Rattle.recorders.specs.Laws.{AreLedAlike, EndsAtNoMore, IsReplayed, acts_of, answers_of}
+use Rattle.recorders.specs.Laws.{AreLedAlike, EndsAtNoMore, IsReplayed}
 use Rattle.recorders.specs.Recorder.{entries_of, entry_of, is_row, rows_of, told_rows}
 use Rattle.replays.specs.Due.{IsDue}
 use Rattle.replays.specs.Recording.{Answers, Recorded}

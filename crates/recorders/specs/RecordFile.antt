@@ -1,7 +1,7 @@
 -- What the file of a record gets of what is put into it (this project's own rule).
 use Rattle.std.specs.Prelude.{◌≡◌, ◌-◌, ◌==◌, ◌&&◌, ℕ, Bool, false, not, nat_eq, List, [], ◌∷◌, ◌++◌, length, take, codes, MatchBool}
 use Rattle.std.specs.List.{ends_with, list_any, starts_with}
-use Rattle.records.specs.Record.{newline}
+use Rattle.lines.specs.Line.{newline}
 use Rattle.records.specs.Sink.{Gets}
 use Rattle.recorders.specs.declared.record_file.RecordFile.{RecordFile}
 

@@ -5,8 +5,8 @@ use Rattle.acts.specs.declared.row.Row.{Row}
 use Rattle.acts.specs.Deed.{Deed, Reply}
 use Rattle.acts.specs.Deed as said
 use Rattle.acts.specs.History.{History}
+use Rattle.lines.specs.Rows.{greatest_size, wanted}
 use Rattle.records.specs.Entry.{AreNotes, Note, second_header}
-use Rattle.records.specs.Rows.{greatest_size, wanted}
 use Rattle.records.specs.Sink.{Takes}
 
 -- whether a record can state a row: its sizes are in range, and `want` follows from them

@@ -6,16 +6,17 @@ use Rattle.std.proofs.lemmas.List.{append_assoc, map_push}
 use Rattle.std.specs.List.{AllByRecursion}
 use Rattle.acts.specs.declared.row.Row.{Row}
 use Rattle.acts.specs.Deed.{Reply}
+use Rattle.lines.specs.Line.{IsLine, IsWholeLine}
+use Rattle.lines.specs.Rows.{IsWait, rows_text}
+use Rattle.lines.proofs.Cuts.{head, same_cut}
+use Rattle.lines.proofs.Lines.{Lacks-line, no_wait, one_line, same_line}
+use Rattle.lines.proofs.RowTexts.{Lacks-wait, same_rows}
 use Rattle.records.specs.Entry.{AreEntries, AreLinesOf, AreNotes, HasLines, HasSecondHeader, IsBadLine, Note, StopsAfter, lines_in, lines_of, plain_note, second_header}
 use Rattle.records.specs.Fault.{IsEntriesFault, IsFault, IsNoteFault, IsNotesFault, IsRefused}
 use Rattle.records.specs.declared.record.RecordFault.{RecordFault}
 use Rattle.records.specs.declared.record.RecordFault.TheVariants as fault
-use Rattle.records.specs.Record.{HasHeader, IsLine, IsWholeLine, header}
-use Rattle.records.specs.Rows.{IsWait, rows_text}
-use Rattle.records.proofs.Cuts.{head, same_cut}
-use Rattle.records.proofs.Lines.{Lacks-line, no_wait, one_line, same_line}
+use Rattle.records.specs.Record.{HasHeader, header}
 use Rattle.records.proofs.Records.{no_bad_line, nothing_after, one_bad_line, one_list, whole_rest}
-use Rattle.records.proofs.RowTexts.{Lacks-wait, same_rows}
 
 -- where texts that begin with the lines of answers are equal, so are the answers and the rests
 same_answer : (a b : Reply) (x y r s : List ℕ) → IsWholeLine a x → IsWholeLine b y → x ++ r ≡ y

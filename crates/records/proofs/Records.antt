@@ -4,9 +4,10 @@ use Rattle.std.proofs.Common.{◌≡◌, ◌≢◌, ℕ, suc, List, [], ◌∷�
 use Rattle.std.proofs.lemmas.List.{append_assoc, length_push, map_push}
 use Rattle.std.specs.List.{AllByRecursion}
 use Rattle.acts.specs.Deed.{Reply}
-use Rattle.records.specs.Record.{AreLines, BeginsWithLine, HasLine, IsFirstBad, IsLine, IsRecord, header}
-use Rattle.records.proofs.Cuts.{same_cut}
-use Rattle.records.proofs.Lines.{Lacks-line, one_line, same_line}
+use Rattle.lines.specs.Line.{BeginsWithLine, HasLine, IsLine}
+use Rattle.lines.proofs.Cuts.{same_cut}
+use Rattle.lines.proofs.Lines.{Lacks-line, one_line, same_line}
+use Rattle.records.specs.Record.{AreLines, IsFirstBad, IsRecord, header}
 
 -- a whole line and what follows it
 pub whole_rest : (text line rest : List ℕ) → text ≡ line ++ 10 ∷ []

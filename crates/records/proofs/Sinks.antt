@@ -1,5 +1,5 @@
 -- Chains of puts.
-use Rattle.std.proofs.Common.{◌≡◌, ◌≢◌, ℕ, ◌==◌, Bool, true, false, List, [], ◌∷◌, ◌++◌, length, take, refl, sym, ap, ◌∙◌, append_assoc, append-nil, take-append-drop, drop, ◌<◌, subst, arith}
+use Rattle.std.proofs.Common.{◌≡◌, ◌≢◌, ℕ, Bool, true, false, List, [], ◌∷◌, ◌++◌, length, take, refl, sym, ap, ◌∙◌, append_assoc, append-nil, take-append-drop, drop, ◌<◌, subst, arith}
 use Rattle.std.specs.List.{concat}
 use Rattle.std.proofs.lemmas.Bool.{false≢true}
 use Rattle.std.proofs.lemmas.Bool.Decides.{nat_tests}
@@ -51,11 +51,6 @@ pub moved : (text done rest : List ℕ) (n : ℕ) → text ≡ done ++ rest → 
 moved text done rest n split =
     split ∙ ap (λ bytes. done ++ bytes) (sym (take-append-drop n rest))
     ∙ sym (append_assoc done (take n rest) (drop n rest))
-
--- a list that is found not to be empty
-pub some_left : (bytes : List ℕ) → (length bytes == 0) ≡ false → 0 < length bytes
-some_left [] test = cc test
-some_left (b ∷ bytes) test = omega arith
 
 -- where nothing of a text was taken, the untaken rest is not empty
 pub left_over : (rest : List ℕ) (n : ℕ) → n ≡ 0 → 0 < length rest → drop n rest ≢ []

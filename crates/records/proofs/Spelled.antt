@@ -6,11 +6,12 @@ use Rattle.std.specs.List.{AllByRecursion}
 use Rattle.acts.specs.declared.row.Row.{Row}
 use Rattle.acts.specs.Deed.{Reply}
 use Rattle.hex.specs.Hex.{encode_lower}
+use Rattle.lines.specs.Line.{IsWholeLine}
+use Rattle.lines.specs.Rows.{row_text, rows_text}
+use Rattle.lines.proofs.HexTexts.{encode-append, no_digits}
 use Rattle.records.specs.Entry.{AreLinesOf, AreNotes, IsNote, Note}
-use Rattle.records.specs.Record.{AreLines, IsTold, IsWholeLine}
-use Rattle.records.specs.Rows.{row_text, rows_text}
+use Rattle.records.specs.Record.{AreLines, IsTold}
 use Rattle.records.specs.Sink.{Takes}
-use Rattle.records.proofs.HexTexts.{encode-append, no_digits}
 use Rattle.records.proofs.Records.{whole_rest}
 use Rattle.records.proofs.Sinks.{Takes-then}
 

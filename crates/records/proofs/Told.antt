@@ -4,9 +4,10 @@ use Rattle.std.specs.List.{AllByRecursion}
 use Rattle.acts.specs.Deed.{Reply}
 use Rattle.acts.specs.Deed as said
 use Rattle.acts.specs.declared.row.Row.{Row}
+use Rattle.lines.specs.Line.{IsLine}
+use Rattle.lines.specs.Rows.{IsRow}
 use Rattle.records.specs.Entry.{AreEntries, AreLinesOf, AreNotes, IsNote, Note, plain_note}
-use Rattle.records.specs.Record.{AreLines, IsLine, IsRecord, IsTold}
-use Rattle.records.specs.Rows.{IsRow}
+use Rattle.records.specs.Record.{AreLines, IsRecord, IsTold}
 
 line_told : (reply : Reply) (line : List ℕ) → IsLine reply line → IsTold reply
 line_told said.Done line is = tt

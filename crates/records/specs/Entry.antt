@@ -5,9 +5,10 @@ use Rattle.std.specs.List.{AllByRecursion}
 use Rattle.std.specs.Option.{option_map}
 use Rattle.acts.specs.declared.row.Row.{Row}
 use Rattle.acts.specs.Deed.{Reply, reply_of}
+use Rattle.lines.specs.Line.{BeginsWithLine, IsWholeLine, newline}
+use Rattle.lines.specs.Rows.{BeginsWithWait, IsRow, IsWait}
 use Rattle.records.specs.declared.entry.Entry.{Entry}
-use Rattle.records.specs.Record.{BeginsWithLine, IsFirstBad, IsRecord, IsTold, IsWholeLine, newline}
-use Rattle.records.specs.Rows.{BeginsWithWait, IsRow, IsWait}
+use Rattle.records.specs.Record.{IsFirstBad, IsRecord, IsTold}
 
 -- what an entry says: an answer, and the rows of the wait that it answers where these are stated
 pub record Note : Type 0 where

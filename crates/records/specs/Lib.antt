@@ -1,10 +1,6 @@
-pub mod Cut
-pub mod Digits
 pub mod Entry
 pub mod Fault
-pub mod Numerals
 pub mod Reading
 pub mod Record
-pub mod Rows
 pub mod Sink
 pub mod Tries

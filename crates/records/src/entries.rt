@@ -9,8 +9,8 @@ ghost use Rattle.records.specs.Record.{HasHeader, IsRecord};
 
 use crate::entry::Entry;
 use crate::record::{RecordFault, read_first, read_record};
-use crate::rows::read_wait;
 use acts::{Answer, NoMemory, Row};
+use lines::read_wait;
 use std::alloc::Allocator;
 
 /// The first line of a record of version 2, with its newline.

@@ -3,16 +3,11 @@
 
 pub mod ahead;
 pub mod counted;
-mod cut;
-mod digits;
 pub mod entries;
 pub mod entry;
-mod line;
-mod numbers;
 mod passing;
 pub mod reader;
 pub mod record;
-mod rows;
 pub mod sink;
 pub mod source;
 pub mod written;
@@ -20,9 +15,9 @@ pub mod written;
 pub use counted::{Counted, Writer};
 pub use entries::{one_list_of_entries, read_entries};
 pub use entry::Entry;
+pub use lines::are_rows;
 pub use reader::{EntryReader, ReadFault};
 pub use record::{RecordFault, one_record, read_record};
-pub use rows::are_rows;
 pub use sink::{Sink, put_all, put_number};
 pub use source::{Source, first_room, widen};
 pub use written::{

@@ -4,15 +4,13 @@ ghost use Rattle.std.specs.Prelude.{◌≡◌, ◌≢◌, ◌+◌, ◌^◌, ◌<
 ghost use Rattle.acts.specs.Deed.{Reply};
 ghost use Rattle.acts.specs.declared.row.Row.{Row as WaitRow};
 ghost use Rattle.hex.specs.Hex.{IsBytes};
+ghost use Rattle.lines.specs.Line.{BeginsWithLine, IsArrival, IsLine, arrival_text, newline};
+ghost use Rattle.lines.specs.Rows.{AreRows, BeginsWithWait, IsWait};
 ghost use Rattle.records.specs.Entry.{AreLinesOf, Note, lines_of};
 ghost use Rattle.records.specs.Fault.{IsNoteFault};
-ghost use Rattle.records.specs.Record.{BeginsWithLine, IsArrival, IsLine, arrival_text, newline};
-ghost use Rattle.records.specs.Rows.{AreRows, BeginsWithWait, IsWait};
 
-use crate::cut::cut_at;
-use crate::line::{cut_arrival, is_other};
 use crate::record::RecordFault;
-use crate::rows::read_first_row;
+use lines::{cut_arrival, cut_at, is_other, read_first_row};
 
 /// Passes the entry that a text begins with, which is not empty: how many lines it has, and the
 /// text after it. `line` is the number of the first line, for faults. It answers as `read_entry`

@@ -7,13 +7,13 @@ ghost use Rattle.records.specs.declared.reader.ReadFault.TheVariants as fault;
 ghost use Rattle.records.specs.declared.record.RecordFault.TheVariants as unfit;
 
 use crate::ahead::Ahead;
-use crate::cut::cut_at;
 use crate::entries::{SECOND_HEADER, read_entry};
 use crate::entry::Entry;
 use crate::passing::pass_entry;
 use crate::record::RecordFault;
 use crate::source::Source;
 use acts::NoMemory;
+use lines::cut_at;
 use std::alloc::Allocator;
 use thiserror::Error;
 

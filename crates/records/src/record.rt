@@ -4,13 +4,13 @@ ghost use Rattle.std.specs.Prelude.{◌≡◌, ◌≢◌, ◌+◌, ◌^◌, ◌<
 ghost use Rattle.std.specs.List.{AllByRecursion};
 ghost use Rattle.acts.specs.Deed.{Reply, reply_of};
 ghost use Rattle.hex.specs.Hex.{IsBytes};
+ghost use Rattle.lines.specs.Line.{BeginsWithLine, HasLine, IsArrival, IsLine, arrival_text, newline};
 ghost use Rattle.records.specs.Fault.{IsFault, IsLineFault, IsRefused};
-ghost use Rattle.records.specs.Record.{AreLines, BeginsWithLine, HasHeader, HasLine, IsArrival, IsFirstBad, IsLine, IsRecord, IsTold, arrival_text, newline};
+ghost use Rattle.records.specs.Record.{AreLines, HasHeader, IsFirstBad, IsRecord, IsTold};
 ghost use Rattle.records.specs.declared.record.RecordFault.TheVariants as fault;
 
-use crate::cut::cut_at;
-use crate::line::{cut_arrival, read_hex, read_likely, read_other};
 use acts::{Answer, NoMemory};
+use lines::{cut_arrival, cut_at, read_hex, read_likely, read_other};
 use std::alloc::{AllocFailed, Allocator};
 use thiserror::Error;
 

@@ -5,20 +5,24 @@ ghost use Rattle.std.specs.List.{AllByRecursion};
 ghost use Rattle.acts.specs.Deed.{reply_of};
 ghost use Rattle.acts.specs.Deed as said;
 ghost use Rattle.hex.specs.Hex.{encode_lower};
+ghost use Rattle.lines.specs.Line.{IsWholeLine, newline};
+ghost use Rattle.lines.specs.Rows.{IsRow, row_text, rows_text};
 ghost use Rattle.records.specs.Entry.{AreLinesOf, AreNotes, IsNote, IsSecondRecord, note_of, second_header};
-ghost use Rattle.records.specs.Record.{AreLines, IsRecord, IsTold, IsWholeLine, newline};
-ghost use Rattle.records.specs.Rows.{IsRow, row_text, rows_text};
+ghost use Rattle.records.specs.Record.{AreLines, IsRecord, IsTold};
 ghost use Rattle.records.specs.Sink.{Takes};
-ghost use Rattle.records.specs.declared.digits.TheConstants.{PIECE};
+ghost use Rattle.records.specs.declared.written.TheConstants.{PIECE};
 
-use crate::digits::{PIECE, write_digits};
 use crate::entries::SECOND_HEADER;
 use crate::entry::Entry;
 use crate::record::HEADER;
 use crate::sink::{Sink, put_all, put_number};
 use acts::{Answer, Id, Row};
+use lines::write_digits;
 use std::alloc::Allocator;
 use thiserror::Error;
+
+/// How many bytes at most are spelled into one buffer.
+const PIECE: usize = 512;
 
 /// A sink failed before it had taken the whole text.
 #[derive(Clone, Copy, Debug, PartialEq, Eq, Error)]

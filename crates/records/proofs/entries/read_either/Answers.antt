@@ -1,7 +1,7 @@
 use Rattle.std.proofs.Common.{inl, inr}
 use Rattle.std.proofs.lemmas.Result.{IfErr-weaker, IfOk-weaker}
+use Rattle.lines.proofs.Cuts.{no_prefix, prefix_split}
 use Rattle.records.specs.Entry.{second_header}
-use Rattle.records.proofs.Cuts.{no_prefix, prefix_split}
 use Rattle.records.proofs.Notes.{entries_fault, first_fault}
 use Rattle.records.proofs.entries.read_either.Goals as goal
 

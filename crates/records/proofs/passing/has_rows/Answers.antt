@@ -1,6 +1,6 @@
 use Rattle.std.proofs.Common.{◌++◌, ◌∷◌, [], refl, sym, ◌∙◌}
-use Rattle.records.proofs.RowTexts.{rows_end, rows_left, rows_none, rows_on}
-use Rattle.records.proofs.Sinks.{some_left}
+use Rattle.lines.proofs.Cuts.{some_left}
+use Rattle.lines.proofs.RowTexts.{rows_end, rows_left, rows_none, rows_on}
 use Rattle.records.proofs.passing.has_rows.Goals as goal
 
 pub loop-rest-init : goal.loop-rest-init

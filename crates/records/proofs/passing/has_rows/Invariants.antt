@@ -1,7 +1,7 @@
 use Rattle.std.proofs.Common.{◌≡◌, List, length, ◌++◌}
 use Rattle.std.specs.List.{AllByRecursion}
 use Rattle.acts.specs.declared.row.Row.{Row}
-use Rattle.records.specs.Rows.{AreRows, IsRow, rows_text}
+use Rattle.lines.specs.Rows.{AreRows, IsRow, rows_text}
 use Rattle.records.proofs.passing.has_rows.Given as goal
 
 abbrev pub invariant-loop-rest : goal.invariant-loop-rest

@@ -1,8 +1,8 @@
 use Rattle.std.proofs.Common.{codes, ◌++◌, refl, sym, ap, ◌∙◌}
 use Rattle.acts.specs.Deed as said
-use Rattle.records.specs.Record.{arrival_text}
-use Rattle.records.proofs.Arrivals.{arrival_only, arrival_word}
-use Rattle.records.proofs.Cuts.{match_weaker, no_prefix, prefix_split}
+use Rattle.lines.specs.Line.{arrival_text}
+use Rattle.lines.proofs.Arrivals.{arrival_only, arrival_word}
+use Rattle.lines.proofs.Cuts.{match_weaker, no_prefix, prefix_split}
 use Rattle.records.proofs.passing.pass_first.Goals as goal
 
 pub returns-in-Some : goal.returns-in-Some

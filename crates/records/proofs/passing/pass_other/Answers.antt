@@ -1,6 +1,6 @@
 use Rattle.std.proofs.Common.{sym, ◌∙◌}
-use Rattle.records.proofs.Cuts.{no_cut, same_cut}
-use Rattle.records.proofs.Lines.{Lacks-line}
+use Rattle.lines.proofs.Cuts.{no_cut, same_cut}
+use Rattle.lines.proofs.Lines.{Lacks-line}
 use Rattle.records.proofs.passing.pass_other.Goals as goal
 
 pub returns-in_err-line : goal.returns-in_err-line

@@ -1,7 +1,7 @@
 use Rattle.std.proofs.Common.{◌∷◌, ◌++◌, drop, codes, ap, sym, ◌∙◌}
-use Rattle.records.specs.Rows.{rows_text}
-use Rattle.records.proofs.Cuts.{no_cut, no_prefix, prefix_split, same_cut}
-use Rattle.records.proofs.RowTexts.{Lacks-rows, wait_split}
+use Rattle.lines.specs.Rows.{rows_text}
+use Rattle.lines.proofs.Cuts.{no_cut, no_prefix, prefix_split, same_cut}
+use Rattle.lines.proofs.RowTexts.{Lacks-rows, wait_split}
 use Rattle.records.proofs.passing.pass_wait.Goals as goal
 
 pub returns-in_default : goal.returns-in_default

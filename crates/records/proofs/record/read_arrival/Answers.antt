@@ -1,6 +1,6 @@
 use Rattle.std.proofs.Common.{codes, ◌++◌, ◌∷◌, refl, sym, ap, ◌∙◌}
 use Rattle.acts.specs.Id.{id_text}
-use Rattle.records.specs.Record.{arrival_text}
+use Rattle.lines.specs.Line.{arrival_text}
 use Rattle.records.proofs.record.read_arrival.Goals as goal
 
 pub returns-in-Some : goal.returns-in-Some

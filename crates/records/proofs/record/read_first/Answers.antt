@@ -1,7 +1,7 @@
 use Rattle.std.proofs.Common.{codes, ◌++◌, sym, ap, ◌∙◌}
 use Rattle.std.proofs.lemmas.Result.{IfOk-weaker}
-use Rattle.records.proofs.Arrivals.{arrival_only, arrival_word}
-use Rattle.records.proofs.Cuts.{match_weaker, no_prefix, prefix_split}
+use Rattle.lines.proofs.Arrivals.{arrival_only, arrival_word}
+use Rattle.lines.proofs.Cuts.{match_weaker, no_prefix, prefix_split}
 use Rattle.records.proofs.record.read_first.Goals as goal
 
 pub returns-in-Some : goal.returns-in-Some

@@ -1,6 +1,7 @@
 use Rattle.std.proofs.Common.{◌++◌, take, drop, sym, ap, ◌∙◌}
 use Rattle.std.proofs.lemmas.List.{take_rest}
-use Rattle.records.proofs.Sinks.{Gets-more, Takes-part, fails_at-nothing, fails_at-something, left_over, moved, some_left}
+use Rattle.lines.proofs.Cuts.{some_left}
+use Rattle.records.proofs.Sinks.{Gets-more, Takes-part, fails_at-nothing, fails_at-something, left_over, moved}
 use Rattle.records.proofs.sink.put_all.Goals as goal
 
 pub returns-then-taken-eq0 : goal.returns-then-taken-eq0

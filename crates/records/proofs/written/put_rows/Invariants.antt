@@ -1,5 +1,5 @@
 use Rattle.std.proofs.Common.{◌≡◌, ℕ, List, drop, ◌++◌}
-use Rattle.records.specs.Rows.{rows_text}
+use Rattle.lines.specs.Rows.{rows_text}
 use Rattle.records.specs.Sink.{Takes}
 use Rattle.records.proofs.written.put_rows.Given as goal
 

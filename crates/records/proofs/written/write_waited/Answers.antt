@@ -1,5 +1,5 @@
 use Rattle.std.proofs.Common.{◌++◌, ◌∷◌, codes, refl, subst}
-use Rattle.records.specs.Rows.{rows_text}
+use Rattle.lines.specs.Rows.{rows_text}
 use Rattle.records.specs.Sink.{Takes}
 use Rattle.records.proofs.Sinks.{Takes-then}
 use Rattle.records.proofs.Spelled.{wait_joined}

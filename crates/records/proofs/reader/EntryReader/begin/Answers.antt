@@ -1,7 +1,7 @@
 use Rattle.std.proofs.Common.{drop, sym, ap, ◌∙◌, subst}
+use Rattle.lines.proofs.Cuts.{prefix_split}
 use Rattle.records.specs.Entry.{second_header}
 use Rattle.records.specs.Reading.{ReadsOn, place_of, unused}
-use Rattle.records.proofs.Cuts.{prefix_split}
 use Rattle.records.proofs.Readings.{ReadsOn-use}
 use Rattle.records.proofs.reader.EntryReader.begin.Goals as goal
 

@@ -1,0 +1,5 @@
+pub mod Cut
+pub mod Digits
+pub mod Line
+pub mod Numerals
+pub mod Rows
