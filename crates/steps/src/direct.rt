@@ -135,7 +135,8 @@ fn give_change<A: Allocator + Copy>(
 }
 
 /// Adds one to the variable of the name on top, whose place the sum takes; where a procedure hides
-/// `incr`, that begins by its words.
+/// `incr`, that begins by its words. Mostly the sum is written where the variable stands, which
+/// needs no room for an error.
 pub fn increment<A: Allocator + Copy>(
     alloc: A,
     spot: &mut Spot<A>,
@@ -154,6 +155,9 @@ pub fn increment<A: Allocator + Copy>(
     let Some(name) = spot.operands.pop() else {
         return Ok(Progress::Stuck);
     };
+    if let Some(sum) = incr::add_in_place(scopes, name.as_slice(), None) {
+        return Ok(spot.put(sum)?);
+    }
     let sum = incr::begin(alloc, scopes, &[name]);
     Ok(give_change(alloc, spot, sum)?)
 }

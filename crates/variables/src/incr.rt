@@ -54,13 +54,15 @@ fn add<'a, A: Allocator + Copy>(
     }
 }
 
-/// Adds a number to that of the variable that a word names, where it stands, and gives the sum.
-/// `None` where there is no such variable, where one of the two is no number, or where the sum does
-/// not lie in place: nothing has changed then.
-fn add_in_place<A: Allocator>(
+/// Adds a number to that of the variable that a word names, one where none is given, and gives the
+/// sum, which stands there then (incr(n)). `None` where there is no such variable, where one of the
+/// two is no number, or where the sum does not lie in place: nothing has changed then. Takes no
+/// memory.
+#[inline(always)]
+pub fn add_in_place<'a, A: Allocator>(
     scopes: &mut Scopes<A>,
-    word: &[u8],
-    by: Option<&Value<A>>,
+    word: &'a [u8],
+    by: Option<&'a Value<A>>,
 ) -> Option<Value<A>>
     ensures added { IfSome result (λ sum.
         definition.adds word.now (option_copied by.entry) scopes.old ≡ Ok (scopes.new, sum)) }

@@ -1,5 +1,6 @@
-use Rattle.std.proofs.Common.{◌≡◌, None, [], ◌∷◌, codes, rules}
+use Rattle.std.proofs.Common.{◌≡◌, None, [], ◌∷◌, codes, rules, subst}
 use Rattle.std.specs.Prelude.{reverse}
+use Rattle.kinds.specs.Answers.{Stores}
 use Rattle.steps.specs.View.{did_of, spot_of, with_parts}
 use Rattle.steps.proofs.Changes.{changes, stores_keep}
 use Rattle.steps.proofs.Does.{one_on_top}
@@ -13,6 +14,10 @@ returns-clause-does g c = λ s same.
     let new = c.pop.new.self.items in
     let t = with_parts scopes s.procedures s.left s in
     let none : found s.procedures (codes "incr") ≡ None = search rules in
+    let kept : c.add_in_place.new.scopes ≡ scopes = search rules in
+    let told =
+    subst (λ v. Stores (incr (c.in-Some.name ∷ []) v) v c.begin-sum.result c.begin-sum.new.scopes)
+    kept c.begin-sum.ensures in
     changes (found s.procedures (codes "incr")) (λ v scopes. incr (v ∷ []) scopes)
     (codes "incr" ∷ []) (spot_of c.args.spot.now) t c.in-Some.name (reverse new)
     (did_of c.in_ok-give_change.field-0 c.give_change.new.spot
@@ -21,4 +26,4 @@ returns-clause-does g c = λ s same.
     c.in-Some.is)
     (c.in_ok-give_change.ensures.does (incr (c.in-Some.name ∷ []) scopes) scopes c.begin-sum.new.scopes s
     (stores_keep (incr (c.in-Some.name ∷ []) scopes) scopes c.begin-sum.result
-    c.begin-sum.new.scopes c.begin-sum.ensures))
+    c.begin-sum.new.scopes told))
