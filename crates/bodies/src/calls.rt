@@ -1,6 +1,6 @@
 //! Calls of procedures (proc(n)).
 
-ghost use Rattle.std.specs.Prelude.{◌≡◌, ◌≤◌, [], IfOk, option_map};
+ghost use Rattle.std.specs.Prelude.{◌≡◌, ◌≤◌, [], None, Some, IfOk, option_map, if◌then◌else◌};
 ghost use Rattle.state.specs.Prelude.{inside, Nests, Status, FitsState, outcome_of};
 ghost use Rattle.bodies.specs.Calls as definition;
 ghost use Rattle.bodies.specs.View.{IsCalled, TicksFirst};
@@ -36,10 +36,11 @@ pub fn begin<A: Allocator + Copy>(
     let Some(procedure) = state.procs.get(name) else {
         return Ok(None);
     };
-    let empty = state.scopes.fresh_frame(alloc);
-    let Some(frame) = frame_of(alloc, empty, &procedure.formals, words)? else {
+    let mut frame = state.scopes.fresh_frame(alloc);
+    let bound = bind_all(alloc, &mut frame, &procedure.formals, words)?;
+    if !bound {
         return Ok(Some(Nesting::Has(wrong_args(alloc, name)?)));
-    };
+    }
     let body = state.kept.get(procedure.body.as_slice())?;
     Ok(Some(run(alloc, state, frame, body, levels)?))
 }
@@ -101,28 +102,29 @@ fn ended<A: Allocator + Copy>(alloc: A, outcome: Outcome<A>) -> Result<Outcome<A
     }
 }
 
-/// The variables of a call, in a frame that has no names yet: each formal takes the next word, or
-/// its default where no word is left.
-/// `None` where the words are too few or too many.
-fn frame_of<A: Allocator + Copy>(
+/// Makes the variables of a call, in a frame that has no names yet: each formal takes the next
+/// word, or its default where no word is left. It is filled where it stands, since a frame is wide.
+/// Gives false where the words are too few or too many.
+fn bind_all<A: Allocator + Copy>(
     alloc: A,
-    mut frame: LocalFrame<A>,
+    frame: &mut LocalFrame<A>,
     formals: &Formals<A>,
     words: &[Value<A>],
-) -> Result<Option<LocalFrame<A>>, NoMemory>
-    requires { frame ≡ [] }
-    ensures { IfOk result (λ frame. frame ≡ definition.frame_of formals.now words.now) }
+) -> Result<bool, NoMemory>
+    requires { frame.old ≡ [] }
+    ensures { IfOk result (λ bound. definition.frame_of formals.now words.now
+        ≡ if bound then Some frame.new else None) }
 {
     let (single, takes_rest) = formals.split();
     let mut rest = words;
     for formal in single {
         let Some(value) = taken(formal, rest)? else {
-            return Ok(None);
+            return Ok(false);
         };
         frame.bind(alloc, formal.name.as_slice(), value)?;
         rest = behind(rest);
     }
-    with_rest(alloc, frame, takes_rest, rest)
+    Ok(bind_rest(alloc, frame, takes_rest, rest)?)
 }
 
 /// What a formal takes: the next word, or its default where no word is left.
@@ -148,25 +150,25 @@ fn behind<A: Allocator>(words: &[Value<A>]) -> &[Value<A>]
     }
 }
 
-/// The variables of a call, where a last `args` takes the remaining words as a list; without `args`
-/// no word may remain.
-fn with_rest<A: Allocator + Copy>(
+/// Gives a last `args` the remaining words as a list; without `args` no word may remain, and the
+/// result is false where one does.
+fn bind_rest<A: Allocator + Copy>(
     alloc: A,
-    mut frame: LocalFrame<A>,
+    frame: &mut LocalFrame<A>,
     takes_rest: bool,
     words: &[Value<A>],
-) -> Result<Option<LocalFrame<A>>, NoMemory>
-    ensures { IfOk result (λ bound. bound ≡
-        option_map (λ values. definition.given values frame)
-        (definition.rest_of takes_rest words.now)) }
+) -> Result<bool, NoMemory>
+    ensures { IfOk result (λ bound.
+        option_map (λ values. definition.given values frame.old)
+        (definition.rest_of takes_rest words.now) ≡ if bound then Some frame.new else None) }
 {
     if takes_rest {
         let list = Value::new(alloc, join_values(alloc, words)?)?;
         frame.bind(alloc, b"args", list)?;
-        return Ok(Some(frame));
+        return Ok(true);
     }
     match words {
-        [] => Ok(Some(frame)),
-        [_, ..] => Ok(None),
+        [] => Ok(true),
+        [_, ..] => Ok(false),
     }
 }

@@ -1,4 +1,4 @@
-use Rattle.std.proofs.Common.{◌≡◌, ◌∙◌, Some, None, sym, ap, subst}
+use Rattle.std.proofs.Common.{◌≡◌, ◌∙◌, Some, None, true, false, if◌then◌else◌, sym, ap, subst}
 use Rattle.acts.specs.Flaw as flaw
 use Rattle.state.specs.Prelude.{text_of, FitsState, Leaves, Error, Status}
 use Rattle.bodies.proofs.Calling.{call_refused, call_runs}
@@ -10,18 +10,20 @@ use Rattle.tclstate.specs.Pairs.{found}
 use Rattle.tclstate.specs.Scopes.{entered}
 use Rattle.bodies.proofs.calls.begin.Goals as goal
 
-pub returns-in_default-2-clause-called : goal.returns-in_default-2-clause-called
-returns-in_default-2-clause-called g c = λ s fits.
+pub returns-then-not-bound-clause-called : goal.returns-then-not-bound-clause-called
+returns-then-not-bound-clause-called g c = λ s fits.
     let name = c.args.name.now in
     let words = c.args.words.now in
     let procedure = c.in-Some.procedure.now in
+    let frame = c.bind_all.new.frame in
+    let not_bound : c.in_ok-bound.bound ≡ false = search (c.if-not-bound.true) in
     let none : definition.frame_of procedure.formals words ≡ None =
     ap (λ p. definition.frame_of p.formals words) (sym c.procedure.view_is)
-    ∙ sym c.in_ok-frame.ensures ∙ c.in_default-2.is in
-    let state = record c.args.state.now { scopes = c.fresh_frame-empty.new.self } in
+    ∙ c.in_ok-bound.ensures ∙ ap (λ b. if b then Some frame else None) not_bound in
+    let state = record c.args.state.now { scopes = c.fresh_frame-frame.new.self } in
     let still : FitsState state s =
     subst (λ scopes. FitsState (record c.args.state.now { scopes = scopes }) s)
-    (sym c.fresh_frame-empty.ensures.unchanged) fits in
+    (sym c.fresh_frame-frame.ensures.unchanged) fits in
     record {
       procedure = procedure;
       found = ap (λ procs. found procs name) fits.procedures ∙ sym c.in-Some.ensures;
@@ -36,21 +38,22 @@ returns-clause-called g c = λ s fits.
     let words = c.args.words.now in
     let levels = c.args.levels in
     let procedure = c.in-Some.procedure.now in
-    let frame = c.in-Some-2.frame in
+    let frame = c.bind_all.new.frame in
     let body = c.in_ok-body.body in
     let there : Status = record s { scopes = entered frame s.scopes } in
+    let bound : c.in_ok-bound.bound ≡ true = search (c.if-not-bound.false) in
     let some : definition.frame_of procedure.formals words ≡ Some frame =
     ap (λ p. definition.frame_of p.formals words) (sym c.procedure.view_is)
-    ∙ sym c.in_ok-frame.ensures ∙ c.in-Some-2.is in
+    ∙ c.in_ok-bound.ensures ∙ ap (λ b. if b then Some frame else None) bound in
     let text : c.as_slice.result.now ≡ procedure.body =
     c.as_slice.ensures ∙ ap (λ p. p.body) c.procedure.view_is in
     let is : IsScript body.commands body.fault procedure.body =
     subst (λ t. IsScript body.commands body.fault t) text
     c.in_ok-body.ensures.tree in
-    let state = record c.args.state.now { scopes = c.fresh_frame-empty.new.self } in
+    let state = record c.args.state.now { scopes = c.fresh_frame-frame.new.self } in
     let still : FitsState state s =
     subst (λ scopes. FitsState (record c.args.state.now { scopes = scopes }) s)
-    (sym c.fresh_frame-empty.ensures.unchanged) fits in
+    (sym c.fresh_frame-frame.ensures.unchanged) fits in
     record {
       procedure = procedure;
       found = ap (λ procs. found procs name) fits.procedures ∙ sym c.in-Some.ensures;

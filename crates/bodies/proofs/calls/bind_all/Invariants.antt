@@ -2,7 +2,7 @@ use Rattle.std.proofs.Common.{◌≡◌, [], drop}
 use Rattle.bodies.proofs.Calling.{all_given}
 use Rattle.bodies.specs.Calls.{values_of}
 use Rattle.tclstate.specs.Formals.{single, takes_rest}
-use Rattle.bodies.proofs.calls.frame_of.Given as goal
+use Rattle.bodies.proofs.calls.bind_all.Given as goal
 
 abbrev pub invariant-loop-formal : goal.invariant-loop-formal
 invariant-loop-formal g l =

@@ -1,11 +1,10 @@
 use Rattle.std.proofs.Common.{◌≡◌, ◌∙◌, ◌+◌, ◌≤◌, drop, length, Some, sym, ap, rules, arith}
-use Rattle.bodies.proofs.Calling.{all_given, ended_given, next_given}
-use Rattle.bodies.proofs.Catching.{on_ok}
+use Rattle.bodies.proofs.Calling.{all_given, ended_given, next_given, none_given}
 use Rattle.bodies.specs.Calls.{taken, values_of}
 use Rattle.state.proofs.Lists.{split_at}
 use Rattle.tclstate.specs.Pairs.{put}
 use Rattle.tclstate.specs.Scopes.{Text}
-use Rattle.bodies.proofs.calls.frame_of.Goals as goal
+use Rattle.bodies.proofs.calls.bind_all.Goals as goal
 
 pub loop-formal-preserved : goal.loop-formal-preserved
 loop-formal-preserved g c =
@@ -34,7 +33,19 @@ returns g c =
     let more = c.split-takes_rest.result.1 in
     let i = c.loop-formal.formal-index in
     let over : length all ≤ i = search (rules, arith) in
-    on_ok c.with_rest.result (λ frame is.
-    is ∙ sym (c.loop-formal.invariant
-    ∙ ended_given more all i c.loop-formal.rest.now c.loop-formal.frame over))
-    c.with_rest.ensures
+    c.loop-formal.invariant
+    ∙ ended_given more all i c.loop-formal.rest.now c.loop-formal.frame over
+    ∙ c.in_ok-bind_rest.ensures
+
+pub returns-in_default : goal.returns-in_default
+returns-in_default g c =
+    let all = c.split-takes_rest.result.0.now in
+    let more = c.split-takes_rest.result.1 in
+    let i = c.loop-formal.formal-index in
+    let f = c.formal-item.result in
+    let words = c.loop-formal.rest.now in
+    let frame = c.loop-formal.frame in
+    c.loop-formal.invariant
+    ∙ ap (λ fs. all_given (values_of more fs words) frame)
+    (split_at all i f c.loop-formal-test.true c.formal-item.is)
+    ∙ none_given more f (drop (i + 1) all) words frame (sym c.in_ok-value.ensures ∙ c.in_default.is)
