@@ -6,11 +6,10 @@ use Rattle.acts.specs.declared.id.Id.{Id}
 use Rattle.choices.specs.Branches.{Branches, branches}
 use Rattle.dialog.specs.KeptBranches.{SaysAlways}
 use Rattle.choices.specs.Lines.{Line}
-use Rattle.dialog.specs.Parts.{Part, Ids, Seconds, Stays, TellsPlaces, Folds, Awaits, Lacks, Regex, Bad, parts}
-use Rattle.dialog.specs.Reads.{Outcome, Reads, first_shut, IsRead, beside, branch_at, in_front, named_at, named_or, no_flags, place}
-use Rattle.dialog.specs.Standing.{is_open_in}
+use Rattle.readings.specs.Parts.{Part, Ids, Seconds, Stays, TellsPlaces, Folds, Awaits, Lacks, Regex, Bad, parts}
+use Rattle.readings.specs.Reads.{Outcome, Reads, first_shut, IsRead, beside, branch_at, in_front, named_at, named_or, no_flags, place, is_open_in}
 use Rattle.choices.specs.declared.branch.Flags.{Flags}
-use Rattle.dialog.proofs.IdLists.{none_shut}
+use Rattle.readings.proofs.IdLists.{none_shut}
 
 -- all of these ids are open
 abbrev AreOpen : List Line → List Id → Type 0

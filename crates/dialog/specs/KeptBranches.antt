@@ -4,8 +4,7 @@ use Rattle.std.specs.List.{All, list_all}
 use Rattle.acts.specs.declared.id.Id.{Id}
 use Rattle.choices.specs.Branches.{Branches}
 use Rattle.choices.specs.Lines.{Line}
-use Rattle.dialog.specs.Reads.{IsRead, place}
-use Rattle.dialog.specs.Standing.{is_open_in}
+use Rattle.readings.specs.Reads.{IsRead, place, is_open_in}
 use Rattle.dialog.specs.declared.kept_branches.Reading.{Reading}
 
 -- words say these branches at each place where all ids that the branches name are open

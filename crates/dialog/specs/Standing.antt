@@ -1,9 +1,10 @@
 -- The pairs that stand before and after those of each expect, and what an expect chooses among.
-use Rattle.std.specs.Prelude.{◌==◌, ◌<◌, not, Bool, List, [], ◌∷◌, ◌++◌, map, filter, is_some, if◌then◌else◌}
+use Rattle.std.specs.Prelude.{◌==◌, ◌<◌, not, Bool, List, [], ◌∷◌, ◌++◌, map, filter, if◌then◌else◌}
 use Rattle.std.specs.List.{list_any}
 use Rattle.acts.specs.declared.id.Id.{Id}
 use Rattle.choices.specs.Branches.{Pair, Branches}
-use Rattle.choices.specs.Lines.{Line, line_of}
+use Rattle.choices.specs.Lines.{Line}
+use Rattle.readings.specs.Reads.{is_open_in}
 use Rattle.dialog.specs.declared.standing.Side.{Side}
 use Rattle.dialog.specs.declared.standing.Side.TheVariants.{Before, After}
 
@@ -77,10 +78,6 @@ waited s b = first_mentions [] (ids_of s.before ++ (b.named ++ ids_of s.after))
 -- (expect(1), expect_before and expect_after)
 abbrev pub all_of : Standing → Branches → Effective
 all_of s b = effective_of (s.before ++ (b.pairs ++ s.after)) (waited s b)
-
--- the id is open
-abbrev pub is_open_in : List Line → Id → Bool
-is_open_in lines i = is_some (line_of lines i)
 
 -- ids that are no longer open are dropped, with their pairs (expect(1), exp_continue and close)
 abbrev pub pruned : List Line → Effective → Effective

@@ -1,12 +1,12 @@
 //! What an `expect` chooses among, and the ids that it waits for.
 ghost use Rattle.std.specs.Prelude.{◌≡◌, ◌++◌, ◌∷◌, [], filter, IfOk, OnOk, IsTrue};
-ghost use Rattle.dialog.specs.Standing.{RiseAfter, effective_of, first_mentions, ids_of, waited, all_of, is_open_in, pruned};
+ghost use Rattle.readings.specs.Reads.{is_open_in};
+ghost use Rattle.dialog.specs.Standing.{RiseAfter, effective_of, first_mentions, ids_of, waited, all_of, pruned};
 
-use crate::branches::Branches;
-use crate::draft::push_ids;
 use crate::standing::{Standing, is_among, push_pairs};
 use acts::{Id, NoMemory};
 use choices::{Pair, Table};
+use readings::{Branches, push_ids};
 use std::alloc::Allocator;
 use std::marker::Model;
 

@@ -3,14 +3,12 @@
 
 ghost use Rattle.std.specs.Prelude.{◌≡◌, ◌+◌, ◌<◌, ◌≤◌, ◌++◌, ◌∷◌, [], length, Ok, IfOk, OnOk, IfErr, IfSome, IsTrue};
 ghost use Rattle.dialog.specs.KeptBranches.{AreKept, IsKept, SaysAlways};
-ghost use Rattle.dialog.specs.Misreads.{flaw_of};
-ghost use Rattle.dialog.specs.Reads.{IsRead, place};
+ghost use Rattle.readings.specs.Misreads.{flaw_of};
+ghost use Rattle.readings.specs.Reads.{IsRead, place};
 
-use crate::branch_error::BranchError;
-use crate::branches::Branches;
-use crate::id_list::first_shut;
 use acts::{Id, NoMemory};
 use choices::Table;
+use readings::{BranchError, Branches, first_shut};
 use std::alloc::Allocator;
 use std::marker::Model;
 use std::rc::Rc;

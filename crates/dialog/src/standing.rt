@@ -2,9 +2,9 @@
 ghost use Rattle.std.specs.Prelude.{◌≡◌, ◌++◌, ◌∷◌, [], IfOk, OnOk, OnErr};
 ghost use Rattle.dialog.specs.Standing.{standing, is_among, others, replaced, put_at, other_than, unpaired};
 
-use crate::branches::Branches;
 use acts::{Id, NoMemory};
 use choices::Pair;
+use readings::Branches;
 use std::alloc::Allocator;
 use std::marker::Model;
 

@@ -1,7 +1,7 @@
 -- Each text has one tree.
 use Rattle.std.proofs.Common.{ℕ, List, Option, Ok, Err, ◌⊎◌, inl, inr, ap, ap₂}
 use Rattle.choices.proofs.Choices.{has_choice, one_choice}
-use Rattle.dialog.proofs.Readings.{has_reading, one_reading}
+use Rattle.readings.proofs.Readings.{has_reading, one_reading}
 use Rattle.formulas.proofs.Exists.{each_formula}
 use Rattle.formulas.proofs.Unique.{one_formula}
 use Rattle.meanings.proofs.Once.{same_truth}

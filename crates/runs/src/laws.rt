@@ -22,7 +22,7 @@ pub fn waits_hold()
 
 /// Once a script is over, what is open is closed in rising order of ids, where those that are open
 /// stand in that order. They do in each state of the definition that a table of open ids fits
-/// (`dialog::laws::open_ids_rise`).
+/// (`choices::laws::open_ids_rise`).
 pub fn closes_rise()
     ensures { ClosesRise }
 {}

@@ -5,7 +5,7 @@ pub use Rattle.code.specs.ScriptTree.{ScriptTree}
 use Rattle.choices.specs.Branches.{Pair}
 use Rattle.choices.specs.Choice.{Chosen, Chooses}
 use Rattle.choices.specs.Lines.{Line}
-use Rattle.dialog.specs.Reads.{Place, Outcome, IsRead}
+use Rattle.readings.specs.Reads.{Place, Outcome, IsRead}
 use Rattle.dialog.specs.Standing.{Effective}
 use Rattle.choices.specs.declared.choice.Trigger.{Trigger}
 use Rattle.meanings.specs.Meaning.{IsSplit}

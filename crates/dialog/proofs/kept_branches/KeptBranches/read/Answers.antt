@@ -1,7 +1,7 @@
 use Rattle.std.proofs.Common.{Ok, subst, sym}
 use Rattle.dialog.proofs.Elsewhere.{says_always}
 use Rattle.choices.specs.Branches.{Branches}
-use Rattle.dialog.specs.Reads.{IsRead, place}
+use Rattle.readings.specs.Reads.{IsRead, place}
 use Rattle.dialog.proofs.kept_branches.KeptBranches.read.Goals as goal
 
 pub keep-requires : goal.keep-requires

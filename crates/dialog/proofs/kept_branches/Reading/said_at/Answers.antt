@@ -1,6 +1,6 @@
 use Rattle.std.proofs.Common.{◌≡◌, None, rules}
 use Rattle.dialog.proofs.Elsewhere.{said_again}
-use Rattle.dialog.specs.Reads.{first_shut}
+use Rattle.readings.specs.Reads.{first_shut}
 use Rattle.dialog.proofs.kept_branches.Reading.said_at.Goals as goal
 
 pub returns-in-None : goal.returns-in-None

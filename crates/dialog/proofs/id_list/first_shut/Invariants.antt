@@ -1,8 +1,0 @@
-use Rattle.std.proofs.Common.{◌≡◌, drop}
-use Rattle.dialog.specs.Reads.{first_shut}
-use Rattle.dialog.proofs.id_list.first_shut.Given as goal
-
--- none of the ids so far is shut
-abbrev pub invariant-loop-id : goal.invariant-loop-id
-invariant-loop-id g l = first_shut l.table.lines (drop l.id-index l.ids)
-    ≡ first_shut l.table.lines l.ids

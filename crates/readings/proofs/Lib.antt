@@ -1,0 +1,5 @@
+pub mod Goes
+pub mod IdLists
+pub mod IdsRead
+pub mod Leads
+pub mod Readings

@@ -1,0 +1,5 @@
+pub mod Drafts
+pub mod Misreads
+pub mod Parts
+pub mod Reads
+pub mod Signs
