@@ -9,4 +9,5 @@ pub mod Opened
 pub mod Peers
 pub mod Refused
 pub mod Rising
+pub mod RowsKept
 pub mod RowsMade

@@ -2,12 +2,14 @@
 use Rattle.std.proofs.Common.{◌≡◌, ◌∙◌, ℕ, zero, suc, ◌+◌, ◌<◌, ◌≤◌, length, get_or, ◌==◌, ◌^◌, nat_le, nat_lt, Bool, true, false, cond, List, [], ◌∷◌, ◌++◌, map, Option, Some, None, if◌then◌else◌, refl, sym, ap, subst, arith}
 use Rattle.std.proofs.Math.ListN.{set}
 use Rattle.std.proofs.lemmas.Bool.{eq-eqb, eqb-true, false_from_ne_true, leb-false}
-use Rattle.std.specs.List.{position}
+use Rattle.std.specs.List.{position, remove}
 use Rattle.std.specs.Option.{option_map}
-use Rattle.std.proofs.lemmas.List.{append-nil, length-set}
+use Rattle.std.proofs.lemmas.List.{append-nil, length-set, map_push}
 use Rattle.acts.specs.declared.id.Id.{Id}
+use Rattle.acts.specs.declared.row.Row.{Row}
 use Rattle.choices.proofs.Lines.{place, place-position}
-use Rattle.choices.specs.Lines.{Line, Listing, IsFirstOut, AllBeyond, Rise, id_of, next_id, without, numbers, number_after, upcoming}
+use Rattle.choices.proofs.RowsKept.{rows_set, rows_kept, rows_removed}
+use Rattle.choices.specs.Lines.{Line, Listing, IsFirstOut, AllBeyond, Rise, id_of, next_id, without, numbers, number_after, row_of_line, upcoming}
 use Rattle.choices.specs.Peers.{Peer, FitsPeers, line, numbers_of, opened}
 
 -- another line of the same id in a line's place leaves the numbers as they are
@@ -17,15 +19,29 @@ numbers_set [] k x y has same = refl
 numbers_set (l ∷ ls) zero x y has same = ap (λ j. j.0 ∷ numbers ls) (same ∙ ap (λ m. m.id) has)
 numbers_set (l ∷ ls) (suc k) x y has same = ap (λ ns. l.id.0 ∷ ns) (numbers_set ls k x y has same)
 
--- at most 64 lines whose numbers rise
-abbrev pub IsSound : List Line → Option ℕ → Type 0
-IsSound ls next = (length ls ≤ 64) × Rise (numbers ls ++ upcoming next)
+-- at most 64 lines whose numbers rise, and these rows are theirs
+abbrev pub IsSound : List Line → List Row → Option ℕ → Type 0
+IsSound ls rows next = (length ls ≤ 64) × Rise (numbers ls ++ upcoming next)
+    × (rows ≡ map row_of_line ls)
 
-pub sound_set : (ls : List Line) (next : Option ℕ) (k : ℕ) (x y : Line) → x ≡ get_or ls k x →
-    y.id ≡ x.id → IsSound ls next → IsSound (set ls k y) next
-sound_set ls next k x y has same sound = (
+-- a line of the same id is put in a line's place, and its row is written anew
+pub sound_set : (ls : List Line) (rows : List Row) (next : Option ℕ) (k : ℕ) (x y : Line) (r : Row) →
+    x ≡ get_or ls k x → y.id ≡ x.id → r ≡ row_of_line y → IsSound ls rows next →
+    IsSound (set ls k y) (set rows k r) next
+sound_set ls rows next k x y r has same anew sound = (
   subst (λ n. n ≤ 64) (sym (length-set ls k y)) sound.0,
   subst (λ ns. Rise (ns ++ upcoming next)) (sym (numbers_set ls k x y has same)) sound.1,
+  rows_set ls rows k y r anew sound.2,
+)
+
+-- a line of the same id and the same row is put in a line's place
+pub sound_kept : (ls : List Line) (rows : List Row) (next : Option ℕ) (k : ℕ) (x y : Line) →
+    x ≡ get_or ls k x → y.id ≡ x.id → row_of_line y ≡ row_of_line x → IsSound ls rows next →
+    IsSound (set ls k y) rows next
+sound_kept ls rows next k x y has same anew sound = (
+  subst (λ n. n ≤ 64) (sym (length-set ls k y)) sound.0,
+  subst (λ ns. Rise (ns ++ upcoming next)) (sym (numbers_set ls k x y has same)) sound.1,
+  sound.2 ∙ sym (rows_kept ls k x y has anew),
 )
 
 beyond_without : (n : ℕ) (i : Id) (ls : List Line) (more : List ℕ) →
@@ -61,12 +77,32 @@ shorter_without i (l ∷ ls) = by (l.id.0 == i.0) (shorter_without i ls)
     by true rest = omega arith
     by false rest = omega (arith, rest)
 
-pub sound_without : (i : Id) (ls : List Line) (next : Option ℕ) → IsSound ls next →
-    IsSound (without i ls) next
-sound_without i ls next sound =
+pub sound_without : (i : Id) (ls new : List Line) (rows left : List Row) (next : Option ℕ) (k : ℕ) →
+    new ≡ without i ls → new ≡ remove ls k → left ≡ remove rows k → IsSound ls rows next →
+    IsSound new left next
+sound_without i ls new rows left next k is out gone sound =
     let most = sound.0 in
-    let less = shorter_without i ls in
-    (omega (arith, most, less), rise_without i ls (upcoming next) sound.1)
+    let less = shorter_without i ls in (
+      subst (λ ms. length ms ≤ 64) (sym is) (omega (arith, most, less)),
+      subst (λ ms. Rise (numbers ms ++ upcoming next)) (sym is)
+          (rise_without i ls (upcoming next) sound.1),
+      rows_removed ls new rows left k out gone sound.2,
+    )
+
+-- the first line is taken out with its row
+pub sound_behind : (ls new : List Line) (rows left : List Row) (next : Option ℕ) →
+    new ≡ remove ls 0 → left ≡ remove rows 0 → IsSound ls rows next → IsSound new left next
+sound_behind [] new rows left next out gone sound = (
+  subst (λ ms. length ms ≤ 64) (sym out) sound.0,
+  subst (λ ms. Rise (numbers ms ++ upcoming next)) (sym out) sound.1,
+  rows_removed [] new rows left 0 out gone sound.2,
+)
+sound_behind (l ∷ ls) new rows left next out gone sound =
+    let most = sound.0 in (
+      subst (λ ms. length ms ≤ 64) (sym out) (omega (arith, most)),
+      subst (λ ms. Rise (numbers ms ++ upcoming next)) (sym out) sound.1.1,
+      rows_removed (l ∷ ls) new rows left 0 out gone sound.2,
+    )
 
 -- where numbers at the end are left out, the others still rise
 pub beyond_front : (n : ℕ) (ns more : List ℕ) → AllBeyond n (ns ++ more) → AllBeyond n ns
@@ -119,19 +155,23 @@ rise_given ns n rise = by (nat_lt (n + 1) (2 ^ 64))
     by false = rise
 
 -- the next number is used up
-pub sound_skipped : (ls : List Line) (next after : Option ℕ) → after ≡ number_after next →
-    IsSound ls next → IsSound ls after
-sound_skipped ls next after is sound =
-    (sound.0, subst (λ o. Rise (numbers ls ++ upcoming o)) (sym is) (rise_skipped (numbers ls) next sound.1))
+pub sound_skipped : (ls : List Line) (rows : List Row) (next after : Option ℕ) →
+    after ≡ number_after next → IsSound ls rows next → IsSound ls rows after
+sound_skipped ls rows next after is sound = (
+  sound.0,
+  subst (λ o. Rise (numbers ls ++ upcoming o)) (sym is) (rise_skipped (numbers ls) next sound.1),
+  sound.2,
+)
 
 -- a line that has the next number is put after the others
 length_more : (ls : List Line) (l : Line) → length (ls ++ l ∷ []) ≡ length ls + 1
 length_more [] l = refl
 length_more (k ∷ ls) l = let rest = length_more ls l in omega (arith, rest)
 
-pub sound_opened : (ls : List Line) (l : Line) (next : Option ℕ) → length ls < 64 →
-    next ≡ Some l.id.0 → IsSound ls next → IsSound (ls ++ l ∷ []) (number_after next)
-sound_opened ls l next room is sound =
+pub sound_opened : (ls : List Line) (l : Line) (rows : List Row) (next : Option ℕ) →
+    length ls < 64 → next ≡ Some l.id.0 → IsSound ls rows next →
+    IsSound (ls ++ l ∷ []) (rows ++ row_of_line l ∷ []) (number_after next)
+sound_opened ls l rows next room is sound =
     let n = l.id.0 in
     let long = length_more ls l in
     let up : Rise (numbers ls ++ n ∷ []) =
@@ -140,6 +180,7 @@ sound_opened ls l next room is sound =
       subst Rise (sym (numbers_more ls l (upcoming (number_after next))))
           (subst (λ o. Rise (numbers ls ++ n ∷ upcoming (number_after o))) (sym is)
           (rise_given (numbers ls) n up)),
+      ap (λ rs. rs ++ row_of_line l ∷ []) sound.2 ∙ sym (map_push row_of_line ls l),
     )
 
 -- the next id is the next number's, and there is room for it
@@ -163,10 +204,10 @@ next_given t i is = by (nat_le 64 (length t.lines)) refl t.next refl is
 
 -- the line that is taken out first has the least number
 pub first_out : (i : Id) (l : Line) (old new : List Line) (next : Option ℕ) → old ≡ l ∷ new →
-    l.id ≡ i → IsSound old next → IsFirstOut i old new
-first_out i l old new next split same sound =
+    l.id ≡ i → Rise (numbers old ++ upcoming next) → IsFirstOut i old new
+first_out i l old new next split same rises =
     let rise : Rise (numbers (l ∷ new) ++ upcoming next) =
-    subst (λ ls. Rise (numbers ls ++ upcoming next)) split sound.1 in
+    subst (λ ls. Rise (numbers ls ++ upcoming next)) split rises in
     record {
       line = l;
       split = split;

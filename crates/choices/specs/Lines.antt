@@ -35,6 +35,10 @@ Rise (n ∷ ns) = AllBeyond n ns × Rise ns
 abbrev pub numbers : List Line → List ℕ
 numbers lines = map (λ l. l.id.0) lines
 
+-- the open ids, in the order in which they were opened (this project's own)
+abbrev pub open_ids : List Line → List Id
+open_ids lines = map (λ l. l.id) lines
+
 -- the next number, where one is left
 abbrev pub upcoming : Option ℕ → List ℕ
 upcoming None = []

@@ -284,7 +284,9 @@ impl<A: Allocator + Copy> Table<A> {
         let Some(place) = self.place(pair.id()) else {
             return Ok(None);
         };
-        let buffer = self.entries[place].hand_out(alloc, found, pair.stays())?;
+        let entry = &mut self.entries[place];
+        let buffer = entry.hand_out(alloc, found, pair.stays())?;
+        self.rows[place] = entry.row();
         let taken = Taken {
             id: pair.id(),
             buffer,

@@ -1,8 +1,8 @@
 //! What a wait reports about the ids that it waits for.
-ghost use Rattle.std.specs.Prelude.{◌≡◌, ◌+◌, ◌<◌, ◌≤◌, ◌++◌, ◌∷◌, [], List, length, IfOk, OnOk, OnErr, vec_capacity};
+ghost use Rattle.std.specs.Prelude.{◌≡◌, ◌↔◌, ◌+◌, ◌<◌, ◌≤◌, ◌++◌, ◌∷◌, [], List, length, map, IfOk, OnOk, OnErr, IsTrue, vec_capacity};
 ghost use Rattle.std.specs.Option.{option_map};
 ghost use Rattle.acts.specs.declared.row.Row.{Row};
-ghost use Rattle.choices.specs.Lines.{line_of, row_of_line, row_anew, rows_of, rows_anew};
+ghost use Rattle.choices.specs.Lines.{line_of, open_ids, row_of_line, row_anew, rows_of, rows_anew};
 
 use crate::table::Table;
 use acts::{Id, NoMemory, Row};
@@ -34,6 +34,9 @@ impl<A: Allocator> Table<A> {
             × (rows.new.items ++ rest ≡ rows_of self.now.lines ids.now)) }
     {
         rows.clear();
+        if self.are_all(ids) {
+            return self.push_all(rows);
+        }
         for id in ids {
             self.push_row(rows, *id)?;
         }
@@ -48,6 +51,27 @@ impl<A: Allocator> Table<A> {
         for row in rows.iter_mut() {
             *row = self.row_anew(*row);
         }
+    }
+
+    /// Whether these are the ids that are open, all of them and in their order.
+    fn are_all(&self, ids: &[Id]) -> bool
+        ensures ids { IsTrue result ↔ (ids.now ≡ open_ids self.now.lines) }
+        ensures rows { IsTrue result →
+            rows_of self.now.lines ids.now ≡ map row_of_line self.now.lines }
+    {
+        have_ids(&self.rows, ids)
+    }
+
+    /// Appends the rows of all open ids, in one piece.
+    fn push_all(&self, rows: &mut Vec<Row, A>) -> Result<(), NoMemory>
+        ensures rows { OnOk result (rows.new.items
+            ≡ rows.old.items ++ map row_of_line self.now.lines) }
+        ensures refused { OnErr result (vec_capacity rows.old
+            < length rows.old.items + length self.now.lines) }
+        ensures unchanged { OnErr result (rows.new.items ≡ rows.old.items) }
+    {
+        rows.extend_from_slice(&self.rows)?;
+        Ok(())
     }
 
     /// Appends the row of an id, where the id is open.
@@ -71,7 +95,7 @@ impl<A: Allocator> Table<A> {
         ensures { result ≡ option_map row_of_line (line_of self.now.lines id) }
     {
         match self.place(id) {
-            Some(place) => Some(self.entries[place].row()),
+            Some(place) => Some(self.rows[place]),
             None => None,
         }
     }
@@ -85,4 +109,19 @@ impl<A: Allocator> Table<A> {
             None => row,
         }
     }
+}
+
+/// Whether rows are those of these ids, one for each and in their order.
+fn have_ids(rows: &[Row], ids: &[Id]) -> bool
+    ensures { IsTrue result ↔ (ids.now ≡ map (λ r. r.id) rows.now) }
+{
+    if rows.len() != ids.len() {
+        return false;
+    }
+    for (place, id) in ids.iter().enumerate() {
+        if rows[place].id != *id {
+            return false;
+        }
+    }
+    true
 }

@@ -1,7 +1,7 @@
 //! The open ids.
-ghost use Rattle.std.specs.Prelude.{◌≡◌, ◌==◌, ◌<◌, ◌≤◌, ◌↔◌, ◌++◌, [], ◌∷◌, List, length, position, is_some, Some, None, Err, IfOk, OnOk, OnErr, IfSome, IsTrue, MatchOption};
+ghost use Rattle.std.specs.Prelude.{◌≡◌, ◌==◌, ◌<◌, ◌≤◌, ◌↔◌, ◌++◌, [], ◌∷◌, List, length, position, is_some, Some, None, Err, IfOk, OnOk, OnErr, IfSome, IsTrue, MatchOption, vec_capacity};
 ghost use Rattle.std.specs.Option.{option_map};
-ghost use Rattle.choices.specs.Lines.{line_of, listing, at_line, without, lesser, least_of, first_id, next_id, number_after, fresh_line, IsFirstOut, reached, resized, dropping, held_by, allowed_to};
+ghost use Rattle.choices.specs.Lines.{line_of, listing, at_line, without, lesser, least_of, first_id, next_id, number_after, fresh_line, IsFirstOut, reached, resized, dropping, row_of_line, held_by, allowed_to};
 ghost use Rattle.choices.specs.Peers.{Peer, FitsPeers, at_peer, fresh, shut, arrived, set_nulls, sized};
 ghost use Rattle.choices.specs.Views.{kind_of};
 ghost use Rattle.matchbuf.specs.Held.{held};
@@ -10,7 +10,7 @@ ghost use Rattle.matchbuf.specs.Size.{IsSize};
 use crate::entry::Entry;
 use crate::error::OpenError;
 use crate::kind::Kind;
-use acts::{Id, NoMemory};
+use acts::{Id, NoMemory, Row};
 use matchbuf::{MatchBuf, MatchBufError};
 use patterns::Found;
 use std::alloc::Allocator;
@@ -26,9 +26,12 @@ const FIRST_NUMBER: u64 = 4;
 /// match_max).
 pub const FIRST_SIZE: u32 = 2000;
 
-/// The open ids in the order in which they were opened, each with its match buffer.
+/// The open ids in the order in which they were opened, each with its match buffer and its row.
 pub struct Table<A: Allocator> {
     pub(crate) entries: Vec<Entry<A>, A>,
+    /// What a wait reports about each entry, in the order of the entries. A row is written where
+    /// something of its id changed, so that a wait copies what stands here.
+    pub(crate) rows: Vec<Row, A>,
     next: Option<u64>,
     /// How many choices were looked for, counted round.
     pub(crate) rounds: u64,
@@ -40,6 +43,7 @@ impl<A: Allocator> Drop for Table<A> {
     fn drop(self) {
         let Table {
             entries: _,
+            rows: _,
             next: _,
             rounds: _,
             found: _,
@@ -48,31 +52,21 @@ impl<A: Allocator> Drop for Table<A> {
 }
 
 impl<A: Allocator> Model for Table<A> {
-    ghost use Rattle.std.specs.Prelude.{◌≤◌, ◌++◌, length};
-    ghost use Rattle.choices.specs.Lines.{Listing, Rise, listing, numbers, upcoming};
+    ghost use Rattle.std.specs.Prelude.{◌≡◌, ◌≤◌, ◌++◌, length, map};
+    ghost use Rattle.choices.specs.Lines.{Listing, Rise, listing, numbers, row_of_line, upcoming};
 
     ghost Value = { Listing };
 
     ghost view = { λ t. listing t.entries.items t.next };
 
-    // The ids rise in the order in which they were opened, and the next one is beyond them.
+    // The ids rise in the order in which they were opened, and the next one is beyond them. Each
+    // row is that of its entry as it is now.
     ghost invariant = { λ t. (length t.entries.items ≤ 64)
-        × Rise (numbers t.entries.items ++ upcoming t.next) };
+        × Rise (numbers t.entries.items ++ upcoming t.next)
+        × (t.rows.items ≡ map row_of_line t.entries.items) };
 }
 
 impl<A: Allocator> Table<A> {
-    /// A table without open ids, whose next number is the first one.
-    pub fn new(alloc: A) -> Table<A>
-        ensures { result ≡ listing [] (Some 4) }
-    {
-        Table {
-            entries: Vec::new(alloc),
-            next: Some(FIRST_NUMBER),
-            rounds: 0,
-            found: None,
-        }
-    }
-
     /// What the last choice found, if it was a pattern: the place of its pair among the pairs that
     /// it was chosen from, and where in the window it was. No contract speaks of it: it is told to
     /// who watches a run.
@@ -159,6 +153,7 @@ impl<A: Allocator> Table<A> {
     {
         if let Some(place) = self.place(id) {
             let _ = self.entries.remove(place);
+            let _ = self.rows.remove(place);
         }
     }
 
@@ -174,6 +169,7 @@ impl<A: Allocator> Table<A> {
             return None;
         }
         let entry = self.entries.remove(0);
+        let _ = self.rows.remove(0);
         Some(entry.id())
     }
 
@@ -186,7 +182,9 @@ impl<A: Allocator> Table<A> {
             FitsPeers self.new.lines (at_peer (arrived bytes.now) id ps) }
     {
         if let Some(place) = self.place(id) {
-            self.entries[place].arrive(bytes);
+            let heard = &mut self.entries[place];
+            heard.arrive(bytes);
+            self.rows[place] = heard.row();
         }
     }
 
@@ -241,6 +239,19 @@ impl<A: Allocator> Table<A> {
 }
 
 impl<A: Allocator + Copy> Table<A> {
+    /// A table without open ids, whose next number is the first one.
+    pub fn new(alloc: A) -> Table<A>
+        ensures { result ≡ listing [] (Some 4) }
+    {
+        Table {
+            entries: Vec::new(alloc),
+            rows: Vec::new(alloc),
+            next: Some(FIRST_NUMBER),
+            rounds: 0,
+            found: None,
+        }
+    }
+
     /// Opens the id of the next number for a process or a connection, with an empty buffer of the
     /// default size `max`, and with the default of whether nulls are removed (expect(1), spawn,
     /// match_max -d and remove_nulls -d).
@@ -270,7 +281,7 @@ impl<A: Allocator + Copy> Table<A> {
         };
         let buffer = empty_buffer(alloc, max)?;
         let entry = Entry::new(alloc, id, kind, buffer, drops_nulls)?;
-        push_entry(&mut self.entries, entry)?;
+        push_entry(&mut self.entries, &mut self.rows, entry)?;
         self.next = number_after(self.next);
         Ok(id)
     }
@@ -291,17 +302,41 @@ impl<A: Allocator + Copy> Table<A> {
         let Some(place) = self.place(id) else {
             unreachable!()
         };
-        self.entries[place].set_max(max)
+        let sized = &mut self.entries[place];
+        let outcome = sized.set_max(max);
+        self.rows[place] = sized.row();
+        outcome
     }
 }
 
-/// Appends an entry. On `Err` the entries are unchanged.
-fn push_entry<A: Allocator>(entries: &mut Vec<Entry<A>, A>, entry: Entry<A>) -> Result<(), NoMemory>
+/// Appends an entry, and its row to the rows. There is room for both before either is written: on
+/// `Err` entries and rows are unchanged.
+fn push_entry<A: Allocator>(
+    entries: &mut Vec<Entry<A>, A>,
+    rows: &mut Vec<Row, A>,
+    entry: Entry<A>,
+) -> Result<(), NoMemory>
     ensures items { OnOk result (entries.new.items ≡ entries.old.items ++ entry ∷ []) }
+    ensures rows { OnOk result (rows.new.items ≡ rows.old.items ++ row_of_line entry ∷ []) }
     ensures unchanged { OnErr result (entries.new.items ≡ entries.old.items) }
+    ensures same_rows { OnErr result (rows.new.items ≡ rows.old.items) }
 {
+    let row = entry.row();
+    rows.reserve(1)?;
     entries.push(entry)?;
+    put_row(rows, row);
     Ok(())
+}
+
+/// Appends a row where there is room for it.
+fn put_row<A: Allocator>(rows: &mut Vec<Row, A>, row: Row)
+    requires { length rows.old.items < vec_capacity rows.old }
+    ensures { rows.new.items ≡ rows.old.items ++ row ∷ [] }
+{
+    match rows.push(row) {
+        Ok(()) => {}
+        Err(_) => unreachable!(),
+    }
 }
 
 /// The number after the next one, where there is one.

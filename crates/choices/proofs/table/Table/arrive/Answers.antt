@@ -8,8 +8,8 @@ use Rattle.choices.proofs.table.Table.arrive.Goals as goal
 pub returns-in-Some-clause-lines : goal.returns-in-Some-clause-lines
 returns-in-Some-clause-lines g c =
     put_in c.args.id c.args.self.now.lines c.self.inside.entries.items c.in-Some.place
-    c.index_mut.result.now c.arrive.new.self (reached c.args.bytes.now)
-    (ap (λ t. t.lines) c.self.view_is) c.in-Some.ensures.place c.index_mut.ensures.value
+    c.index_mut-heard.result.now c.arrive.new.self (reached c.args.bytes.now)
+    (ap (λ t. t.lines) c.self.view_is) c.in-Some.ensures.place c.index_mut-heard.ensures.value
     c.arrive.ensures
 
 pub returns-in-Some-clause-fits : goal.returns-in-Some-clause-fits
@@ -27,6 +27,6 @@ returns-in_default-clause-fits g c =
 
 pub invariant_of-self : goal.invariant_of-self
 invariant_of-self g c =
-    sound_set c.self.inside.entries.items c.self.inside.next c.in-Some.place
-    c.index_mut.result.now c.arrive.new.self c.index_mut.ensures.value (ap (λ l. l.id) c.arrive.ensures)
-    c.self.invariant
+    sound_set c.self.inside.entries.items c.self.inside.rows.items c.self.inside.next
+    c.in-Some.place c.index_mut-heard.result.now c.arrive.new.self c.row.result
+    c.index_mut-heard.ensures.value (ap (λ l. l.id) c.arrive.ensures) c.row.ensures c.self.invariant

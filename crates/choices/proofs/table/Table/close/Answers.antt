@@ -1,7 +1,8 @@
-use Rattle.std.proofs.Common.{◌∙◌, ap, subst, sym}
+use Rattle.std.proofs.Common.{◌∙◌, ap, sym}
+use Rattle.choices.specs.Lines.{without}
 use Rattle.choices.proofs.Changes.{fits_closed}
 use Rattle.choices.proofs.Lines.{gone_in, absent_in}
-use Rattle.choices.proofs.Rising.{IsSound, sound_without}
+use Rattle.choices.proofs.Rising.{sound_without}
 use Rattle.choices.proofs.table.Table.close.Goals as goal
 
 pub returns-in-Some-clause-lines : goal.returns-in-Some-clause-lines
@@ -24,6 +25,7 @@ returns-in_default-clause-fits g c =
 
 pub invariant_of-self : goal.invariant_of-self
 invariant_of-self g c =
-    subst (λ ls. IsSound ls c.self.inside.next) (sym (returns-in-Some-clause-lines g c))
-    (sound_without c.args.id c.args.self.now.lines c.self.inside.next
-    (subst (λ t. IsSound t.lines c.self.inside.next) c.self.view_is c.self.invariant))
+    sound_without c.args.id c.self.inside.entries.items c.remove.new.self.items
+    c.self.inside.rows.items c.remove-in-Some.new.self.items c.self.inside.next c.in-Some.place
+    (returns-in-Some-clause-lines g c ∙ sym (ap (λ t. without c.args.id t.lines) c.self.view_is))
+    c.remove.ensures.items c.remove-in-Some.ensures.items c.self.invariant

@@ -1,11 +1,26 @@
-use Rattle.std.proofs.Common.{◌≡◌, ◌∙◌, ◌+◌, ◌++◌, List, ap, arith, drop, length, subst, sym}
+use Rattle.std.proofs.Common.{◌≡◌, ◌∙◌, ◌+◌, ◌++◌, List, ap, arith, drop, length, map, refl, subst, sym}
 use Rattle.std.proofs.lemmas.List.{append-nil, drop_all, drop_more}
 use Rattle.acts.specs.declared.id.Id.{Id}
 use Rattle.acts.specs.declared.row.Row.{Row}
-use Rattle.choices.specs.Lines.{rows_of}
-use Rattle.choices.proofs.Refused.{on_err}
+use Rattle.choices.specs.Lines.{row_of_line, rows_of}
+use Rattle.choices.proofs.Refused.{err_from, ok_from, on_err}
 use Rattle.choices.proofs.RowsMade.{rows_further}
 use Rattle.choices.proofs.table.Table.fill.Goals as goal
+
+pub returns-then-are_all-clause-rows : goal.returns-then-are_all-clause-rows
+returns-then-are_all-clause-rows g c =
+    let all = map row_of_line c.args.self.now.lines in
+    ok_from c.push_all.result (λ is. is
+    ∙ ap (λ (rs : List Row). rs ++ all) c.clear.ensures.items
+    ∙ sym (c.if-are_all.ensures.rows refl)) c.push_all.ensures.rows
+
+pub returns-then-are_all-clause-begun : goal.returns-then-are_all-clause-begun
+returns-then-are_all-clause-begun g c =
+    let all = rows_of c.args.self.now.lines c.args.ids.now in
+    err_from c.push_all.result (λ same. (
+      all,
+      ap (λ (rs : List Row). rs ++ all) (same ∙ c.clear.ensures.items),
+    )) c.push_all.ensures.unchanged
 
 pub loop-id-init : goal.loop-id-init
 loop-id-init g c =

@@ -1,8 +1,9 @@
 use Rattle.std.proofs.Common.{ap}
 use Rattle.choices.specs.Branches.{Sought}
+use Rattle.choices.specs.Lines.{row_of_line}
 use Rattle.choices.proofs.Finds.{in_line, no_line}
 use Rattle.choices.proofs.Lines.{at_in, absent_in}
-use Rattle.choices.proofs.Rising.{sound_set}
+use Rattle.choices.proofs.Rising.{sound_kept}
 use Rattle.choices.proofs.table.Table.find.Goals as goal
 
 pub returns-in_default-clause-found : goal.returns-in_default-clause-found
@@ -19,6 +20,7 @@ returns-clause-found g c =
 
 pub invariant_of-self : goal.invariant_of-self
 invariant_of-self g c =
-    sound_set c.self.inside.entries.items c.self.inside.next c.in-Some.place
-    c.index_mut.result.now c.search.new.self c.index_mut.ensures.value
-    (ap (λ l. l.id) c.search.ensures.unchanged) c.self.invariant
+    sound_kept c.self.inside.entries.items c.self.inside.rows.items c.self.inside.next
+    c.in-Some.place c.index_mut.result.now c.search.new.self c.index_mut.ensures.value
+    (ap (λ l. l.id) c.search.ensures.unchanged) (ap row_of_line c.search.ensures.unchanged)
+    c.self.invariant

@@ -1,8 +1,8 @@
 use Rattle.std.proofs.Common.{ap, sym}
-use Rattle.choices.specs.Lines.{dropping}
+use Rattle.choices.specs.Lines.{dropping, row_of_line}
 use Rattle.choices.proofs.Changes.{fits_setting}
 use Rattle.choices.proofs.Lines.{put_in, absent_in}
-use Rattle.choices.proofs.Rising.{sound_set}
+use Rattle.choices.proofs.Rising.{sound_kept}
 use Rattle.choices.proofs.table.Table.set_nulls.Goals as goal
 
 pub returns-in-Some-clause-lines : goal.returns-in-Some-clause-lines
@@ -27,6 +27,6 @@ returns-in_default-clause-fits g c =
 
 pub invariant_of-self : goal.invariant_of-self
 invariant_of-self g c =
-    sound_set c.self.inside.entries.items c.self.inside.next c.in-Some.place
-    c.index_mut.result.now c.set_nulls.new.self c.index_mut.ensures.value (ap (λ l. l.id) c.set_nulls.ensures)
-    c.self.invariant
+    sound_kept c.self.inside.entries.items c.self.inside.rows.items c.self.inside.next
+    c.in-Some.place c.index_mut.result.now c.set_nulls.new.self c.index_mut.ensures.value
+    (ap (λ l. l.id) c.set_nulls.ensures) (ap row_of_line c.set_nulls.ensures) c.self.invariant
