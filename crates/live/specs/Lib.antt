@@ -6,5 +6,6 @@ pub mod Live
 pub mod Look
 pub mod Outputs
 pub mod Refusing
+pub mod Silent
 pub mod Turns
 pub mod Waiting

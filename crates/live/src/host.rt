@@ -9,7 +9,7 @@ use crate::polling::Polling;
 use acts::{Id, LogMode};
 use std::alloc::Global;
 use std::fs::{File, OpenOptions};
-use std::io::{self, PipeReader, PipeWriter, Read, Write, pipe};
+use std::io::{self, ErrorKind, PipeReader, PipeWriter, Read, Write, pipe};
 use std::net::{Net, TcpStream};
 use std::os::fd::OwnedFd;
 use std::process::{Child, Command, Processes, SystemProcess};
@@ -145,10 +145,12 @@ where
     }
 
     fn wait(&mut self, program: &mut Started) -> io::Result<Option<i32>> {
+        self.polling.doubt();
         Ok(program.child.wait()?.code())
     }
 
     fn connect(&mut self, id: Id, host: &str, port: u16) -> io::Result<Wire> {
+        self.polling.doubt();
         let stream = TcpStream::connect(self.rt, (host, port))?;
         stream.set_nodelay(true)?;
         stream.set_nonblocking(true)?;
@@ -168,30 +170,40 @@ where
         how.open(self.rt, name)
     }
 
+    // A link that is known to be silent is not read: the answer is that of a read.
     fn read(&mut self, link: &mut Wire, room: &mut [u8]) -> io::Result<usize> {
-        match &mut link.ends {
+        if self.polling.is_silent(link.id) {
+            return Err(io::Error::from(ErrorKind::WouldBlock));
+        }
+        let found = match &mut link.ends {
             Ends::Program { output, .. } => output.read(room),
             Ends::Server(stream) => stream.read(room),
-        }
+        };
+        self.polling.note(link.id, &found);
+        found
     }
 
     fn write(&mut self, link: &mut Wire, text: &[u8]) -> io::Result<usize> {
+        self.polling.doubt();
         match &mut link.ends {
             Ends::Program { input, .. } => input.write(text),
             Ends::Server(stream) => stream.write(text),
         }
     }
 
+    // A wait that its timer may end asks for the time before it looks, so it looks anew.
     fn now(&mut self) -> io::Result<Instant> {
+        self.polling.doubt();
         Instant::now(self.rt)
     }
 
     fn sleep(&mut self, seconds: u64) {
+        self.polling.doubt();
         thread::sleep(self.rt, Duration::from_secs(seconds));
     }
 
     fn watch(&mut self, link: &Wire) -> io::Result<()> {
-        self.polling.watch(&link.ends)
+        self.polling.watch(link)
     }
 
     fn pause(&mut self, time: Option<Duration>) -> io::Result<()> {
@@ -199,7 +211,7 @@ where
     }
 
     fn pause_to_write(&mut self, link: &Wire, found: Look) -> io::Result<()> {
-        self.polling.pause_to_write(&link.ends, found)
+        self.polling.pause_to_write(link, found)
     }
 
     fn peek(&mut self, link: &Wire) -> io::Result<Look> {

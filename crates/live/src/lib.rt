@@ -11,6 +11,7 @@ mod peers;
 mod polling;
 mod processes;
 mod sending;
+mod silent;
 mod sockets;
 mod system;
 mod waiting;
