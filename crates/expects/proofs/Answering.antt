@@ -9,7 +9,7 @@ use Rattle.acts.specs.declared.raise.Raise.TheVariants as raise
 use Rattle.acts.specs.declared.row.Row.{Row}
 use Rattle.choices.specs.Branches.{Branches}
 use Rattle.choices.specs.Lines.{Line, rows_of}
-use Rattle.dialog.specs.Reads.{Flaw, IsRead, Outcome as Said, place}
+use Rattle.readings.specs.Reads.{Flaw, IsRead, Outcome as Said, place}
 use Rattle.choices.specs.LogState.{goes_out, is_logged}
 use Rattle.dialog.specs.Standing.{Effective, all_of, pruned}
 use Rattle.choices.specs.declared.choice.Choice.{Choice}

@@ -2,7 +2,7 @@
 -- each expect.
 use Rattle.std.proofs.Common.{ℕ, Bool, true, false, List, [], ◌∷◌, Option, Some, None, Ok, Err, if◌then◌else◌}
 use Rattle.choices.specs.Branches.{Branches}
-use Rattle.dialog.specs.Reads.{Outcome as Said}
+use Rattle.readings.specs.Reads.{Outcome as Said}
 use Rattle.dialog.specs.Standing.{put_at}
 use Rattle.state.proofs.Closed.{Closed, Turns, raises_closed}
 use Rattle.state.specs.Prelude.{Course, gives, Gives, Status}

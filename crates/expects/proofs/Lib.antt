@@ -4,3 +4,4 @@ pub mod Comings
 pub mod Selecting
 pub mod Answering
 pub mod Reporting
+pub mod Telling

@@ -6,8 +6,8 @@ use Rattle.acts.specs.Id.{id_text}
 use Rattle.code.specs.Argument.{is_braced}
 use Rattle.choices.specs.Branches.{Branches}
 use Rattle.choices.specs.Channels.{named}
-use Rattle.dialog.specs.Reads as misread
-use Rattle.dialog.specs.Reads.{Place, Outcome, place}
+use Rattle.readings.specs.Reads as misread
+use Rattle.readings.specs.Reads.{Place, Outcome, place}
 use Rattle.dialog.specs.Standing.{all_of, put_at}
 use Rattle.choices.specs.declared.choice.Trigger.TheVariants as after
 use Rattle.dialog.specs.declared.standing.Side.{Side}

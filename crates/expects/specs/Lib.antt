@@ -1,4 +1,5 @@
 pub mod Report
+pub mod Told
 pub mod Clock
 pub mod Turn
 pub mod Words

@@ -4,7 +4,7 @@ use Rattle.state.specs.Prelude.{flaw_of, Raises, Raise, Status, Scopes}
 use Rattle.acts.specs.declared.raise.Raise.TheVariants as raise
 use Rattle.choices.specs.Choice.{Taken}
 use Rattle.choices.specs.declared.choice.Taken as coded
-use Rattle.dialog.specs.Reads as misread
+use Rattle.readings.specs.Reads as misread
 use Rattle.expects.specs.Expect.{told}
 use Rattle.expects.specs.Report.{Written}
 

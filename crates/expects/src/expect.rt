@@ -3,7 +3,7 @@
 ghost use Rattle.std.specs.Prelude.{◌≡◌, ◌≤◌, ℕ, IfOk, MatchOption};
 ghost use Rattle.state.specs.Prelude.{Raises, Status, FitsState};
 ghost use Rattle.acts.specs.Flaw as flaw;
-ghost use Rattle.dialog.specs.Misreads as misread;
+ghost use Rattle.readings.specs.Misreads as misread;
 ghost use Rattle.expects.specs.Expect as definition;
 ghost use Rattle.expects.specs.Parts.{Tells};
 ghost use Rattle.expects.specs.View.{Comes, IsPlainBegun, IsPlainOpening, course_of_begun, course_of_opening, form_of};

@@ -1,15 +1,17 @@
 //! The variables that a choice sets (expect(1), expect_out).
 
-ghost use Rattle.std.specs.Prelude.{◌≡◌, ◌-ℤ◌, drop, pos, IfOk};
+ghost use Rattle.std.specs.Prelude.{◌≡◌, ◌-ℤ◌, decimal, drop, pos, IfOk};
 ghost use Rattle.std.specs.Fmt.{signed_decimal};
 ghost use Rattle.choices.specs.Selects.{taken_by};
 ghost use Rattle.expects.specs.Parts.{Writes, taken_of};
 ghost use Rattle.expects.specs.Report as definition;
+ghost use Rattle.expects.specs.Told.{sets_all, buffer_told, match_told, places_told};
+ghost use Rattle.tclstate.specs.InTurn.{elements_in};
 
-use acts::{Id, NoMemory, Raise};
+use acts::{NoMemory, Raise};
 use dialog::Taken;
 use kinds::ids::name_of;
-use kinds::variables::put;
+use kinds::variables::put_all;
 use patterns::Found;
 use std::alloc::Allocator;
 use tclstate::Scopes;
@@ -17,6 +19,17 @@ use tcltext::{Value, print_int, print_nat};
 
 /// The array whose elements a choice sets (expect(1), expect).
 const EXPECT_OUT: &[u8] = b"expect_out";
+
+/// The indexes of its elements.
+const START: &[u8] = b"0,start";
+
+const END: &[u8] = b"0,end";
+
+const STRING: &[u8] = b"0,string";
+
+const SPAWN_ID: &[u8] = b"spawn_id";
+
+const BUFFER: &[u8] = b"buffer";
 
 /// Sets what a choice has for `expect_out`, if it has something.
 ///
@@ -36,6 +49,7 @@ pub(crate) fn report<A: Allocator + Copy>(
 }
 
 /// Sets all elements: the match, the id, the buffer, in this order.
+#[tactic(auto, using(crate::proofs::Telling::buffer_written))]
 fn tell<A: Allocator + Copy>(
     alloc: A,
     scopes: &mut Scopes<A>,
@@ -43,108 +57,102 @@ fn tell<A: Allocator + Copy>(
 ) -> Result<(), Raise<A>>
     ensures { Writes (definition.tells (taken_of taken) scopes.old) result scopes.new }
 {
-    tell_match(
-        alloc,
-        scopes,
-        taken.found,
-        taken.tells_places,
-        &taken.buffer,
-    )?;
-    tell_id(alloc, scopes, taken.id)?;
-    let buffer = Value::new(alloc, taken.buffer)?;
-    Ok(set(alloc, scopes, b"buffer", buffer)?)
-}
-
-/// Sets the id.
-fn tell_id<A: Allocator + Copy>(alloc: A, scopes: &mut Scopes<A>, id: Id) -> Result<(), Raise<A>>
-    ensures { Writes (definition.tells_id id scopes.old) result scopes.new }
-{
-    let name = name_of(alloc, id)?;
-    Ok(set(alloc, scopes, b"spawn_id", name)?)
-}
-
-/// Sets the elements of a match, if there is one: its places, where the branch says so, and its
-/// bytes.
-fn tell_match<A: Allocator + Copy>(
-    alloc: A,
-    scopes: &mut Scopes<A>,
-    found: Option<Found>,
-    tells_places: bool,
-    buffer: &[u8],
-) -> Result<(), Raise<A>>
-    ensures { Writes (definition.tells_match tells_places found buffer.now scopes.old)
-        result scopes.new }
-{
-    let Some(found) = found else {
-        return Ok(());
+    let id = name_of(alloc, taken.id)?;
+    let Some(found) = taken.found else {
+        return tell_buffer(alloc, scopes, id, taken.buffer);
     };
-    tell_places(alloc, scopes, tells_places, found)?;
-    let matched = Value::from_slice(alloc, behind(buffer, found.start))?;
-    Ok(set(alloc, scopes, b"0,string", matched)?)
-}
-
-/// Sets the places of the first byte of a match and of its last one, where the branch says so.
-fn tell_places<A: Allocator + Copy>(
-    alloc: A,
-    scopes: &mut Scopes<A>,
-    tells_places: bool,
-    found: Found,
-) -> Result<(), Raise<A>>
-    ensures { Writes (definition.tells_places tells_places found scopes.old) result scopes.new }
-{
-    if tells_places {
-        tell_both_places(alloc, scopes, found)
+    if taken.tells_places {
+        tell_places(alloc, scopes, found, id, taken.buffer)
     } else {
-        Ok(())
+        tell_match(alloc, scopes, found, id, taken.buffer)
     }
 }
 
-/// Sets the places of the first byte of a match and of its last one.
-fn tell_both_places<A: Allocator + Copy>(
+/// Sets the id and the buffer.
+fn tell_buffer<A: Allocator + Copy>(
+    alloc: A,
+    scopes: &mut Scopes<A>,
+    id: Value<A>,
+    buffer: Vec<u8, A>,
+) -> Result<(), Raise<A>>
+    ensures { Writes (sets_all (buffer_told id buffer.items) scopes.old) result scopes.new }
+{
+    let buffer = Value::new(alloc, buffer)?;
+    set_all(alloc, scopes, &mut [(SPAWN_ID, id), (BUFFER, buffer)])
+}
+
+/// Sets the bytes of a match, the id and the buffer.
+fn tell_match<A: Allocator + Copy>(
     alloc: A,
     scopes: &mut Scopes<A>,
     found: Found,
+    id: Value<A>,
+    buffer: Vec<u8, A>,
 ) -> Result<(), Raise<A>>
-    ensures { Writes (definition.tells_both_places found scopes.old) result scopes.new }
+    ensures { Writes (sets_all (match_told found id buffer.items) scopes.old) result scopes.new }
 {
-    tell_start(alloc, scopes, found)?;
-    Ok(tell_end(alloc, scopes, found)?)
+    let matched = matched(alloc, &buffer, found)?;
+    let buffer = Value::new(alloc, buffer)?;
+    let mut elements = [(STRING, matched), (SPAWN_ID, id), (BUFFER, buffer)];
+    set_all(alloc, scopes, &mut elements)
 }
 
-/// Sets the place of the first byte of a match.
-fn tell_start<A: Allocator + Copy>(
+/// Sets the places of the first byte of a match and of its last one, its bytes, the id and the
+/// buffer.
+fn tell_places<A: Allocator + Copy>(
     alloc: A,
     scopes: &mut Scopes<A>,
     found: Found,
+    id: Value<A>,
+    buffer: Vec<u8, A>,
 ) -> Result<(), Raise<A>>
-    ensures { Writes (definition.tells_start found scopes.old) result scopes.new }
+    ensures { Writes (sets_all (places_told found id buffer.items) scopes.old) result scopes.new }
 {
-    let start = Value::new(alloc, print_nat(alloc, found.start as u64)?)?;
-    Ok(set(alloc, scopes, b"0,start", start)?)
+    let start = start(alloc, found)?;
+    let end = end(alloc, found)?;
+    let matched = matched(alloc, &buffer, found)?;
+    let buffer = Value::new(alloc, buffer)?;
+    let mut elements = [
+        (START, start),
+        (END, end),
+        (STRING, matched),
+        (SPAWN_ID, id),
+        (BUFFER, buffer),
+    ];
+    set_all(alloc, scopes, &mut elements)
 }
 
-/// Sets the place of the last byte of a match.
-fn tell_end<A: Allocator + Copy>(
+/// Sets elements of `expect_out`, which is looked up once for all of them.
+#[tactic(auto, using(crate::proofs::Telling::writes_all))]
+fn set_all<A: Allocator + Copy>(
     alloc: A,
     scopes: &mut Scopes<A>,
-    found: Found,
+    elements: &mut [(&[u8], Value<A>)],
 ) -> Result<(), Raise<A>>
-    ensures { Writes (definition.tells_end found scopes.old) result scopes.new }
+    ensures { Writes (sets_all (elements_in elements.old) scopes.old) result scopes.new }
 {
-    let end = Value::new(alloc, last_place(alloc, found.end)?)?;
-    Ok(set(alloc, scopes, b"0,end", end)?)
+    put_all(alloc, scopes, EXPECT_OUT, elements)
 }
 
-/// Sets an element of `expect_out`.
-fn set<A: Allocator + Copy>(
-    alloc: A,
-    scopes: &mut Scopes<A>,
-    index: &[u8],
-    value: Value<A>,
-) -> Result<(), Raise<A>>
-    ensures { Writes (definition.sets index.now value scopes.old) result scopes.new }
+/// The place of the first byte of a match.
+fn start<A: Allocator + Copy>(alloc: A, found: Found) -> Result<Value<A>, NoMemory>
+    ensures { IfOk result (λ text. text ≡ decimal found.start) }
 {
-    put(alloc, scopes, EXPECT_OUT, Some(index), value)
+    Ok(Value::new(alloc, print_nat(alloc, found.start as u64)?)?)
+}
+
+/// The place of the last byte of a match.
+fn end<A: Allocator + Copy>(alloc: A, found: Found) -> Result<Value<A>, NoMemory>
+    ensures { IfOk result (λ text. text ≡ signed_decimal (pos found.end -ℤ pos 1)) }
+{
+    Ok(Value::new(alloc, last_place(alloc, found.end)?)?)
+}
+
+/// The bytes of a match, which end the buffer.
+fn matched<A: Allocator + Copy>(alloc: A, buffer: &[u8], found: Found) -> Result<Value<A>, NoMemory>
+    ensures { IfOk result (λ text. text ≡ drop found.start buffer.now) }
+{
+    Ok(Value::from_slice(alloc, behind(buffer, found.start))?)
 }
 
 /// The place of the last byte before an end, in digits; -1 for an empty match at the beginning.

@@ -5,3 +5,4 @@ pub mod Reaped
 pub mod Readings
 pub mod Left
 pub mod Locals
+pub mod PutAll

@@ -77,6 +77,14 @@ abbrev pub Puts : {A : Type 0} {T : Type 0} → Result Scopes Flaw → Scopes �
 Puts meant old (Ok done) new = meant ≡ Ok new
 Puts meant old (Err why) new = Fails meant why × (new ≡ old)
 
+-- changes of the variables, or the error of the first of them, with which nothing has changed;
+-- where memory was refused, nothing is said
+abbrev pub PutsAll : {A : Type 0} {T : Type 0} → Result Scopes Flaw → Scopes → Result T (Raise A) →
+    Scopes → Type 0
+PutsAll meant old (Ok done) new = meant ≡ Ok new
+PutsAll meant old (Err (raise.Fault why)) new = (meant ≡ Err (flaw_of why)) × (new ≡ old)
+PutsAll meant old (Err (raise.NoMemory refusal)) new = Unit {0}
+
 -- the script's error for the trouble of a variable, except where memory was refused
 abbrev pub IsTroubled : {A : Type 0} → Raise A → ScopeError → List ℕ → Option (List ℕ) → Type 0
 IsTroubled (raise.Fault why) error name index = IsTold why error name index

@@ -1,7 +1,8 @@
 -- The variables that commands read and write.
-use Rattle.std.specs.Prelude.{ℕ, List, Option, Some, None, Result, Ok, Err}
+use Rattle.std.specs.Prelude.{ℕ, List, [], ◌∷◌, Option, Some, None, Result, Ok, Err}
 use Rattle.acts.specs.Flaw.{Flaw}
 use Rattle.acts.specs.Flaw as flaw
+use Rattle.acts.specs.Raise.{bind}
 use Rattle.state.specs.Variables.{flaw_of_trouble, spelled}
 use Rattle.tclparse.specs.Variable.{named}
 use Rattle.tclstate.specs.Scopes.{Scopes, Trouble, read, written}
@@ -27,3 +28,14 @@ value_of name index v = untroubled (read v name index) (spelled name index)
 -- the variables once one is written (set(n))
 abbrev pub put : List ℕ → Option (List ℕ) → List ℕ → Scopes → Result Scopes Flaw
 put name index value v = untroubled (written v name index value) (spelled name index)
+
+-- the variables once elements of an array are written one after the other, up to the first that
+-- can't be (set(n); array(n))
+abbrev pub put_all : List ℕ → List (List ℕ × List ℕ) → Scopes → Result Scopes Flaw
+put_all name [] v = Ok v
+put_all name (e ∷ es) v = bind (put name (Some e.0) e.1 v) (put_all name es)
+
+-- the index of the first of some elements (array(n))
+abbrev pub first_index : List (List ℕ × List ℕ) → Option (List ℕ)
+first_index [] = None
+first_index (e ∷ es) = Some e.0

@@ -1,10 +1,11 @@
 //! The variables that commands read and write.
 
-ghost use Rattle.std.specs.Prelude.{option_copied};
+ghost use Rattle.std.specs.Prelude.{◌≡◌, option_copied};
 ghost use Rattle.acts.specs.Raise.{Answers};
-ghost use Rattle.kinds.specs.Answers.{IsTroubled, Puts};
+ghost use Rattle.kinds.specs.Answers.{IsTroubled, Puts, PutsAll};
 ghost use Rattle.kinds.specs.Variables as definition;
 ghost use Rattle.tclparse.specs.Seen.{name_seen};
+ghost use Rattle.tclstate.specs.InTurn.{elements_in};
 
 use acts::{Fault, Raise};
 use state::variables::trouble;
@@ -63,6 +64,39 @@ pub fn put<A: Allocator + Copy>(
     match scopes.set(alloc, name, index, value) {
         Ok(()) => Ok(()),
         Err(error) => Err(troubled(alloc, error, name, index)),
+    }
+}
+
+/// Writes elements of an array, which is looked up once, one after the other (set(n), array(n)).
+/// Empty texts are left in the place of those that were written.
+///
+/// # Errors
+/// The variable is no array: nothing has changed, and the error is that of the first element. Or
+/// memory is refused.
+#[tactic(auto, using(crate::proofs::PutAll::all_put))]
+pub fn put_all<A: Allocator + Copy>(
+    alloc: A,
+    scopes: &mut Scopes<A>,
+    name: &[u8],
+    elements: &mut [(&[u8], Value<A>)],
+) -> Result<(), Raise<A>>
+    ensures { PutsAll (definition.put_all name.now (elements_in elements.old) scopes.old)
+        scopes.old result scopes.new }
+{
+    let first = first_index(elements);
+    match scopes.set_elements(alloc, name, elements) {
+        Ok(()) => Ok(()),
+        Err(error) => Err(troubled(alloc, error, name, first)),
+    }
+}
+
+/// The index of the first of some elements.
+fn first_index<'a, A: Allocator>(elements: &[(&'a [u8], Value<A>)]) -> Option<&'a [u8]>
+    ensures { option_copied result ≡ definition.first_index (elements_in elements.now) }
+{
+    match elements {
+        [(index, _), ..] => Some(index),
+        [] => None,
     }
 }
 

@@ -1,9 +1,11 @@
 -- The last of the frames that the code keeps is the innermost one that contracts see.
-use Rattle.std.proofs.Common.{◌≡◌, ℕ, suc, ◌-◌, ◌<◌, List, [], ◌∷◌, ◌++◌, true, false, Result, Ok, Err, length, get_or, set, take, drop, reverse, sym, ap, subst, ◌∙◌, arith, if◌then◌else◌}
+use Rattle.std.proofs.Common.{◌≡◌, ℕ, suc, ◌-◌, ◌<◌, List, [], ◌∷◌, ◌++◌, Bool, true, false, Result, Ok, Err, length, get_or, set, take, drop, reverse, sym, ap, subst, ◌∙◌, arith, if◌then◌else◌}
 use Rattle.std.specs.Result.{OnErr}
 use Rattle.std.proofs.lemmas.List.{set_split, take-append-drop, reverse-append}
 use Rattle.std.proofs.Math.ListN.{drop_of_length-le}
 use Rattle.std.proofs.Math.Seq.{drop-cons}
+use Rattle.memory.specs.declared.NoMemory.{NoMemory}
+use Rattle.tclstate.specs.InTurn.{Extends}
 use Rattle.tclstate.specs.Pairs.{found}
 use Rattle.tclstate.specs.Scopes.{Frame, Scopes, Trouble, is_link, scopes, variable}
 
@@ -64,6 +66,18 @@ module _ (xs : List Frame) (n : ℕ) (len : n ≡ length xs) (some : 0 < n) (x :
       ≡ s
   unchanged_innermost y g' same global = ap (λ l. scopes l g') (reverse_set xs n len some y)
       ∙ (λ i. scopes (same i ∷ around xs n len some) (global i)) ∙ by_innermost
+
+  -- elements that are put in the innermost frame, whatever frames are around it
+  pub extends_innermost : (extend : Scopes → List (List ℕ × List ℕ) → Result Scopes Trouble)
+      (es left : List (List ℕ × List ℕ)) (r : Result Bool NoMemory) (y g' : Frame) →
+      ((outer : List Frame) → Extends (extend (scopes (x ∷ outer) g)) es left r
+      (scopes (x ∷ outer) g) (scopes (y ∷ outer) g')) →
+      Extends (extend s) es left r s (scopes (reverse (set xs (n - 1) y)) g')
+  extends_innermost extend es left r y g' h =
+      subst (λ t. Extends (extend s) es left r s t)
+      (λ i. scopes (sym (reverse_set xs n len some y) i) g')
+      (subst (λ t. Extends (extend t) es left r t (scopes (y ∷ around xs n len some) g'))
+      by_innermost (h (around xs n len some)))
 
   -- what a name means
   pub variable_here : (name : List ℕ) → is_link (found x name) ≡ false → found x name

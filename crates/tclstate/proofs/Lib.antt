@@ -1,5 +1,6 @@
 mod Entries
 mod Frames
+pub mod InTurn
 mod Innermost
 mod Keys
 mod Reach

@@ -1,6 +1,7 @@
 pub mod Pairs
 pub mod Scopes
 pub mod ScopeError
+pub mod InTurn
 pub mod Stored
 pub mod Formals
 pub mod FormalsError

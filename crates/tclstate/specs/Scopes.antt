@@ -142,6 +142,18 @@ in_frame change s name = on_ok (with_frame s name) (change (frame_of s name))
 abbrev pub written : Scopes → List ℕ → Option (List ℕ) → List ℕ → Result Scopes Trouble
 written s name index value = in_frame (frame_written name index value) s name
 
+-- What follows where there is no trouble (this project's own rule).
+abbrev pub and_then : {X Y : Type 0} → Result X Trouble → (X → Result Y Trouble) → Result Y Trouble
+and_then (Ok x) next = next x
+and_then (Err t) next = Err t
+
+-- The scopes after elements of an array are written one after the other, up to the first that can't
+-- be (set(n); array(n)).
+abbrev pub all_written : Scopes → List ℕ → List (List ℕ × List ℕ) → Result Scopes Trouble
+all_written s name [] = Ok s
+all_written s name (e ∷ es) =
+    and_then (written s name (Some e.0) e.1) (λ after. all_written after name es)
+
 -- The scopes after a name or an element is removed; a link stays (unset(n)).
 abbrev pub removed : Scopes → List ℕ → Option (List ℕ) → Result Scopes Trouble
 removed s name index = in_frame (frame_without name index) s name

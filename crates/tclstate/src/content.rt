@@ -1,5 +1,6 @@
 //! What a variable holds: a text or an array.
 ghost use Rattle.std.specs.Prelude.{◌≡◌, [], Some, None, Ok, Err, IfSome, IfNone, IfOk, OnOk, IfErr, OnErr, option_copied, length};
+ghost use Rattle.tclstate.specs.InTurn.{Extends, elements_in, extended};
 ghost use Rattle.tclstate.specs.Scopes.{value_of, changed, reduced, elements_of};
 ghost use Rattle.tclstate.specs.ScopeError.{HasTrouble, HasTroubleOrRefusal};
 ghost use Rattle.tclstate.specs.Pairs.{keys_of};
@@ -8,7 +9,7 @@ ghost use Rattle.tclstate.specs.Sum.{HasSum, NoSumInPlace};
 
 use crate::error::ScopeError;
 use crate::sum::add_to;
-use crate::table::{element, keys, put_element, remove_element, take_element};
+use crate::table::{element, keys, put_element, put_elements, remove_element, take_element};
 use hints::{Table, new_table};
 use memory::NoMemory;
 use std::alloc::Allocator;
@@ -145,5 +146,23 @@ impl<A: Allocator + Copy> Content<A> {
             (Content::Array(elements), Some(index)) => put_element(elements, alloc, index, value)?,
         }
         Ok(())
+    }
+
+    /// Writes elements one after the other, where this is an array; tells whether it is.
+    #[inline(always)]
+    pub fn set_in_array(
+        &mut self,
+        alloc: A,
+        elements: &mut [(&[u8], Value<A>)],
+    ) -> Result<bool, NoMemory>
+        ensures { Extends (λ es. extended es (Some (variable_of self.old)))
+            (elements_in elements.old) (elements_in elements.new) result
+            (variable_of self.old) (variable_of self.new) }
+    {
+        match self {
+            Content::Text(_) => return Ok(false),
+            Content::Array(present) => put_elements(present, alloc, elements)?,
+        }
+        Ok(true)
     }
 }

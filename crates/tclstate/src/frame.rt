@@ -1,6 +1,7 @@
 //! The variables of a procedure that runs.
 ghost use Rattle.std.specs.Prelude.{◌≡◌, ◌∷◌, [], List, None, Some, Ok, IfSome, IfNone, IfOk, OnOk, IfErr, OnErr, option_copied};
 ghost use Rattle.std.specs.Option.{option_map};
+ghost use Rattle.tclstate.specs.InTurn.{Extends, elements_in, scopes_extended};
 ghost use Rattle.tclstate.specs.Pairs.{found, put};
 ghost use Rattle.tclstate.specs.Scopes as spec;
 ghost use Rattle.tclstate.specs.ScopeError.{HasTrouble, HasTroubleOrRefusal};
@@ -215,6 +216,30 @@ impl<A: Allocator + Copy> LocalFrame<A> {
                 None => unreachable!(),
             },
             None => self.set_new(alloc, name, index, value),
+        }
+    }
+
+    /// Writes elements of an array one after the other, where the name means one; tells whether it
+    /// does.
+    pub(crate) fn set_in_array(
+        &mut self,
+        globals: &mut Globals<A>,
+        alloc: A,
+        name: &[u8],
+        elements: &mut [(&[u8], Value<A>)],
+    ) -> Result<bool, NoMemory>
+        ensures { (outer : List spec.Frame) → Extends
+            (λ es. scopes_extended (spec.scopes (self.old ∷ outer) globals.old) name.now es)
+            (elements_in elements.old) (elements_in elements.new) result
+            (spec.scopes (self.old ∷ outer) globals.old)
+            (spec.scopes (self.new ∷ outer) globals.new) }
+    {
+        let Some(place) = place_near(&self.variables, self.hints.place(name), name) else {
+            return Ok(false);
+        };
+        match self.variables.get_index_mut(place) {
+            Some(local) => local.set_in_array(globals, alloc, name, elements),
+            None => unreachable!(),
         }
     }
 

@@ -1,6 +1,7 @@
 //! The global variables.
 ghost use Rattle.std.specs.Prelude.{◌≡◌, [], None, Ok, IfSome, IfNone, IfOk, OnOk, IfErr, OnErr, option_copied};
 ghost use Rattle.std.specs.Option.{option_map};
+ghost use Rattle.tclstate.specs.InTurn.{Extends, elements_in, frame_extended};
 ghost use Rattle.tclstate.specs.Pairs.{found, put};
 ghost use Rattle.tclstate.specs.Scopes.{frame_written, frame_without, frame_with_array, value_of};
 ghost use Rattle.tclstate.specs.ScopeError.{HasTrouble, HasTroubleOrRefusal};
@@ -150,6 +151,26 @@ impl<A: Allocator + Copy> Globals<A> {
                 None => unreachable!(),
             },
             None => self.set_new(alloc, name, index, value),
+        }
+    }
+
+    /// Writes elements of an array one after the other, where the name stands for one; tells
+    /// whether it does.
+    pub fn set_in_array(
+        &mut self,
+        alloc: A,
+        name: &[u8],
+        elements: &mut [(&[u8], Value<A>)],
+    ) -> Result<bool, NoMemory>
+        ensures { Extends (λ es. frame_extended name.now es self.old)
+            (elements_in elements.old) (elements_in elements.new) result self.old self.new }
+    {
+        let Some(place) = place_near(&self.variables, self.hints.place(name), name) else {
+            return Ok(false);
+        };
+        match self.variables.get_index_mut(place) {
+            Some(content) => content.set_in_array(alloc, elements),
+            None => unreachable!(),
         }
     }
 

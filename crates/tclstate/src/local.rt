@@ -1,5 +1,6 @@
 //! What a name stands for in a procedure that runs.
 ghost use Rattle.std.specs.Prelude.{◌≡◌, [], Some, None, Ok, IfSome, IfNone, IfOk, OnOk, IfErr, OnErr, option_copied};
+ghost use Rattle.tclstate.specs.InTurn.{Extends, elements_in, extended, frame_extended};
 ghost use Rattle.tclstate.specs.Scopes.{changed, reduced, frame_written, frame_without};
 ghost use Rattle.tclstate.specs.ScopeError.{HasTrouble, HasTroubleOrRefusal};
 ghost use Rattle.tclstate.specs.Stored.{local_of, reached, reached_value};
@@ -8,6 +9,7 @@ ghost use Rattle.tclstate.specs.Sum.{HasSum, NoSumInPlace};
 use crate::content::Content;
 use crate::error::ScopeError;
 use crate::globals::Globals;
+use memory::NoMemory;
 use std::alloc::Allocator;
 use tcltext::Value;
 
@@ -116,6 +118,26 @@ impl<A: Allocator + Copy> Local<A> {
         match self {
             Local::Own(content) => content.set(alloc, index, value),
             Local::Link => globals.set(alloc, name, index, value),
+        }
+    }
+
+    /// Writes elements one after the other, where this is an array or a link to one; tells whether
+    /// it is.
+    pub fn set_in_array(
+        &mut self,
+        globals: &mut Globals<A>,
+        alloc: A,
+        name: &[u8],
+        elements: &mut [(&[u8], Value<A>)],
+    ) -> Result<bool, NoMemory>
+        ensures { Extends (λ es. reached (λ v. extended es (Some v)) (frame_extended name.now es)
+            (local_of self.old) globals.old)
+            (elements_in elements.old) (elements_in elements.new) result
+            (local_of self.old, globals.old) (local_of self.new, globals.new) }
+    {
+        match self {
+            Local::Own(content) => content.set_in_array(alloc, elements),
+            Local::Link => globals.set_in_array(alloc, name, elements),
         }
     }
 }

@@ -1,6 +1,7 @@
 //! Scopes: the variables of a script and of the procedures that run.
 ghost use Rattle.std.specs.Prelude.{◌≡◌, [], None, Some, Ok, IfSome, IfNone, IfOk, OnOk, IfErr, OnErr, option_copied};
 ghost use Rattle.std.specs.Option.{option_map};
+ghost use Rattle.tclstate.specs.InTurn.{Extends, Leaves, elements_in, scopes_extended};
 ghost use Rattle.tclstate.specs.Scopes as spec;
 ghost use Rattle.tclstate.specs.ScopeError.{HasTrouble, HasTroubleOrRefusal};
 ghost use Rattle.tclstate.specs.Sum.{HasSum, NoSumInPlace};
@@ -13,6 +14,7 @@ use crate::local::Local;
 use memory::NoMemory;
 use std::alloc::Allocator;
 use std::marker::Model;
+use std::mem;
 use tcltext::Value;
 
 /// The variables of a script: those of the global frame, and those of each procedure that runs
@@ -269,6 +271,78 @@ impl<A: Allocator + Copy> Scopes<A> {
         match self.locals.last_mut() {
             Some(frame) => frame.set(&mut self.globals, alloc, name, index, value),
             None => self.globals.set(alloc, name, index, value),
+        }
+    }
+
+    /// Writes elements of an array one after the other, up to the first that can't be written, as
+    /// [`set`](Scopes::set) writes each; an array that is there is looked up once for all of them.
+    /// Empty texts are left in the place of those that were written.
+    ///
+    /// # Errors
+    /// `NotArray` where the name means a text: nothing has changed then, and no element could have
+    /// been written. `NoMemory`: so many of the first are written.
+    #[tactic(auto, using(crate::proofs::InTurn::at_once_ok, crate::proofs::InTurn::at_once_can))]
+    pub fn set_elements(
+        &mut self,
+        alloc: A,
+        name: &[u8],
+        elements: &mut [(&[u8], Value<A>)],
+    ) -> Result<(), ScopeError>
+        ensures ok { OnOk result
+            (spec.all_written self.old name.now (elements_in elements.old) ≡ Ok self.new) }
+        ensures trouble { IfErr result (λ e. HasTroubleOrRefusal e
+            (spec.all_written self.old name.now (elements_in elements.old))) }
+        ensures left { IfErr result (λ e.
+            Leaves e name.now (elements_in elements.old) self.old self.new) }
+    {
+        match self.set_in_array(alloc, name, elements) {
+            Ok(true) => Ok(()),
+            Ok(false) => self.set_each(alloc, name, elements),
+            Err(refusal) => Err(ScopeError::NoMemory(refusal)),
+        }
+    }
+
+    /// Writes elements of an array one after the other, where the name means one; tells whether it
+    /// does.
+    fn set_in_array(
+        &mut self,
+        alloc: A,
+        name: &[u8],
+        elements: &mut [(&[u8], Value<A>)],
+    ) -> Result<bool, NoMemory>
+        ensures { Extends (scopes_extended self.old name.now)
+            (elements_in elements.old) (elements_in elements.new) result self.old self.new }
+    {
+        match self.locals.last_mut() {
+            Some(frame) => frame.set_in_array(&mut self.globals, alloc, name, elements),
+            None => self.globals.set_in_array(alloc, name, elements),
+        }
+    }
+
+    /// Writes elements one after the other, each by a look-up of its own. That there is no array
+    /// yet is rare, so this is apart from writing into one.
+    #[cold]
+    #[inline(never)]
+    fn set_each(
+        &mut self,
+        alloc: A,
+        name: &[u8],
+        elements: &mut [(&[u8], Value<A>)],
+    ) -> Result<(), ScopeError>
+        ensures ok { OnOk result
+            (spec.all_written self.old name.now (elements_in elements.old) ≡ Ok self.new) }
+        ensures trouble { IfErr result (λ e. HasTroubleOrRefusal e
+            (spec.all_written self.old name.now (elements_in elements.old))) }
+        ensures left { IfErr result (λ e.
+            Leaves e name.now (elements_in elements.old) self.old self.new) }
+    {
+        let Some((first, rest)) = elements.split_first_mut() else {
+            return Ok(());
+        };
+        let value = mem::replace(&mut first.1, Value::empty());
+        match self.set(alloc, name, Some(first.0), value) {
+            Ok(()) => self.set_each(alloc, name, rest),
+            Err(error) => Err(error),
         }
     }
 

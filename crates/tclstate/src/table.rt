@@ -1,5 +1,6 @@
 //! The elements of arrays, in the order of insertion.
 ghost use Rattle.std.specs.Prelude.{◌≡◌, [], None, Some, IsSome, OnOk, IfOk, OnErr, IfErr};
+ghost use Rattle.tclstate.specs.InTurn.{Fills, elements_in};
 ghost use Rattle.tclstate.specs.Pairs.{found, keys_of, put, without};
 ghost use Rattle.tclstate.specs.Stored.{texts_of};
 
@@ -83,6 +84,25 @@ pub fn put_element<A: Allocator + Copy>(
         }
     }
     Ok(())
+}
+
+/// Writes elements one after the other, and leaves empty texts in their place.
+pub fn put_elements<A: Allocator + Copy>(
+    elements: &mut Table<Value<A>, A>,
+    alloc: A,
+    more: &mut [(&[u8], Value<A>)],
+) -> Result<(), NoMemory>
+    ensures { Fills (texts_of elements.old.entries) (elements_in more.old) result
+        (texts_of elements.new.entries) }
+{
+    let Some((first, rest)) = more.split_first_mut() else {
+        return Ok(());
+    };
+    let value = mem::replace(&mut first.1, Value::empty());
+    match put_element(elements, alloc, first.0, value) {
+        Ok(()) => put_elements(elements, alloc, rest),
+        Err(refusal) => Err(refusal),
+    }
 }
 
 /// The indexes of the elements, in order.

@@ -1,7 +1,7 @@
 use Rattle.std.proofs.Common.{Ok, subst, sym}
 use Rattle.choices.specs.Branches.{Branches}
-use Rattle.dialog.specs.Misreads.{flaw_of}
-use Rattle.dialog.specs.Reads.{IsRead, place}
+use Rattle.readings.specs.Misreads.{flaw_of}
+use Rattle.readings.specs.Reads.{IsRead, place}
 use Rattle.expects.proofs.Answering.{misread_reaches, words_reach}
 use Rattle.expects.proofs.Comings.{after_ok, comes_reading}
 use Rattle.expects.specs.View.{course_of_opening, form_of}
