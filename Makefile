@@ -13,13 +13,14 @@
 #               tells of them; and these and all rows by out/rx too, and looks whether both do the same
 # make rows     runs the rows, and writes how many there are to the stored output of rowtests
 # make rows-now runs them as they stand, without any proof, in a few minutes (FAMILIES="leaving logs")
+# make tests-now  runs programs of tests without any proof, and compares what they print (CRATES="parts_tests")
 # make edits    the edits of edits/ that the prover must refuse, for the crates that changed (SINCE=COMMIT)
 # make live     out/rx against programs and servers of the distribution
 # make compare  random scripts against tclsh8.6, dialogues against expect (SCRIPTS=N, DIALOGUES=N, SEED=S)
 # make bench    times of out/rx beside those of tclsh8.6 and jimsh, and dialogues beside expect, with
 #               instructions; what is printed is kept in bench/results by its date
 # make soak     long dialogues, live: whether something is lost and whether memory grows
-.PHONY: demo rx install built install-documents uninstall deb test house guide stories rows rows-now edits live \
+.PHONY: demo rx install built install-documents uninstall deb test house guide stories rows rows-now tests-now edits live \
 	compare bench soak clean
 
 FIRST := $(CURDIR)/examples/hello-cat
@@ -106,6 +107,9 @@ rows:
 
 rows-now:
 	tools/rows-now $(FAMILIES)
+
+tests-now:
+	tools/tests-now $(CRATES)
 
 edits:
 	tools/edits $(SINCE)
