@@ -11,3 +11,4 @@ pub mod Refused
 pub mod Rising
 pub mod RowsKept
 pub mod RowsMade
+pub mod Halves

@@ -234,6 +234,14 @@ beyond_at n (l ∷ ls) more zero x beyond below has =
 beyond_at n (l ∷ ls) more (suc k) x beyond below has =
     beyond_at n ls more k x beyond.1 (omega (arith, below)) has
 
+-- the same of the number at a place
+pub beyond_first : (n : ℕ) (ls : List Line) (more : List ℕ) (k : ℕ) (d : Line) →
+    AllBeyond n (numbers ls ++ more) → k < length ls → n < (get_or ls k d).id.0
+beyond_first n [] more k d beyond below = absurd (omega (arith, below))
+beyond_first n (l ∷ ls) more zero d beyond below = beyond.0
+beyond_first n (l ∷ ls) more (suc k) d beyond below =
+    beyond_first n ls more k d beyond.1 (omega (arith, below))
+
 -- where the numbers rise an id stands at one place alone
 place_here : (i : Id) (ls : List Line) (more : List ℕ) (k : ℕ) (x : Line) →
     Rise (numbers ls ++ more) → k < length ls → x ≡ get_or ls k x → x.id.0 ≡ i.0 →

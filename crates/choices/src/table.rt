@@ -80,10 +80,26 @@ impl<A: Allocator> Table<A> {
         ensures inside { IfSome result (λ place. place < length self.now.lines) }
     {
         let guess = self.guess(id);
-        if guess < self.entries.len() && self.entries[guess].id() == id {
+        if self.is_at(guess, id) {
             return Some(guess);
         }
-        self.entries.iter().position(|entry| entry.id() == id)
+        let guess = self.guess_from_last(id);
+        if self.is_at(guess, id) {
+            return Some(guess);
+        }
+        let number = id.0;
+        self.entries
+            .binary_search_by_key(&number, |entry| entry.id().0)
+            .ok()
+    }
+
+    /// Whether an id stands at a place.
+    fn is_at(&self, place: usize, id: Id) -> bool
+        ensures place { IsTrue result →
+            Some place ≡ position (λ l. l.id.0 == id.0) self.now.lines }
+        ensures inside { IsTrue result → place < length self.now.lines }
+    {
+        place < self.entries.len() && self.entries[place].id() == id
     }
 
     /// Where an id stands that is open, if none is closed that was opened between the first open
@@ -91,6 +107,17 @@ impl<A: Allocator> Table<A> {
     fn guess(&self, id: Id) -> usize {
         match self.entries.first() {
             Some(first) => id.0.saturating_sub(first.id().0) as usize,
+            None => 0,
+        }
+    }
+
+    /// The same, if none is closed that was opened after it.
+    fn guess_from_last(&self, id: Id) -> usize {
+        match self.entries.last() {
+            Some(last) => {
+                let after = last.id().0.saturating_sub(id.0) as usize;
+                self.entries.len().saturating_sub(after).saturating_sub(1)
+            }
             None => 0,
         }
     }
