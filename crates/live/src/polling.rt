@@ -26,8 +26,8 @@ const NONE: Token = Token(usize::MAX);
 enum Told {
     /// Not all: since it was asked something was read or written, or time has passed.
     NotAll,
-    /// The same, and then a silent link was read.
-    NotAllAgain,
+    /// Not all either, and a silent link was read since, to see whether something came.
+    Probed,
     /// All: it was asked, and nothing but silent links was looked at since.
     All,
 }
@@ -138,10 +138,10 @@ impl Polling {
         }
         match self.told {
             Told::NotAll => {
-                self.told = Told::NotAllAgain;
+                self.told = Told::Probed;
                 false
             }
-            Told::NotAllAgain => self.ask_of_all() && self.silent.has(id),
+            Told::Probed => self.ask_of_all() && self.silent.has(id),
             Told::All => true,
         }
     }

@@ -1,6 +1,6 @@
 //! Which links are silent.
 
-ghost use Rattle.std.specs.Prelude.{◌≡◌, ◌<◌, ◌⊎◌, true, IsTrue};
+ghost use Rattle.std.specs.Prelude.{◌≡◌, ◌<◌, ◌⊎◌, ◌↔◌, true, IsTrue};
 ghost use Rattle.acts.specs.declared.id.Id as ids;
 ghost use Rattle.live.specs.Silent.{IsSilent, place};
 
@@ -26,14 +26,15 @@ impl Silent {
 
     /// Whether the link of an id is known to be silent.
     pub fn has(&self, id: Id) -> bool
-        ensures { IsTrue result → IsSilent self.now.ids id }
+        ensures { IsTrue result ↔ IsSilent self.now.ids id }
     {
         self.ids[place_of(id)] == Some(id)
     }
 
     /// Notes that a read from the link of an id found nothing.
     pub fn note(&mut self, id: Id)
-        ensures { (other : ids.Id) → IsSilent self.new.ids other →
+        ensures noted { IsSilent self.new.ids id }
+        ensures others { (other : ids.Id) → IsSilent self.new.ids other →
             (other ≡ id) ⊎ IsSilent self.old.ids other }
     {
         self.ids[place_of(id)] = Some(id);
@@ -41,9 +42,8 @@ impl Silent {
 
     /// Notes that something new was told of the link of an id, or was read from it.
     pub fn wake(&mut self, id: Id)
-        ensures wakes { ¬ IsSilent self.new.ids id }
-        ensures others { (other : ids.Id) → IsSilent self.new.ids other →
-            IsSilent self.old.ids other }
+        ensures { (other : ids.Id) → IsSilent self.new.ids other ↔
+            ((¬ (other ≡ id)) × IsSilent self.old.ids other) }
     {
         let place = place_of(id);
         if self.ids[place] == Some(id) {
