@@ -16,7 +16,6 @@ use acts::NoMemory;
 use state::outcome::raised;
 use state::{Nesting, Outcome, State};
 use std::alloc::Allocator;
-use std::rc::Rc;
 use tcltext::Value;
 
 /// The words after `start` while that runs, and how many levels may still be nested in the loop.
@@ -121,7 +120,7 @@ fn begin_turns<A: Allocator + Copy>(
                 step,
                 levels,
             };
-            turn(Rc::new(alloc, turns)?)
+            turn(Box::new(alloc, turns)?)
         }
         Err(fault) => Ok(Nesting::Has(raised(alloc, &fault)?)),
     }

@@ -17,7 +17,6 @@ use code::{CodedFormula, CodedScript, Made};
 use state::turn::end_after_body;
 use state::{Leave, Nesting, Outcome, State, Stop};
 use std::alloc::Allocator;
-use std::rc::Rc;
 use tcltext::Value;
 
 /// A loop: its test, its body, the script that stands after each turn, if there is one, and how
@@ -54,12 +53,12 @@ pub enum At {
 /// A loop, and where it stands.
 #[derive(Drop)]
 pub struct Held<A: Allocator> {
-    pub turns: Rc<Loop<A>, A>,
+    pub turns: Box<Loop<A>, A>,
     pub at: At,
 }
 
 /// Begins a turn, with its test.
-pub(crate) fn turn<A: Allocator>(turns: Rc<Loop<A>, A>) -> Result<Nesting<A, Held<A>>, NoMemory>
+pub(crate) fn turn<A: Allocator>(turns: Box<Loop<A>, A>) -> Result<Nesting<A, Held<A>>, NoMemory>
     ensures goes { (s : Status) → IfOk result (λ nesting.
         GoesOn (again (loop_of turns.value) turns.value.levels s) (course_of next_of nesting s)) }
     ensures advances { (new old most : ℕ) → 0 < most → IfOk result (λ nesting.
@@ -75,7 +74,7 @@ pub(crate) fn turn<A: Allocator>(turns: Rc<Loop<A>, A>) -> Result<Nesting<A, Hel
 fn run_body<A: Allocator + Copy>(
     alloc: A,
     state: &mut State<A>,
-    turns: Rc<Loop<A>, A>,
+    turns: Box<Loop<A>, A>,
 ) -> Result<Nesting<A, Held<A>>, NoMemory>
     ensures comes { (s : Status) → FitsState state.old s → let levels = turns.value.levels in
         let loop = loop_of turns.value in IfOk result (λ nesting.
@@ -123,7 +122,7 @@ pub fn resumed<A: Allocator + Copy>(
 fn behind_test<A: Allocator + Copy>(
     alloc: A,
     state: &mut State<A>,
-    turns: Rc<Loop<A>, A>,
+    turns: Box<Loop<A>, A>,
     outcome: Outcome<A>,
 ) -> Result<Nesting<A, Held<A>>, NoMemory>
     ensures comes { (s : Status) → FitsState state.old s → let levels = turns.value.levels in
@@ -145,7 +144,7 @@ fn behind_test<A: Allocator + Copy>(
 fn behind_turn<A: Allocator + Copy>(
     alloc: A,
     state: &mut State<A>,
-    turns: Rc<Loop<A>, A>,
+    turns: Box<Loop<A>, A>,
     outcome: Outcome<A>,
 ) -> Result<Nesting<A, Held<A>>, NoMemory>
     ensures comes { (s : Status) → FitsState state.old s → IfOk result (λ nesting.
@@ -166,7 +165,7 @@ fn behind_turn<A: Allocator + Copy>(
 fn behind_step<A: Allocator + Copy>(
     alloc: A,
     state: &mut State<A>,
-    turns: Rc<Loop<A>, A>,
+    turns: Box<Loop<A>, A>,
     outcome: Outcome<A>,
 ) -> Result<Nesting<A, Held<A>>, NoMemory>
     ensures comes { (s : Status) → FitsState state.old s → IfOk result (λ nesting.
@@ -186,7 +185,7 @@ fn behind_step<A: Allocator + Copy>(
 fn step<A: Allocator + Copy>(
     alloc: A,
     state: &mut State<A>,
-    turns: Rc<Loop<A>, A>,
+    turns: Box<Loop<A>, A>,
 ) -> Result<Nesting<A, Held<A>>, NoMemory>
     ensures comes { (s : Status) → FitsState state.old s → let levels = turns.value.levels in
         let loop = loop_of turns.value in IfOk result (λ nesting.

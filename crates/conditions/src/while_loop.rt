@@ -13,7 +13,6 @@ use acts::NoMemory;
 use state::outcome::raised;
 use state::{Nesting, State};
 use std::alloc::Allocator;
-use std::rc::Rc;
 use tcltext::Value;
 
 /// Reads the test and the body, and begins the first turn.
@@ -43,7 +42,7 @@ pub fn begin<A: Allocator + Copy>(
                 step,
                 levels,
             };
-            turn(Rc::new(alloc, turns)?)
+            turn(Box::new(alloc, turns)?)
         }
         Err(fault) => Ok(Nesting::Has(raised(alloc, &fault)?)),
     }
