@@ -18,24 +18,34 @@ impl Answers for Frames {
         let [outer, inner] = row else {
             return Ok(());
         };
-        let alloc = *answer.allocator();
-        let mut scopes = Scopes::new(alloc);
-        set(alloc, &mut scopes, outer)?;
-        tell(answer, &scopes)?;
-        if let Err(refusal) = scopes.push_frame(alloc) {
-            // What answers here although memory was refused fails the row.
-            return if holds(&scopes, outer) {
-                Err(refusal)
-            } else {
-                Ok(())
-            };
-        }
-        tell(answer, &scopes)?;
-        set(alloc, &mut scopes, inner)?;
-        tell(answer, &scopes)?;
-        scopes.pop_frame();
-        tell(answer, &scopes)
+        let mut scopes = Scopes::new(*answer.allocator());
+        tell_frames(answer, &mut scopes, outer, inner)
     }
+}
+
+/// Writes what `x` holds in the frame below and in the one on top, one after the other.
+fn tell_frames<A: Allocator + Copy>(
+    answer: &mut Vec<u8, A>,
+    scopes: &mut Scopes<A>,
+    outer: &[u8],
+    inner: &[u8],
+) -> Result<(), NoMemory> {
+    let alloc = *answer.allocator();
+    set(alloc, scopes, outer)?;
+    tell(answer, scopes)?;
+    if let Err(refusal) = scopes.push_frame(alloc) {
+        // What answers here although memory was refused fails the row.
+        return if holds(scopes, outer) {
+            Err(refusal)
+        } else {
+            Ok(())
+        };
+    }
+    tell(answer, scopes)?;
+    set(alloc, scopes, inner)?;
+    tell(answer, scopes)?;
+    scopes.pop_frame();
+    tell(answer, scopes)
 }
 
 /// Sets the variable `x`.

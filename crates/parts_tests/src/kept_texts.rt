@@ -36,17 +36,40 @@ fn keep<A: Allocator + Copy>(
 ) -> Result<Vec<CodedScript<A>, A>, NoMemory> {
     let mut first = Vec::new(alloc);
     for n in 0..texts {
-        let text = format!(in alloc; "set x {n}")?;
-        let script = kept.get(text.as_bytes())?;
-        let before = kept.len();
-        let again = kept.get(text.as_bytes())?;
-        let is_same = Rc::ptr_eq(script.code(), again.code());
-        let wanted = n.saturating_add(1).min(most);
-        if is_same && before == wanted && kept.len() == wanted {
+        if let Some(script) = keep_next(alloc, kept, n, most)? {
             first.push(script)?;
         }
     }
     Ok(first)
+}
+
+/// Keeps the text after so many, and gives its script, where that is the same when it is asked for
+/// again, and no more than `most` are kept.
+fn keep_next<A: Allocator + Copy>(
+    alloc: A,
+    kept: &mut Kept<A>,
+    n: usize,
+    most: usize,
+) -> Result<Option<CodedScript<A>>, NoMemory> {
+    let text = format!(in alloc; "set x {n}")?;
+    let script = kept.get(text.as_bytes())?;
+    let wanted = n.saturating_add(1).min(most);
+    let is_kept = kept.len() == wanted;
+    if is_same(kept, text.as_bytes(), &script)? && is_kept && kept.len() == wanted {
+        Ok(Some(script))
+    } else {
+        Ok(None)
+    }
+}
+
+/// Whether a text has this script when it is asked for.
+fn is_same<A: Allocator + Copy>(
+    kept: &mut Kept<A>,
+    text: &[u8],
+    script: &CodedScript<A>,
+) -> Result<bool, NoMemory> {
+    let again = kept.get(text)?;
+    Ok(Rc::ptr_eq(script.code(), again.code()))
 }
 
 /// Writes of how many scripts there are, and of those, from the newest to the oldest so that no
@@ -62,8 +85,7 @@ fn tell_again<A: Allocator + Copy>(
     let mut gone = 0usize;
     for (n, script) in first.iter().enumerate().rev() {
         let text = format!(in *answer.allocator(); "set x {n}")?;
-        let again = kept.get(text.as_bytes())?;
-        if Rc::ptr_eq(script.code(), again.code()) {
+        if is_same(kept, text.as_bytes(), script)? {
             same = same.saturating_add(1);
         } else {
             gone = gone.max(n);

@@ -20,11 +20,21 @@ impl Answers for Places {
         let mut hints = Hints::new();
         let mut table = put_all(*answer.allocator(), keys, &mut hints)?;
         table.shift_remove(gone.as_slice());
-        let place = hints.place(key);
-        push_shown(answer, place)?;
-        tell(answer, found_near(&table, place, key).copied())?;
-        tell(answer, place_near(&table, place, key))
+        tell_place(answer, &hints, &table, key)
     }
+}
+
+/// Writes where a key is looked for, what is found there, and at which place it is.
+fn tell_place<A: Allocator + Copy>(
+    answer: &mut Vec<u8, A>,
+    hints: &Hints<16>,
+    table: &Table<usize, A>,
+    key: &[u8],
+) -> Result<(), NoMemory> {
+    let place = hints.place(key);
+    push_shown(answer, place)?;
+    tell(answer, found_near(table, place, key).copied())?;
+    tell(answer, place_near(table, place, key))
 }
 
 /// A table into which each of these bytes is put as a key, with how many keys it had before, and
@@ -36,12 +46,23 @@ fn put_all<A: Allocator + Copy>(
 ) -> Result<Table<usize, A>, NoMemory> {
     let mut table = new_table(alloc);
     for byte in keys {
-        let key = Vec::from_slice(alloc, &[*byte])?;
-        let place = table.len();
-        hints.note(&key, place);
-        table.insert(key, place)?;
+        put(alloc, &mut table, *byte, hints)?;
     }
     Ok(table)
+}
+
+/// Puts this byte in as a key.
+fn put<A: Allocator + Copy>(
+    alloc: A,
+    table: &mut Table<usize, A>,
+    byte: u8,
+    hints: &mut Hints<16>,
+) -> Result<(), NoMemory> {
+    let key = Vec::from_slice(alloc, &[byte])?;
+    let place = table.len();
+    hints.note(&key, place);
+    table.insert(key, place)?;
+    Ok(())
 }
 
 /// Writes a number, or that there is none.

@@ -75,19 +75,36 @@ fn open<A: Allocator + Copy>(answer: &mut Vec<u8, A>) -> Result<(), NoMemory> {
 
 /// Sets the size of `exp4`, first to one that there is not.
 fn set_size<A: Allocator + Copy>(answer: &mut Vec<u8, A>) -> Result<(), NoMemory> {
+    let mut table = three_ids(*answer.allocator())?;
+    set_sizes(answer, &mut table)
+}
+
+/// The same, in a table of three ids.
+fn set_sizes<A: Allocator + Copy>(
+    answer: &mut Vec<u8, A>,
+    table: &mut Table<A>,
+) -> Result<(), NoMemory> {
     let alloc = *answer.allocator();
-    let mut table = three_ids(alloc)?;
     if !table.is_open(Id(4)) || table.set_max(Id(4), 0) != Err(MatchBufError::Size) {
         return Ok(());
     }
-    if !is_as_made(alloc, &table)? || !table.is_open(Id(4)) {
+    if !is_as_made(alloc, table)? || !table.is_open(Id(4)) {
         return Ok(());
     }
     match table.set_max(Id(4), 3) {
-        Ok(()) => push_rows(answer, &table.rows(alloc, &[Id(4)])?),
-        Err(MatchBufError::NoMemory(refusal)) => refused(alloc, &table, refusal),
+        Ok(()) => push_row_of(answer, table),
+        Err(MatchBufError::NoMemory(refusal)) => refused(alloc, table, refusal),
         Err(MatchBufError::Size) => Ok(()),
     }
+}
+
+/// Writes the row of `exp4`.
+fn push_row_of<A: Allocator + Copy>(
+    answer: &mut Vec<u8, A>,
+    table: &Table<A>,
+) -> Result<(), NoMemory> {
+    let rows = table.rows(*answer.allocator(), &[Id(4)])?;
+    push_rows(answer, &rows)
 }
 
 /// Fills a vector with rows, of which a refusal leaves the first.
@@ -106,12 +123,23 @@ fn fill<A: Allocator + Copy>(answer: &mut Vec<u8, A>) -> Result<(), NoMemory> {
         Id(4),
     ];
     let all = table.rows(alloc, &ids)?;
+    fill_anew(answer, &table, &ids, &all)
+}
+
+/// Fills a vector that has a row with the rows of these ids, which are known.
+fn fill_anew<A: Allocator + Copy>(
+    answer: &mut Vec<u8, A>,
+    table: &Table<A>,
+    ids: &[Id],
+    all: &[Row],
+) -> Result<(), NoMemory> {
+    let alloc = *answer.allocator();
     let mut rows = Vec::new(alloc);
     rows.push(row(9, 9, 9, 9))?;
-    match table.fill(&mut rows, &ids) {
+    match table.fill(&mut rows, ids) {
         Ok(()) => push_rows(answer, &rows),
         Err(refusal) if rows.len() < all.len() && all.starts_with(&rows) => {
-            refused(alloc, &table, refusal)
+            refused(alloc, table, refusal)
         }
         Err(_) => Ok(()),
     }
@@ -145,13 +173,23 @@ fn branches<A: Allocator + Copy>(
 fn choose<A: Allocator + Copy>(answer: &mut Vec<u8, A>, pattern: &[u8]) -> Result<(), NoMemory> {
     let alloc = *answer.allocator();
     let mut table = three_ids(alloc)?;
-    let Some(branches) = branches(alloc, &table, pattern)? else {
-        return Ok(());
-    };
+    match branches(alloc, &table, pattern)? {
+        Some(branches) => select(answer, &mut table, &branches),
+        None => Ok(()),
+    }
+}
+
+/// Chooses among these branches, and writes the row of the id that is left.
+fn select<A: Allocator + Copy>(
+    answer: &mut Vec<u8, A>,
+    table: &mut Table<A>,
+    branches: &Branches<A>,
+) -> Result<(), NoMemory> {
+    let alloc = *answer.allocator();
     match table.select(alloc, branches.pairs(), Trigger::Entry) {
-        Ok(Some(_)) => push_rows(answer, &table.rows(alloc, &[Id(4)])?),
+        Ok(Some(_)) => push_row_of(answer, table),
         Ok(None) => Ok(()),
-        Err(refusal) => refused(alloc, &table, refusal),
+        Err(refusal) => refused(alloc, table, refusal),
     }
 }
 
@@ -159,9 +197,17 @@ fn choose<A: Allocator + Copy>(answer: &mut Vec<u8, A>, pattern: &[u8]) -> Resul
 fn read<A: Allocator + Copy>(answer: &mut Vec<u8, A>, pattern: &[u8]) -> Result<(), NoMemory> {
     let alloc = *answer.allocator();
     let table = three_ids(alloc)?;
-    let Some(branches) = branches(alloc, &table, pattern)? else {
-        return Ok(());
-    };
+    match branches(alloc, &table, pattern)? {
+        Some(branches) => tell_branches(answer, &branches),
+        None => Ok(()),
+    }
+}
+
+/// Writes which ids branches name and how many they are.
+fn tell_branches<A: Allocator + Copy>(
+    answer: &mut Vec<u8, A>,
+    branches: &Branches<A>,
+) -> Result<(), NoMemory> {
     for id in branches.named() {
         push_id(answer, Some(*id))?;
     }
@@ -179,17 +225,29 @@ fn stand<A: Allocator + Copy>(
     let table = three_ids(alloc)?;
     let first = branches(alloc, &table, first)?;
     let second = branches(alloc, &table, second)?;
-    let (Some(first), Some(second)) = (first, second) else {
-        return Ok(());
-    };
+    match (first, second) {
+        (Some(first), Some(second)) => put_both(answer, &first, &second),
+        _ => Ok(()),
+    }
+}
+
+/// Puts branches beside others, and writes how many pairs stand.
+fn put_both<A: Allocator + Copy>(
+    answer: &mut Vec<u8, A>,
+    first: &Branches<A>,
+    second: &Branches<A>,
+) -> Result<(), NoMemory> {
+    let alloc = *answer.allocator();
     let mut standing = Standing::new(alloc);
-    standing.put(alloc, Side::Before, &first)?;
-    let put = standing.put(alloc, Side::Before, &second);
-    let gathered = Effective::new(alloc, &standing, &second);
+    standing.put(alloc, Side::Before, first)?;
+    let put = standing.put(alloc, Side::Before, second);
+    let gathered = Effective::new(alloc, &standing, second).err();
     let (before, after) = (standing.pairs_before().len(), standing.pairs_after().len());
     if before == 1 && after == 0 {
         put?;
-        gathered?;
+        if let Some(refusal) = gathered {
+            return Err(refusal);
+        }
     }
     push_shown(answer, format_args!("{before} before, {after} after"))
 }
