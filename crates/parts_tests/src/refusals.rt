@@ -92,14 +92,14 @@ fn set_sizes<A: Allocator + Copy>(
         return Ok(());
     }
     match table.set_max(Id(4), 3) {
-        Ok(()) => push_row_of(answer, table),
+        Ok(()) => push_first_row(answer, table),
         Err(MatchBufError::NoMemory(refusal)) => refused(alloc, table, refusal),
         Err(MatchBufError::Size) => Ok(()),
     }
 }
 
-/// Writes the row of `exp4`.
-fn push_row_of<A: Allocator + Copy>(
+/// Writes the row of `exp4`, the first id.
+fn push_first_row<A: Allocator + Copy>(
     answer: &mut Vec<u8, A>,
     table: &Table<A>,
 ) -> Result<(), NoMemory> {
@@ -187,7 +187,7 @@ fn select<A: Allocator + Copy>(
 ) -> Result<(), NoMemory> {
     let alloc = *answer.allocator();
     match table.select(alloc, branches.pairs(), Trigger::Entry) {
-        Ok(Some(_)) => push_row_of(answer, table),
+        Ok(Some(_)) => push_first_row(answer, table),
         Ok(None) => Ok(()),
         Err(refusal) => refused(alloc, table, refusal),
     }
