@@ -17,7 +17,7 @@ pub(crate) fn wrong_args<A: Allocator + Copy>(
     ensures { IfOk result (λ outcome.
         outcome_of outcome ≡ Leaves Error (text_of (flaw.WrongArgs command.now))) }
 {
-    raised(alloc, &Fault::WrongArgs(Vec::from_slice(alloc, command)?))
+    raised(alloc, Fault::WrongArgs(Vec::from_slice(alloc, command)?))
 }
 
 /// The error of a word that a command does not take.
@@ -31,5 +31,5 @@ pub(crate) fn bad_argument<A: Allocator + Copy>(
 {
     let word = Vec::from_slice(alloc, word)?;
     let command = Vec::from_slice(alloc, command)?;
-    raised(alloc, &Fault::BadArgument { word, command })
+    raised(alloc, Fault::BadArgument { word, command })
 }

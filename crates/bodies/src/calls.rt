@@ -78,7 +78,7 @@ fn run<A: Allocator + Copy>(
 {
     state.scopes.enter(frame)?;
     let Some(inner) = levels.checked_sub(1) else {
-        let outcome = raised(alloc, &Fault::TooManyNested)?;
+        let outcome = raised(alloc, Fault::TooManyNested)?;
         return resumed(alloc, state, outcome);
     };
     Ok(Nesting::Runs(Made::Script(body), inner, Held))
@@ -92,8 +92,8 @@ fn ended<A: Allocator + Copy>(alloc: A, outcome: Outcome<A>) -> Result<Outcome<A
         Ok(value) => Ok(Ok(value)),
         Err(Leave::Coded(Code::Error, text)) => Ok(Err(Leave::Coded(Code::Error, text))),
         Err(Leave::Coded(Code::Return, value)) => Ok(Ok(value)),
-        Err(Leave::Coded(Code::Break, _)) => raised(alloc, &Fault::BreakOutside),
-        Err(Leave::Coded(Code::Continue, _)) => raised(alloc, &Fault::ContinueOutside),
+        Err(Leave::Coded(Code::Break, _)) => raised(alloc, Fault::BreakOutside),
+        Err(Leave::Coded(Code::Continue, _)) => raised(alloc, Fault::ContinueOutside),
         Err(Leave::Coded(Code::Again, value)) => Ok(Err(Leave::Coded(Code::Again, value))),
         Err(Leave::Coded(Code::AgainRunning, value)) => {
             Ok(Err(Leave::Coded(Code::AgainRunning, value)))

@@ -78,7 +78,7 @@ fn run_into<A: Allocator + Copy>(
     ensures left { state.new.left ≤ state.old.left }
 {
     let Ok(_) = variable_name(word.as_slice()) else {
-        return Ok(Nesting::Has(raised(alloc, &Fault::BadVariable)?));
+        return Ok(Nesting::Has(raised(alloc, Fault::BadVariable)?));
     };
     run(alloc, state, text, Some(word.share()?), levels)
 }
@@ -99,7 +99,7 @@ fn run<A: Allocator + Copy>(
     let held = Held { word };
     let script = state.kept.get(text)?;
     let Some(inner) = levels.checked_sub(1) else {
-        let outcome = raised(alloc, &Fault::TooManyNested)?;
+        let outcome = raised(alloc, Fault::TooManyNested)?;
         return resumed(alloc, state, held, outcome);
     };
     Ok(Nesting::Runs(Made::Script(script), inner, held))
@@ -124,11 +124,11 @@ fn store_in<A: Allocator + Copy>(
         return Ok(Nesting::Has(Ok(digits)));
     };
     let Ok(Name { name, index }) = variable_name(word.as_slice()) else {
-        return Ok(Nesting::Has(raised(alloc, &Fault::BadVariable)?));
+        return Ok(Nesting::Has(raised(alloc, Fault::BadVariable)?));
     };
     match store(alloc, state, name, index, value)? {
         Ok(()) => Ok(Nesting::Has(Ok(digits))),
-        Err(fault) => Ok(Nesting::Has(raised(alloc, &fault)?)),
+        Err(fault) => Ok(Nesting::Has(raised(alloc, fault)?)),
     }
 }
 

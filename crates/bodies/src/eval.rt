@@ -69,7 +69,7 @@ pub(crate) fn run<A: Allocator + Copy>(
 {
     let script = state.kept.get(text)?;
     let Some(inner) = levels.checked_sub(1) else {
-        return Ok(Nesting::Has(raised(alloc, &Fault::TooManyNested)?));
+        return Ok(Nesting::Has(raised(alloc, Fault::TooManyNested)?));
     };
     Ok(Nesting::Runs(Made::Script(script), inner, Held::Script))
 }

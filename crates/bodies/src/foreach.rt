@@ -103,7 +103,7 @@ fn read<A: Allocator + Copy>(
                 pairs.push(pair)?;
                 turns = turns.max(asked);
             }
-            Err(fault) => return Ok(Nesting::Has(raised(alloc, &fault)?)),
+            Err(fault) => return Ok(Nesting::Has(raised(alloc, fault)?)),
         }
         rest = more;
     }
@@ -137,7 +137,7 @@ fn turn<A: Allocator + Copy>(
     };
     held.turns = turns;
     if let Some(fault) = assign_all(alloc, state, &mut held.pairs)? {
-        return Ok(Nesting::Has(raised(alloc, &fault)?));
+        return Ok(Nesting::Has(raised(alloc, fault)?));
     }
     if state.left == 0 {
         return Ok(Nesting::Has(Err(Leave::Stopped(Stop::Limit))));
@@ -177,7 +177,7 @@ fn run_body<A: Allocator + Copy>(alloc: A, held: Held<A>) -> Result<Nesting<A, H
         ≡ course_of next_of nesting s) }
 {
     let Some(inner) = held.levels.checked_sub(1) else {
-        return Ok(Nesting::Has(raised(alloc, &Fault::TooManyNested)?));
+        return Ok(Nesting::Has(raised(alloc, Fault::TooManyNested)?));
     };
     let body = Made::Script(held.body.share()?);
     Ok(Nesting::Runs(body, inner, held))

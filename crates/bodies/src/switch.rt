@@ -111,7 +111,7 @@ fn on_words<A: Allocator + Copy>(
         [] | [_] => Ok(Nesting::Has(wrong_args(alloc, b"switch")?)),
         [text, list] => match elements_of(alloc, list.as_slice())? {
             Ok(arms) => on_arms(alloc, state, mode, text.as_slice(), &arms, levels),
-            Err(fault) => Ok(Nesting::Has(raised(alloc, &fault)?)),
+            Err(fault) => Ok(Nesting::Has(raised(alloc, fault)?)),
         },
         [text, arms @ ..] => on_arms(alloc, state, mode, text.as_slice(), arms, levels),
     }
@@ -137,7 +137,7 @@ fn on_arms<A: Allocator + Copy>(
     match chosen(alloc, mode, text, arms)? {
         Ok(Some(body)) => run(alloc, state, body.as_slice(), levels),
         Ok(None) => Ok(Nesting::Has(Ok(Value::empty()))),
-        Err(fault) => Ok(Nesting::Has(raised(alloc, &fault)?)),
+        Err(fault) => Ok(Nesting::Has(raised(alloc, fault)?)),
     }
 }
 

@@ -17,5 +17,5 @@ pub(crate) fn wrong_args<A: Allocator + Copy>(
     ensures { IfOk result (λ outcome.
         outcome_of outcome ≡ Leaves Error (text_of (flaw.WrongArgs command.now))) }
 {
-    raised(alloc, &Fault::WrongArgs(Vec::from_slice(alloc, command)?))
+    raised(alloc, Fault::WrongArgs(Vec::from_slice(alloc, command)?))
 }

@@ -164,7 +164,7 @@ fn run_test<A: Allocator + Copy>(
             let own = Box::new(alloc, own)?;
             Ok(Nesting::Runs(Made::Formula(formula), levels, Held::Test(own)))
         }
-        Err(fault) => Ok(Nesting::Has(raised(alloc, &fault)?)),
+        Err(fault) => Ok(Nesting::Has(raised(alloc, fault)?)),
     }
 }
 

@@ -27,6 +27,6 @@ pub(crate) fn deeper<A: Allocator + Copy, H: Drop>(
 {
     match levels.checked_sub(1) {
         Some(inner) => Ok(Nesting::Runs(Made::Script(script), inner, held)),
-        None => Ok(Nesting::Has(raised(alloc, &Fault::TooManyNested)?)),
+        None => Ok(Nesting::Has(raised(alloc, Fault::TooManyNested)?)),
     }
 }

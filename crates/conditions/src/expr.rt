@@ -43,7 +43,7 @@ pub fn begin<A: Allocator + Copy>(
     let text = concatenated(alloc, args)?;
     match read(&mut state.formulas, &text)? {
         Ok(formula) => Ok(Nesting::Runs(Made::Formula(formula), levels, Held::Formula)),
-        Err(fault) => Ok(Nesting::Has(raised(alloc, &fault)?)),
+        Err(fault) => Ok(Nesting::Has(raised(alloc, fault)?)),
     }
 }
 

@@ -122,7 +122,7 @@ fn begin_turns<A: Allocator + Copy>(
             };
             turn(Box::new(alloc, turns)?)
         }
-        Err(fault) => Ok(Nesting::Has(raised(alloc, &fault)?)),
+        Err(fault) => Ok(Nesting::Has(raised(alloc, fault)?)),
     }
 }
 

@@ -42,7 +42,7 @@ fn of_value<A: Allocator + Copy>(alloc: A, value: Value<A>) -> Result<Test<A>, N
     let operand = Operand::text(value);
     match truth(alloc, &operand) {
         Ok(holds) => Ok(Test::Holds(holds)),
-        Err(Raise::Fault(fault)) => Ok(Test::Ends(raised(alloc, &fault)?)),
+        Err(Raise::Fault(fault)) => Ok(Test::Ends(raised(alloc, fault)?)),
         Err(Raise::NoMemory(refusal)) => Err(refusal),
     }
 }

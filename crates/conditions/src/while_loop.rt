@@ -44,6 +44,6 @@ pub fn begin<A: Allocator + Copy>(
             };
             turn(Box::new(alloc, turns)?)
         }
-        Err(fault) => Ok(Nesting::Has(raised(alloc, &fault)?)),
+        Err(fault) => Ok(Nesting::Has(raised(alloc, fault)?)),
     }
 }

@@ -81,7 +81,7 @@ fn by_argument<A: Allocator + Copy>(
         Argument::Texts(words) => Ok(Begun::Opens(by_words(alloc, state, form, &words, levels)?)),
         Argument::Words(words) => Ok(Begun::Gathers(words, form)),
         Argument::Faulty(fault) => {
-            Ok(Begun::Opens(Opening::Has(raised(alloc, &no_script(fault))?)))
+            Ok(Begun::Opens(Opening::Has(raised(alloc, no_script(fault))?)))
         }
     }
 }

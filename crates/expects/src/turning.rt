@@ -128,7 +128,7 @@ fn run<A: Allocator + Copy>(
 {
     let script = state.kept.get(body.as_slice())?;
     let Some(inner) = turn.levels.checked_sub(1) else {
-        return Ok(Turned::Has(raised(alloc, &Fault::TooManyNested)?));
+        return Ok(Turned::Has(raised(alloc, Fault::TooManyNested)?));
     };
     Ok(Turned::Runs(script, inner, turn))
 }

@@ -23,7 +23,7 @@ pub fn settle<A: Allocator + Copy, W: Drop>(
         // Not `Ok(leaf)`, which would move an act where there is an outcome alone.
         Ok(Leaf::Has(outcome)) => Ok(Leaf::Has(outcome)),
         Ok(Leaf::Asks(act, waits)) => Ok(Leaf::Asks(act, waits)),
-        Err(Raise::Fault(fault)) => Ok(Leaf::Has(raised(alloc, &fault)?)),
+        Err(Raise::Fault(fault)) => Ok(Leaf::Has(raised(alloc, fault)?)),
         Err(Raise::NoMemory(refusal)) => Err(refusal),
     }
 }
@@ -36,7 +36,7 @@ pub fn failed<A: Allocator + Copy>(alloc: A, why: Raise<A>) -> Result<Outcome<A>
     ensures { IfOk result (λ outcome. IsFailure why outcome) }
 {
     match why {
-        Raise::Fault(fault) => raised(alloc, &fault),
+        Raise::Fault(fault) => raised(alloc, fault),
         Raise::NoMemory(refusal) => Err(refusal),
     }
 }

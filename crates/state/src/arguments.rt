@@ -21,7 +21,7 @@ pub fn wrong_args<A: Allocator + Copy, W: Drop>(
     ensures { IfOk result (λ leaf.
         HasOutcome leaf (Leaves Error (text_of (flaw.WrongArgs command.now)))) }
 {
-    raises(alloc, &Fault::WrongArgs(Vec::from_slice(alloc, command)?))
+    raises(alloc, Fault::WrongArgs(Vec::from_slice(alloc, command)?))
 }
 
 /// Whether a word begins with a dash.

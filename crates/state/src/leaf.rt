@@ -51,9 +51,9 @@ pub fn empty<A: Allocator, W: Drop>() -> Leaf<A, W>
 /// The command is over with an error.
 pub fn raises<A: Allocator + Copy, W: Drop>(
     alloc: A,
-    fault: &Fault<A>,
+    fault: Fault<A>,
 ) -> Result<Leaf<A, W>, NoMemory>
-    ensures { IfOk result (λ leaf. HasOutcome leaf (definition.raised fault.now)) }
+    ensures { IfOk result (λ leaf. HasOutcome leaf (definition.raised fault)) }
 {
     Ok(Leaf::Has(raised(alloc, fault)?))
 }

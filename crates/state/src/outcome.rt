@@ -52,9 +52,10 @@ pub enum Leave<A: Allocator> {
 /// How a part ends: with a value or otherwise.
 pub type Outcome<A> = Result<Value<A>, Leave<A>>;
 
-/// A script's error, as the end of a part.
-pub fn raised<A: Allocator + Copy>(alloc: A, fault: &Fault<A>) -> Result<Outcome<A>, NoMemory>
-    ensures { IfOk result (λ outcome. outcome_of outcome ≡ definition.raised fault.now) }
+/// A script's error, as the end of a part. It is let go here, and not wherever one is raised: what
+/// lets an error go is an end of each of its variants.
+pub fn raised<A: Allocator + Copy>(alloc: A, fault: Fault<A>) -> Result<Outcome<A>, NoMemory>
+    ensures { IfOk result (λ outcome. outcome_of outcome ≡ definition.raised fault) }
 {
     let text = Value::new(alloc, fault.text(alloc)?)?;
     Ok(Err(Leave::Coded(Code::Error, text)))

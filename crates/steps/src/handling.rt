@@ -202,7 +202,7 @@ pub(crate) fn failed<A: Allocator + Copy>(
         ≡ fails (flaw_of fault) (spot_of spot.old) s) }
     ensures place { spot.old.place ≤ spot.new.place }
 {
-    let outcome = raised(alloc, &fault)?;
+    let outcome = raised(alloc, fault)?;
     Ok(resume(spot, outcome)?)
 }
 
