@@ -1,9 +1,10 @@
 //! `match_max ?-d? ?-i id? ?size?` (expect(1), match_max).
 
-ghost use Rattle.std.specs.Prelude.{◌≡◌, ◌≤◌, IfOk, decimal, option_map};
+ghost use Rattle.std.specs.Prelude.{◌≡◌, ◌≤◌, None, Some, IfOk, decimal, option_map};
 ghost use Rattle.state.specs.Prelude.{Answers, Status, FitsState};
 ghost use Rattle.kinds.specs.Answers.{Sets};
 ghost use Rattle.processes.specs.MatchMax as definition;
+ghost use Rattle.processes.specs.RequestsView.{whose_of};
 
 use crate::ids::{resize, resize_later};
 use crate::requests::{Request, Whose, read_request};
@@ -30,27 +31,55 @@ pub fn begin<A: Allocator + Copy>(
     ensures left { state.new.left ≤ state.old.left }
 {
     let Request { whose, value } = read_request(alloc, args, b"match_max")?;
-    match (whose, value) {
-        (Whose::Later, None) => Ok(size_text(alloc, state.ids.size.bytes)?),
-        (Whose::Later, Some(word)) => {
+    match value {
+        None => Ok(show(alloc, state, whose)?),
+        Some(word) => Ok(set(alloc, state, whose, word)?),
+    }
+}
+
+/// The size of a match buffer, or that of later ones.
+fn show<A: Allocator + Copy>(
+    alloc: A,
+    state: &State<A>,
+    whose: Whose<'_>,
+) -> Result<Value<A>, Raise<A>>
+    ensures { (s : Status) → FitsState state.now s →
+        Sets (definition.asked (whose_of whose.entry) None s) s result state.now }
+{
+    let Whose::Of(name) = whose else {
+        return Ok(size_text(alloc, state.ids.size.bytes)?);
+    };
+    let id = chosen_id(alloc, state, name)?;
+    match state.ids.table.max(id) {
+        Some(bytes) => Ok(size_text(alloc, bytes)?),
+        None => Ok(Value::empty()),
+    }
+}
+
+/// Sets the size of a match buffer, or that of later ones, to what a word says.
+fn set<A: Allocator + Copy>(
+    alloc: A,
+    state: &mut State<A>,
+    whose: Whose<'_>,
+    word: &[u8],
+) -> Result<Value<A>, Raise<A>>
+    ensures shows { (s : Status) → FitsState state.old s →
+        Sets (definition.asked (whose_of whose.entry) (Some word.now) s) s result state.new }
+    ensures left { state.new.left ≤ state.old.left }
+{
+    match whose {
+        Whose::Later => {
             let size = size_said(alloc, word)?;
             resize_later(state, size);
             Ok(Value::empty())
         }
-        (Whose::Of(name), None) => {
-            let id = chosen_id(alloc, state, name)?;
-            match state.ids.table.max(id) {
-                Some(bytes) => Ok(size_text(alloc, bytes)?),
-                None => Ok(Value::empty()),
-            }
-        }
-        (Whose::Of(Some(name)), Some(word)) => {
+        Whose::Of(Some(name)) => {
             let id = named_id(alloc, state, name)?;
             let size = size_said(alloc, word)?;
             resize(state, id, size)?;
             Ok(Value::empty())
         }
-        (Whose::Of(None), Some(word)) => {
+        Whose::Of(None) => {
             let size = size_said(alloc, word)?;
             let id = current_id(alloc, state)?;
             resize(state, id, size)?;

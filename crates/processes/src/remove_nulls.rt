@@ -1,9 +1,10 @@
 //! `remove_nulls ?-d? ?-i id? ?0|1?` (expect(1), remove_nulls).
 
-ghost use Rattle.std.specs.Prelude.{◌≡◌, ◌≤◌, IfOk};
+ghost use Rattle.std.specs.Prelude.{◌≡◌, ◌≤◌, None, Some, IfOk};
 ghost use Rattle.state.specs.Prelude.{Answers, Status, FitsState};
 ghost use Rattle.kinds.specs.Answers.{Sets};
 ghost use Rattle.processes.specs.RemoveNulls as definition;
+ghost use Rattle.processes.specs.RequestsView.{whose_of};
 
 use crate::ids::{reset, reset_later};
 use crate::requests::{Request, Whose, read_request};
@@ -30,27 +31,55 @@ pub fn begin<A: Allocator + Copy>(
     ensures left { state.new.left ≤ state.old.left }
 {
     let Request { whose, value } = read_request(alloc, args, b"remove_nulls")?;
-    match (whose, value) {
-        (Whose::Later, None) => Ok(drops_text(alloc, state.ids.drops_nulls)?),
-        (Whose::Later, Some(word)) => {
+    match value {
+        None => Ok(show(alloc, state, whose)?),
+        Some(word) => Ok(set(alloc, state, whose, word)?),
+    }
+}
+
+/// Whether nulls are removed from what arrives at an id, or at later ones.
+fn show<A: Allocator + Copy>(
+    alloc: A,
+    state: &State<A>,
+    whose: Whose<'_>,
+) -> Result<Value<A>, Raise<A>>
+    ensures { (s : Status) → FitsState state.now s →
+        Sets (definition.asked (whose_of whose.entry) None s) s result state.now }
+{
+    let Whose::Of(name) = whose else {
+        return Ok(drops_text(alloc, state.ids.drops_nulls)?);
+    };
+    let id = chosen_id(alloc, state, name)?;
+    match state.ids.table.drops_nulls(id) {
+        Some(drops) => Ok(drops_text(alloc, drops)?),
+        None => Ok(Value::empty()),
+    }
+}
+
+/// Sets whether nulls are removed, as a word says.
+fn set<A: Allocator + Copy>(
+    alloc: A,
+    state: &mut State<A>,
+    whose: Whose<'_>,
+    word: &[u8],
+) -> Result<Value<A>, Raise<A>>
+    ensures shows { (s : Status) → FitsState state.old s →
+        Sets (definition.asked (whose_of whose.entry) (Some word.now) s) s result state.new }
+    ensures left { state.new.left ≤ state.old.left }
+{
+    match whose {
+        Whose::Later => {
             let drops = drops_said(alloc, word)?;
             reset_later(state, drops);
             Ok(Value::empty())
         }
-        (Whose::Of(name), None) => {
-            let id = chosen_id(alloc, state, name)?;
-            match state.ids.table.drops_nulls(id) {
-                Some(drops) => Ok(drops_text(alloc, drops)?),
-                None => Ok(Value::empty()),
-            }
-        }
-        (Whose::Of(Some(name)), Some(word)) => {
+        Whose::Of(Some(name)) => {
             let id = named_id(alloc, state, name)?;
             let drops = drops_said(alloc, word)?;
             reset(state, id, drops);
             Ok(Value::empty())
         }
-        (Whose::Of(None), Some(word)) => {
+        Whose::Of(None) => {
             let drops = drops_said(alloc, word)?;
             let id = current_id(alloc, state)?;
             reset(state, id, drops);
