@@ -33,9 +33,8 @@ impl Silent {
 
     /// Notes that a read from the link of an id found nothing.
     pub fn note(&mut self, id: Id)
-        ensures noted { IsSilent self.new.ids id }
-        ensures others { (other : ids.Id) → IsSilent self.new.ids other →
-            (other ≡ id) ⊎ IsSilent self.old.ids other }
+        ensures { (other : ids.Id) → IsSilent self.new.ids other ↔
+            ((other ≡ id) ⊎ ((¬ (place other ≡ place id)) × IsSilent self.old.ids other)) }
     {
         self.ids[place_of(id)] = Some(id);
     }
