@@ -2,11 +2,12 @@
 use Rattle.std.proofs.Common.{◌≡◌, ℕ, List, [], ◌∷◌, length, Option, Some, None, Result, Ok, Err, IfOk, refl}
 use Rattle.std.specs.Prelude.{codes, decimal}
 use Rattle.acts.specs.Flaw as flaw
-use Rattle.state.specs.Prelude.{text_of, gives, raises, within, Nests, Leaves, Error, Status, FitsState, outcome_of}
+use Rattle.state.specs.Prelude.{text_of, gives, raises, within, Leaves, Error, Status, FitsState, outcome_of}
+use Rattle.nesting.specs.Nesting.{Nests}
 use Rattle.bodies.specs.declared.catch.Held.{Held}
 use Rattle.bodies.specs.Catch.{catch, caught, next_of, runs_into, stores_in}
-use Rattle.state.proofs.Nestings.{over}
-use Rattle.state.specs.declared.nesting.Nesting.TheVariants as nesting
+use Rattle.nesting.proofs.Nestings.{over}
+use Rattle.nesting.specs.declared.Nesting.TheVariants as nesting
 use Rattle.state.specs.declared.outcome.Leave.{Leave}
 use Rattle.state.specs.declared.state.State.{State}
 use Rattle.state.specs.Variables.{writes}

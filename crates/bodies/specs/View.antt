@@ -1,9 +1,10 @@
 -- How far a call of a procedure, or a command that runs a script, has come.
 use Rattle.std.specs.Prelude.{◌≡◌, ℕ, ◌<◌, List, Option, Some, None}
-use Rattle.state.specs.Prelude.{Course, Nests, Outcome, Status, FitsState}
+use Rattle.state.specs.Prelude.{Course, Outcome, Status, FitsState}
+use Rattle.nesting.specs.Nesting.{Nests}
 use Rattle.bodies.specs.Calls.{call}
-use Rattle.state.specs.declared.nesting.Nesting.{Nesting}
-use Rattle.state.specs.declared.nesting.Nesting.TheVariants as nesting
+use Rattle.nesting.specs.declared.Nesting.{Nesting}
+use Rattle.nesting.specs.declared.Nesting.TheVariants as nesting
 use Rattle.state.specs.declared.state.State.{State}
 use Rattle.tclstate.specs.Pairs.{found}
 use Rattle.tclstate.specs.Procs.{Procedure}

@@ -1,7 +1,8 @@
 //! Calls of procedures (proc(n)).
 
 ghost use Rattle.std.specs.Prelude.{◌≡◌, ◌≤◌, [], None, Some, IfOk, option_map, if◌then◌else◌};
-ghost use Rattle.state.specs.Prelude.{inside, Nests, Status, FitsState, outcome_of};
+ghost use Rattle.state.specs.Prelude.{inside, Status, FitsState, outcome_of};
+ghost use Rattle.nesting.specs.Nesting.{Nests};
 ghost use Rattle.bodies.specs.Calls as definition;
 ghost use Rattle.bodies.specs.View.{IsCalled, TicksFirst};
 ghost use Rattle.tclstate.specs.Pairs.{found};
@@ -10,8 +11,10 @@ ghost use Rattle.tclstate.specs.Scopes.{entered};
 use crate::arguments::wrong_args;
 use acts::{Fault, NoMemory};
 use code::{CodedScript, Made};
+use kept::Kept;
+use nesting::Nesting;
 use state::outcome::raised;
-use state::{Code, Leave, Nesting, Outcome, State};
+use state::{Code, Leave, Outcome, State};
 use std::alloc::Allocator;
 use tclstate::{Formal, Formals, LocalFrame};
 use tcltext::{Value, join_values};
@@ -24,6 +27,7 @@ pub struct Held;
 /// the name.
 pub fn begin<A: Allocator + Copy>(
     alloc: A,
+    kept: &mut Kept<A>,
     state: &mut State<A>,
     name: &[u8],
     words: &[Value<A>],
@@ -41,7 +45,7 @@ pub fn begin<A: Allocator + Copy>(
     if !bound {
         return Ok(Some(Nesting::Has(wrong_args(alloc, name)?)));
     }
-    let body = state.kept.get(procedure.body.as_slice())?;
+    let body = kept.get(procedure.body.as_slice())?;
     Ok(Some(run(alloc, state, frame, body, levels)?))
 }
 

@@ -1,7 +1,8 @@
 //! `catch s ?n?` (catch(n)).
 
 ghost use Rattle.std.specs.Prelude.{◌≡◌, ◌≤◌, IfOk};
-ghost use Rattle.state.specs.Prelude.{within, Nests, Status, FitsState, outcome_of};
+ghost use Rattle.state.specs.Prelude.{within, Status, FitsState, outcome_of};
+ghost use Rattle.nesting.specs.Nesting.{Nests};
 ghost use Rattle.bodies.specs.Catch as definition;
 ghost use Rattle.bodies.specs.View.{TicksFirst};
 ghost use Rattle.state.specs.View.{code_of};
@@ -9,9 +10,11 @@ ghost use Rattle.state.specs.View.{code_of};
 use crate::arguments::wrong_args;
 use acts::{Fault, NoMemory};
 use code::Made;
+use kept::Kept;
+use nesting::Nesting;
 use state::outcome::raised;
 use state::variables::store;
-use state::{Code, Leave, Nesting, Outcome, State};
+use state::{Code, Leave, Outcome, State};
 use std::alloc::Allocator;
 use tclparse::{Name, variable_name};
 use tcltext::{Value, print_nat};
@@ -26,6 +29,7 @@ pub struct Held<A: Allocator> {
 #[tactic(auto, using(crate::proofs::Catching::catch_other_nests))]
 pub fn begin<A: Allocator + Copy>(
     alloc: A,
+    kept: &mut Kept<A>,
     state: &mut State<A>,
     args: &[Value<A>],
     levels: u8,
@@ -35,8 +39,8 @@ pub fn begin<A: Allocator + Copy>(
     ensures left { state.new.left ≤ state.old.left }
 {
     match args {
-        [text] => run(alloc, state, text.as_slice(), None, levels),
-        [text, word] => run_into(alloc, state, text.as_slice(), word, levels),
+        [text] => run(alloc, kept, state, text.as_slice(), None, levels),
+        [text, word] => run_into(alloc, kept, state, text.as_slice(), word, levels),
         _ => Ok(Nesting::Has(wrong_args(alloc, b"catch")?)),
     }
 }
@@ -67,6 +71,7 @@ pub fn resumed<A: Allocator + Copy>(
 /// Runs the script whose outcome a variable takes.
 fn run_into<A: Allocator + Copy>(
     alloc: A,
+    kept: &mut Kept<A>,
     state: &mut State<A>,
     text: &[u8],
     word: &Value<A>,
@@ -80,12 +85,13 @@ fn run_into<A: Allocator + Copy>(
     let Ok(_) = variable_name(word.as_slice()) else {
         return Ok(Nesting::Has(raised(alloc, Fault::BadVariable)?));
     };
-    run(alloc, state, text, Some(word.share()?), levels)
+    run(alloc, kept, state, text, Some(word.share()?), levels)
 }
 
 /// Runs the script, one level deeper.
 fn run<A: Allocator + Copy>(
     alloc: A,
+    kept: &mut Kept<A>,
     state: &mut State<A>,
     text: &[u8],
     word: Option<Value<A>>,
@@ -97,7 +103,7 @@ fn run<A: Allocator + Copy>(
     ensures left { state.new.left ≤ state.old.left }
 {
     let held = Held { word };
-    let script = state.kept.get(text)?;
+    let script = kept.get(text)?;
     let Some(inner) = levels.checked_sub(1) else {
         let outcome = raised(alloc, Fault::TooManyNested)?;
         return resumed(alloc, state, held, outcome);

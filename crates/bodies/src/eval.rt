@@ -1,16 +1,19 @@
 //! `eval w ..` (eval(n)).
 
 ghost use Rattle.std.specs.Prelude.{◌≡◌, ◌≤◌, IfOk};
-ghost use Rattle.state.specs.Prelude.{within, Nests, Status, FitsState, outcome_of};
+ghost use Rattle.state.specs.Prelude.{within, Status, FitsState, outcome_of};
+ghost use Rattle.nesting.specs.Nesting.{Nests};
 ghost use Rattle.bodies.specs.Eval as definition;
 ghost use Rattle.bodies.specs.View.{TicksFirst};
 
 use crate::arguments::wrong_args;
 use acts::{Fault, NoMemory};
 use code::Made;
+use kept::Kept;
+use nesting::Nesting;
 use pure::concatenated;
 use state::outcome::raised;
-use state::{Nesting, Outcome, State};
+use state::{Outcome, State};
 use std::alloc::Allocator;
 use tcltext::Value;
 
@@ -23,6 +26,7 @@ pub enum Held {
 /// Runs the words as a script, joined as `concat` joins them.
 pub fn begin<A: Allocator + Copy>(
     alloc: A,
+    kept: &mut Kept<A>,
     state: &mut State<A>,
     args: &[Value<A>],
     levels: u8,
@@ -35,7 +39,7 @@ pub fn begin<A: Allocator + Copy>(
         return Ok(Nesting::Has(wrong_args(alloc, b"eval")?));
     }
     let text = concatenated(alloc, args)?;
-    run(alloc, state, &text, levels)
+    run(alloc, kept, state, &text, levels)
 }
 
 /// Hands the outcome of the script on, whatever it is.
@@ -58,6 +62,7 @@ pub fn resumed<A: Allocator>(
 /// Runs a script, one level deeper.
 pub(crate) fn run<A: Allocator + Copy>(
     alloc: A,
+    kept: &mut Kept<A>,
     state: &mut State<A>,
     text: &[u8],
     levels: u8,
@@ -67,7 +72,7 @@ pub(crate) fn run<A: Allocator + Copy>(
         (within levels text.now s definition.passed)) }
     ensures left { state.new.left ≡ state.old.left }
 {
-    let script = state.kept.get(text)?;
+    let script = kept.get(text)?;
     let Some(inner) = levels.checked_sub(1) else {
         return Ok(Nesting::Has(raised(alloc, Fault::TooManyNested)?));
     };

@@ -1,21 +1,23 @@
 //! `foreach vars list ?vars list ..? body` (foreach(n)).
 
 ghost use Rattle.std.specs.Prelude.{◌≡◌, ◌≤◌, [], map, IfOk, IfNone};
-ghost use Rattle.state.specs.Prelude.{inside, Nests, Status, FitsState, outcome_of};
+ghost use Rattle.state.specs.Prelude.{inside, Status, FitsState, outcome_of};
 ghost use Rattle.bodies.specs.Foreach as definition;
 ghost use Rattle.bodies.specs.Foreach.{assigns, behind, row};
 ghost use Rattle.bodies.specs.Looping.{Assigned, next_of, pair_of, turns_left};
 ghost use Rattle.state.specs.Turn.{on_turn};
 ghost use Rattle.bodies.specs.View.{TicksFirst};
-ghost use Rattle.state.specs.Nesting.{course_of};
+ghost use Rattle.nesting.specs.Nesting.{Nests, course_of};
 
 use crate::arguments::wrong_args;
 use crate::pair::Pair;
 use acts::{Fault, NoMemory};
 use code::{CodedScript, Made};
+use kept::Kept;
+use nesting::Nesting;
 use state::outcome::raised;
 use state::turn::end_after_body;
-use state::{Leave, Nesting, Outcome, State, Stop};
+use state::{Leave, Outcome, State, Stop};
 use std::alloc::Allocator;
 use tcltext::Value;
 
@@ -42,6 +44,7 @@ impl<A: Allocator> Drop for Held<A> {
 /// Reads the words, and begins the first turn.
 pub fn begin<A: Allocator + Copy>(
     alloc: A,
+    kept: &mut Kept<A>,
     state: &mut State<A>,
     args: &[Value<A>],
     levels: u8,
@@ -53,7 +56,7 @@ pub fn begin<A: Allocator + Copy>(
     if !is_taken(args.len()) {
         return Ok(Nesting::Has(wrong_args(alloc, b"foreach")?));
     }
-    read(alloc, state, args, levels)
+    read(alloc, kept, state, args, levels)
 }
 
 /// Hands the outcome of the body to the loop.
@@ -85,6 +88,7 @@ fn is_taken(count: usize) -> bool
 /// Reads the words from left to right, and begins the first turn.
 fn read<A: Allocator + Copy>(
     alloc: A,
+    kept: &mut Kept<A>,
     state: &mut State<A>,
     args: &[Value<A>],
     levels: u8,
@@ -110,7 +114,7 @@ fn read<A: Allocator + Copy>(
     let [body] = rest else {
         return Ok(Nesting::Has(wrong_args(alloc, b"foreach")?));
     };
-    let body = state.kept.get(body.as_slice())?;
+    let body = kept.get(body.as_slice())?;
     let held = Held {
         pairs,
         turns,

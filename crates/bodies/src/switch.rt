@@ -1,7 +1,8 @@
 //! `switch ?-exact|-glob? ?--? t {p b ..}`, or `switch .. t p b ..` (switch(n)).
 
 ghost use Rattle.std.specs.Prelude.{◌≡◌, ◌≤◌, IfOk, option_copied};
-ghost use Rattle.state.specs.Prelude.{Nests, Status, FitsState};
+ghost use Rattle.state.specs.Prelude.{Status, FitsState};
+ghost use Rattle.nesting.specs.Nesting.{Nests};
 ghost use Rattle.bodies.specs.Eval.{next_of};
 ghost use Rattle.bodies.specs.Looping.{Comes};
 ghost use Rattle.bodies.specs.Switch as definition;
@@ -11,10 +12,12 @@ use crate::arguments::{bad_argument, wrong_args};
 use crate::eval::{Held, run};
 use crate::listed::elements_of;
 use acts::{Fault, NoMemory};
+use kept::Kept;
+use nesting::Nesting;
 use patterns::{Pattern, PatternError};
+use state::State;
 use state::arguments::begins_with_dash;
 use state::outcome::raised;
-use state::{Nesting, State};
 use std::alloc::Allocator;
 use tcltext::Value;
 
@@ -30,6 +33,7 @@ pub enum Mode {
 /// Runs the body of the first pattern that matches the text; two words have no flags.
 pub fn begin<A: Allocator + Copy>(
     alloc: A,
+    kept: &mut Kept<A>,
     state: &mut State<A>,
     args: &[Value<A>],
     levels: u8,
@@ -39,15 +43,16 @@ pub fn begin<A: Allocator + Copy>(
     ensures left { state.new.left ≤ state.old.left }
 {
     if args.len() <= 2 {
-        on_words(alloc, state, Mode::Exact, args, levels)
+        on_words(alloc, kept, state, Mode::Exact, args, levels)
     } else {
-        on_flags(alloc, state, args, levels)
+        on_flags(alloc, kept, state, args, levels)
     }
 }
 
 /// Continues after the flag that says the mode, if there is one.
 fn on_flags<A: Allocator + Copy>(
     alloc: A,
+    kept: &mut Kept<A>,
     state: &mut State<A>,
     words: &[Value<A>],
     levels: u8,
@@ -61,17 +66,18 @@ fn on_flags<A: Allocator + Copy>(
     };
     let word = word.as_slice();
     if word == b"-exact".as_slice() {
-        behind_flag(alloc, state, Mode::Exact, rest, levels)
+        behind_flag(alloc, kept, state, Mode::Exact, rest, levels)
     } else if word == b"-glob".as_slice() {
-        behind_flag(alloc, state, Mode::Glob, rest, levels)
+        behind_flag(alloc, kept, state, Mode::Glob, rest, levels)
     } else {
-        behind_flag(alloc, state, Mode::Exact, words, levels)
+        behind_flag(alloc, kept, state, Mode::Exact, words, levels)
     }
 }
 
 /// Continues after `--`, if it stands first; any other first word with a dash is wrong.
 fn behind_flag<A: Allocator + Copy>(
     alloc: A,
+    kept: &mut Kept<A>,
     state: &mut State<A>,
     mode: Mode,
     words: &[Value<A>],
@@ -87,17 +93,18 @@ fn behind_flag<A: Allocator + Copy>(
     };
     let word = word.as_slice();
     if word == b"--".as_slice() {
-        on_words(alloc, state, mode, rest, levels)
+        on_words(alloc, kept, state, mode, rest, levels)
     } else if begins_with_dash(word) {
         Ok(Nesting::Has(bad_argument(alloc, word, b"switch")?))
     } else {
-        on_words(alloc, state, mode, words, levels)
+        on_words(alloc, kept, state, mode, words, levels)
     }
 }
 
 /// Takes the text, and the patterns with their bodies: as one list, or as words.
 fn on_words<A: Allocator + Copy>(
     alloc: A,
+    kept: &mut Kept<A>,
     state: &mut State<A>,
     mode: Mode,
     words: &[Value<A>],
@@ -110,16 +117,17 @@ fn on_words<A: Allocator + Copy>(
     match words {
         [] | [_] => Ok(Nesting::Has(wrong_args(alloc, b"switch")?)),
         [text, list] => match elements_of(alloc, list.as_slice())? {
-            Ok(arms) => on_arms(alloc, state, mode, text.as_slice(), &arms, levels),
+            Ok(arms) => on_arms(alloc, kept, state, mode, text.as_slice(), &arms, levels),
             Err(fault) => Ok(Nesting::Has(raised(alloc, fault)?)),
         },
-        [text, arms @ ..] => on_arms(alloc, state, mode, text.as_slice(), arms, levels),
+        [text, arms @ ..] => on_arms(alloc, kept, state, mode, text.as_slice(), arms, levels),
     }
 }
 
 /// Tries the patterns, unless one lacks its body.
 fn on_arms<A: Allocator + Copy>(
     alloc: A,
+    kept: &mut Kept<A>,
     state: &mut State<A>,
     mode: Mode,
     text: &[u8],
@@ -135,7 +143,7 @@ fn on_arms<A: Allocator + Copy>(
         return Ok(Nesting::Has(bad_argument(alloc, word.as_slice(), b"switch")?));
     }
     match chosen(alloc, mode, text, arms)? {
-        Ok(Some(body)) => run(alloc, state, body.as_slice(), levels),
+        Ok(Some(body)) => run(alloc, kept, state, body.as_slice(), levels),
         Ok(None) => Ok(Nesting::Has(Ok(Value::empty()))),
         Err(fault) => Ok(Nesting::Has(raised(alloc, fault)?)),
     }

@@ -3,11 +3,10 @@ use Rattle.std.proofs.Common.{◌≡◌, ◌∙◌, ℕ, ◌+◌, ◌≤◌, ◌
 use Rattle.code.specs.Blocks.{IsReal, OwnBlock, PartsBlock}
 use Rattle.code.specs.Code.{CommandAt, IsDirect, adds_last, appends_last, direct, increments_last, returns_last, sets_last}
 use Rattle.code.specs.Conditional.{IsLiteral}
-use Rattle.code.specs.Switch.{texts_then}
 use Rattle.code.specs.declared.instruction.Instruction.{Instruction}
 use Rattle.code.proofs.Built.{extended, kept_on, longer, onward, stands}
 use Rattle.tclparse.proofs.Trees.{view_Word}
-use Rattle.tclparse.specs.Tree.{Parts, bytes_then, no_parts, no_words, word}
+use Rattle.tclparse.specs.Tree.{Parts, bytes_then, no_parts, no_words, word, texts_then}
 use Rattle.tclparse.specs.View.{parts_of, word_view, words_then}
 use Rattle.tclparse.specs.declared.tree.Word.{Word}
 

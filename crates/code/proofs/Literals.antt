@@ -2,10 +2,9 @@
 use Rattle.std.proofs.Common.{◌≡◌, ◌∙◌, ℕ, ◌-◌, ◌<◌, ◌≤◌, false, List, [], ◌∷◌, length, drop, take, get_or, Option, Some, None, IfSome, refl, sym, ap, arith}
 use Rattle.std.proofs.Math.Seq.{take-length}
 use Rattle.std.specs.Borrow.{Bor}
-use Rattle.code.specs.Code.{literals}
 use Rattle.code.specs.Conditional.{Are, IsLiteral}
 use Rattle.tclparse.proofs.Trees.{view_Word}
-use Rattle.tclparse.specs.Tree.{Words, bytes_then, no_parts, no_words, word}
+use Rattle.tclparse.specs.Tree.{Words, bytes_then, no_parts, no_words, word, literals}
 use Rattle.tclparse.specs.View.{parts_of, parts_then, word_view, words_then}
 use Rattle.tclparse.specs.declared.tree.Part.{Part}
 use Rattle.tclparse.specs.declared.tree.Word.{Word}

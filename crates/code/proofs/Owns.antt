@@ -2,7 +2,7 @@
 use Rattle.std.proofs.Common.{◌≡◌, ℕ, ◌+◌, false, true, List, [], ◌∷◌, ◌++◌, codes, length, Option, None, sym, subst}
 use Rattle.std.specs.Prelude.{slice_set}
 use Rattle.code.specs.Blocks.{BranchesBlock, ItsBlock, OwnBlock, TurnsBlock, WordsBlock}
-use Rattle.code.specs.Code.{At, CommandAt, OwnAt, WordsAt, conditional, literals, own, while_loop}
+use Rattle.code.specs.Code.{At, CommandAt, OwnAt, WordsAt, conditional, own, while_loop}
 use Rattle.code.specs.Conditional.{IsConditional}
 use Rattle.code.specs.Own.{IsOwn, name_of}
 use Rattle.code.specs.Repeat.{AreTurns, IsFor}
@@ -15,7 +15,7 @@ use Rattle.code.specs.declared.repeat.For.{For}
 use Rattle.code.specs.declared.repeat.Turns.{Turns}
 use Rattle.code.proofs.Built.{longer}
 use Rattle.code.proofs.Forks.{filled_length, forked, second_begins}
-use Rattle.tclparse.specs.Tree.{Words}
+use Rattle.tclparse.specs.Tree.{Words, literals}
 
 module _ {A : Type 0} where
   -- the words of a command, for where a procedure hides it, and then its own code

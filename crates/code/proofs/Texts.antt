@@ -4,9 +4,8 @@ use Rattle.std.proofs.lemmas.List.{append-nil}
 use Rattle.std.proofs.lemmas.Slice.Eq.{bytes_eq-Decides}
 use Rattle.std.specs.Str.{bytes_eq}
 use Rattle.code.specs.Conditional.{Are, IsLiteral}
-use Rattle.code.specs.Switch.{texts_then}
 use Rattle.code.proofs.Places.{word_at}
-use Rattle.tclparse.specs.Tree.{Words, bytes_then, no_parts, no_words, word}
+use Rattle.tclparse.specs.Tree.{Words, bytes_then, no_parts, no_words, word, texts_then}
 use Rattle.tclparse.specs.View.{words_then}
 use Rattle.tclparse.specs.declared.tree.Word.{Word}
 

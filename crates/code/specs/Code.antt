@@ -6,7 +6,7 @@ use Rattle.code.specs.Argument.{is_braced, takes_branches}
 use Rattle.code.specs.declared.instruction.Instruction.{Instruction}
 use Rattle.code.specs.declared.instruction.Instruction.TheVariants as i
 use Rattle.code.specs.declared.options.Options.{Options}
-use Rattle.code.specs.Switch.{AreArms, IsShort, are_globs, is_default, texts_then, words_before}
+use Rattle.code.specs.Switch.{AreArms, IsShort, are_globs, is_default, words_before}
 use Rattle.pure.specs.Concat.{concatenated}
 use Rattle.tclparse.specs.Fault.{Fault}
 use Rattle.tclparse.specs.Formula.{Formula, Formulas, Links}
@@ -14,7 +14,7 @@ use Rattle.tclparse.specs.Formula as tree
 use Rattle.tclparse.specs.FormulaGrammar.{IsFormula}
 use Rattle.tclparse.specs.Grammar.{IsArgument, IsScript}
 use Rattle.tclparse.specs.Seen.{fault_of}
-use Rattle.tclparse.specs.Tree.{Parts, no_parts, variable, element, script, Words, no_words, word, Commands, no_commands, command, bytes_then}
+use Rattle.tclparse.specs.Tree.{Parts, no_parts, variable, element, script, Words, no_words, word, Commands, no_commands, command, bytes_then, literals, texts_then}
 use Rattle.tclparse.specs.declared.fault.Fault as read
 use Rattle.tclparse.specs.declared.operator.Binary.{Binary}
 use Rattle.tclparse.specs.declared.operator.Function.{Function}
@@ -39,11 +39,6 @@ pub data FaultAt {A : Type 0} (code : List (Instruction A)) : Option Fault → �
   none : {place : ℕ} → FaultAt code None place place
   fault : {place : ℕ} {fault : read.Fault} → At code place (i.Fault fault) →
       FaultAt code (Some (fault_of fault)) place (place + 1)
-
--- words that are texts as they stand (Tcl(n), rule 6)
-abbrev pub literals : List (List ℕ) → Words
-literals [] = no_words
-literals (text ∷ texts) = word false (bytes_then text no_parts) (literals texts)
 
 -- a test and a body, with the word then between them or without, and the words after the body
 -- (if(n))

@@ -1,7 +1,7 @@
 -- The code of a script, of a formula, and of the words of an argument in braces.
 use Rattle.std.specs.Prelude.{true, false, List, length}
 use Rattle.code.specs.Code.{At, FormulaAt, ScriptAt, WordsAt}
-use Rattle.code.specs.ScriptTree.{ScriptTree}
+use Rattle.tclparse.specs.ScriptTree.{ScriptTree}
 use Rattle.code.specs.declared.instruction.Instruction.{Instruction}
 use Rattle.code.specs.declared.instruction.Instruction.TheVariants as i
 use Rattle.tclparse.specs.Formula.{Formula}

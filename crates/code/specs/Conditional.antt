@@ -1,6 +1,6 @@
 -- What the words of if are read as.
 use Rattle.std.specs.Prelude.{◌≡◌, ℕ, false, List, [], ◌∷◌, codes, Option, Some, None, option_map, Ok, reverse}
-use Rattle.code.specs.Code.{IsBranch, IsLast, literals}
+use Rattle.code.specs.Code.{IsBranch, IsLast}
 use Rattle.code.specs.declared.branches.Behind.{Behind}
 use Rattle.code.specs.declared.branches.Behind.TheVariants as after
 use Rattle.code.specs.declared.branches.Front.{Front}
@@ -10,7 +10,7 @@ use Rattle.formulas.specs.View.{formula_of}
 use Rattle.tclparse.specs.FormulaGrammar.{IsFormula}
 use Rattle.tclparse.specs.Grammar.{IsScript}
 use Rattle.tclparse.specs.Seen.{fault_of}
-use Rattle.tclparse.specs.Tree.{Words, bytes_then, no_parts, no_words}
+use Rattle.tclparse.specs.Tree.{Words, bytes_then, no_parts, no_words, literals}
 use Rattle.tclparse.specs.Tree as tree
 use Rattle.tclparse.specs.View.{commands_of, word_view, words_then}
 use Rattle.tclparse.specs.declared.script.Script.{Script}

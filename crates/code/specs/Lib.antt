@@ -6,7 +6,6 @@ pub mod Repeat
 pub mod Catch
 pub mod Argument
 pub mod Own
-pub mod ScriptTree
 pub mod StoredFormula
 pub mod CodeOf
 pub mod Made

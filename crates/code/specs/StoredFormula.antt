@@ -3,7 +3,7 @@ use Prim.Native.Nat.{zero, suc}
 use Rattle.std.specs.Prelude.{◌≡◌, ℕ, [], ◌∷◌, get_or, refl}
 use base.Stored.{Coded, Gv, gnil, gnum, gcons}
 use mathlib.Core.Path.{sym, ◌∙◌, ap}
-use Rattle.code.specs.ScriptTree.{bytes_back, bytes_in, parts_back, parts_in, stored_bytes, stored_parts}
+use Rattle.tclparse.specs.ScriptTree.{bytes_back, bytes_in, parts_back, parts_in, stored_bytes, stored_parts}
 use Rattle.tclparse.specs.Formula.{Formula, numeral, text, call, prefix, row, choice, Links, no_links, link, Formulas, no_formulas, formula}
 use Rattle.tclparse.specs.declared.operator.Binary.{Binary}
 use Rattle.tclparse.specs.declared.operator.Binary.TheVariants as both

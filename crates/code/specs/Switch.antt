@@ -7,11 +7,6 @@ use Rattle.code.specs.declared.options.Options.{Options}
 use Rattle.tclparse.specs.Tree.{Words, no_parts, word, bytes_then}
 use Rattle.tcltext.specs.Elements.{IsList}
 
--- texts as they stand, before other words (Tcl(n), rule 6)
-abbrev pub texts_then : List (List ℕ) → Words → Words
-texts_then [] ws = ws
-texts_then (text ∷ texts) ws = word false (bytes_then text no_parts) (texts_then texts ws)
-
 -- the flag as a word (switch(n))
 abbrev pub flag_word : Option Flag → List (List ℕ)
 flag_word None = []

@@ -2,8 +2,8 @@
 
 ghost use Rattle.std.specs.Prelude.{◌≡◌, [], ◌∷◌, false, true, codes, length, IfOk, IfSome};
 ghost use Rattle.std.specs.Str.{bytes_eq};
-ghost use Rattle.code.specs.Switch.{AreArms, AreWhole, IsShort, dashes_word, flag_word, is_default, option_words, texts_then, words_before};
-ghost use Rattle.tclparse.specs.Tree.{no_parts, no_words, word as word_then};
+ghost use Rattle.code.specs.Switch.{AreArms, AreWhole, IsShort, dashes_word, flag_word, is_default, option_words, words_before};
+ghost use Rattle.tclparse.specs.Tree.{no_parts, no_words, word as word_then, texts_then};
 ghost use Rattle.tclparse.specs.View.{parts_then, words_then};
 
 use crate::literal::{first_of, plain_of};

@@ -2,7 +2,7 @@
 //! words of an argument in braces.
 
 ghost use Rattle.std.specs.Prelude.{◌≡◌, IfOk};
-ghost use Rattle.code.specs.ScriptTree.{seen};
+ghost use Rattle.tclparse.specs.ScriptTree.{seen};
 ghost use Rattle.formulas.specs.View.{formula_of};
 ghost use Rattle.tclparse.specs.View.{words_of};
 
@@ -29,7 +29,7 @@ impl<A: Allocator> Drop for CodedScript<A> {
 }
 
 impl<A: Allocator> Model for CodedScript<A> {
-    ghost use Rattle.code.specs.ScriptTree.{ScriptTree, stored, seen};
+    ghost use Rattle.tclparse.specs.ScriptTree.{ScriptTree, stored, seen};
     ghost use Rattle.code.specs.CodeOf.{IsCodeOf};
 
     ghost Value = { ScriptTree };
@@ -183,7 +183,7 @@ impl<A: Allocator> Drop for CodedArgument<A> {
 
 impl<A: Allocator> Model for CodedArgument<A> {
     ghost use Rattle.code.specs.CodeOf.{IsCodeOfArgument};
-    ghost use Rattle.code.specs.ScriptTree.{stored_argument};
+    ghost use Rattle.tclparse.specs.ScriptTree.{stored_argument};
     ghost use Rattle.tclparse.specs.Tree.{Words};
     ghost use Rattle.tclparse.specs.View.{words_of};
 

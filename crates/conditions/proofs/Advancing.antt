@@ -1,8 +1,8 @@
 -- Scripts that may still run without a tick.
 use Rattle.std.proofs.Common.{ℕ, ◌≤◌, inl, inr, arith}
-use Rattle.state.specs.Nesting.{Advances}
-use Rattle.state.specs.declared.nesting.Nesting.{Nesting}
-use Rattle.state.specs.declared.nesting.Nesting.TheVariants as nesting
+use Rattle.nesting.specs.Nesting.{Advances}
+use Rattle.nesting.specs.declared.Nesting.{Nesting}
+use Rattle.nesting.specs.declared.Nesting.TheVariants as nesting
 
 -- fewer than a number are fewer than a larger one
 pub advances_more : {A H : Type 0} (scripts : H → ℕ) (n : Nesting A H) (new old m k : ℕ) → m ≤ k →

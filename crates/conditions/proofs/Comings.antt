@@ -1,11 +1,11 @@
 -- What is at hand of a command whose loop may have begun turns.
 use Rattle.std.proofs.Common.{◌≡◌, ◌∙◌, ℕ, List, Result, sym, ap, subst}
 use Rattle.conditions.specs.GoesOn.{Comes, GoesOn, here, reads, turning}
-use Rattle.state.specs.Prelude.{Ends, Course, Nests, Outcome, Reaches, Status, FitsState, outcome_of}
-use Rattle.state.specs.Nesting.{course_of}
+use Rattle.state.specs.Prelude.{Ends, Course, Outcome, Reaches, Status, FitsState, outcome_of}
+use Rattle.nesting.specs.Nesting.{Nests, course_of}
 use Rattle.state.specs.Reaches as reaches
-use Rattle.state.specs.declared.nesting.Nesting.{Nesting}
-use Rattle.state.specs.declared.nesting.Nesting.TheVariants as nesting
+use Rattle.nesting.specs.declared.Nesting.{Nesting}
+use Rattle.nesting.specs.declared.Nesting.TheVariants as nesting
 use Rattle.state.specs.declared.outcome.Leave.{Leave}
 use Rattle.state.specs.declared.state.State.{State}
 

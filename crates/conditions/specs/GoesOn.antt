@@ -2,9 +2,9 @@
 use Rattle.std.specs.Prelude.{ℕ}
 use Rattle.state.specs.Prelude.{Reads, Course, Outcome, LoopTree, IsTree, Status, FitsState}
 use Rattle.conditions.specs.Loop.{again, turns}
-use Rattle.state.specs.Nesting.{course_of}
+use Rattle.nesting.specs.Nesting.{course_of}
 use Rattle.state.specs.Piece.{Text, Tree}
-use Rattle.state.specs.declared.nesting.Nesting.{Nesting}
+use Rattle.nesting.specs.declared.Nesting.{Nesting}
 use Rattle.state.specs.declared.state.State.{State}
 
 -- the first course continues as the second, once some texts are read as trees that they have, and

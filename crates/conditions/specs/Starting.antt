@@ -6,8 +6,8 @@ use Rattle.conditions.specs.Turning as turning
 use Rattle.conditions.specs.declared.for_loop.Held.{Held}
 use Rattle.conditions.specs.declared.for_loop.Held.TheVariants as held
 use Rattle.conditions.specs.declared.turning.Held as turns
-use Rattle.state.specs.Nesting.{course_of}
-use Rattle.state.specs.declared.nesting.Nesting.{Nesting}
+use Rattle.nesting.specs.Nesting.{course_of}
+use Rattle.nesting.specs.declared.Nesting.{Nesting}
 
 -- what follows a script of for (for(n))
 abbrev pub next_of : {A : Type 0} → Held A → Status → Outcome → Course

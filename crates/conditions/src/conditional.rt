@@ -1,11 +1,11 @@
 //! `if test ?then? body ?elseif test ?then? body ..? ?else? ?body?` (if(n)).
 
 ghost use Rattle.std.specs.Prelude.{◌≡◌, ◌+◌, ◌<◌, ℕ, length, IfOk};
-ghost use Rattle.state.specs.Prelude.{within, Nests, Reaches, Status, FitsState, outcome_of};
+ghost use Rattle.state.specs.Prelude.{within, Reaches, Status, FitsState, outcome_of};
 ghost use Rattle.conditions.specs.Choosing.{asked_of, behind_test, chosen_of, next_of, runs_held, runs_tested};
 ghost use Rattle.conditions.specs.Conditional as definition;
 ghost use Rattle.conditions.specs.Conditional.{passes};
-ghost use Rattle.state.specs.Nesting.{Advances, course_of as at_hand};
+ghost use Rattle.nesting.specs.Nesting.{Advances, Nests, course_of as at_hand};
 
 use crate::arguments::wrong_args;
 use crate::branches::{Branch, Branches};
@@ -14,9 +14,10 @@ use crate::formula::read;
 use crate::test::{Test, of_outcome};
 use acts::NoMemory;
 use code::Made;
-use kept::{Kept, KeptFormulas};
+use kept::{Kept, KeptFormulas, Parsed};
+use nesting::Nesting;
 use state::outcome::raised;
-use state::{Nesting, Outcome, State};
+use state::{Outcome, State};
 use std::alloc::Allocator;
 use tcltext::Value;
 
@@ -44,6 +45,7 @@ pub enum Held<A: Allocator> {
 /// `NoMemory` where memory is refused.
 pub fn begin<A: Allocator + Copy>(
     alloc: A,
+    parsed: &mut Parsed<A>,
     state: &mut State<A>,
     args: &[Value<A>],
     levels: u8,
@@ -55,8 +57,8 @@ pub fn begin<A: Allocator + Copy>(
     match Branches::read(alloc, args)? {
         Some(branches) => choose(
             alloc,
-            &mut state.formulas,
-            &mut state.kept,
+            &mut parsed.formulas,
+            &mut parsed.scripts,
             branches,
             levels,
         ),
@@ -70,6 +72,7 @@ pub fn begin<A: Allocator + Copy>(
 /// `NoMemory` where memory is refused.
 pub fn resumed<A: Allocator + Copy>(
     alloc: A,
+    parsed: &mut Parsed<A>,
     state: &mut State<A>,
     held: Held<A>,
     outcome: Outcome<A>,
@@ -83,8 +86,8 @@ pub fn resumed<A: Allocator + Copy>(
     match held {
         Held::Test(own) => on_test(
             alloc,
-            &mut state.formulas,
-            &mut state.kept,
+            &mut parsed.formulas,
+            &mut parsed.scripts,
             Box::into_inner(own),
             outcome,
         ),

@@ -3,12 +3,12 @@
 ghost use Rattle.std.specs.Prelude.{◌≡◌, ℕ, ◌<◌, IfOk, ◌⊎◌};
 ghost use Rattle.state.specs.Prelude.{Course, inside, Status};
 ghost use Rattle.conditions.specs.Deeper.{PassesErrors};
-ghost use Rattle.state.specs.Nesting.{Advances, course_of};
+ghost use Rattle.nesting.specs.Nesting.{Advances, course_of};
 ghost use Rattle.state.specs.Outcome.{Outcome as meant};
 
 use acts::{Fault, NoMemory};
 use code::{CodedScript, Made};
-use state::Nesting;
+use nesting::Nesting;
 use state::outcome::raised;
 use std::alloc::Allocator;
 

@@ -1,19 +1,21 @@
 //! `expr w ..` (expr(n)).
 
 ghost use Rattle.std.specs.Prelude.{◌≡◌, IfOk};
-ghost use Rattle.state.specs.Prelude.{Nests, Status, FitsState, outcome_of};
+ghost use Rattle.state.specs.Prelude.{Status, FitsState, outcome_of};
 ghost use Rattle.conditions.specs.Expr as definition;
 ghost use Rattle.conditions.specs.Expr.{next_of, runs_held};
-ghost use Rattle.state.specs.Nesting.{Advances};
+ghost use Rattle.nesting.specs.Nesting.{Advances, Nests};
 
 use crate::arguments::wrong_args;
 use crate::formula::read;
 use acts::NoMemory;
 use code::Made;
+use kept::KeptFormulas;
+use nesting::Nesting;
 use operators::{Operand, result};
 use pure::concatenated;
 use state::outcome::raised;
-use state::{Nesting, Outcome, State};
+use state::{Outcome, State};
 use std::alloc::Allocator;
 use tcltext::Value;
 
@@ -29,6 +31,7 @@ pub enum Held {
 /// `NoMemory` where memory is refused.
 pub fn begin<A: Allocator + Copy>(
     alloc: A,
+    formulas: &mut KeptFormulas<A>,
     state: &mut State<A>,
     args: &[Value<A>],
     levels: u8,
@@ -41,7 +44,7 @@ pub fn begin<A: Allocator + Copy>(
         return Ok(Nesting::Has(wrong_args(alloc, b"expr")?));
     }
     let text = concatenated(alloc, args)?;
-    match read(&mut state.formulas, &text)? {
+    match read(formulas, &text)? {
         Ok(formula) => Ok(Nesting::Runs(Made::Formula(formula), levels, Held::Formula)),
         Err(fault) => Ok(Nesting::Has(raised(alloc, fault)?)),
     }

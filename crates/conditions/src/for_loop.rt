@@ -6,15 +6,17 @@ ghost use Rattle.conditions.specs.ForLoop as definition;
 ghost use Rattle.conditions.specs.GoesOn.{Comes};
 ghost use Rattle.conditions.specs.Starting.{IsLifted, next_of, runs_held};
 ghost use Rattle.conditions.specs.Turning as turning_as;
-ghost use Rattle.state.specs.Nesting.{Advances};
+ghost use Rattle.nesting.specs.Nesting.{Advances};
 
 use crate::arguments::wrong_args;
 use crate::deeper::deeper;
 use crate::formula::read;
 use crate::turning::{self, Loop, turn};
 use acts::NoMemory;
+use kept::Parsed;
+use nesting::Nesting;
 use state::outcome::raised;
-use state::{Nesting, Outcome, State};
+use state::{Outcome, State};
 use std::alloc::Allocator;
 use tcltext::Value;
 
@@ -40,6 +42,7 @@ pub enum Held<A: Allocator> {
 /// `NoMemory` where memory is refused.
 pub fn begin<A: Allocator + Copy>(
     alloc: A,
+    parsed: &mut Parsed<A>,
     state: &mut State<A>,
     args: &[Value<A>],
     levels: u8,
@@ -51,7 +54,7 @@ pub fn begin<A: Allocator + Copy>(
     let [start, test, step, body] = args else {
         return Ok(Nesting::Has(wrong_args(alloc, b"for")?));
     };
-    let script = state.kept.get(start.as_slice())?;
+    let script = parsed.scripts.get(start.as_slice())?;
     let test = test.share()?;
     let step = step.share()?;
     let body = body.share()?;
@@ -71,6 +74,7 @@ pub fn begin<A: Allocator + Copy>(
 /// `NoMemory` where memory is refused.
 pub fn resumed<A: Allocator + Copy>(
     alloc: A,
+    parsed: &mut Parsed<A>,
     state: &mut State<A>,
     held: Held<A>,
     outcome: Outcome<A>,
@@ -83,7 +87,7 @@ pub fn resumed<A: Allocator + Copy>(
 {
     match held {
         Held::Start(start) => match outcome {
-            Ok(_) => Ok(lifted(begin_turns(alloc, state, Box::into_inner(start))?)),
+            Ok(_) => Ok(lifted(begin_turns(alloc, parsed, state, Box::into_inner(start))?)),
             Err(leave) => Ok(Nesting::Has(Err(leave))),
         },
         Held::Turns(own) => Ok(lifted(turning::resumed(alloc, state, own, outcome)?)),
@@ -93,6 +97,7 @@ pub fn resumed<A: Allocator + Copy>(
 /// Reads the test and the scripts, and begins the first turn.
 fn begin_turns<A: Allocator + Copy>(
     alloc: A,
+    parsed: &mut Parsed<A>,
     state: &mut State<A>,
     start: Start<A>,
 ) -> Result<Nesting<A, turning::Held<A>>, NoMemory>
@@ -109,10 +114,10 @@ fn begin_turns<A: Allocator + Copy>(
         body,
         levels,
     } = start;
-    match read(&mut state.formulas, test.as_slice())? {
+    match read(&mut parsed.formulas, test.as_slice())? {
         Ok(test) => {
-            let behind = state.kept.get(step.as_slice())?;
-            let body = state.kept.get(body.as_slice())?;
+            let behind = parsed.scripts.get(step.as_slice())?;
+            let body = parsed.scripts.get(body.as_slice())?;
             let step = Some(behind);
             let turns = Loop {
                 test,

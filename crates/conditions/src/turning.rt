@@ -7,15 +7,16 @@ ghost use Rattle.conditions.specs.Loop.{again, behind_body, on_step, steps, turn
 ghost use Rattle.conditions.specs.Test.{on_tested};
 ghost use Rattle.conditions.specs.Turning.{loop_of, next_of, runs_held};
 ghost use Rattle.state.specs.Dialogue.{tick};
-ghost use Rattle.state.specs.Nesting.{Advances, course_of};
+ghost use Rattle.nesting.specs.Nesting.{Advances, course_of};
 
 use crate::deeper::deeper;
 use crate::step::end_after_step;
 use crate::test::{Test, of_outcome};
 use acts::NoMemory;
 use code::{CodedFormula, CodedScript, Made};
+use nesting::Nesting;
 use state::turn::end_after_body;
-use state::{Leave, Nesting, Outcome, State, Stop};
+use state::{Leave, Outcome, State, Stop};
 use std::alloc::Allocator;
 use tcltext::Value;
 

@@ -10,8 +10,10 @@ use crate::arguments::wrong_args;
 use crate::formula::read;
 use crate::turning::{Held, Loop, turn};
 use acts::NoMemory;
+use kept::Parsed;
+use nesting::Nesting;
+use state::State;
 use state::outcome::raised;
-use state::{Nesting, State};
 use std::alloc::Allocator;
 use tcltext::Value;
 
@@ -21,6 +23,7 @@ use tcltext::Value;
 /// `NoMemory` where memory is refused.
 pub fn begin<A: Allocator + Copy>(
     alloc: A,
+    parsed: &mut Parsed<A>,
     state: &mut State<A>,
     args: &[Value<A>],
     levels: u8,
@@ -32,9 +35,9 @@ pub fn begin<A: Allocator + Copy>(
     let [test, body] = args else {
         return Ok(Nesting::Has(wrong_args(alloc, b"while")?));
     };
-    match read(&mut state.formulas, test.as_slice())? {
+    match read(&mut parsed.formulas, test.as_slice())? {
         Ok(test) => {
-            let body = state.kept.get(body.as_slice())?;
+            let body = parsed.scripts.get(body.as_slice())?;
             let step = None;
             let turns = Loop {
                 test,

@@ -2,9 +2,9 @@
 use Rattle.std.proofs.Common.{◌≡◌}
 use Rattle.conditions.proofs.Comings.{comes_lifted, nests_comes}
 use Rattle.conditions.specs.GoesOn.{Comes}
-use Rattle.state.specs.Prelude.{Course, Nests, Outcome, Status}
-use Rattle.state.specs.Nesting.{course_of}
-use Rattle.state.specs.declared.nesting.Nesting.{Nesting}
+use Rattle.state.specs.Prelude.{Course, Outcome, Status}
+use Rattle.nesting.specs.Nesting.{Nests, course_of}
+use Rattle.nesting.specs.declared.Nesting.{Nesting}
 use Rattle.state.specs.declared.state.State.{State}
 
 -- the same, of a command in which no turn of a loop begins

@@ -1,6 +1,6 @@
 -- How the commands of the code, and what they hold, correspond to those of the definition.
 use Rattle.std.specs.Prelude.{◌≡◌, ℕ, ◌<◌, List, Option, Some, None}
-use Rattle.state.specs.Prelude.{Course, Nests, Outcome, Status, FitsState}
+use Rattle.state.specs.Prelude.{Course, Outcome, Status, FitsState}
 use Rattle.conditions.specs.Choosing as if_then
 use Rattle.conditions.specs.Expr as expr
 use Rattle.conditions.specs.Starting as for_loop
@@ -16,9 +16,9 @@ use Rattle.control.specs.declared.held.Held.{Held}
 use Rattle.control.specs.declared.held.Held.TheVariants as held
 use Rattle.control.specs.declared.table.Control as coded
 use Rattle.control.specs.declared.table.Control.TheVariants as control
-use Rattle.state.specs.Nesting.{course_of}
-use Rattle.state.specs.declared.nesting.Nesting.{Nesting}
-use Rattle.state.specs.declared.nesting.Nesting.TheVariants as nesting
+use Rattle.nesting.specs.Nesting.{Nests, course_of}
+use Rattle.nesting.specs.declared.Nesting.{Nesting}
+use Rattle.nesting.specs.declared.Nesting.TheVariants as nesting
 use Rattle.state.specs.declared.state.State.{State}
 use Rattle.tclstate.specs.Pairs.{found}
 use Rattle.tclstate.specs.Procs.{Procedure}

@@ -11,11 +11,11 @@ ghost use Rattle.bodies.specs.Calls as calling;
 ghost use Rattle.bodies.specs.Catch as catches;
 ghost use Rattle.bodies.specs.Eval as evals;
 ghost use Rattle.bodies.specs.Looping as loops;
-ghost use Rattle.state.specs.Nesting.{Advances};
+ghost use Rattle.nesting.specs.Nesting.{Advances};
 
 use bodies::{calls, catch, eval, foreach};
 use conditions::{conditional, expr, for_loop, turning};
-use state::Nesting;
+use nesting::Nesting;
 use std::alloc::Allocator;
 
 /// What a command holds while a script or a formula runs within it: a call of a procedure, or one

@@ -6,7 +6,7 @@ ghost use Rattle.control.specs.Commands as definition;
 ghost use Rattle.bodies.specs.View.{IsCalled};
 ghost use Rattle.control.specs.View.{control_of, next_of, runs_held};
 ghost use Rattle.conditions.specs.GoesOn.{Comes};
-ghost use Rattle.state.specs.Nesting.{Advances};
+ghost use Rattle.nesting.specs.Nesting.{Advances};
 
 use crate::held::{
     Held, from_call, from_catch, from_eval, from_expr, from_for, from_foreach, from_if, from_while,
@@ -14,7 +14,9 @@ use crate::held::{
 use acts::NoMemory;
 use bodies::{calls, catch, eval, foreach, switch};
 use conditions::{conditional, expr, for_loop, turning, while_loop};
-use state::{Nesting, Outcome, State};
+use kept::{Kept, Parsed};
+use nesting::Nesting;
+use state::{Outcome, State};
 use std::alloc::Allocator;
 use tcltext::Value;
 
@@ -58,6 +60,7 @@ impl Control {
 /// `NoMemory` where memory is refused.
 pub fn call<A: Allocator + Copy>(
     alloc: A,
+    kept: &mut Kept<A>,
     state: &mut State<A>,
     name: &[u8],
     words: &[Value<A>],
@@ -67,7 +70,7 @@ pub fn call<A: Allocator + Copy>(
         IsCalled next_of called state.new levels name.now words.now s) }
     ensures left { state.new.left ≤ state.old.left }
 {
-    match calls::begin(alloc, state, name, words, levels)? {
+    match calls::begin(alloc, kept, state, name, words, levels)? {
         Some(nesting) => Ok(Some(from_call(nesting))),
         None => Ok(None),
     }
@@ -80,6 +83,7 @@ pub fn call<A: Allocator + Copy>(
 #[tactic(auto, using(crate::proofs::Lifted::commands_lifted))]
 pub fn begin<A: Allocator + Copy>(
     alloc: A,
+    parsed: &mut Parsed<A>,
     state: &mut State<A>,
     control: Control,
     args: &[Value<A>],
@@ -91,14 +95,29 @@ pub fn begin<A: Allocator + Copy>(
     ensures left { state.new.left ≤ state.old.left }
 {
     match control {
-        Control::Catch => Ok(from_catch(catch::begin(alloc, state, args, levels)?)),
-        Control::Eval => Ok(from_eval(eval::begin(alloc, state, args, levels)?)),
-        Control::Expr => Ok(from_expr(expr::begin(alloc, state, args, levels)?)),
-        Control::For => Ok(from_for(for_loop::begin(alloc, state, args, levels)?)),
-        Control::Foreach => Ok(from_foreach(foreach::begin(alloc, state, args, levels)?)),
-        Control::If => Ok(from_if(conditional::begin(alloc, state, args, levels)?)),
-        Control::Switch => Ok(from_eval(switch::begin(alloc, state, args, levels)?)),
-        Control::While => Ok(from_while(while_loop::begin(alloc, state, args, levels)?)),
+        Control::Catch => {
+            let nesting = catch::begin(alloc, &mut parsed.scripts, state, args, levels)?;
+            Ok(from_catch(nesting))
+        }
+        Control::Eval => {
+            let nesting = eval::begin(alloc, &mut parsed.scripts, state, args, levels)?;
+            Ok(from_eval(nesting))
+        }
+        Control::Expr => {
+            let nesting = expr::begin(alloc, &mut parsed.formulas, state, args, levels)?;
+            Ok(from_expr(nesting))
+        }
+        Control::For => Ok(from_for(for_loop::begin(alloc, parsed, state, args, levels)?)),
+        Control::Foreach => {
+            let nesting = foreach::begin(alloc, &mut parsed.scripts, state, args, levels)?;
+            Ok(from_foreach(nesting))
+        }
+        Control::If => Ok(from_if(conditional::begin(alloc, parsed, state, args, levels)?)),
+        Control::Switch => {
+            let nesting = switch::begin(alloc, &mut parsed.scripts, state, args, levels)?;
+            Ok(from_eval(nesting))
+        }
+        Control::While => Ok(from_while(while_loop::begin(alloc, parsed, state, args, levels)?)),
     }
 }
 
@@ -109,6 +128,7 @@ pub fn begin<A: Allocator + Copy>(
 #[tactic(auto, using(crate::proofs::Lifted::commands_lifted))]
 pub fn resumed<A: Allocator + Copy>(
     alloc: A,
+    parsed: &mut Parsed<A>,
     state: &mut State<A>,
     held: Held<A>,
     outcome: Outcome<A>,
@@ -124,9 +144,9 @@ pub fn resumed<A: Allocator + Copy>(
         Held::Catch(own) => Ok(from_catch(catch::resumed(alloc, state, own, outcome)?)),
         Held::Eval(own) => Ok(from_eval(eval::resumed(state, own, outcome))),
         Held::Expr(own) => Ok(from_expr(expr::resumed(alloc, state, own, outcome)?)),
-        Held::For(own) => Ok(from_for(for_loop::resumed(alloc, state, own, outcome)?)),
+        Held::For(own) => Ok(from_for(for_loop::resumed(alloc, parsed, state, own, outcome)?)),
         Held::Foreach(own) => Ok(from_foreach(foreach::resumed(alloc, state, own, outcome)?)),
-        Held::If(own) => Ok(from_if(conditional::resumed(alloc, state, own, outcome)?)),
+        Held::If(own) => Ok(from_if(conditional::resumed(alloc, parsed, state, own, outcome)?)),
         Held::While(own) => Ok(from_while(turning::resumed(alloc, state, own, outcome)?)),
     }
 }

@@ -15,7 +15,7 @@ use Rattle.dialog.specs.Standing.{Effective, all_of, pruned}
 use Rattle.choices.specs.declared.choice.Choice.{Choice}
 use Rattle.choices.specs.declared.choice.Trigger.TheVariants as after
 use Rattle.kinds.specs.Answers.{IsFailure}
-use Rattle.state.proofs.Nestings.{inside_over, text_reaches}
+use Rattle.state.proofs.Inside.{inside_over, text_reaches}
 use Rattle.state.proofs.Reaches.{same_reaches, then_reaches}
 use Rattle.state.proofs.Ticks.{tick_taken}
 use Rattle.state.specs.Dialogue.{written}

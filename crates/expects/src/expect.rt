@@ -16,7 +16,7 @@ use acts::raise::{bad_flag, not_open};
 use acts::{Fault, Id, NoMemory, Raise};
 use code::is_braced;
 use dialog::{BranchError, Branches, Effective, Trigger};
-use kept::Argument;
+use kept::{Argument, Arguments};
 use kinds::failed;
 use state::State;
 use state::faults::no_script;
@@ -32,6 +32,7 @@ use tcltext::Value;
 /// `NoMemory`.
 pub fn begin<A: Allocator + Copy>(
     alloc: A,
+    arguments: &mut Arguments<A>,
     state: &mut State<A>,
     form: Form,
     args: &[Value<A>],
@@ -44,7 +45,7 @@ pub fn begin<A: Allocator + Copy>(
     ensures plain { IfOk result (λ begun. IsPlainBegun begun) }
 {
     match braced(args) {
-        Some(text) => by_argument(alloc, state, form, text, levels),
+        Some(text) => by_argument(alloc, arguments, state, form, text, levels),
         None => Ok(Begun::Opens(by_words(alloc, state, form, args, levels)?)),
     }
 }
@@ -66,6 +67,7 @@ fn braced<A: Allocator>(args: &[Value<A>]) -> Option<&[u8]>
 /// stand.
 fn by_argument<A: Allocator + Copy>(
     alloc: A,
+    arguments: &mut Arguments<A>,
     state: &mut State<A>,
     form: Form,
     text: &[u8],
@@ -77,7 +79,7 @@ fn by_argument<A: Allocator + Copy>(
     ensures left { state.new.left ≤ state.old.left }
     ensures plain { IfOk result (λ begun. IsPlainBegun begun) }
 {
-    match state.arguments.read(text)? {
+    match arguments.read(text)? {
         Argument::Texts(words) => Ok(Begun::Opens(by_words(alloc, state, form, &words, levels)?)),
         Argument::Words(words) => Ok(Begun::Gathers(words, form)),
         Argument::Faulty(fault) => {

@@ -24,6 +24,7 @@ use crate::report::report;
 use crate::turn::{Turn, Turned, Waits};
 use acts::{Act, Fault, NoMemory, Timer};
 use dialog::{Choice, Effective, Trigger};
+use kept::Kept;
 use kinds::failed;
 use state::outcome::raised;
 use state::{Leave, State, Stop};
@@ -37,6 +38,7 @@ use tcltext::Value;
 /// rows has less room than there are ids.
 pub fn turn<A: Allocator + Copy>(
     alloc: A,
+    kept: &mut Kept<A>,
     state: &mut State<A>,
     turn: Box<Turn<A>, A>,
 ) -> Result<Turned<A>, NoMemory>
@@ -51,7 +53,7 @@ pub fn turn<A: Allocator + Copy>(
 {
     let trigger = turn.trigger;
     match select(alloc, state, &turn.effective, trigger)? {
-        Some(choice) => does(alloc, state, turn, choice),
+        Some(choice) => does(alloc, kept, state, turn, choice),
         None => wait(alloc, state, turn),
     }
 }
@@ -77,6 +79,7 @@ pub(crate) fn select<A: Allocator + Copy>(
 /// Does what was chosen; with nothing chosen the value of the `expect` is empty.
 pub(crate) fn settle<A: Allocator + Copy>(
     alloc: A,
+    kept: &mut Kept<A>,
     state: &mut State<A>,
     turn: Box<Turn<A>, A>,
     choice: Option<Choice<A>>,
@@ -88,7 +91,7 @@ pub(crate) fn settle<A: Allocator + Copy>(
     ensures plain { IfOk result (λ turned. IsPlain turned) }
 {
     match choice {
-        Some(choice) => does(alloc, state, turn, choice),
+        Some(choice) => does(alloc, kept, state, turn, choice),
         None => Ok(Turned::Has(Ok(Value::empty()))),
     }
 }
@@ -96,6 +99,7 @@ pub(crate) fn settle<A: Allocator + Copy>(
 /// Sets `expect_out`, and runs the body of what was chosen.
 fn does<A: Allocator + Copy>(
     alloc: A,
+    kept: &mut Kept<A>,
     state: &mut State<A>,
     turn: Box<Turn<A>, A>,
     choice: Choice<A>,
@@ -108,7 +112,7 @@ fn does<A: Allocator + Copy>(
 {
     let Choice { body, taken } = choice;
     match report(alloc, &mut state.scopes, taken) {
-        Ok(()) => run(alloc, state, turn, &body),
+        Ok(()) => run(alloc, kept, state, turn, &body),
         Err(why) => Ok(Turned::Has(failed(alloc, why)?)),
     }
 }
@@ -116,6 +120,7 @@ fn does<A: Allocator + Copy>(
 /// Runs a body, one level deeper.
 fn run<A: Allocator + Copy>(
     alloc: A,
+    kept: &mut Kept<A>,
     state: &mut State<A>,
     turn: Box<Turn<A>, A>,
     body: &Value<A>,
@@ -126,7 +131,7 @@ fn run<A: Allocator + Copy>(
     ensures left { state.new.left ≤ state.old.left }
     ensures plain { IfOk result (λ turned. IsPlain turned) }
 {
-    let script = state.kept.get(body.as_slice())?;
+    let script = kept.get(body.as_slice())?;
     let Some(inner) = turn.levels.checked_sub(1) else {
         return Ok(Turned::Has(raised(alloc, Fault::TooManyNested)?));
     };

@@ -10,6 +10,7 @@ use crate::turn::{Ended, Talk, Turn, Turned, Waits};
 use crate::turning::{select, settle};
 use acts::{Act, Answer, Id, NoMemory, Row};
 use dialog::Trigger;
+use kept::Kept;
 use state::{Leave, State, Stop};
 use std::alloc::Allocator;
 
@@ -19,6 +20,7 @@ use std::alloc::Allocator;
 /// `NoMemory`, but never while bytes that came are on their way into their buffer.
 pub fn answered<A: Allocator + Copy>(
     alloc: A,
+    kept: &mut Kept<A>,
     state: &mut State<A>,
     act: Act<A>,
     waits: Waits<A>,
@@ -33,11 +35,11 @@ pub fn answered<A: Allocator + Copy>(
     match waits {
         Waits::Awaited(mut turn) => {
             turn.put_rows(waited_rows(alloc, act));
-            awaited(alloc, state, turn, answer)
+            awaited(alloc, kept, state, turn, answer)
         }
         Waits::Shown(id, turn) => Ok(shown(state, id, out_bytes(alloc, act), turn, &answer)),
         Waits::Noted(id, turn) => Ok(noted(state, id, out_bytes(alloc, act), turn, &answer)),
-        Waits::Closed(ended) => closed(alloc, state, Box::into_inner(ended)),
+        Waits::Closed(ended) => closed(alloc, kept, state, Box::into_inner(ended)),
     }
 }
 
@@ -45,6 +47,7 @@ pub fn answered<A: Allocator + Copy>(
 /// or a timeout a choice is made.
 fn awaited<A: Allocator + Copy>(
     alloc: A,
+    kept: &mut Kept<A>,
     state: &mut State<A>,
     turn: Box<Turn<A>, A>,
     answer: Answer<A>,
@@ -58,7 +61,7 @@ fn awaited<A: Allocator + Copy>(
     match answer {
         Answer::Arrive(id, bytes) => Ok(place(state, id, bytes, turn)),
         Answer::Ended(id) => ended(alloc, state, id, turn),
-        _ => timed_out(alloc, state, turn),
+        _ => timed_out(alloc, kept, state, turn),
     }
 }
 
@@ -183,6 +186,7 @@ fn ended<A: Allocator + Copy>(
 /// After a timeout: a choice is made and done.
 fn timed_out<A: Allocator + Copy>(
     alloc: A,
+    kept: &mut Kept<A>,
     state: &mut State<A>,
     turn: Box<Turn<A>, A>,
 ) -> Result<Talk<A>, NoMemory>
@@ -192,12 +196,13 @@ fn timed_out<A: Allocator + Copy>(
     ensures left { state.new.left ≤ state.old.left }
 {
     let choice = select(alloc, state, &turn.effective, Trigger::TimedOut)?;
-    Ok(Talk::Turned(settle(alloc, state, turn, choice)?))
+    Ok(Talk::Turned(settle(alloc, kept, state, turn, choice)?))
 }
 
 /// After a close: the id is closed, and what was chosen is done.
 fn closed<A: Allocator + Copy>(
     alloc: A,
+    kept: &mut Kept<A>,
     state: &mut State<A>,
     ended: Ended<A>,
 ) -> Result<Talk<A>, NoMemory>
@@ -209,7 +214,7 @@ fn closed<A: Allocator + Copy>(
 {
     let Ended { id, turn, choice } = ended;
     state.ids.close(id);
-    Ok(Talk::Turned(settle(alloc, state, turn, choice)?))
+    Ok(Talk::Turned(settle(alloc, kept, state, turn, choice)?))
 }
 
 /// The bytes of a write to standard output or to the log.

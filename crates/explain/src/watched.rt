@@ -11,7 +11,7 @@ use records::{Sink, put_all};
 use std::alloc::Allocator;
 use std::rc::Rc;
 use tcltext::Value;
-use teller::{Detail, Instruction, Outcome, Teller};
+use teller::{Detail, Instruction, Kept, Outcome, Teller};
 use worlds::recorded::{Refuses, Runner};
 use worlds::{End, Lead, Running, State, Watch};
 
@@ -103,8 +103,8 @@ impl<A: Allocator + Copy, S: Sink> Watch<A, Running<A>, State<A>, Lead<A>> for S
         self.note(noted);
     }
 
-    fn stands(&mut self, running: &Running<A>, state: &State<A>) {
-        let noted = self.teller.stands(running, state);
+    fn stands(&mut self, running: &Running<A>) {
+        let noted = self.teller.stands(running);
         self.note(noted);
     }
 
@@ -127,10 +127,10 @@ impl<A: Allocator + Copy, S: Sink> Watch<A, Running<A>, State<A>, Lead<A>> for S
         &mut self,
         code: &Rc<Vec<Instruction<A>, A>, A>,
         place: usize,
-        state: &State<A>,
+        kept: &Kept<A>,
         outcome: &Outcome<A>,
     ) {
-        let noted = self.teller.ends(code, place, state, outcome);
+        let noted = self.teller.ends(code, place, kept, outcome);
         self.note(noted);
     }
 

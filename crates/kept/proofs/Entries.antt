@@ -9,7 +9,7 @@ use Rattle.std.specs.Map.{lookup, keys_of}
 use Rattle.std.specs.Str.{bytes_eq}
 use Rattle.std.specs.declared.vec.Vec.{Vec}
 use Rattle.indexmap.specs.IndexMap.{insert_entry}
-use Rattle.code.specs.ScriptTree.{ScriptTree}
+use Rattle.tclparse.specs.ScriptTree.{ScriptTree}
 use Rattle.tclparse.specs.Grammar.{IsScript}
 use Rattle.kept.specs.Kept.{is_among, newest, with_newest, IsTree, Entries, texts_of, AreTrees}
 

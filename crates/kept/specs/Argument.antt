@@ -1,11 +1,10 @@
 -- The words of an argument in braces.
 use Rattle.std.specs.Prelude.{ℕ, List, Some, None}
-use Rattle.code.specs.Code.{literals}
 use Rattle.kept.specs.declared.argument.Argument.{Argument}
 use Rattle.kept.specs.declared.argument.Argument.TheVariants as argument
 use Rattle.tclparse.specs.Grammar.{IsArgument}
 use Rattle.tclparse.specs.Seen.{fault_of}
-use Rattle.tclparse.specs.Tree.{Words}
+use Rattle.tclparse.specs.Tree.{Words, literals}
 
 -- the words are those of the text, or the text has the fault (expect(1), expect)
 abbrev pub IsRead : {A : Type 0} → Argument A → List ℕ → Type 0

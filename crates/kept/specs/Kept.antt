@@ -3,7 +3,7 @@ use Rattle.std.specs.Prelude.{ℕ, ◌==◌, nat_lt, Bool, List, [], ◌∷◌, 
 use Rattle.std.specs.List.{list_any, All}
 use Rattle.std.specs.Str.{bytes_eq}
 use Rattle.std.specs.declared.vec.Vec.{Vec}
-use Rattle.code.specs.ScriptTree.{ScriptTree}
+use Rattle.tclparse.specs.ScriptTree.{ScriptTree}
 use Rattle.tclparse.specs.Grammar.{IsScript}
 
 -- The text is one of these (this project's own rule).

@@ -21,6 +21,36 @@ use tclparse::Script;
 /// The formulas of the texts that were read last, as their code (expr(n)).
 pub type KeptFormulas<A> = Recent<A, CodedFormula<A>>;
 
+/// What the texts that were read last say: the scripts that ran within others, the formulas, and
+/// the arguments in braces. It says nothing that the texts do not, so a contract of who reads by it
+/// speaks of texts alone.
+pub struct Parsed<A: Allocator> {
+    pub scripts: Kept<A>,
+    pub formulas: KeptFormulas<A>,
+    pub arguments: Arguments<A>,
+}
+
+impl<A: Allocator> Drop for Parsed<A> {
+    fn drop(self) {
+        let Parsed {
+            scripts: _,
+            formulas: _,
+            arguments: _,
+        } = self;
+    }
+}
+
+impl<A: Allocator + Copy> Parsed<A> {
+    /// Nothing was read yet; takes no memory.
+    pub fn new(alloc: A) -> Parsed<A> {
+        Parsed {
+            scripts: Kept::new(alloc),
+            formulas: KeptFormulas::new(alloc),
+            arguments: Arguments::new(alloc),
+        }
+    }
+}
+
 /// The most texts that are kept.
 pub const MOST_KEPT: usize = 256;
 

@@ -1,6 +1,6 @@
 -- Frames, the code below them, and the parts below that.
 use Rattle.std.proofs.Common.{◌≡◌, ◌∙◌, ℕ, zero, suc, ◌+◌, ◌-◌, ◌<◌, ◌≤◌, List, [], ◌∷◌, Option, Some, None, option_map, Result, Vec, length, refl, reverse, slice_get, sym, ap, subst, arith}
-use Rattle.code.specs.ScriptTree.{seen}
+use Rattle.tclparse.specs.ScriptTree.{seen}
 use Rattle.code.specs.declared.instruction.Instruction.{Instruction}
 use Rattle.machine.specs.Frames.{Onward, left_of, onward_of, stack}
 use Rattle.machine.specs.Phases.{Leads, course_of_next}
@@ -175,7 +175,7 @@ module _ {A : Type 0} where
       waiting ≡ old.frames → below ≡ old.code → stack frames ≡ [] → code ≡ Some run →
       reverse parts.items ≡ record { frames = waiting; code = below } ∷ parts_of old →
       IsBelow old last → BeginsIn (onward_of last (stack old.frames)) n run state p →
-      GoesOn (handed.Begins n) (record { frames = frames; code = code; parts = parts }) state p
+      GoesOn (handed.Begins n) (record old { frames = frames; code = code; parts = parts }) state p
   enters_over old waiting below frames code parts run n state last waits was none is put lies on =
       record {
         last = on.onward;

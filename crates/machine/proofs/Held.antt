@@ -18,9 +18,9 @@ use Rattle.state.specs.Prelude.{Course, gives, Gives, Status}
 use Rattle.plan.proofs.Joined.{associates}
 use Rattle.plan.specs.Plan.{onward}
 use Rattle.state.specs.Evaluated.{evaluated}
-use Rattle.state.specs.Nesting as nests
+use Rattle.nesting.specs.Nesting as nests
 use Rattle.state.specs.declared.leaf.Leaf.TheVariants as at_hand
-use Rattle.state.specs.declared.nesting.Nesting.TheVariants as nesting
+use Rattle.nesting.specs.declared.Nesting.TheVariants as nesting
 use Rattle.state.specs.declared.outcome.Leave.{Leave}
 use Rattle.state.specs.declared.state.State.{State}
 

@@ -1,6 +1,6 @@
 -- Turns of expect under frames.
 use Rattle.std.proofs.Common.{◌≡◌, ℕ, List, [], ◌∷◌, Box, sym, ap}
-use Rattle.code.specs.ScriptTree.{ScriptTree}
+use Rattle.tclparse.specs.ScriptTree.{ScriptTree}
 use Rattle.code.specs.declared.made.Entry.TheVariants as entry
 use Rattle.code.specs.declared.made.Made.TheVariants as made
 use Rattle.machine.specs.Frames.{Onward, left_of}

@@ -77,8 +77,15 @@ fn settle<A: Allocator + Copy, T: Watch<A, Running<A>, State<A>, Leaf<A, Waits<A
             Handed::Has(next) => return Ok(Settled::Has(next)),
             Handed::Begins(next) => next,
         };
-        watch.stands(running, state);
-        let leaf = start(alloc, &mut running.frames, state, next, watch)?;
+        watch.stands(running);
+        let leaf = start(
+            alloc,
+            &mut running.frames,
+            &mut running.parsed,
+            state,
+            next,
+            watch,
+        )?;
         watch.leads(running, state, &leaf);
         match leaf {
             Leaf::Asks(act, waits) => return Ok(Settled::Stands(Phase::Asks(act, waits))),

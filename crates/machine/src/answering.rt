@@ -18,6 +18,7 @@ use crate::turns::talk;
 use crate::waits::{Waits, plainly};
 use crate::watch::Watch;
 use acts::{Act, Answer, NoMemory, fits};
+use kept::Kept;
 use state::{Leaf, Leave, State, Stop};
 use std::alloc::Allocator;
 
@@ -93,7 +94,8 @@ fn answered<A: Allocator + Copy, T: Watch<A, Running<A>, State<A>, Leaf<A, Waits
         let stopped = Err(Leave::Stopped(Stop::BadAnswer));
         return advance(alloc, running, state, answers, stopped, watch);
     }
-    let leaf = go_on(alloc, &mut running.frames, state, act, waits, answer)?;
+    let kept = &mut running.parsed.scripts;
+    let leaf = go_on(alloc, &mut running.frames, kept, state, act, waits, answer)?;
     watch.leads(running, state, &leaf);
     match leaf {
         Leaf::Has(outcome) => advance(alloc, running, state, answers, outcome, watch),
@@ -105,6 +107,7 @@ fn answered<A: Allocator + Copy, T: Watch<A, Running<A>, State<A>, Leaf<A, Waits
 fn go_on<A: Allocator + Copy>(
     alloc: A,
     frames: &mut Vec<Frame<A>, A>,
+    kept: &mut Kept<A>,
     state: &mut State<A>,
     act: Act<A>,
     waits: Waits<A>,
@@ -120,8 +123,8 @@ fn go_on<A: Allocator + Copy>(
             Ok(plainly(leaf))
         }
         Waits::Turn(waits) => {
-            let came = expects::waiting::answered(alloc, state, act, waits, answer)?;
-            talk(alloc, frames, state, came)
+            let came = expects::waiting::answered(alloc, kept, state, act, waits, answer)?;
+            talk(alloc, frames, kept, state, came)
         }
     }
 }

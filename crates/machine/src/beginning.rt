@@ -11,7 +11,6 @@ ghost use Rattle.tclstate.specs.Scopes.{Text, scopes as scopes_of};
 use acts::{Limits, NoMemory};
 use dialog::{KeptBranches, LogState};
 use itoa::Buffer;
-use kept::{Arguments, Kept, KeptFormulas};
 use state::{Ids, State};
 use std::alloc::Allocator;
 use tclstate::{Procs, ScopeError, Scopes};
@@ -36,9 +35,6 @@ pub fn beginning<A: Allocator + Copy>(
             all: false,
         },
         left: limits.ticks,
-        kept: Kept::new(alloc),
-        formulas: KeptFormulas::new(alloc),
-        arguments: Arguments::new(alloc),
         branches: KeptBranches::new(alloc),
     })
 }

@@ -1,10 +1,12 @@
 //! The frames of a session: each says what is done next with the outcome of the part within it.
 
-ghost use Rattle.std.specs.Prelude.{◌≡◌, [], ◌∷◌, OnOk, MatchOption};
+ghost use Rattle.std.specs.Prelude.{◌≡◌, [], ◌∷◌, IfOk, OnOk, MatchOption};
+ghost use Rattle.code.specs.declared.made.Entry.TheVariants as entries;
 ghost use Rattle.machine.specs.Frames.{stack};
+ghost use Rattle.machine.specs.declared.frame.Frame.TheVariants as frame;
 
 use acts::NoMemory;
-use code::Entry;
+use code::{Entry, Made};
 use control::Held;
 use expects::turn::Turn;
 use std::alloc::Allocator;
@@ -36,4 +38,19 @@ impl<A: Allocator> Frame<A> {
     {
         frames.pop()
     }
+}
+
+/// Puts a script or a formula on the stack, above the frame that takes its outcome.
+pub(crate) fn put_above<A: Allocator>(
+    frames: &mut Vec<Frame<A>, A>,
+    it: Made<A>,
+    levels: u8,
+    under: Frame<A>,
+) -> Result<(), NoMemory>
+    ensures { IfOk result (λ _.
+        stack frames.new ≡ frame.Code (entries.Made it) levels ∷ under ∷ stack frames.old) }
+{
+    under.push(frames)?;
+    Frame::Code(Entry::Made(it), levels).push(frames)?;
+    Ok(())
 }

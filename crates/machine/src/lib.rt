@@ -8,7 +8,6 @@ pub mod beginning;
 mod closing;
 mod end;
 pub mod frame;
-mod nesting;
 mod phase;
 pub mod running;
 mod starting;

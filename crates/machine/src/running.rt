@@ -16,6 +16,7 @@ use crate::waits::Waits;
 use crate::watch::Watch;
 use acts::NoMemory;
 use code::{CodedScript, Entry, Made};
+use kept::{Kept, Parsed};
 use state::{Leaf, Outcome, State};
 use std::alloc::Allocator;
 use std::mem;
@@ -43,6 +44,8 @@ pub struct Running<A: Allocator> {
     pub code: Option<Run<A>>,
     /// What waits for this code, the last one first.
     pub parts: Vec<Part<A>, A>,
+    /// What the texts that were read last say.
+    pub parsed: Parsed<A>,
 }
 
 impl<A: Allocator> Drop for Running<A> {
@@ -51,6 +54,7 @@ impl<A: Allocator> Drop for Running<A> {
             frames: _,
             code: _,
             parts: _,
+            parsed: _,
         } = self;
     }
 }
@@ -102,6 +106,7 @@ impl<A: Allocator + Copy> Running<A> {
             frames: Vec::new(alloc),
             code: Some(run),
             parts: Vec::new(alloc),
+            parsed: Parsed::new(alloc),
         })
     }
 }
@@ -160,7 +165,13 @@ fn hand_once<A: Allocator + Copy, T: Watch<A, Running<A>, State<A>, Leaf<A, Wait
         Falls handed running.old running.new) }
     ensures watched { T.told watch.old [] watch.new }
 {
-    match unwind(alloc, &mut running.frames, state, outcome)? {
+    match unwind(
+        alloc,
+        &mut running.frames,
+        &mut running.parsed,
+        state,
+        outcome,
+    )? {
         Unwound::Begins(next) => Ok(Handed::Begins(next)),
         Unwound::Enters(it, levels, value) => {
             Ok(enter(alloc, running, state, it, levels, value, watch)?)
@@ -190,7 +201,14 @@ fn enter<A: Allocator + Copy, T: Watch<A, Running<A>, State<A>, Leaf<A, Waits<A>
     ensures watched { T.told watch.old [] watch.new }
 {
     let mut run = Run::begin(alloc, it, levels);
-    match go_on(alloc, &mut run, state, Ok(value), watch)? {
+    match go_on(
+        alloc,
+        &mut run,
+        &running.parsed.scripts,
+        state,
+        Ok(value),
+        watch,
+    )? {
         Handed::Begins(next) => {
             let frames = mem::replace(&mut running.frames, Vec::new(alloc));
             let code = mem::replace(&mut running.code, Some(run));
@@ -225,7 +243,7 @@ fn hand_down<A: Allocator + Copy, T: Watch<A, Running<A>, State<A>, Leaf<A, Wait
     let Some(run) = &mut running.code else {
         return Ok(running.end_part(outcome));
     };
-    match go_on(alloc, run, state, outcome, watch)? {
+    match go_on(alloc, run, &running.parsed.scripts, state, outcome, watch)? {
         Handed::Has(last) => Ok(running.end_part(last)),
         Handed::Begins(next) => Ok(Handed::Begins(next)),
         Handed::Over(last) => Ok(Handed::Over(last)),
@@ -236,6 +254,7 @@ fn hand_down<A: Allocator + Copy, T: Watch<A, Running<A>, State<A>, Leaf<A, Wait
 fn go_on<A: Allocator + Copy, T: Watch<A, Running<A>, State<A>, Leaf<A, Waits<A>>>>(
     alloc: A,
     run: &mut Run<A>,
+    kept: &Kept<A>,
     state: &mut State<A>,
     outcome: Outcome<A>,
     watch: &mut T,
@@ -263,7 +282,7 @@ fn go_on<A: Allocator + Copy, T: Watch<A, Running<A>, State<A>, Leaf<A, Waits<A>
         }
         Progress::Over => {
             let outcome = mem::replace(&mut run.spot.outcome, Ok(Value::empty()));
-            watch.ends(&run.code, run.spot.place, state, &outcome);
+            watch.ends(&run.code, run.spot.place, kept, &outcome);
             Ok(Handed::Has(outcome))
         }
         // It never stops otherwise: no code lacks an operand.

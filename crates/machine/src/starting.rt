@@ -19,13 +19,12 @@ ghost use Rattle.machine.specs.Waiting.{again_in};
 ghost use Rattle.machine.specs.declared.frame.Frame as framed;
 ghost use Rattle.runs.specs.Commands.{command, other_command};
 ghost use Rattle.state.specs.Budget.{again_of};
-ghost use Rattle.state.specs.Nesting.{course_of as course_of_nesting};
+ghost use Rattle.nesting.specs.Nesting.{course_of as course_of_nesting};
 ghost use Rattle.state.specs.declared.leaf.Leaf.TheVariants as leaf;
 ghost use Rattle.state.specs.declared.state.State as stated;
 ghost use Rattle.tclstate.specs.Pairs.{found};
 
-use crate::frame::Frame;
-use crate::nesting::put_above;
+use crate::frame::{Frame, put_above};
 use crate::running::Running;
 use crate::turns::{say, take_turn, wait};
 use crate::waits::{Waits, plainly};
@@ -35,7 +34,9 @@ use commands::{Acting, Began};
 use control::{Control, Held};
 use expects::form::Form;
 use expects::turn::Turn;
-use state::{Leaf, Nesting, Outcome, State};
+use kept::{Kept, Parsed};
+use nesting::Nesting;
+use state::{Leaf, Outcome, State};
 use std::alloc::Allocator;
 use tcltext::Value;
 
@@ -81,6 +82,7 @@ pub enum Begun<A: Allocator> {
 pub(crate) fn start<A: Allocator + Copy, T: Watch<A, Running<A>, State<A>, Leaf<A, Waits<A>>>>(
     alloc: A,
     frames: &mut Vec<Frame<A>, A>,
+    parsed: &mut Parsed<A>,
     state: &mut State<A>,
     next: Next<A>,
     watch: &mut T,
@@ -93,9 +95,9 @@ pub(crate) fn start<A: Allocator + Copy, T: Watch<A, Running<A>, State<A>, Leaf<
     ensures watched { T.told watch.old [] watch.new }
     ensures left { state.new.left ≤ state.old.left }
 {
-    match begin_next(alloc, frames, state, next, watch)? {
+    match begin_next(alloc, frames, parsed, state, next, watch)? {
         Begun::Has(outcome) => Ok(Leaf::Has(outcome)),
-        Begun::Asks(asking) => ask(alloc, frames, state, asking),
+        Begun::Asks(asking) => ask(alloc, frames, parsed, state, asking),
     }
 }
 
@@ -103,6 +105,7 @@ pub(crate) fn start<A: Allocator + Copy, T: Watch<A, Running<A>, State<A>, Leaf<
 fn begin_next<A: Allocator + Copy, T: Watch<A, Running<A>, State<A>, Leaf<A, Waits<A>>>>(
     alloc: A,
     frames: &mut Vec<Frame<A>, A>,
+    parsed: &mut Parsed<A>,
     state: &mut State<A>,
     next: Next<A>,
     watch: &mut T,
@@ -116,7 +119,7 @@ fn begin_next<A: Allocator + Copy, T: Watch<A, Running<A>, State<A>, Leaf<A, Wai
     ensures left { state.new.left ≤ state.old.left }
 {
     match next {
-        Next::Call(words, levels) => call(alloc, frames, state, words, levels, watch),
+        Next::Call(words, levels) => call(alloc, frames, parsed, state, words, levels, watch),
         Next::Says(words, levels) => Ok(give(words, levels)),
         Next::Turn(turn) => Ok(Begun::Asks(Asking::Turn(turn))),
         Next::Again => Ok(Begun::Has(Ok(Value::empty()))),
@@ -143,6 +146,7 @@ fn give<A: Allocator>(words: Vec<Value<A>, A>, levels: u8) -> Begun<A>
 fn call<A: Allocator + Copy, T: Watch<A, Running<A>, State<A>, Leaf<A, Waits<A>>>>(
     alloc: A,
     frames: &mut Vec<Frame<A>, A>,
+    parsed: &mut Parsed<A>,
     state: &mut State<A>,
     words: Vec<Value<A>, A>,
     levels: u8,
@@ -160,7 +164,7 @@ fn call<A: Allocator + Copy, T: Watch<A, Running<A>, State<A>, Leaf<A, Waits<A>>
         return Ok(Begun::Has(Ok(Value::empty())));
     }
     watch.begins(words.as_slice());
-    match call_control(alloc, frames, state, words.as_slice(), levels)? {
+    match call_control(alloc, frames, parsed, state, words.as_slice(), levels)? {
         Some(outcome) => Ok(Begun::Has(outcome)),
         None => call_other(alloc, state, words, levels),
     }
@@ -171,6 +175,7 @@ fn call<A: Allocator + Copy, T: Watch<A, Running<A>, State<A>, Leaf<A, Waits<A>>
 fn call_control<A: Allocator + Copy>(
     alloc: A,
     frames: &mut Vec<Frame<A>, A>,
+    parsed: &mut Parsed<A>,
     state: &mut State<A>,
     words: &[Value<A>],
     levels: u8,
@@ -191,11 +196,15 @@ fn call_control<A: Allocator + Copy>(
         return Ok(None);
     };
     let name = name.as_slice();
-    if let Some(outcome) = call_procedure(alloc, frames, state, name, args, levels)? {
+    let kept = &mut parsed.scripts;
+    if let Some(outcome) = call_procedure(alloc, frames, kept, state, name, args, levels)? {
         return Ok(Some(outcome));
     }
     match Control::read(name) {
-        Some(control) => Ok(Some(begin_control(alloc, frames, state, control, args, levels)?)),
+        Some(control) => {
+            let outcome = begin_control(alloc, frames, parsed, state, control, args, levels)?;
+            Ok(Some(outcome))
+        }
         None => Ok(None),
     }
 }
@@ -205,6 +214,7 @@ fn call_control<A: Allocator + Copy>(
 fn call_procedure<A: Allocator + Copy>(
     alloc: A,
     frames: &mut Vec<Frame<A>, A>,
+    kept: &mut Kept<A>,
     state: &mut State<A>,
     name: &[u8],
     args: &[Value<A>],
@@ -223,7 +233,7 @@ fn call_procedure<A: Allocator + Copy>(
     ensures left { state.new.left ≤ state.old.left }
 {
     match state.procs.get(name) {
-        Some(_) => enter_procedure(alloc, frames, state, name, args, levels),
+        Some(_) => enter_procedure(alloc, frames, kept, state, name, args, levels),
         None => Ok(None),
     }
 }
@@ -233,6 +243,7 @@ fn call_procedure<A: Allocator + Copy>(
 fn enter_procedure<A: Allocator + Copy>(
     alloc: A,
     frames: &mut Vec<Frame<A>, A>,
+    kept: &mut Kept<A>,
     state: &mut State<A>,
     name: &[u8],
     args: &[Value<A>],
@@ -250,7 +261,7 @@ fn enter_procedure<A: Allocator + Copy>(
     ensures kept { IfOk result (λ called. IfNone called (stack frames.new ≡ stack frames.old)) }
     ensures left { state.new.left ≤ state.old.left }
 {
-    match control::call(alloc, state, name, args, levels)? {
+    match control::call(alloc, kept, state, name, args, levels)? {
         Some(nesting) => Ok(Some(hold(frames, nesting)?)),
         None => Ok(None),
     }
@@ -261,6 +272,7 @@ fn enter_procedure<A: Allocator + Copy>(
 fn begin_control<A: Allocator + Copy>(
     alloc: A,
     frames: &mut Vec<Frame<A>, A>,
+    parsed: &mut Parsed<A>,
     state: &mut State<A>,
     control: Control,
     args: &[Value<A>],
@@ -275,7 +287,7 @@ fn begin_control<A: Allocator + Copy>(
         ≤ 1 + load (stack frames.old) state.old) }
     ensures left { state.new.left ≤ state.old.left }
 {
-    let nesting = control::begin(alloc, state, control, args, levels)?;
+    let nesting = control::begin(alloc, parsed, state, control, args, levels)?;
     hold(frames, nesting)
 }
 
@@ -326,6 +338,7 @@ fn call_plain<A: Allocator + Copy>(
 fn ask<A: Allocator + Copy>(
     alloc: A,
     frames: &mut Vec<Frame<A>, A>,
+    parsed: &mut Parsed<A>,
     state: &mut State<A>,
     asking: Asking<A>,
 ) -> Result<Leaf<A, Waits<A>>, NoMemory>
@@ -342,12 +355,29 @@ fn ask<A: Allocator + Copy>(
             Ok(plainly(leaf))
         }
         Asking::Branching(form, words, levels) => {
-            wait(alloc, frames, state, form, behind(words.as_slice()), levels)
+            wait(
+                alloc,
+                frames,
+                parsed,
+                state,
+                form,
+                behind(words.as_slice()),
+                levels,
+            )
         }
         Asking::Branches(form, words, levels) => {
-            say(alloc, frames, state, form, behind(words.as_slice()), levels)
+            let kept = &mut parsed.scripts;
+            say(
+                alloc,
+                frames,
+                kept,
+                state,
+                form,
+                behind(words.as_slice()),
+                levels,
+            )
         }
-        Asking::Turn(turn) => take_turn(alloc, frames, state, turn),
+        Asking::Turn(turn) => take_turn(alloc, frames, &mut parsed.scripts, state, turn),
     }
 }
 

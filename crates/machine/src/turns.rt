@@ -12,8 +12,7 @@ ghost use Rattle.expects.specs.View.{IsPlain, IsPlainOpening, course_of_opening,
 ghost use Rattle.state.specs.Leaf.{course_of};
 ghost use Rattle.state.specs.Words.{words as meant_words};
 
-use crate::frame::Frame;
-use crate::nesting::put_above;
+use crate::frame::{Frame, put_above};
 use crate::waits::Waits;
 use acts::NoMemory;
 use code::{CodedArgument, Entry, Made};
@@ -21,6 +20,7 @@ use expects::expect::{begin, by_words};
 use expects::form::Form;
 use expects::turn::{Begun, Opening, Talk, Turn, Turned};
 use expects::turning::turn as turn_of_it;
+use kept::{Kept, Parsed};
 use state::leaf::{empty, gives};
 use state::{Leaf, State};
 use std::alloc::Allocator;
@@ -31,6 +31,7 @@ use tcltext::Value;
 pub fn wait<A: Allocator + Copy>(
     alloc: A,
     frames: &mut Vec<Frame<A>, A>,
+    parsed: &mut Parsed<A>,
     state: &mut State<A>,
     form: Form,
     args: &[Value<A>],
@@ -43,8 +44,8 @@ pub fn wait<A: Allocator + Copy>(
         ≤ 1 + load (stack frames.old) state.old) }
     ensures left { state.new.left ≤ state.old.left }
 {
-    match begin(alloc, state, form, args, levels)? {
-        Begun::Opens(opening) => open(alloc, frames, state, opening),
+    match begin(alloc, &mut parsed.arguments, state, form, args, levels)? {
+        Begun::Opens(opening) => open(alloc, frames, &mut parsed.scripts, state, opening),
         Begun::Gathers(words, form) => gather(alloc, frames, words, form, levels),
     }
 }
@@ -73,6 +74,7 @@ fn gather<A: Allocator + Copy>(
 pub fn say<A: Allocator + Copy>(
     alloc: A,
     frames: &mut Vec<Frame<A>, A>,
+    kept: &mut Kept<A>,
     state: &mut State<A>,
     form: Form,
     words: &[Value<A>],
@@ -86,13 +88,14 @@ pub fn say<A: Allocator + Copy>(
     ensures left { state.new.left ≤ state.old.left }
 {
     let opening = by_words(alloc, state, form, words, levels)?;
-    open(alloc, frames, state, opening)
+    open(alloc, frames, kept, state, opening)
 }
 
 /// Begins the turn of an opening, if it has one, and else gives its outcome.
 fn open<A: Allocator + Copy>(
     alloc: A,
     frames: &mut Vec<Frame<A>, A>,
+    kept: &mut Kept<A>,
     state: &mut State<A>,
     opening: Opening<A>,
 ) -> Result<Leaf<A, Waits<A>>, NoMemory>
@@ -106,7 +109,7 @@ fn open<A: Allocator + Copy>(
 {
     match opening {
         Opening::Has(outcome) => Ok(Leaf::Has(outcome)),
-        Opening::Turns(turn) => take_turn(alloc, frames, state, turn),
+        Opening::Turns(turn) => take_turn(alloc, frames, kept, state, turn),
     }
 }
 
@@ -115,6 +118,7 @@ fn open<A: Allocator + Copy>(
 pub fn take_turn<A: Allocator + Copy>(
     alloc: A,
     frames: &mut Vec<Frame<A>, A>,
+    kept: &mut Kept<A>,
     state: &mut State<A>,
     turn: Box<Turn<A>, A>,
 ) -> Result<Leaf<A, Waits<A>>, NoMemory>
@@ -125,7 +129,7 @@ pub fn take_turn<A: Allocator + Copy>(
         ≤ load (stack frames.old) state.old) }
     ensures left { state.new.left ≤ state.old.left }
 {
-    let turned = turn_of_it(alloc, state, turn)?;
+    let turned = turn_of_it(alloc, kept, state, turn)?;
     settle(frames, turned)
 }
 
@@ -133,6 +137,7 @@ pub fn take_turn<A: Allocator + Copy>(
 pub fn talk<A: Allocator + Copy>(
     alloc: A,
     frames: &mut Vec<Frame<A>, A>,
+    kept: &mut Kept<A>,
     state: &mut State<A>,
     talk: Talk<A>,
 ) -> Result<Leaf<A, Waits<A>>, NoMemory>
@@ -142,7 +147,7 @@ pub fn talk<A: Allocator + Copy>(
 {
     match talk {
         Talk::Turned(turned) => settle(frames, turned),
-        Talk::Turns(turn) => take_turn(alloc, frames, state, turn),
+        Talk::Turns(turn) => take_turn(alloc, frames, kept, state, turn),
     }
 }
 

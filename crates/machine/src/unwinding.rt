@@ -14,15 +14,16 @@ ghost use Rattle.state.specs.Budget.{again_of};
 ghost use Rattle.state.specs.declared.state.State as stated;
 ghost use Rattle.steps.specs.Run.{branches_in};
 
-use crate::frame::Frame;
-use crate::nesting::put_above;
+use crate::frame::{Frame, put_above};
 use crate::starting::Next;
 use acts::NoMemory;
 use code::Entry;
 use control::Held;
 use expects::resuming::resumed;
 use expects::turn::{Opening, Turn};
-use state::{Nesting, Outcome, State};
+use kept::Parsed;
+use nesting::Nesting;
+use state::{Outcome, State};
 use std::alloc::Allocator;
 use tcltext::Value;
 
@@ -41,6 +42,7 @@ pub enum Unwound<A: Allocator> {
 pub(crate) fn unwind<A: Allocator + Copy>(
     alloc: A,
     frames: &mut Vec<Frame<A>, A>,
+    parsed: &mut Parsed<A>,
     state: &mut State<A>,
     mut outcome: Outcome<A>,
 ) -> Result<Unwound<A>, NoMemory>
@@ -59,7 +61,7 @@ pub(crate) fn unwind<A: Allocator + Copy>(
         let Some(frame) = Frame::pop(frames) else {
             return Ok(Unwound::Has(outcome));
         };
-        match resume(alloc, frames, state, frame, outcome)? {
+        match resume(alloc, frames, parsed, state, frame, outcome)? {
             Unwound::Has(next) => outcome = next,
             Unwound::Begins(next) => return Ok(Unwound::Begins(next)),
             Unwound::Enters(it, levels, value) => {
@@ -73,6 +75,7 @@ pub(crate) fn unwind<A: Allocator + Copy>(
 fn resume<A: Allocator + Copy>(
     alloc: A,
     frames: &mut Vec<Frame<A>, A>,
+    parsed: &mut Parsed<A>,
     state: &mut State<A>,
     frame: Frame<A>,
     outcome: Outcome<A>,
@@ -89,7 +92,7 @@ fn resume<A: Allocator + Copy>(
 {
     match frame {
         Frame::Code(it, levels) => Ok(code_on(it, levels, outcome)),
-        Frame::Held(held) => held_on(alloc, frames, state, held, outcome),
+        Frame::Held(held) => held_on(alloc, frames, parsed, state, held, outcome),
         Frame::Turn(turn) => turn_on(alloc, frames, state, turn, outcome),
     }
 }
@@ -139,6 +142,7 @@ fn turn_on<A: Allocator + Copy>(
 fn held_on<A: Allocator + Copy>(
     alloc: A,
     frames: &mut Vec<Frame<A>, A>,
+    parsed: &mut Parsed<A>,
     state: &mut State<A>,
     held: Held<A>,
     outcome: Outcome<A>,
@@ -153,7 +157,7 @@ fn held_on<A: Allocator + Copy>(
     ensures left { state.new.left ≤ state.old.left }
 {
     let left = state.left;
-    let nesting = control::resumed(alloc, state, held, outcome)?;
+    let nesting = control::resumed(alloc, parsed, state, held, outcome)?;
     match nesting {
         Nesting::Has(outcome) => Ok(Unwound::Has(outcome)),
         Nesting::Runs(it, levels, held) => {

@@ -2,6 +2,7 @@
 
 use acts::{Act, Answer};
 use code::Instruction;
+use kept::Kept;
 use state::Outcome;
 use std::alloc::Allocator;
 use std::rc::Rc;
@@ -24,7 +25,7 @@ pub trait Watch<A: Allocator, R, S, L> {
 
     /// Something begins next, and this is what the session has still to do. Who watches is told of
     /// no command that is over at once.
-    fn stands(&mut self, running: &R, state: &S)
+    fn stands(&mut self, running: &R)
         ensures { told self.old [] self.new };
 
     /// A command begins with these words, all substituted.
@@ -42,12 +43,13 @@ pub trait Watch<A: Allocator, R, S, L> {
     fn leads(&mut self, running: &R, state: &S, leaf: &L)
         ensures { told self.old [] self.new };
 
-    /// This code has ended right before this place, with this outcome.
+    /// This code has ended right before this place, with this outcome; these scripts are kept by
+    /// their texts.
     fn ends(
         &mut self,
         code: &Rc<Vec<Instruction<A>, A>, A>,
         place: usize,
-        state: &S,
+        kept: &Kept<A>,
         outcome: &Outcome<A>,
     )
         ensures { told self.old [] self.new };
@@ -82,7 +84,7 @@ impl<A: Allocator, R, S, L> Watch<A, R, S, L> for Unwatched {
     fn starts(&mut self, _script: &[u8], _args: &[Vec<u8, A>]) {}
 
     #[inline(always)]
-    fn stands(&mut self, _running: &R, _state: &S) {}
+    fn stands(&mut self, _running: &R) {}
 
     #[inline(always)]
     fn begins(&mut self, _words: &[Value<A>]) {}
@@ -98,7 +100,7 @@ impl<A: Allocator, R, S, L> Watch<A, R, S, L> for Unwatched {
         &mut self,
         _code: &Rc<Vec<Instruction<A>, A>, A>,
         _place: usize,
-        _state: &S,
+        _kept: &Kept<A>,
         _outcome: &Outcome<A>,
     ) {}
 

@@ -1,5 +1,5 @@
 -- The two states fit again where one part of both has changed.
-use Rattle.std.proofs.Common.{ℕ, List, refl}
+use Rattle.std.proofs.Common.{ℕ, refl}
 use Rattle.choices.specs.declared.log_state.LogState.{LogState}
 use Rattle.state.specs.Ids as definition
 use Rattle.state.specs.Prelude.{Status, FitsState, Scopes}
@@ -61,14 +61,4 @@ module _ {A : Type 0} (state : State A) (s : Status) (fits : FitsState state s) 
     ids = fits.ids;
     log = fits.log;
     left = refl;
-  }
-
-  -- the scripts that are kept
-  pub kept_fits : (kept : List (List ℕ)) → FitsState (record state { kept = kept }) s
-  kept_fits kept = record {
-    scopes = fits.scopes;
-    procedures = fits.procedures;
-    ids = fits.ids;
-    log = fits.log;
-    left = fits.left;
   }

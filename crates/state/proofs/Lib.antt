@@ -8,7 +8,7 @@ pub mod Fits
 pub mod Reaches
 pub mod Closed
 pub mod Words
-pub mod Nestings
+pub mod Inside
 pub mod Refused
 pub mod Numbers
 pub mod Shown

@@ -2,11 +2,9 @@
 -- where it holds of all that may follow them.
 use Rattle.std.proofs.Common.{◌≡◌, ◌∙◌, ℕ, ◌++◌, List, [], ◌∷◌, Bool, true, false, Some, None, append_assoc, refl, sym, ap}
 use Rattle.std.proofs.lemmas.List.{append-nil}
-use Rattle.code.specs.Code.{literals}
-use Rattle.code.specs.Switch.{texts_then}
 use Rattle.state.proofs.Closed.{Closed, inside_closed, listed_closed, reads_closed, value_closed}
 use Rattle.state.specs.Prelude.{Course, on_value, Status}
-use Rattle.tclparse.specs.Tree.{Commands, Parts, no_parts, byte, variable, element, script, Words, no_words, word, bytes_then}
+use Rattle.tclparse.specs.Tree.{Commands, Parts, no_parts, byte, variable, element, script, Words, no_words, word, bytes_then, literals, texts_then}
 use Rattle.state.specs.Words.{nested, parts, expanded, words}
 
 -- bytes of a word go after those before them

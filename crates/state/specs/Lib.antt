@@ -13,7 +13,6 @@ pub mod Rows
 pub mod Placed
 pub mod View
 pub mod Leaf
-pub mod Nesting
 pub mod Cut
 pub mod Behaves
 pub mod Budget

@@ -1,7 +1,7 @@
 -- The pieces of a run, and the texts that are read on its way.
 use Rattle.std.specs.Prelude.{◌↔◌, ℕ, ℤ, List, Option, Bool, IsTrue, Result}
 use Rattle.acts.specs.declared.act.Timer.{Timer}
-pub use Rattle.code.specs.ScriptTree.{ScriptTree}
+pub use Rattle.tclparse.specs.ScriptTree.{ScriptTree}
 use Rattle.choices.specs.Branches.{Pair}
 use Rattle.choices.specs.Choice.{Chosen, Chooses}
 use Rattle.choices.specs.Lines.{Line}

@@ -13,7 +13,6 @@ pub use Rattle.choices.specs.Peers.{Peer}
 pub use Rattle.state.specs.Behaves.{Behaves, worth}
 pub use Rattle.state.specs.Dialogue.{Course, Dialogue, ask, gives, inside, leaves, on_value, raises, stops, within}
 pub use Rattle.state.specs.Leaf.{Shows}
-pub use Rattle.state.specs.Nesting.{Nests}
 pub use Rattle.state.specs.Outcome.{Again, AgainRunning, Break, Code, Continue, Error, Gives, Leaves, Outcome, Return, Stops}
 pub use Rattle.state.specs.Piece.{IsTree, ListText, LoopTree, ScriptText, ScriptTree, TurnTree}
 pub use Rattle.state.specs.Reaches.{Reaches, here}

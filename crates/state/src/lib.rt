@@ -5,7 +5,6 @@ pub mod arguments;
 pub mod faults;
 pub mod ids;
 pub mod leaf;
-pub mod nesting;
 pub mod outcome;
 pub mod size;
 pub mod state;
@@ -14,7 +13,6 @@ pub mod variables;
 
 pub use ids::{Ids, Unreaped};
 pub use leaf::Leaf;
-pub use nesting::Nesting;
 pub use outcome::{Code, Leave, Outcome, Stop};
 pub use size::Size;
 pub use state::State;

@@ -2,7 +2,6 @@
 
 use crate::ids::Ids;
 use dialog::{KeptBranches, LogState};
-use kept::{Arguments, Kept, KeptFormulas};
 use std::alloc::Allocator;
 use tclstate::{Procs, Scopes};
 
@@ -18,15 +17,8 @@ pub struct State<A: Allocator> {
     pub log: LogState,
     /// The ticks that are left.
     pub left: u64,
-    /// The scripts that ran last within others. They say nothing that the texts of these scripts do
-    /// not, so the definition has no such field.
-    pub kept: Kept<A>,
-    /// The formulas that were read last, with their texts. They too say nothing that the texts do
-    /// not.
-    pub formulas: KeptFormulas<A>,
-    /// The arguments in braces that were read last, with their texts, of which the same is true.
-    pub arguments: Arguments<A>,
-    /// The branches that words said last, with the words, of which the same is true.
+    /// The branches that words said last, with the words. They say nothing that the words do not,
+    /// so the definition has no such field.
     pub branches: KeptBranches<A>,
 }
 
@@ -38,9 +30,6 @@ impl<A: Allocator> Drop for State<A> {
             ids: _,
             log: _,
             left: _,
-            kept: _,
-            formulas: _,
-            arguments: _,
             branches: _,
         } = self;
     }

@@ -1,6 +1,5 @@
 -- A word of a command that is being put together, as the proof sees it.
 use Rattle.std.specs.Prelude.{ℕ, List, [], ◌∷◌, ◌++◌, codes, Bool, true, false, Option, Some, None, reverse}
-use Rattle.code.specs.Code.{literals}
 use Rattle.code.specs.Switch.{words_before}
 use Rattle.code.specs.declared.options.Options.{Options}
 use Rattle.expects.specs.Expect.{by_name}
@@ -9,7 +8,7 @@ use Rattle.state.specs.Listed.{with_list}
 use Rattle.state.specs.Prelude.{Course, Status}
 use Rattle.state.specs.Variables.{reads}
 use Rattle.steps.specs.Operand.{Outer, operand_on, waiting}
-use Rattle.tclparse.specs.Tree.{Parts, Words, no_words}
+use Rattle.tclparse.specs.Tree.{Parts, Words, no_words, literals}
 use Rattle.state.specs.Words.{parts, words}
 
 -- an array whose index is open, and the word or the index around its element: the bytes before the

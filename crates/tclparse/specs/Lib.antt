@@ -1,6 +1,7 @@
 pub mod Fault
 pub mod Tree
 pub mod View
+pub mod ScriptTree
 pub mod Normal
 pub mod Context
 pub mod Gap

@@ -1,5 +1,5 @@
 -- The tree of a script, regardless of where it lies in memory.
-use Rattle.std.specs.Prelude.{ℕ, List, [], ◌∷◌, Bool}
+use Rattle.std.specs.Prelude.{ℕ, List, [], ◌∷◌, Bool, false}
 
 mutual
   -- a word's parts in order: bytes, variables, elements of arrays with their index, scripts
@@ -24,6 +24,16 @@ mutual
 abbrev pub bytes_then : List ℕ → Parts → Parts
 bytes_then [] ps = ps
 bytes_then (b ∷ bs) ps = byte b (bytes_then bs ps)
+
+-- words that are texts as they stand (Tcl(n), rule 6)
+abbrev pub literals : List (List ℕ) → Words
+literals [] = no_words
+literals (text ∷ texts) = word false (bytes_then text no_parts) (literals texts)
+
+-- texts as they stand, before other words (Tcl(n), rule 6)
+abbrev pub texts_then : List (List ℕ) → Words → Words
+texts_then [] ws = ws
+texts_then (text ∷ texts) ws = word false (bytes_then text no_parts) (texts_then texts ws)
 
 -- commands, and one more after them
 abbrev pub with_last : Commands → Words → Commands

@@ -7,7 +7,7 @@ use expects::turn::Turn;
 use kept::Kept;
 use machine::frame::Frame;
 use machine::{Run, Running};
-use state::{Code, Leave, Outcome, State};
+use state::{Code, Leave, Outcome};
 use std::alloc::Allocator;
 use std::rc::Rc;
 
@@ -34,15 +34,15 @@ impl<A: Allocator + Copy> Teller<A> {
     ///
     /// # Errors
     /// `NoMemory`.
-    pub fn stands(&mut self, running: &Running<A>, state: &State<A>) -> Result<(), NoMemory> {
+    pub fn stands(&mut self, running: &Running<A>) -> Result<(), NoMemory> {
         self.ended.clear();
         self.in_turn = has_turn(&running.frames);
         let mut count = 0;
         for part in &running.parts {
             self.in_turn = self.in_turn || has_turn(&part.frames);
-            count = self.wait_at(count, &part.code, &state.kept)?;
+            count = self.wait_at(count, &part.code, &running.parsed.scripts)?;
         }
-        count = self.wait_at(count, &running.code, &state.kept)?;
+        count = self.wait_at(count, &running.code, &running.parsed.scripts)?;
         self.waiting.truncate(count);
         Ok(())
     }
@@ -96,7 +96,7 @@ impl<A: Allocator + Copy> Teller<A> {
 
     /// Takes note that a code has ended right before a place, and with which outcome. Where that
     /// is an error, and it has waited there, it passes on the error that has ended the code within
-    /// it, if one has; else the error is its own.
+    /// it, if one has; else the error is its own. These scripts are kept by their texts.
     ///
     /// # Errors
     /// `NoMemory`.
@@ -104,7 +104,7 @@ impl<A: Allocator + Copy> Teller<A> {
         &mut self,
         code: &Rc<Vec<Instruction<A>, A>, A>,
         place: usize,
-        state: &State<A>,
+        kept: &Kept<A>,
         outcome: &Outcome<A>,
     ) -> Result<(), NoMemory> {
         let waited = self.take_waiting(code, place);
@@ -120,7 +120,7 @@ impl<A: Allocator + Copy> Teller<A> {
             None => Placed {
                 code: code.clone()?,
                 place,
-                text: self.kept_text(code, &state.kept)?,
+                text: self.kept_text(code, kept)?,
             },
         };
         self.ended.push(Ended { placed, with })?;

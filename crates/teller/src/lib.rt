@@ -21,6 +21,7 @@ mod wait;
 mod watching;
 
 pub use code::Instruction;
+pub use kept::Kept;
 pub use refusal::Refusal;
 pub use state::Outcome;
 pub use telling::{Detail, Teller};

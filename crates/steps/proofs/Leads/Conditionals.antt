@@ -3,7 +3,7 @@ use Rattle.std.proofs.Common.{◌≡◌, ◌∙◌, ℕ, ◌+◌, ◌≤◌, Lis
 use Rattle.std.proofs.lemmas.Slice.Eq.{bytes_eq-Decides}
 use Rattle.std.specs.Prelude.{slice_get}
 use Rattle.std.specs.Str.{bytes_eq}
-use Rattle.code.specs.Code.{At, CommandAt, by_words, own, foreach_loop, switched, direct, OwnAt, conditional, while_loop, for_loop, evaluated, valued, argued, BranchesAt, branch, BehindAt, no_else, at_last, else_if, IsBranch, without_then, with_then, IsLast, with_else, without_else, WordsAt, one, over, literals, caught, first as first_of, text as text_at}
+use Rattle.code.specs.Code.{At, CommandAt, by_words, own, foreach_loop, switched, direct, OwnAt, conditional, while_loop, for_loop, evaluated, valued, argued, BranchesAt, branch, BehindAt, no_else, at_last, else_if, IsBranch, without_then, with_then, IsLast, with_else, without_else, WordsAt, one, over, caught, first as first_of, text as text_at}
 use Rattle.code.specs.Argument.{is_braced, takes_branches}
 use Rattle.code.specs.Switch.{words_before}
 use Rattle.code.specs.declared.instruction.Instruction.{Instruction}
@@ -38,7 +38,7 @@ use Rattle.steps.proofs.Leads.Silent.{same_goes}
 use Rattle.steps.proofs.Leads.Standing.{by, silently, sooner, stands}
 use Rattle.steps.proofs.Leads.Words.{words_lead}
 use Rattle.steps.specs.Word.{Last, Listed, Switched}
-use Rattle.tclparse.specs.Tree.{Words, bytes_then, no_parts, no_words, word}
+use Rattle.tclparse.specs.Tree.{Words, bytes_then, no_parts, no_words, word, literals}
 use Rattle.tclstate.specs.Pairs.{found}
 use Rattle.tclstate.specs.Procs.{Procedure}
 use Rattle.state.specs.Words.{words}

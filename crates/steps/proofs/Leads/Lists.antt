@@ -2,7 +2,7 @@
 use Rattle.std.proofs.Common.{◌≡◌, ◌∙◌, ℕ, ◌+◌, ◌≤◌, List, [], ◌∷◌, codes, Option, Some, None, Ok, refl, sym, ap, subst, if◌then◌else◌}
 use Rattle.std.proofs.lemmas.Bool.{le-leb}
 use Rattle.bodies.proofs.Names.{names_good}
-use Rattle.code.specs.Code.{AreNames, DealAt, ForeachAt, literals, with_names}
+use Rattle.code.specs.Code.{AreNames, DealAt, ForeachAt, with_names}
 use Rattle.code.specs.declared.instruction.Instruction.{Instruction}
 use Rattle.code.specs.declared.instruction.Instruction.TheVariants as i
 use Rattle.plan.specs.Plan.{and_then, onward}
@@ -23,7 +23,7 @@ use Rattle.steps.proofs.Leads.Parts.{PartLeads, opened}
 use Rattle.steps.proofs.Leads.Resumed.{outcome_leads}
 use Rattle.steps.proofs.Leads.Silent.{same_goes}
 use Rattle.steps.proofs.Leads.Standing.{by, sooner, stands}
-use Rattle.tclparse.specs.Tree.{no_parts}
+use Rattle.tclparse.specs.Tree.{no_parts, literals}
 use Rattle.tclstate.specs.Pairs.{found}
 use Rattle.tclstate.specs.Procs.{Procedure}
 use Rattle.state.specs.Words.{words}

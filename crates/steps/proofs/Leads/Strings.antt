@@ -6,7 +6,7 @@ use Rattle.bodies.proofs.Choosing.{arms_tried}
 use Rattle.std.specs.Str.{bytes_eq}
 use Rattle.bodies.specs.Switch as definition
 use Rattle.bodies.specs.Switch.{Exact, Mode, behind_flag, chosen, left_over, on_flags, on_words, runs_body, switch, wrong_word}
-use Rattle.code.specs.Code.{ArmsAt, RestAt, SwitchAt, literals, no_match, otherwise, shares, some_arms, takes, with_arms}
+use Rattle.code.specs.Code.{ArmsAt, RestAt, SwitchAt, no_match, otherwise, shares, some_arms, takes, with_arms}
 use Rattle.code.specs.Switch.{AreArms, are_globs, of_list, of_words, option_words, words_before}
 use Rattle.code.specs.declared.instruction.Instruction.{Instruction}
 use Rattle.code.specs.declared.instruction.Instruction.TheVariants as i
@@ -32,7 +32,7 @@ use Rattle.steps.proofs.Leads.Parts.{PartLeads, opened}
 use Rattle.steps.proofs.Leads.Resumed.{outcome_leads}
 use Rattle.steps.proofs.Leads.Silent.{same_goes}
 use Rattle.steps.proofs.Leads.Standing.{by, sooner, stands}
-use Rattle.tclparse.specs.Tree.{no_parts}
+use Rattle.tclparse.specs.Tree.{no_parts, literals}
 use Rattle.tclstate.specs.Pairs.{found}
 use Rattle.tclstate.specs.Procs.{Procedure}
 use Rattle.state.specs.Words.{words}

@@ -3,8 +3,8 @@ use Rattle.acts.specs.Flaw as flaw
 use Rattle.state.specs.Prelude.{text_of, FitsState, Leaves, Error, Status}
 use Rattle.bodies.proofs.Calling.{call_refused, call_runs}
 use Rattle.bodies.specs.Calls as definition
-use Rattle.state.proofs.Fits.{kept_fits}
-use Rattle.state.proofs.Nestings.{nests_after, nests_from, over, text_reaches}
+use Rattle.nesting.proofs.Nestings.{nests_after, nests_from, over}
+use Rattle.state.proofs.Inside.{text_reaches}
 use Rattle.tclparse.specs.Grammar.{IsScript}
 use Rattle.tclstate.specs.Pairs.{found}
 use Rattle.tclstate.specs.Scopes.{entered}
@@ -61,6 +61,5 @@ returns-clause-called g c = λ s fits.
           (call_runs levels name procedure words s frame some)
           (nests_after definition.next_of c.run.new.state c.in_ok-run.field-0 _ _
           (text_reaches body levels procedure.body there definition.returned is)
-          (c.in_ok-run.ensures.nests s
-          (kept_fits state s still c.get-2.new.self)));
+          (c.in_ok-run.ensures.nests s still));
     }

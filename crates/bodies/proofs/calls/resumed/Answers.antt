@@ -2,7 +2,7 @@ use Rattle.std.proofs.Common.{◌∙◌, sym, ap}
 use Rattle.bodies.specs.Calls as definition
 use Rattle.state.specs.Prelude.{Ends, Course, outcome_of}
 use Rattle.state.proofs.Fits.{scopes_fit}
-use Rattle.state.proofs.Nestings.{over}
+use Rattle.nesting.proofs.Nestings.{over}
 use Rattle.tclstate.specs.Scopes.{popped}
 use Rattle.bodies.proofs.calls.resumed.Goals as goal
 

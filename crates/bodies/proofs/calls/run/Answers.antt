@@ -2,7 +2,8 @@ use Rattle.std.proofs.Common.{◌≡◌, ◌∙◌, suc, sym, ap, rules, arith}
 use Rattle.bodies.specs.Calls as definition
 use Rattle.bodies.proofs.Catching.{on_ok}
 use Rattle.state.proofs.Fits.{scopes_fit}
-use Rattle.state.proofs.Nestings.{inside_over, nests_from, script_nests}
+use Rattle.nesting.proofs.Nestings.{nests_from, script_nests}
+use Rattle.state.proofs.Inside.{inside_over}
 use Rattle.state.specs.Prelude.{inside, Status}
 use Rattle.tclstate.specs.Scopes.{entered}
 use Rattle.bodies.proofs.calls.run.Goals as goal

@@ -1,6 +1,6 @@
 use Rattle.std.proofs.Common.{Err, refl}
 use Rattle.bodies.specs.Catch as definition
-use Rattle.state.proofs.Nestings.{over}
+use Rattle.nesting.proofs.Nestings.{over}
 use Rattle.state.specs.Outcome.{Stops}
 use Rattle.state.specs.View.{stop_of}
 use Rattle.state.specs.declared.outcome.Leave.TheVariants as leave

@@ -3,7 +3,7 @@ use Rattle.acts.specs.Flaw as flaw
 use Rattle.state.specs.Prelude.{text_of, Leaves, Error}
 use Rattle.bodies.specs.Catch as definition
 use Rattle.bodies.proofs.Catching.{into_unnamed}
-use Rattle.state.proofs.Nestings.{over}
+use Rattle.nesting.proofs.Nestings.{over}
 use Rattle.tclparse.specs.Variable.{named}
 use Rattle.bodies.proofs.catch.run_into.Goals as goal
 

@@ -4,7 +4,7 @@ use Rattle.acts.specs.Flaw as flaw
 use Rattle.state.specs.Prelude.{text_of, gives, raised, Gives, Leaves, Error}
 use Rattle.bodies.specs.Catch as definition
 use Rattle.bodies.proofs.Catching.{stores_named, stores_none, stores_unnamed}
-use Rattle.state.proofs.Nestings.{over}
+use Rattle.nesting.proofs.Nestings.{over}
 use Rattle.tclparse.specs.Variable.{named}
 use Rattle.bodies.proofs.catch.store_in.Goals as goal
 

@@ -5,7 +5,7 @@ use Rattle.std.specs.Prelude.{codes}
 use Rattle.bodies.specs.Eval.{next_of}
 use Rattle.bodies.proofs.Catching.{on_ok}
 use Rattle.bodies.proofs.Evaluating.{eval_none, eval_some}
-use Rattle.state.proofs.Nestings.{nests_from, over}
+use Rattle.nesting.proofs.Nestings.{nests_from, over}
 use Rattle.bodies.proofs.eval.begin.Goals as goal
 
 pub returns-then-is_empty-clause-nests : goal.returns-then-is_empty-clause-nests

@@ -1,6 +1,6 @@
 use Rattle.std.proofs.Common.{refl}
 use Rattle.bodies.specs.Eval.{next_of}
-use Rattle.state.proofs.Nestings.{over}
+use Rattle.nesting.proofs.Nestings.{over}
 use Rattle.state.specs.View.{outcome_of}
 use Rattle.bodies.proofs.eval.resumed.Goals as goal
 

@@ -5,7 +5,7 @@ use Rattle.state.specs.Prelude.{text_of, Leaves, Error}
 use Rattle.bodies.proofs.Pairing.{foreach_other}
 use Rattle.bodies.specs.Foreach.{is_taken}
 use Rattle.bodies.specs.Looping.{next_of}
-use Rattle.state.proofs.Nestings.{over}
+use Rattle.nesting.proofs.Nestings.{over}
 use Rattle.bodies.proofs.foreach.begin.Goals as goal
 
 pub returns-then-not-is_taken-clause-nests : goal.returns-then-not-is_taken-clause-nests

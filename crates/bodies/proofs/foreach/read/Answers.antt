@@ -7,8 +7,7 @@ use Rattle.bodies.proofs.Catching.{on_ok}
 use Rattle.bodies.proofs.Pairing.{greater, most_behind, pairs_begin, pairs_body, pairs_wrong}
 use Rattle.bodies.specs.Foreach.{begins, most_asked, rows, turns, with_pairs}
 use Rattle.bodies.specs.Looping.{next_of, pair_of}
-use Rattle.state.proofs.Fits.{kept_fits}
-use Rattle.state.proofs.Nestings.{nests_after, over}
+use Rattle.nesting.proofs.Nestings.{nests_after, over}
 use Rattle.state.proofs.Reaches.{same_reaches, then_reaches}
 use Rattle.state.specs.Reaches.{reads}
 use Rattle.bodies.proofs.foreach.read.Goals as goal
@@ -97,4 +96,4 @@ returns-clause-nests g c = λ s fits.
     (same_reaches (ap (λ n. turns levels body (rows n pairs) s)
     (sym c.pairs.invariant.turns))))))
     nests)
-    (c.turn.ensures.nests s (kept_fits c.args.state.now s fits c.get.new.self))
+    (c.turn.ensures.nests s fits)

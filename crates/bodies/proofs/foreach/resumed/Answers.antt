@@ -1,7 +1,7 @@
 use Rattle.std.proofs.Common.{refl}
 use Rattle.bodies.proofs.Catching.{on_ok}
 use Rattle.bodies.specs.Looping.{next_of, turns_left}
-use Rattle.state.proofs.Nestings.{nests_from, over}
+use Rattle.nesting.proofs.Nestings.{nests_from, over}
 use Rattle.state.specs.View.{outcome_of}
 use Rattle.bodies.proofs.foreach.resumed.Goals as goal
 

@@ -5,7 +5,7 @@ use Rattle.bodies.specs.Foreach.{rows, turns}
 use Rattle.bodies.specs.Looping.{next_of, pair_of}
 use Rattle.state.specs.Turn.{on_turn}
 use Rattle.state.proofs.Fits.{left_fits}
-use Rattle.state.proofs.Nestings.{over}
+use Rattle.nesting.proofs.Nestings.{over}
 use Rattle.state.proofs.Reaches.{same_reaches}
 use Rattle.state.proofs.Ticks.{tick_refused, tick_taken}
 use Rattle.state.specs.Prelude.{inside, raised, Gives, Stops}

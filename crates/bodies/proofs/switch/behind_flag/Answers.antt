@@ -6,7 +6,7 @@ use Rattle.state.specs.Prelude.{text_of, Leaves, Error}
 use Rattle.bodies.specs.Eval.{next_of}
 use Rattle.bodies.specs.Switch.{mode_of}
 use Rattle.bodies.proofs.Choosing.{behind_none, behind_wrong}
-use Rattle.state.proofs.Nestings.{over}
+use Rattle.nesting.proofs.Nestings.{over}
 use Rattle.bodies.proofs.switch.behind_flag.Goals as goal
 
 pub returns-in_default-clause-nests : goal.returns-in_default-clause-nests

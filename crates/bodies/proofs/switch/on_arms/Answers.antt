@@ -6,7 +6,7 @@ use Rattle.bodies.specs.Eval.{next_of}
 use Rattle.bodies.specs.Switch.{left_over, mode_of, runs_body}
 use Rattle.bodies.proofs.Catching.{on_ok}
 use Rattle.bodies.proofs.Choosing.{arms_left, arms_tried}
-use Rattle.state.proofs.Nestings.{nests_after, over}
+use Rattle.nesting.proofs.Nestings.{nests_after, over}
 use Rattle.state.proofs.Reaches.{same_reaches, then_reaches}
 use Rattle.bodies.proofs.switch.on_arms.Goals as goal
 

@@ -4,7 +4,7 @@ use Rattle.acts.specs.Flaw as flaw
 use Rattle.state.specs.Prelude.{text_of, Leaves, Error}
 use Rattle.bodies.specs.Eval.{next_of}
 use Rattle.bodies.proofs.Choosing.{flags_none}
-use Rattle.state.proofs.Nestings.{over}
+use Rattle.nesting.proofs.Nestings.{over}
 use Rattle.bodies.proofs.switch.on_flags.Goals as goal
 
 pub returns-in_default-clause-nests : goal.returns-in_default-clause-nests

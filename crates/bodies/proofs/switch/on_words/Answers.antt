@@ -6,7 +6,7 @@ use Rattle.bodies.specs.Eval.{next_of}
 use Rattle.bodies.specs.Switch.{mode_of, on_arms}
 use Rattle.bodies.proofs.Catching.{on_ok}
 use Rattle.bodies.proofs.Choosing.{words_arms, words_few, words_list}
-use Rattle.state.proofs.Nestings.{nests_after, nests_from, over}
+use Rattle.nesting.proofs.Nestings.{nests_after, nests_from, over}
 use Rattle.state.proofs.Reaches.{same_reaches, then_reaches}
 use Rattle.bodies.proofs.switch.on_words.Goals as goal
 

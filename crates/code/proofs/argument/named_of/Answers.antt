@@ -1,7 +1,7 @@
 use Rattle.std.proofs.Common.{◌≡◌, [], ◌∷◌, length, rules}
 use Rattle.code.proofs.Literals.{no_literals}
-use Rattle.code.specs.Code.{literals}
 use Rattle.code.proofs.argument.named_of.Goals as goal
+use Rattle.tclparse.specs.Tree.{literals}
 
 pub returns-then-is_braced : goal.returns-then-is_braced
 returns-then-is_braced g c =

@@ -1,9 +1,9 @@
 use Rattle.std.proofs.Common.{◌≡◌, true, ◌∷◌, codes, rules, subst}
 use Rattle.std.proofs.lemmas.Slice.Eq.{bytes_eq-Decides}
 use Rattle.std.specs.Str.{bytes_eq}
-use Rattle.code.specs.Code.{literals}
 use Rattle.code.specs.Conditional.{Are}
 use Rattle.code.proofs.catch.catch_words.Goals as goal
+use Rattle.tclparse.specs.Tree.{literals}
 
 pub returns-then-eq : goal.returns-then-eq
 returns-then-eq g c =

@@ -1,8 +1,9 @@
 use Rattle.std.proofs.Common.{◌≡◌, true, [], ◌∷◌, length, is_some, rules}
 use Rattle.code.proofs.Literals.{no_literals}
-use Rattle.code.specs.Code.{literals, no_taker, taker}
+use Rattle.code.specs.Code.{no_taker, taker}
 use Rattle.tclparse.specs.Variable.{named}
 use Rattle.code.proofs.catch.variable_of.Goals as goal
+use Rattle.tclparse.specs.Tree.{literals}
 
 pub returns-then-is_empty : goal.returns-then-is_empty
 returns-then-is_empty g c =

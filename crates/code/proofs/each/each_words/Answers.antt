@@ -2,8 +2,7 @@ use Rattle.std.proofs.Common.{◌≡◌, false, true, [], ◌∷◌, codes, leng
 use Rattle.std.proofs.lemmas.Slice.Eq.{bytes_eq-Decides}
 use Rattle.std.specs.Str.{bytes_eq}
 use Rattle.code.proofs.Literals.{no_literals}
-use Rattle.code.specs.Code.{literals}
-use Rattle.tclparse.specs.Tree.{bytes_then, no_parts, no_words, word}
+use Rattle.tclparse.specs.Tree.{bytes_then, no_parts, no_words, word, literals}
 use Rattle.tclparse.specs.View.{parts_then, words_then}
 use Rattle.code.proofs.each.each_words.Goals as goal
 

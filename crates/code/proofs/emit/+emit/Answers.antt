@@ -8,9 +8,8 @@ use Rattle.code.proofs.Places.{command_at, part_at, word_at}
 use Rattle.code.specs.Blocks.{OwnBlock, PartsBlock, ValuesBlock, WordBlock, WordsBlock}
 use Rattle.code.specs.Code.{IsDirect}
 use Rattle.code.specs.Conditional.{IsLiteral}
-use Rattle.code.specs.Switch.{texts_then}
 use Rattle.tclparse.proofs.Trees.{view_Bracket, view_Command, view_Element, view_Literal, view_Variable, view_Word}
-use Rattle.tclparse.specs.Tree.{Words, no_commands, no_parts, no_words, command, word}
+use Rattle.tclparse.specs.Tree.{Words, no_commands, no_parts, no_words, command, word, texts_then}
 use Rattle.tclparse.specs.declared.tree.Command.{out-Command}
 use Rattle.tclparse.specs.View.{commands_of, commands_then, part_view, parts_of, parts_then, word_view, words_then}
 use Rattle.code.proofs.emit.+emit.Goals as goal

@@ -2,9 +2,9 @@ use Rattle.std.proofs.Common.{◌≡◌, true, [], ◌∷◌, length, rules, sub
 use Rattle.std.proofs.lemmas.Slice.Eq.{bytes_eq-Decides}
 use Rattle.std.specs.Str.{bytes_eq}
 use Rattle.code.proofs.Literals.{no_literals}
-use Rattle.code.specs.Code.{literals}
 use Rattle.code.specs.Conditional.{Are}
 use Rattle.code.proofs.evaluate.only_word.Goals as goal
+use Rattle.tclparse.specs.Tree.{literals}
 
 pub returns-then-is_empty : goal.returns-then-is_empty
 returns-then-is_empty g c =

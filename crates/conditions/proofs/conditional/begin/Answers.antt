@@ -6,8 +6,7 @@ use Rattle.state.specs.Prelude.{text_of, Leaves, Error}
 use Rattle.conditions.specs.Branches.{branches}
 use Rattle.conditions.specs.Choosing.{branches_of, next_of}
 use Rattle.conditions.specs.Conditional.{on_branches}
-use Rattle.state.proofs.Fits.{kept_fits}
-use Rattle.state.proofs.Nestings.{over}
+use Rattle.nesting.proofs.Nestings.{over}
 use Rattle.state.proofs.Reaches.{same_reaches, then_reaches}
 use Rattle.conditions.proofs.conditional.begin.Goals as goal
 
@@ -19,7 +18,7 @@ returns-in-Some-clause-nests g c = λ s fits.
     IfOk-weaker c.choose.result _ _
     (λ nesting reaches. record {
       status = s;
-      fits = kept_fits c.args.state.now s fits c.choose.new.kept;
+      fits = fits;
       reaches = then_reaches
           (same_reaches (ap (λ found. on_branches levels found s) (sym words))) reaches;
     })

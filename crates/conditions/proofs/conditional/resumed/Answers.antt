@@ -1,10 +1,9 @@
 use Rattle.std.proofs.Common.{◌∙◌, IfOk, refl, sym, ap, subst}
 use Rattle.std.proofs.lemmas.Result.{IfOk-weaker}
 use Rattle.conditions.specs.Choosing.{behind_test, next_of, runs_held, runs_tested}
-use Rattle.state.proofs.Fits.{kept_fits}
-use Rattle.state.proofs.Nestings.{over}
+use Rattle.nesting.proofs.Nestings.{over}
 use Rattle.state.proofs.Reaches.{same_reaches, then_reaches}
-use Rattle.state.specs.Nesting.{Advances}
+use Rattle.nesting.specs.Nesting.{Advances}
 use Rattle.state.specs.Prelude.{outcome_of}
 use Rattle.conditions.proofs.conditional.resumed.Goals as goal
 
@@ -14,7 +13,7 @@ returns-in-Test-clause-nests g c = λ s fits.
     IfOk-weaker c.on_test.result _ _
     (λ nesting reaches. record {
       status = s;
-      fits = kept_fits c.args.state.now s fits c.on_test.new.kept;
+      fits = fits;
       reaches = then_reaches
           (same_reaches
           (ap (λ h. next_of h s o) c.in-Test.is

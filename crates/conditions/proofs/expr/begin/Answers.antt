@@ -6,7 +6,7 @@ use Rattle.conditions.proofs.Asked.{evaluated_then}
 use Rattle.conditions.proofs.Evaluating.{expr_none, expr_some}
 use Rattle.conditions.specs.Expr.{next_of, told}
 use Rattle.state.specs.Evaluated.{evaluated}
-use Rattle.state.proofs.Nestings.{nests_after, over}
+use Rattle.nesting.proofs.Nestings.{nests_after, over}
 use Rattle.state.proofs.Reaches.{same_reaches, then_reaches}
 use Rattle.conditions.proofs.expr.begin.Goals as goal
 

@@ -2,7 +2,7 @@ use Rattle.std.proofs.Common.{◌∙◌, Ok, Err, refl, ap}
 use Rattle.conditions.proofs.Passing.{value_passes}
 use Rattle.conditions.specs.Expr.{next_of, told}
 use Rattle.operators.specs.Value.{result}
-use Rattle.state.proofs.Nestings.{over}
+use Rattle.nesting.proofs.Nestings.{over}
 use Rattle.state.specs.Prelude.{Gives, outcome_of}
 use Rattle.conditions.proofs.expr.resumed.Goals as goal
 

@@ -8,7 +8,6 @@ use Rattle.conditions.proofs.Comings.{comes_over, same_goes, then_goes}
 use Rattle.conditions.specs.ForLoop.{started}
 use Rattle.conditions.specs.GoesOn.{reads}
 use Rattle.conditions.specs.Starting.{next_of}
-use Rattle.state.proofs.Fits.{kept_fits}
 use Rattle.conditions.proofs.for_loop.begin.Goals as goal
 
 pub returns-in_default-clause-comes : goal.returns-in_default-clause-comes
@@ -34,7 +33,7 @@ returns-clause-comes g c = λ s fits.
     IfOk-weaker c.deeper.result _ _
     (λ nesting runs. record {
       status = s;
-      fits = kept_fits c.args.state.now s fits c.get.new.self;
+      fits = fits;
       goes = then_goes
           (same_goes (for_four levels s words start test step body text four c.start-item.is
           c.test-item.is c.step-item.is c.body-item.is c.as_slice.ensures))

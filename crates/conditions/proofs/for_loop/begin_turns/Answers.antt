@@ -6,7 +6,6 @@ use Rattle.conditions.specs.ForLoop.{looped, started}
 use Rattle.conditions.specs.GoesOn.{reads}
 use Rattle.conditions.specs.Loop.{again}
 use Rattle.conditions.specs.Turning.{loop_of, next_of}
-use Rattle.state.proofs.Fits.{kept_fits}
 use Rattle.state.specs.Prelude.{raised, ScriptText}
 use Rattle.conditions.proofs.for_loop.begin_turns.Goals as goal
 
@@ -21,7 +20,7 @@ returns-in-Ok-clause-comes g c = λ s fits.
     IfOk-weaker c.turn.result _ _
     (λ nesting goes. record {
       status = s;
-      fits = kept_fits c.args.state.now s fits c.get-in-Ok.new.self;
+      fits = fits;
       goes = then_goes
           (same_goes (ap (λ x. started levels x start.step start.body s []) (sym c.as_slice.ensures)
           ∙ ap (λ x. started levels test x start.body s []) (sym c.as_slice-in-Ok.ensures)

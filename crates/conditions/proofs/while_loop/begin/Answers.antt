@@ -9,7 +9,6 @@ use Rattle.conditions.specs.GoesOn.{reads}
 use Rattle.conditions.specs.Loop.{again}
 use Rattle.conditions.specs.Turning.{loop_of, next_of}
 use Rattle.conditions.specs.WhileLoop.{looped}
-use Rattle.state.proofs.Fits.{kept_fits}
 use Rattle.conditions.proofs.while_loop.begin.Goals as goal
 
 pub returns-in_default-clause-comes : goal.returns-in_default-clause-comes
@@ -31,7 +30,7 @@ returns-in_ok-new-in-Ok-clause-comes g c = λ s fits.
     IfOk-weaker c.turn.result _ _
     (λ nesting goes. record {
       status = s;
-      fits = kept_fits c.args.state.now s fits c.get.new.self;
+      fits = fits;
       goes = then_goes
           (same_goes (while_two levels s words c.test-item.result c.body-item.result test body two
           c.test-item.is c.body-item.is c.as_slice.ensures c.as_slice-in-Ok.ensures))

@@ -2,7 +2,7 @@ use Rattle.std.proofs.Common.{sym, subst}
 use Rattle.conditions.specs.Choosing as if_then
 use Rattle.conditions.specs.Starting as for_loop
 use Rattle.control.specs.View.{runs_held}
-use Rattle.state.specs.Nesting.{Advances}
+use Rattle.nesting.specs.Nesting.{Advances}
 use Rattle.control.proofs.table.resumed.Goals as goal
 
 pub returns-in_ok-resumed-in-Call-clause-advances :

@@ -1,6 +1,5 @@
 use Rattle.std.proofs.Common.{◌≡◌, ◌∙◌, [], None, Some, ap, refl, rules, subst, sym}
 use Rattle.state.specs.Prelude.{text_of, Leaves, Error}
-use Rattle.code.specs.Code.{literals}
 use Rattle.expects.proofs.Answering.{argument_reaches}
 use Rattle.expects.proofs.Comings.{comes_after, comes_reading, opening_comes, over_is}
 use Rattle.expects.specs.Expect.{by_words}
@@ -12,6 +11,7 @@ use Rattle.state.specs.Faults.{flaw_of_fault}
 use Rattle.tclparse.specs.Grammar.{IsArgument}
 use Rattle.tclparse.specs.Seen.{fault_of}
 use Rattle.expects.proofs.expect.by_argument.Goals as goal
+use Rattle.tclparse.specs.Tree.{literals}
 
 pub returns-in_ok-by_words-in-Texts-clause-comes : goal.returns-in_ok-by_words-in-Texts-clause-comes
 returns-in_ok-by_words-in-Texts-clause-comes g c = λ s fits.

@@ -74,7 +74,10 @@ returns-then-state-left-clause-settles g c = λ last s fits below.
     let begins = handed_on c.in-Begins.is before c.in_ok-handed.ensures.goes_on in
     let on = started c.in-Begins.next c.start.new.frames c.in-Has-leaf.is begins
     c.in_ok-leaf.ensures.leads in
-    leads_over (record c.hand_on.new.running { frames = c.start.new.frames })
+    leads_over (record c.hand_on.new.running {
+      frames = c.start.new.frames;
+      parsed = c.start.new.parsed;
+    })
     c.in-Has-leaf.next on.last on.below on.leads
 
 pub commands-preserved : goal.commands-preserved
@@ -84,7 +87,10 @@ commands-preserved g c = record {
       let begins = handed_on c.in-Begins.is before c.in_ok-handed.ensures.goes_on in
       let on = started c.in-Begins.next c.start.new.frames c.in-Has-leaf.is begins
       c.in_ok-leaf.ensures.leads in
-      leads_over (record c.hand_on.new.running { frames = c.start.new.frames })
+      leads_over (record c.hand_on.new.running {
+        frames = c.start.new.frames;
+        parsed = c.start.new.parsed;
+      })
       c.in-Has-leaf.next on.last on.below on.leads;
   left = refl;
   same = omega (

@@ -65,7 +65,7 @@ returns-in_ok-enter-in-Enters-clause-falls g c = λ same.
     let lighter = subst (λ u. IsLighter u frames (weight (stack old.frames))) c.in-Enters.is
     c.in_ok-next.ensures.lighter in
     stays_falls c.in_ok-enter-in-Enters.field-0 old
-    (record old { frames = c.unwind.new.frames }) new
+    (record old { frames = c.unwind.new.frames; parsed = c.unwind.new.parsed }) new
     (c.in_ok-enter-in-Enters.ensures.falls
     (omega (arith, same, light.2, c.in_ok-enter-in-Enters.ensures.left)))
     (omega (arith, lighter))

@@ -64,9 +64,9 @@ returns-in-None-clause-leads g c = λ last s fits.
     let none : named name ≡ None = sym c.in-None.ensures in
     (command_other levels words s name args split kept.0 none, kept.1, kept.2)
 
-pub returns-in_ok-begin_control-in-Some-read-clause-leads :
-    goal.returns-in_ok-begin_control-in-Some-read-clause-leads
-returns-in_ok-begin_control-in-Some-read-clause-leads g c = λ last s fits.
+pub returns-in_ok-outcome-in-Some-read-clause-leads :
+    goal.returns-in_ok-outcome-in-Some-read-clause-leads
+returns-in_ok-outcome-in-Some-read-clause-leads g c = λ last s fits.
     let old = stack c.args.frames.now in
     let new = stack c.call_procedure.new.frames in
     let state = c.call_procedure.new.state in
@@ -88,4 +88,4 @@ returns-in_ok-begin_control-in-Some-read-clause-leads g c = λ last s fits.
     (then_goes (same_left last old
     (command_runs levels words s name args split kept.0 control known))
     (same_goes (ap (λ fs. left_of last (does control levels args s) fs) (sym kept.2))))
-    (c.in_ok-begin_control-in-Some-read.ensures.leads last s kept.1)
+    (c.in_ok-outcome-in-Some-read.ensures.leads last s kept.1)

@@ -3,7 +3,7 @@ use Rattle.control.specs.View as control
 use Rattle.machine.specs.Frames.{left_of, onward_of, stack}
 use Rattle.machine.proofs.Held.{held_goes}
 use Rattle.steps.proofs.Leads.Silent.{same_goes, then_goes}
-use Rattle.state.specs.Nesting.{course_of}
+use Rattle.nesting.specs.Nesting.{course_of}
 use Rattle.state.specs.Outcome.{Gives}
 use Rattle.machine.proofs.starting.hold.Goals as goal
 

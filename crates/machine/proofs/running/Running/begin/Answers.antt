@@ -1,5 +1,5 @@
 use Rattle.std.proofs.Common.{refl, ap, subst, reverse}
-use Rattle.code.specs.ScriptTree.{ScriptTree}
+use Rattle.tclparse.specs.ScriptTree.{ScriptTree}
 use Rattle.machine.proofs.Below.{code_whole}
 use Rattle.plan.specs.Plan.{and_then, onward}
 use Rattle.runs.specs.Run.{most_levels}

@@ -1,7 +1,8 @@
 //! How far a command that runs scripts or formulas has come.
+#![tactic(auto)]
 
-use crate::outcome::Outcome;
 use code::Made;
+use state::Outcome;
 use std::alloc::Allocator;
 
 /// How far a command that runs scripts or formulas has come; `H` is what it holds meanwhile.

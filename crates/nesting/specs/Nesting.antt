@@ -3,8 +3,8 @@ use Rattle.std.specs.Prelude.{ℕ, ◌<◌, ◌⊎◌}
 use Rattle.code.specs.declared.made.Made.{Made}
 use Rattle.code.specs.declared.made.Made.TheVariants as made
 use Rattle.plan.specs.Plan.{Ends, Calls, and_then, onward}
-use Rattle.state.specs.declared.nesting.Nesting.{Nesting}
-use Rattle.state.specs.declared.nesting.Nesting.TheVariants as nesting
+use Rattle.nesting.specs.declared.Nesting.{Nesting}
+use Rattle.nesting.specs.declared.Nesting.TheVariants as nesting
 use Rattle.state.specs.declared.state.State.{State}
 use Rattle.state.specs.Dialogue.{Course, gives}
 use Rattle.state.specs.Evaluated.{evaluated}

@@ -1,14 +1,12 @@
 -- How far a command that runs scripts or formulas has come, where it is known how it came there.
 use Rattle.std.proofs.Common.{◌≡◌, ◌∙◌, ℕ, suc, List, Result, refl, sym, ap, subst}
-use Rattle.acts.specs.Flaw as flaw
-use Rattle.state.specs.Prelude.{text_of, Ends, Course, inside, within, Nests, Outcome, Leaves, Error, ScriptText, ScriptTree, Reaches, here, Status, FitsState, outcome_of}
+use Rattle.state.specs.Prelude.{Ends, Course, inside, Outcome, Reaches, here, Status, FitsState, outcome_of}
+use Rattle.nesting.specs.Nesting.{Nests}
 use Rattle.state.proofs.Reaches.{same_reaches, then_reaches}
-use Rattle.state.specs.declared.nesting.Nesting.{Nesting}
-use Rattle.state.specs.declared.nesting.Nesting.TheVariants as nesting
+use Rattle.nesting.specs.declared.Nesting.{Nesting}
+use Rattle.nesting.specs.declared.Nesting.TheVariants as nesting
 use Rattle.state.specs.declared.outcome.Leave.{Leave}
 use Rattle.state.specs.declared.state.State.{State}
-use Rattle.state.specs.Reaches.{reads}
-use Rattle.tclparse.specs.Grammar.{IsScript}
 use Rattle.code.specs.declared.made.CodedScript.{CodedScript}
 use Rattle.code.specs.declared.made.Made.TheVariants as made
 
@@ -45,15 +43,3 @@ module _ {A H : Type 0} (next : H → Status → Outcome → Course) (state : St
       (inside levels script s (next held))
   script_nests script levels inner held s fits deeper =
       rw deeper (record { status = s; fits = fits; reaches = here })
-
--- a text is read as the script that it is
-pub text_reaches : (script : ScriptTree) (levels : ℕ) (text : List ℕ) (s : Status)
-    (next : Status → Outcome → Course) → IsScript script.commands script.fault text →
-    Reaches (within levels text s next) (inside levels script s next)
-text_reaches script levels text s next is = reads {text = ScriptText text} script is here
-
--- where no level is left, a script ends with the error that says so
-pub inside_over : (levels : ℕ) (tree : ScriptTree) (s : Status)
-    (next : Status → Outcome → Course) → levels ≡ 0 →
-    inside levels tree s next ≡ next s (Leaves Error (text_of flaw.TooManyNested))
-inside_over levels tree s next is = rw is refl
