@@ -68,8 +68,10 @@ impl Reader {
 
     /// Completes the row that is being read, if there is one, and adds it to the others.
     fn finish(&mut self) -> Result<(), RowFault> {
-        if let Some(mut draft) = self.draft.take() {
+        if let Some(draft) = &mut self.draft {
             draft.complete(self.alloc, &mut self.line)?;
+        }
+        if let Some(draft) = self.draft.take() {
             self.rows.push(draft.into_row())?;
         }
         Ok(())

@@ -1,6 +1,7 @@
 //! The records of rows.
 
 use crate::row::Row;
+use crate::spelling::push_answer;
 use acts::Answer;
 use std::alloc::{AllocError, Global};
 
@@ -20,26 +21,16 @@ pub fn record_of(alloc: Global, row: &Row) -> Result<String, AllocError> {
     Ok(text)
 }
 
-/// Writes the line of an answer: bytes in hexadecimal digits, numbers in decimal.
+/// Writes the line of an answer, which is as rows spell it but for the bytes that arrive: these are
+/// in hexadecimal digits.
 fn push_line(text: &mut String, answer: &Answer<Global>) -> Result<(), AllocError> {
     match answer {
-        Answer::Done => text.push_str("done"),
-        Answer::Failed(sent) => write!(text, "failed {sent}"),
-        Answer::Started(process) => write!(text, "started {process}"),
-        Answer::Refused => text.push_str("refused"),
-        Answer::Exited(Some(status)) => write!(text, "exited {status}"),
-        Answer::Exited(None) => text.push_str("exited -"),
         Answer::Arrive(id, bytes) => {
             let number = id.0;
             write!(text, "arrive exp{number} ")?;
             push_hex(text, bytes)
         }
-        Answer::Ended(id) => {
-            let number = id.0;
-            write!(text, "ended exp{number}")
-        }
-        Answer::TimedOut => text.push_str("timeout"),
-        Answer::NoMore => Ok(()),
+        _ => push_answer(text, answer),
     }
 }
 

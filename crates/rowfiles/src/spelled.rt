@@ -3,7 +3,7 @@
 use crate::end::End;
 use crate::fault::RowFault;
 use crate::row::copies_in;
-use crate::words::{Words, number};
+use crate::words::{Words, name_of, number};
 use acts::{Act, Answer, LogMode, Row, Timer, fits};
 use std::alloc::Global;
 use tcltext::split_list;
@@ -19,27 +19,26 @@ pub fn is_act(line: &[Vec<u8>]) -> bool {
 /// The act that a line states.
 pub fn act_of(alloc: Global, line: &[Vec<u8>]) -> Result<Act<Global>, RowFault> {
     let mut words = Words::new(line);
-    let name = words.take()?;
+    let name = words.take_name()?;
     let act = named_act(alloc, name, &mut words)?;
-    words.close()?;
-    Ok(act)
+    words.close(act)
 }
 
 /// The act that a name and the words after it state.
-fn named_act(alloc: Global, name: &[u8], words: &mut Words<'_>) -> Result<Act<Global>, RowFault> {
+fn named_act(alloc: Global, name: &str, words: &mut Words<'_>) -> Result<Act<Global>, RowFault> {
     match name {
-        b"Out" => Ok(Act::Out(words.take_copy(alloc)?)),
-        b"Err" => Ok(Act::Err(words.take_copy(alloc)?)),
-        b"Log" => Ok(Act::Log(words.take_copy(alloc)?)),
-        b"Send" => Ok(Act::Send(words.take_id()?, words.take_copy(alloc)?)),
-        b"Spawn" => Ok(Act::Spawn(words.take_id()?, copies_in(alloc, words.take_rest())?)),
-        b"Connect" => connect_of(alloc, words),
-        b"OpenLog" => Ok(Act::OpenLog(words.take_copy(alloc)?, mode_of(words.take()?)?)),
-        b"Close" => Ok(Act::Close(words.take_id()?)),
-        b"Sleep" => Ok(Act::Sleep(words.take_number()?)),
-        b"CloseLog" => Ok(Act::CloseLog),
-        b"Reap" => Ok(Act::Reap(words.take_id()?)),
-        b"Wait" => wait_of(alloc, words.take_rest()),
+        "Out" => Ok(Act::Out(words.take_copy(alloc)?)),
+        "Err" => Ok(Act::Err(words.take_copy(alloc)?)),
+        "Log" => Ok(Act::Log(words.take_copy(alloc)?)),
+        "Send" => Ok(Act::Send(words.take_id()?, words.take_copy(alloc)?)),
+        "Spawn" => Ok(Act::Spawn(words.take_id()?, copies_in(alloc, words.take_rest())?)),
+        "Connect" => connect_of(alloc, words),
+        "OpenLog" => Ok(Act::OpenLog(words.take_copy(alloc)?, mode_of(words)?)),
+        "Close" => Ok(Act::Close(words.take_id()?)),
+        "Sleep" => Ok(Act::Sleep(words.take_number()?)),
+        "CloseLog" => Ok(Act::CloseLog),
+        "Reap" => Ok(Act::Reap(words.take_id()?)),
+        "Wait" => wait_of(alloc, words.take_rest()),
         _ => Err(RowFault::NoAct),
     }
 }
@@ -52,10 +51,11 @@ fn connect_of(alloc: Global, words: &mut Words<'_>) -> Result<Act<Global>, RowFa
     Ok(Act::Connect(id, host, port))
 }
 
-fn mode_of(word: &[u8]) -> Result<LogMode, RowFault> {
-    match word {
-        b"append" => Ok(LogMode::Append),
-        b"truncate" => Ok(LogMode::Truncate),
+/// What becomes of the bytes that a log file already has, as the next word says.
+pub fn mode_of(words: &mut Words<'_>) -> Result<LogMode, RowFault> {
+    match words.take_name()? {
+        "append" => Ok(LogMode::Append),
+        "truncate" => Ok(LogMode::Truncate),
         _ => Err(RowFault::NoMode),
     }
 }
@@ -75,63 +75,67 @@ fn timer_of(line: &[Vec<u8>]) -> Result<(Timer, &[Vec<u8>]), RowFault> {
     let Some((last, before)) = line.split_last() else {
         return Err(RowFault::NoTimer);
     };
-    match last.as_slice() {
-        b"Running" => Ok((Timer::Running, before)),
-        b"Endless" => Ok((Timer::Endless, before)),
-        seconds => match before.split_last() {
+    match name_of(last) {
+        "Running" => Ok((Timer::Running, before)),
+        "Endless" => Ok((Timer::Endless, before)),
+        _ => match before.split_last() {
             Some((start, places)) if start.as_slice() == b"Start".as_slice() => {
-                Ok((Timer::Start(number(seconds)?), places))
+                Ok((Timer::Start(number(last)?), places))
             }
             _ => Err(RowFault::NoTimer),
         },
     }
 }
 
-/// A row of a wait: an id, how many bytes its buffer holds, may hold and wants.
+/// The row of a wait that a word states.
 fn row_of(alloc: Global, place: &[u8]) -> Result<Row, RowFault> {
     let parts = split_list(alloc, place)?;
-    let mut words = Words::new(&parts);
+    row_in(&parts)
+}
+
+/// A row of a wait: an id, how many bytes its buffer holds, may hold and wants.
+fn row_in(parts: &[Vec<u8>]) -> Result<Row, RowFault> {
+    let mut words = Words::new(parts);
     let row = Row {
         id: words.take_id()?,
         held: words.take_number()?,
         max: words.take_number()?,
         want: words.take_number()?,
     };
-    words.close()?;
-    Ok(row)
+    words.close(row)
 }
 
 /// The answer that a line states.
 pub fn answer_of(alloc: Global, line: &[Vec<u8>]) -> Result<Answer<Global>, RowFault> {
     let mut words = Words::new(line);
-    let name = words.take()?;
+    let name = words.take_name()?;
     let answer = named_answer(alloc, name, &mut words)?;
-    words.close()?;
-    Ok(answer)
+    words.close(answer)
 }
 
 /// The answer that a name and the words after it state.
 fn named_answer(
     alloc: Global,
-    name: &[u8],
+    name: &str,
     words: &mut Words<'_>,
 ) -> Result<Answer<Global>, RowFault> {
     match name {
-        b"done" => Ok(Answer::Done),
-        b"failed" => Ok(Answer::Failed(words.take_number()?)),
-        b"started" => Ok(Answer::Started(words.take_number()?)),
-        b"refused" => Ok(Answer::Refused),
-        b"exited" => Ok(Answer::Exited(status_of(words.take()?)?)),
-        b"arrive" => Ok(Answer::Arrive(words.take_id()?, words.take_copy(alloc)?)),
-        b"ended" => Ok(Answer::Ended(words.take_id()?)),
-        b"timeout" => Ok(Answer::TimedOut),
-        b"nomore" => Ok(Answer::NoMore),
+        "done" => Ok(Answer::Done),
+        "failed" => Ok(Answer::Failed(words.take_number()?)),
+        "started" => Ok(Answer::Started(words.take_number()?)),
+        "refused" => Ok(Answer::Refused),
+        "exited" => Ok(Answer::Exited(status_of(words)?)),
+        "arrive" => Ok(Answer::Arrive(words.take_id()?, words.take_copy(alloc)?)),
+        "ended" => Ok(Answer::Ended(words.take_id()?)),
+        "timeout" => Ok(Answer::TimedOut),
+        "nomore" => Ok(Answer::NoMore),
         _ => Err(RowFault::NoAnswer),
     }
 }
 
-/// The status of a process, or `-` for one that a signal ended.
-fn status_of(word: &[u8]) -> Result<Option<u8>, RowFault> {
+/// The status of a process that the next word spells, or `-` for one that a signal ended.
+fn status_of(words: &mut Words<'_>) -> Result<Option<u8>, RowFault> {
+    let word = words.take()?;
     if word == b"-".as_slice() {
         Ok(None)
     } else {
@@ -151,26 +155,25 @@ pub fn usual_answer(act: &Act<Global>) -> Result<Answer<Global>, RowFault> {
 /// The end that a line states. Where the line has no text for an error, `written` is its text.
 pub fn end_of(alloc: Global, line: &[Vec<u8>], written: Option<&[u8]>) -> Result<End, RowFault> {
     let mut words = Words::new(line);
-    let name = words.take()?;
+    let name = words.take_name()?;
     let end = named_end(alloc, name, &mut words, written)?;
-    words.close()?;
-    Ok(end)
+    words.close(end)
 }
 
 /// The end that a name and the words after it state.
 fn named_end(
     alloc: Global,
-    name: &[u8],
+    name: &str,
     words: &mut Words<'_>,
     written: Option<&[u8]>,
 ) -> Result<End, RowFault> {
     match name {
-        b"Exit" => Ok(End::Exit(words.take_number()?)),
-        b"Error" => error_of(alloc, words, written),
-        b"Limit" => Ok(End::Limit),
-        b"WriterFailed" => Ok(End::WriterFailed),
-        b"BadAnswer" => Ok(End::BadAnswer(words.take_number()?)),
-        b"NoMore" => Ok(End::NoMore),
+        "Exit" => Ok(End::Exit(words.take_number()?)),
+        "Error" => error_of(alloc, words, written),
+        "Limit" => Ok(End::Limit),
+        "WriterFailed" => Ok(End::WriterFailed),
+        "BadAnswer" => Ok(End::BadAnswer(words.take_number()?)),
+        "NoMore" => Ok(End::NoMore),
         _ => Err(RowFault::NoEnd),
     }
 }

@@ -28,6 +28,11 @@ impl<'a> Words<'a> {
         }
     }
 
+    /// The name that the next word is.
+    pub fn take_name(&mut self) -> Result<&'a str, RowFault> {
+        Ok(name_of(self.take()?))
+    }
+
     /// The next word, in memory of its own.
     pub fn take_copy(&mut self, alloc: Global) -> Result<Vec<u8>, RowFault> {
         Ok(Vec::from_slice(alloc, self.take()?)?)
@@ -61,14 +66,20 @@ impl<'a> Words<'a> {
         self.rest.is_empty()
     }
 
-    /// Refuses further words.
-    pub fn close(&self) -> Result<(), RowFault> {
+    /// What was read of the words. Further words are refused.
+    pub fn close<T: Drop>(&self, read: T) -> Result<T, RowFault> {
         if self.is_empty() {
-            Ok(())
+            Ok(read)
         } else {
             Err(RowFault::WordTooMany)
         }
     }
+}
+
+/// The name that a word is: the word as a text, or the empty name, which nothing has, where it is
+/// none.
+pub fn name_of(word: &[u8]) -> &str {
+    std::str::from_utf8(word).unwrap_or("")
 }
 
 /// The number that a word spells.

@@ -22,6 +22,11 @@ pub fn push_shown<A: Allocator + Copy, D: Display + Drop>(
     Ok(())
 }
 
+/// The name that a field is: the field as a text, or an empty name where it is none.
+pub fn name(field: &[u8]) -> &str {
+    std::str::from_utf8(field).unwrap_or("")
+}
+
 /// The number that a field spells, or 0.
 pub fn number(field: &[u8]) -> u64 {
     match std::str::from_utf8(field) {

@@ -6,5 +6,5 @@ mod answer;
 mod row;
 mod table;
 
-pub use answer::{number, push_angled, push_shown, repeated};
+pub use answer::{name, number, push_angled, push_shown, repeated};
 pub use table::{Answers, Memory, run_table};

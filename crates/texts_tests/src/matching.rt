@@ -8,7 +8,7 @@ use patterns::{Found, Pattern, PatternError, Scratch, Search};
 use refusal::Refusing;
 use std::alloc::{Allocator, Global};
 use std::io;
-use tables::{Answers, number, push_shown, repeated};
+use tables::{Answers, name, number, push_shown, repeated};
 use tcltext::{join_list, read_int, split_list};
 
 /// The table of patterns.
@@ -20,7 +20,8 @@ impl Answers for Patterns {
         row: &[Vec<u8>],
         answer: &mut Vec<u8, A>,
     ) -> Result<(), NoMemory> {
-        let (kind, text, window) = (field(row, 0), field(row, 1), field(row, 2));
+        let kind = name(field(row, 0));
+        let (text, window) = (field(row, 1), field(row, 2));
         let outcome = if 3 < row.len() {
             count(
                 text,
@@ -50,15 +51,15 @@ fn told<A: Allocator + Copy>(
 
 /// Writes whether a pattern takes a whole text, or where it is found in a window.
 fn tell<A: Allocator + Copy>(
-    kind: &[u8],
+    kind: &str,
     text: &[u8],
     window: &[u8],
     answer: &mut Vec<u8, A>,
 ) -> Result<(), PatternError> {
     let alloc = *answer.allocator();
     match kind {
-        b"whole" => take(Pattern::plain(alloc, text)?, window, answer),
-        b"folded whole" => take(Pattern::plain(alloc, text)?.fold(), window, answer),
+        "whole" => take(Pattern::plain(alloc, text)?, window, answer),
+        "folded whole" => take(Pattern::plain(alloc, text)?.fold(), window, answer),
         _ => find(kind, text, window, answer),
     }
 }
@@ -67,10 +68,10 @@ fn tell<A: Allocator + Copy>(
 /// folds letters.
 fn read<A: Allocator + Copy>(
     alloc: A,
-    kind: &[u8],
+    kind: &str,
     text: &[u8],
 ) -> Result<Pattern<A>, PatternError> {
-    match kind.strip_prefix(b"folded ") {
+    match kind.strip_prefix("folded ") {
         Some(kind) => Ok(read_plainly(alloc, kind, text)?.fold()),
         None => read_plainly(alloc, kind, text),
     }
@@ -79,12 +80,12 @@ fn read<A: Allocator + Copy>(
 /// Reads a pattern of a kind that folds no letters.
 fn read_plainly<A: Allocator + Copy>(
     alloc: A,
-    kind: &[u8],
+    kind: &str,
     text: &[u8],
 ) -> Result<Pattern<A>, PatternError> {
     match kind {
-        b"exact" => Pattern::exact(alloc, text),
-        b"plain" => Pattern::plain(alloc, text),
+        "exact" => Pattern::exact(alloc, text),
+        "plain" => Pattern::plain(alloc, text),
         _ => Pattern::glob(alloc, text),
     }
 }
@@ -113,7 +114,7 @@ fn take<A: Allocator + Copy>(
 
 /// Writes where a pattern is found.
 fn find<A: Allocator + Copy>(
-    kind: &[u8],
+    kind: &str,
     text: &[u8],
     window: &[u8],
     answer: &mut Vec<u8, A>,
@@ -125,7 +126,7 @@ fn find<A: Allocator + Copy>(
 /// Reads a pattern, and searches for it.
 fn searched<A: Allocator + Copy>(
     alloc: A,
-    kind: &[u8],
+    kind: &str,
     text: &[u8],
     window: &[u8],
 ) -> Result<Search, PatternError> {
@@ -143,7 +144,7 @@ fn count<A: Allocator + Copy>(
     answer: &mut Vec<u8, A>,
 ) -> Result<(), PatternError> {
     let window = repeated(*answer.allocator(), window, times)?;
-    let search = searched(*answer.allocator(), b"glob", glob, &window)?;
+    let search = searched(*answer.allocator(), "glob", glob, &window)?;
     Ok(push_search(answer, search, most)?)
 }
 
@@ -192,7 +193,7 @@ impl Answers for Long {
         } else {
             let times = number(field(row, 2));
             let text = repeated(*answer.allocator(), field(row, 1), times)?;
-            tell_long(field(row, 0), &text, answer)
+            tell_long(name(field(row, 0)), &text, answer)
         }
     }
 }
@@ -207,7 +208,7 @@ fn find_long<A: Allocator + Copy>(
     let window = repeated(alloc, field(row, 5), number(field(row, 6)))?;
     let mut text = Vec::new(alloc);
     push_pattern(&mut text, row)?;
-    let outcome = find(field(row, 0), &text, &window, answer);
+    let outcome = find(name(field(row, 0)), &text, &window, answer);
     told(answer, outcome)
 }
 
@@ -222,15 +223,15 @@ fn push_pattern<A: Allocator + Copy>(
 
 /// Writes what a long text is: a list, a number, or a pattern that takes itself or does not.
 fn tell_long<A: Allocator + Copy>(
-    kind: &[u8],
+    kind: &str,
     text: &[u8],
     answer: &mut Vec<u8, A>,
 ) -> Result<(), NoMemory> {
     match kind {
-        b"many" => measure(text, answer),
-        b"number" => push_number(answer, read_int(text)),
+        "many" => measure(text, answer),
+        "number" => push_number(answer, read_int(text)),
         _ => {
-            let outcome = take_itself(kind.strip_prefix(b"whole ").unwrap_or(kind), text, answer);
+            let outcome = take_itself(kind.strip_prefix("whole ").unwrap_or(kind), text, answer);
             told(answer, outcome)
         }
     }
@@ -262,7 +263,7 @@ fn push_measures<A: Allocator + Copy>(
 
 /// Writes whether a text, read as a pattern, takes the whole text.
 fn take_itself<A: Allocator + Copy>(
-    kind: &[u8],
+    kind: &str,
     text: &[u8],
     answer: &mut Vec<u8, A>,
 ) -> Result<(), PatternError> {

@@ -7,7 +7,7 @@
 use crate::texts::field;
 use memory::NoMemory;
 use std::alloc::Allocator;
-use tables::{Answers, number, push_angled, push_shown, repeated};
+use tables::{Answers, name, number, push_angled, push_shown, repeated};
 use tclparse::{Command, Fault, Part, Script, Word, Words, variable_name};
 
 #[cycle(show)]
@@ -95,10 +95,10 @@ impl Answers for Trees {
         answer: &mut Vec<u8, A>,
     ) -> Result<(), NoMemory> {
         let text = field(row, 1);
-        match field(row, 0) {
-            b"script" => read_script(text, answer),
-            b"parts" => count_parts(text, answer),
-            b"argument" => read_argument(text, answer),
+        match name(field(row, 0)) {
+            "script" => read_script(text, answer),
+            "parts" => count_parts(text, answer),
+            "argument" => read_argument(text, answer),
             _ => read_name(text, answer),
         }
     }
@@ -177,7 +177,7 @@ impl Answers for LongScripts {
     ) -> Result<(), NoMemory> {
         let mut text = Vec::new(*answer.allocator());
         push_long(&mut text, row)?;
-        if field(row, 0) == b"script".as_slice() {
+        if name(field(row, 0)) == "script" {
             count_commands(&text, answer)
         } else {
             count_words(&text, answer)

@@ -2,7 +2,7 @@
 
 use memory::NoMemory;
 use std::alloc::Allocator;
-use tables::{Answers, number, push_angled, push_shown};
+use tables::{Answers, name, number, push_angled, push_shown};
 use tcltext::{
     ListFault, Value, braces, escape, join_list, join_values, print_int, print_nat, push_element,
     read_int, split_list, split_values,
@@ -31,9 +31,9 @@ impl Answers for Escapes {
         answer: &mut Vec<u8, A>,
     ) -> Result<(), NoMemory> {
         let text = field(row, 1);
-        match field(row, 0) {
-            b"escape" => read_escape(text, answer),
-            b"brace" => split_braces(text, answer),
+        match name(field(row, 0)) {
+            "escape" => read_escape(text, answer),
+            "brace" => split_braces(text, answer),
             _ => Ok(answer.extend_from_slice(escape::skip_blanks(text))?),
         }
     }
@@ -69,9 +69,9 @@ impl Answers for Numbers {
         answer: &mut Vec<u8, A>,
     ) -> Result<(), NoMemory> {
         let text = field(row, 1);
-        match field(row, 0) {
-            b"int" => write_int(text, answer),
-            b"nat" => write_nat(text, answer),
+        match name(field(row, 0)) {
+            "int" => write_int(text, answer),
+            "nat" => write_nat(text, answer),
             _ => push_number(answer, read_int(text)),
         }
     }
@@ -116,11 +116,11 @@ impl Answers for Lists {
         answer: &mut Vec<u8, A>,
     ) -> Result<(), NoMemory> {
         let text = field(row, 1);
-        let outcome = match field(row, 0) {
-            b"list" => read_list(text, answer),
-            b"values" => read_values(text, answer),
-            b"again" => write_values(text, answer),
-            b"push" => write_element(text, answer),
+        let outcome = match name(field(row, 0)) {
+            "list" => read_list(text, answer),
+            "values" => read_values(text, answer),
+            "again" => write_values(text, answer),
+            "push" => write_element(text, answer),
             _ => write_list(fields(row, 1), answer),
         };
         match outcome {
