@@ -5,7 +5,7 @@ use acts::{Answer, Id};
 use memory::NoMemory;
 use records::{Counted, RecordFault, read_record, write_record};
 use std::alloc::Allocator;
-use tables::{Answers, number, push_shown};
+use tables::{Answers, name, number, push_shown};
 
 /// What stands before the digits of an arrival in its record.
 const FRONT: &[u8] = b"rx-record 1\narrive exp4 ";
@@ -23,11 +23,11 @@ impl Answers for Digits {
             return Ok(());
         };
         let (first, size) = (number(first), number(size));
-        match kind.as_slice() {
-            b"again" => tell_again(answer, first, size),
-            b"odd" => tell_odd(answer, first, size),
-            b"taken" => tell_taken(answer, first, size, number(field) as usize),
-            b"others" => tell_others(answer, first, size, field),
+        match name(kind) {
+            "again" => tell_again(answer, first, size),
+            "odd" => tell_odd(answer, first, size),
+            "taken" => tell_taken(answer, first, size, number(field) as usize),
+            "others" => tell_others(answer, first, size, field),
             _ => Ok(()),
         }
     }

@@ -5,7 +5,7 @@ use memory::NoMemory;
 use records::{Entry, RecordFault, read_entries, read_record};
 use rowfiles::spelling::push_answer;
 use std::alloc::{Allocator, Global};
-use tables::{Answers, push_shown};
+use tables::{Answers, name, push_shown};
 
 /// The table of records.
 #[derive(Drop)]
@@ -22,8 +22,8 @@ impl Answers for Reading {
         let [kind, text] = row else {
             return Ok(());
         };
-        match kind.as_slice() {
-            b"answers" => self.tell_answers(answer, text),
+        match name(kind) {
+            "answers" => self.tell_answers(answer, text),
             _ => self.tell_entries(answer, text),
         }
     }

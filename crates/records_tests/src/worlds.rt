@@ -9,7 +9,7 @@ use replays::Replay;
 use rowfiles::spelled::act_of;
 use std::alloc::{Allocator, Global};
 use std::cell::Cell;
-use tables::{Answers, number};
+use tables::{Answers, name, number};
 use tcltext::split_list;
 
 /// The table of worlds.
@@ -27,7 +27,7 @@ impl Answers for Worlds {
         let told = match row {
             [kind, record, first, second, acts @ ..] => {
                 let fields = [record.as_slice(), first.as_slice(), second.as_slice()];
-                self.told(kind, fields, acts)
+                self.told(name(kind), fields, acts)
             }
             _ => None,
         };
@@ -40,13 +40,13 @@ impl Answers for Worlds {
 
 impl Worlds {
     /// What comes of a row.
-    fn told(&self, kind: &[u8], fields: [&[u8]; 3], acts: &[Vec<u8>]) -> Option<String> {
+    fn told(&self, kind: &str, fields: [&[u8]; 3], acts: &[Vec<u8>]) -> Option<String> {
         let [record, first, second] = fields;
         match kind {
-            b"replay" => replayed(self.alloc, record, number(first), number(second), acts),
-            b"entries" => replayed_entries(self.alloc, record, acts),
-            b"record" => recorded_each(self.alloc, record, first, second, acts),
-            b"rows" => recorded(self.alloc, record, acts),
+            "replay" => replayed(self.alloc, record, number(first), number(second), acts),
+            "entries" => replayed_entries(self.alloc, record, acts),
+            "record" => recorded_each(self.alloc, record, first, second, acts),
+            "rows" => recorded(self.alloc, record, acts),
             _ => None,
         }
     }

@@ -22,10 +22,11 @@ impl Answers for Written {
         let is_of_answers = kind.as_slice() == b"answers".as_slice();
         let mut well = 0u64;
         for room in 0..=written.len() {
+            let mut taken = vec![in *answer.allocator(); 0u8; room]?;
             let is_well = if is_of_answers {
-                is_record_written(*answer.allocator(), text, written, room)?
+                is_record_written(*answer.allocator(), text, written, &mut taken)
             } else {
-                are_entries_written(*answer.allocator(), text, written, room)?
+                are_entries_written(*answer.allocator(), text, written, &mut taken)
             };
             well = well.saturating_add(if is_well { 1 } else { 0 });
         }
@@ -38,20 +39,20 @@ fn is_record_written<A: Allocator + Copy>(
     alloc: A,
     record: &[u8],
     text: &[u8],
-    room: usize,
-) -> Result<bool, NoMemory> {
+    taken: &mut [u8],
+) -> bool {
     let Ok(answers) = read_record(alloc, record) else {
-        return Ok(false);
+        return false;
     };
-    let mut taken = vec![in alloc; 0u8; room]?;
+    let room = taken.len();
     let late = Cell::new(0);
     let mut sink = Short {
-        inner: Counted::new(&mut taken[..]),
+        inner: Counted::new(&mut *taken),
         late: &late,
     };
     let has_failed = write_record(&answers, &mut sink).is_err();
     drop(sink);
-    Ok(has_failed == (room < text.len()) && late.get() == 0 && is_front(&taken, text, room))
+    has_failed == (room < text.len()) && late.get() == 0 && is_front(taken, text, room)
 }
 
 /// Whether the entries of a record are written as this text, as far as there is room for it.
@@ -59,18 +60,18 @@ fn are_entries_written<A: Allocator + Copy>(
     alloc: A,
     record: &[u8],
     text: &[u8],
-    room: usize,
-) -> Result<bool, NoMemory> {
+    taken: &mut [u8],
+) -> bool {
     let Ok(entries) = read_entries(alloc, record) else {
-        return Ok(false);
+        return false;
     };
-    let mut taken = vec![in alloc; 0u8; room]?;
+    let room = taken.len();
     let late = Cell::new(0);
     let mut sink = Short {
-        inner: Counted::new(&mut taken[..]),
+        inner: Counted::new(&mut *taken),
         late: &late,
     };
     let has_failed = write_entries(&entries, &mut sink).is_err();
     drop(sink);
-    Ok(has_failed == (room < text.len()) && late.get() == 0 && is_front(&taken, text, room))
+    has_failed == (room < text.len()) && late.get() == 0 && is_front(taken, text, room)
 }

@@ -43,6 +43,17 @@ impl Breach {
     }
 }
 
+impl Ended {
+    /// The line of a run that ended in this way.
+    pub fn text(&self, alloc: Global) -> Result<String, AllocError> {
+        match self {
+            Ended::End(end) => end_text(alloc, end),
+            Ended::NoMemory => String::from_str(alloc, REFUSED),
+            Ended::Broken(breach) => String::from_str(alloc, breach.text()),
+        }
+    }
+}
+
 /// The acts of a run as lines, each with its newline, and its end.
 #[derive(Drop)]
 pub struct Course {
@@ -54,16 +65,6 @@ pub struct Course {
 const REFUSED: &str = "NoMemory";
 
 impl Course {
-    /// The course of a run that asked for these acts and ended in this way.
-    pub fn of_run(alloc: Global, acts: String, ended: &Ended) -> Result<Course, AllocError> {
-        let end = match ended {
-            Ended::End(end) => end_text(alloc, end)?,
-            Ended::NoMemory => String::from_str(alloc, REFUSED)?,
-            Ended::Broken(breach) => String::from_str(alloc, breach.text())?,
-        };
-        Ok(Course { acts, end })
-    }
-
     /// The course that a row states.
     pub fn of_row(alloc: Global, row: &Row) -> Result<Course, AllocError> {
         let acts = acts_before(alloc, row, row.exchanges.len())?;
@@ -93,6 +94,11 @@ fn end_text(alloc: Global, end: &End) -> Result<String, AllocError> {
     let mut text = String::new(alloc);
     push_end(&mut text, end)?;
     Ok(text)
+}
+
+/// The course that a row states, as one text.
+pub fn course_text(alloc: Global, row: &Row) -> Result<String, AllocError> {
+    Course::of_row(alloc, row)?.text()
 }
 
 /// The acts of a row before a place, as lines.

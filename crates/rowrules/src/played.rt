@@ -38,16 +38,40 @@ pub fn run_played<P: Product>(
     row: &Row,
 ) -> Result<(), AllocError> {
     let own = record_of(alloc, row)?;
-    let call = call_of(row, own.as_bytes());
     let wanted = wanted(alloc, report, row)?;
-    run_call(alloc, product, report, &call, &wanted)?;
-    if row.record.is_none() && !row.is_bulky() {
-        let by_acts = Prints::of_acts(alloc, row)?;
-        run_short_out(alloc, product, report, &call, &wanted, &by_acts)?;
-        run_short_err(alloc, product, report, &call, &wanted)?;
-        run_refused_call(alloc, product, report, &call, &wanted, &by_acts)?;
+    let call = call_of(row, own.as_bytes());
+    run_call_of(alloc, product, report, row, &call, &wanted)
+}
+
+/// Plays a call for a row.
+fn run_call_of<P: Product>(
+    alloc: Global,
+    product: &P,
+    report: &mut Report,
+    row: &Row,
+    call: &Call<'_>,
+    wanted: &Prints,
+) -> Result<(), AllocError> {
+    run_call(alloc, product, report, call, wanted)?;
+    if row.record.is_some() || row.is_bulky() {
+        return Ok(());
     }
-    Ok(())
+    let by_acts = Prints::of_acts(alloc, row)?;
+    run_hindered(alloc, product, report, call, wanted, &by_acts)
+}
+
+/// Plays a call with failing writers and with memory refused.
+fn run_hindered<P: Product>(
+    alloc: Global,
+    product: &P,
+    report: &mut Report,
+    call: &Call<'_>,
+    whole: &Prints,
+    by_acts: &Prints,
+) -> Result<(), AllocError> {
+    run_short_out(alloc, product, report, call, whole, by_acts)?;
+    run_short_err(alloc, product, report, call, whole)?;
+    run_refused_call(alloc, product, report, call, whole, by_acts)
 }
 
 /// The call that plays a row, under the record of its answers if it has no other text.
@@ -118,6 +142,19 @@ fn play_whole<P: Product, A: Allocator + Copy>(
     Prints { out, err, status }
 }
 
+/// Plays a call with writers that have room for what is wanted and no more.
+fn run_short<P: Product>(
+    alloc: Global,
+    product: &P,
+    report: &mut Report,
+    call: &Call<'_>,
+    way: &str,
+    wanted: &Prints,
+) -> Result<(), AllocError> {
+    let came = play_short(alloc, product, call, wanted.out.len(), wanted.err.len())?;
+    compare(alloc, report, call, way, wanted, &came)
+}
+
 /// What a call prints to writers that have room for `out` and `err` bytes.
 fn play_short<P: Product>(
     alloc: Global,
@@ -154,9 +191,8 @@ fn run_short_out<P: Product>(
     wanted.err.extend_from_slice(OUTPUT_FAILED.as_bytes())?;
     for room in 0..whole.out.len().min(ROOM) {
         wanted.out = front(&whole.out, room)?;
-        let came = play_short(alloc, product, call, room, wanted.err.len())?;
         let way = format!(in alloc; "play, standard output fails after {room} bytes")?;
-        compare(alloc, report, call, way.as_str(), &wanted, &came)?;
+        run_short(alloc, product, report, call, way.as_str(), &wanted)?;
     }
     Ok(())
 }
@@ -173,9 +209,8 @@ fn run_short_err<P: Product>(
     wanted.status = WRITER_FAILED;
     for room in 0..whole.err.len().min(ROOM) {
         wanted.err = front(&whole.err, room)?;
-        let came = play_short(alloc, product, call, whole.out.len(), room)?;
         let way = format!(in alloc; "play, standard error fails after {room} bytes")?;
-        compare(alloc, report, call, way.as_str(), &wanted, &came)?;
+        run_short(alloc, product, report, call, way.as_str(), &wanted)?;
     }
     Ok(())
 }

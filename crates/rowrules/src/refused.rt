@@ -3,6 +3,7 @@
 use crate::course::Course;
 use crate::product::{Product, WAYS, Way};
 use crate::report::Report;
+use crate::whole::end_in;
 use crate::world::Scripted;
 use refusal::Refusing;
 use rowfiles::Row;
@@ -66,9 +67,12 @@ fn refuse_nth<P: Product>(
     let args = row.args_in(heap)?;
     let mut world = Scripted::new(alloc, row.answers(heap)?);
     heap.refuse_nth(n);
-    let ended = product.run(way, alloc, heap, &row.script, &args, row.limits, &mut world);
+    let end = end_in(alloc, product, way, heap, row, &args, &mut world);
     heap.refuse_none();
-    Course::of_run(alloc, world.into_told(), &ended?)
+    Ok(Course {
+        acts: world.into_told(),
+        end: end?,
+    })
 }
 
 /// The course of a run whose n-th request was refused, with that number.

@@ -1,13 +1,14 @@
 //! No memory at all from each arrival to the next wait.
 
-use crate::course::Course;
+use crate::course::{Course, course_text};
 use crate::product::{Product, WAYS, Way};
 use crate::report::Report;
+use crate::whole::end_in;
 use crate::world::{Scripted, Starved};
 use acts::{Act, Answer, Id, Timer};
 use refusal::Refusing;
 use rowfiles::{Exchange, Row};
-use std::alloc::{AllocError, Allocator, Global};
+use std::alloc::{AllocError, Global};
 
 /// Runs a row by each way with all memory refused from each arrival to the next wait, where no
 /// branch is chosen between them: no memory may be asked for there.
@@ -21,9 +22,9 @@ pub fn run_starved<P: Product>(
     if !hungry.contains(&true) {
         return Ok(());
     }
-    let wanted = Course::of_row(alloc, row)?.text()?;
+    let wanted = course_text(alloc, row)?;
     for way in WAYS {
-        let came = starve(alloc, product, way, row, hungry.clone()?)?;
+        let came = starve(alloc, product, way, row, &hungry)?;
         let name = way.name();
         let by = format!(in alloc; "{name}, no memory from an arrival to the next wait")?;
         report.compare(
@@ -42,10 +43,10 @@ fn starve<P: Product>(
     product: &P,
     way: Way,
     row: &Row,
-    hungry: Vec<bool>,
+    hungry: &[bool],
 ) -> Result<String, AllocError> {
     let heap = Refusing::new(alloc);
-    let mut text = starved_course(alloc, product, way, &heap, &heap, row, hungry)?.text()?;
+    let mut text = starved_course(alloc, product, way, &heap, row, hungry)?.text()?;
     let refused = heap.refused();
     if 0 < refused {
         writeln!(text, "{refused} requests for memory")?;
@@ -53,21 +54,23 @@ fn starve<P: Product>(
     Ok(text)
 }
 
-fn starved_course<P: Product, A: Allocator + Copy>(
+fn starved_course<P: Product>(
     log: Global,
     product: &P,
     way: Way,
-    alloc: A,
     heap: &Refusing<Global>,
     row: &Row,
-    hungry: Vec<bool>,
+    hungry: &[bool],
 ) -> Result<Course, AllocError> {
-    let args = row.args_in(alloc)?;
-    let inner = Scripted::new(log, row.answers(alloc)?);
+    let args = row.args_in(heap)?;
+    let inner = Scripted::new(log, row.answers(heap)?);
     let mut world = Starved::new(inner, heap, hungry);
-    let ended = product.run(way, log, alloc, &row.script, &args, row.limits, &mut world);
+    let end = end_in(log, product, way, heap, row, &args, &mut world);
     heap.refuse_none();
-    Course::of_run(log, world.into_told(), &ended?)
+    Ok(Course {
+        acts: world.into_told(),
+        end: end?,
+    })
 }
 
 /// For each act of a row, whether it stands from an arrival on and before the next wait, with no

@@ -76,6 +76,17 @@ impl Turned<'_> {
         if own.as_str() == turned.as_str() {
             return Ok(());
         }
+        self.run_ways(alloc, product, report, turned.as_str())
+    }
+
+    /// Runs the row by each way with this answer, which is spelled so.
+    fn run_ways<P: Product>(
+        &self,
+        alloc: Global,
+        product: &P,
+        report: &mut Report,
+        turned: &str,
+    ) -> Result<(), AllocError> {
         let wanted = self.wanted(alloc)?;
         for way in WAYS {
             let came = self.came(alloc, product, way)?;

@@ -4,6 +4,7 @@ use acts::{Act, Answer, World, fits};
 use refusal::Refusing;
 use rowfiles::spelling::push_act;
 use std::alloc::{Allocator, Global};
+use std::slice::Iter;
 use std::vec::IntoIter;
 
 /// A world that writes down each act and answers from a list, the first answer first. After the
@@ -53,7 +54,7 @@ pub struct Starved<'h, A: Allocator> {
     inner: Scripted<A>,
     heap: &'h Refusing<Global>,
     /// For each act, whether memory is refused from its answer on.
-    hungry: IntoIter<bool>,
+    hungry: Iter<'h, bool>,
 }
 
 impl<'h, A: Allocator> Starved<'h, A> {
@@ -61,12 +62,12 @@ impl<'h, A: Allocator> Starved<'h, A> {
     pub fn new(
         inner: Scripted<A>,
         heap: &'h Refusing<Global>,
-        hungry: Vec<bool>,
+        hungry: &'h [bool],
     ) -> Starved<'h, A> {
         Starved {
             inner,
             heap,
-            hungry: hungry.into_iter(),
+            hungry: hungry.iter(),
         }
     }
 
@@ -86,7 +87,7 @@ impl<A: Allocator> World<A> for Starved<'_, A> {
 
     fn act(&mut self, act: &Act<A>) -> Answer<A> {
         let answer = self.inner.act(act);
-        if self.hungry.next().unwrap_or(false) {
+        if self.hungry.next().copied().unwrap_or(false) {
             self.heap.refuse_all();
         } else {
             self.heap.refuse_none();
