@@ -5,7 +5,7 @@ use code::{Instruction, code_of, formula_code};
 use formulas::{Formula, ReadError};
 use memory::NoMemory;
 use std::alloc::Allocator;
-use tables::{Answers, push_shown};
+use tables::{Answers, name, push_shown};
 use tclparse::Script;
 
 /// The table of scripts and formulas with their instructions.
@@ -20,10 +20,10 @@ impl Answers for Coded {
         let [kind, text] = row else {
             return Ok(());
         };
-        match kind.as_slice() {
-            b"script" => tell_instructions(answer, &script_code(*answer.allocator(), text)?),
-            b"formula" => tell_instructions(answer, &code_of_formula(*answer.allocator(), text)?),
-            b"places" => tell_places(answer, &script_code(*answer.allocator(), text)?),
+        match name(kind) {
+            "script" => tell_instructions(answer, &script_code(*answer.allocator(), text)?),
+            "formula" => tell_instructions(answer, &code_of_formula(*answer.allocator(), text)?),
+            "places" => tell_places(answer, &script_code(*answer.allocator(), text)?),
             _ => Ok(()),
         }
     }

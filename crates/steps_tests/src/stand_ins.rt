@@ -3,6 +3,7 @@
 use memory::NoMemory;
 use state::{Code, Leave, Outcome};
 use std::alloc::Allocator;
+use tables::name;
 use tcltext::Value;
 
 /// What comes of a command with these words: `break`, `continue`, `error` and `return` end their
@@ -13,16 +14,16 @@ pub fn outcome_of<A: Allocator + Copy>(
     words: &[Value<A>],
     counts: &mut u8,
 ) -> Result<Outcome<A>, NoMemory> {
-    let name = match words {
-        [name, ..] => name.as_slice(),
-        [] => b"",
+    let first = match words {
+        [first, ..] => name(first.as_slice()),
+        [] => "",
     };
-    match name {
-        b"break" => Ok(Err(Leave::Coded(Code::Break, Value::empty()))),
-        b"continue" => Ok(Err(Leave::Coded(Code::Continue, Value::empty()))),
-        b"error" => leaves(alloc, Code::Error, words),
-        b"return" => leaves(alloc, Code::Return, words),
-        b"count" => {
+    match first {
+        "break" => Ok(Err(Leave::Coded(Code::Break, Value::empty()))),
+        "continue" => Ok(Err(Leave::Coded(Code::Continue, Value::empty()))),
+        "error" => leaves(alloc, Code::Error, words),
+        "return" => leaves(alloc, Code::Return, words),
+        "count" => {
             *counts = counts.saturating_add(1);
             let digit = [b'0'.saturating_add(*counts)];
             Ok(Ok(Value::from_slice(alloc, &digit)?))

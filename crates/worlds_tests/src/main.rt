@@ -15,7 +15,7 @@ use memory::NoMemory;
 use std::alloc::Allocator;
 use std::io;
 use std::process::ExitCode;
-use tables::{Answers, Memory, run_table};
+use tables::{Answers, Memory, name, run_table};
 
 /// The tables, with the memory that their rows are given.
 const TABLES: [(&str, Memory); 5] = [
@@ -38,20 +38,20 @@ impl Answers for Rows<'_> {
         row: &[Vec<u8>],
         answer: &mut Vec<u8, A>,
     ) -> Result<(), NoMemory> {
-        match field(row, 0) {
-            b"call" => tell_call(self.rt, row, answer),
-            b"lasting" | b"passing" => tell_reread(self.rt, row, answer),
-            b"words" => tell_words(row, answer),
-            b"read" => tell_read(row, answer),
-            b"play" => tell_play(self.rt, row, answer),
-            b"made" => tell_made(self.rt, row, answer),
-            b"again" => tell_again(self.rt, row, answer),
-            b"live" => tell_live(self.rt, row, answer),
-            b"replayed" => tell_replayed(self.rt, row, answer),
-            b"why" => tell_why(self.rt, row, answer),
-            b"record" => tell_record(self.rt, row, answer),
-            b"entries" => tell_entries(self.rt, row, answer),
-            b"acts" => tell_acts(self.rt, row, answer),
+        match name(field(row, 0)) {
+            "call" => tell_call(self.rt, row, answer),
+            "lasting" | "passing" => tell_reread(self.rt, row, answer),
+            "words" => tell_words(row, answer),
+            "read" => tell_read(row, answer),
+            "play" => tell_play(self.rt, row, answer),
+            "made" => tell_made(self.rt, row, answer),
+            "again" => tell_again(self.rt, row, answer),
+            "live" => tell_live(self.rt, row, answer),
+            "replayed" => tell_replayed(self.rt, row, answer),
+            "why" => tell_why(self.rt, row, answer),
+            "record" => tell_record(self.rt, row, answer),
+            "entries" => tell_entries(self.rt, row, answer),
+            "acts" => tell_acts(self.rt, row, answer),
             _ => tell_outcome(row, answer),
         }
     }

@@ -6,7 +6,7 @@ use crate::played::{MOST, written};
 use acts::{Act, Answer, World};
 use memory::NoMemory;
 use std::alloc::{Allocator, Global};
-use tables::{number, push_angled, push_shown};
+use tables::{name, number, push_angled, push_shown};
 use worlds::{Counted, Live, Outcome, read_entries, read_record, write_entries, write_record};
 
 /// Writes the status and the line of an outcome.
@@ -14,7 +14,7 @@ pub fn tell_outcome<A: Allocator + Copy>(
     row: &[Vec<u8>],
     answer: &mut Vec<u8, A>,
 ) -> Result<(), NoMemory> {
-    let outcome = outcome_of(field(row, 0), field(row, 1), field(row, 2));
+    let outcome = outcome_of(name(field(row, 0)), field(row, 1), field(row, 2));
     let mut line = [0u8; MOST];
     outcome.write_line(&mut Counted::new(&mut line[..]));
     push_shown(answer, format_args!("{} ", outcome.status()))?;
@@ -22,16 +22,16 @@ pub fn tell_outcome<A: Allocator + Copy>(
 }
 
 /// The outcome of this kind; the fields say its number, or the name of its file and a line.
-fn outcome_of<'a>(kind: &[u8], first: &'a [u8], second: &[u8]) -> Outcome<'a> {
+fn outcome_of<'a>(kind: &str, first: &'a [u8], second: &[u8]) -> Outcome<'a> {
     match kind {
-        b"exit" => Outcome::Exit(signed(first)),
-        b"error" => Outcome::ScriptError,
-        b"usage" => Outcome::Usage,
-        b"open" => Outcome::CannotOpen(first),
-        b"limit" => Outcome::Limit,
-        b"output" => Outcome::OutputFailed,
-        b"unfit" => Outcome::UnfitAnswer(number(first)),
-        b"nomore" => Outcome::NoMoreAnswers,
+        "exit" => Outcome::Exit(signed(first)),
+        "error" => Outcome::ScriptError,
+        "usage" => Outcome::Usage,
+        "open" => Outcome::CannotOpen(first),
+        "limit" => Outcome::Limit,
+        "output" => Outcome::OutputFailed,
+        "unfit" => Outcome::UnfitAnswer(number(first)),
+        "nomore" => Outcome::NoMoreAnswers,
         _ => Outcome::BadRecord {
             name: first,
             line: number(second),
