@@ -1,14 +1,11 @@
 -- The code of an argument in braces, with the name of its command before it.
-use Rattle.std.proofs.Common.{◌≡◌, ℕ, ◌+◌, true, false, List, [], ◌∷◌, ◌++◌, length, subst, sym}
+use Rattle.std.proofs.Common.{◌≡◌, ℕ, true, false, List, [], ◌∷◌, ◌++◌, length, subst}
 use Rattle.code.specs.Argument.{IsArgued}
 use Rattle.code.specs.Blocks.{ArgumentBlock, ItsBlock}
 use Rattle.code.specs.Code.{WordsAt, argued}
-use Rattle.code.specs.Own.{IsOwn, name_of}
 use Rattle.code.specs.declared.argument.Argued.{Argued}
 use Rattle.code.specs.declared.instruction.Instruction.{Instruction}
 use Rattle.code.specs.declared.instruction.Instruction.TheVariants as i
-use Rattle.code.specs.declared.own.Own.{Own}
-use Rattle.code.specs.declared.own.Own.TheVariants as read
 use Rattle.code.proofs.Built.{extended, kept_on, longer, onward, stands}
 use Rattle.tclparse.specs.View.{words_of}
 
@@ -30,13 +27,3 @@ module _ {A : Type 0} where
             (subst (λ n. WordsAt later true false 1 n (words_of own.words) (length new))
             (longer old named first put_it) (block.lies later kept));
       }
-
-  -- what such a command does
-  pub argued_own_block : (old new : List (Instruction A)) (known : Own A) (it : Argued A) →
-      known ≡ read.Argued it →
-      ((text : List ℕ) → IsArgued it text → ItsBlock it.name old new (text ∷ [])) →
-      (args : List (List ℕ)) → IsOwn known args → ItsBlock (name_of known) old new args
-  argued_own_block old new known it is block args read_as =
-      subst (λ o. IsOwn o args → ItsBlock (name_of o) old new args) (sym is)
-      (λ r. subst (λ texts. ItsBlock it.name old new texts) (sym r.1) (block r.0 r.2))
-      read_as

@@ -3,7 +3,6 @@ use Rattle.std.proofs.Common.{◌≡◌, ℕ, ◌+◌, List, [], ◌∷◌, ◌+
 use Rattle.std.proofs.Common.{◌∙◌}
 use Rattle.std.specs.Prelude.{slice_set}
 use Rattle.code.specs.Blocks.{BodyBlock, ItsBlock, TakenBlock}
-use Rattle.code.specs.Catch.{IsCatch}
 use Rattle.code.specs.Code.{At, BodyAt, IsTaker, TakenAt, caught, dropped, taken}
 use Rattle.code.specs.Own.{IsOwn, name_of}
 use Rattle.code.specs.declared.catch.Catch.{Catch}
@@ -76,11 +75,10 @@ module _ {A : Type 0} where
   -- what catch does
   pub catch_own_block : (old new : List (Instruction A)) (known : Own A) (it : Catch A) →
       known ≡ read.Catch it →
-      ((text : List ℕ) (more : List (List ℕ)) → IsCatch it text more →
-      ItsBlock (codes "catch") old new (text ∷ more)) →
+      ((more : List (List ℕ)) → IsTaker it.variable more →
+      ItsBlock (codes "catch") old new (it.body ∷ more)) →
       (args : List (List ℕ)) → IsOwn known args → ItsBlock (name_of known) old new args
   catch_own_block old new known it is block args read_as =
       subst (λ o. IsOwn o args → ItsBlock (name_of o) old new args) (sym is)
-      (λ r. subst (λ texts. ItsBlock (codes "catch") old new texts) (sym r.2)
-      (block r.0 r.1 r.3))
+      (λ r. subst (λ texts. ItsBlock (codes "catch") old new texts) (sym r.2) (block r.0 r.1))
       read_as

@@ -4,8 +4,8 @@ use Rattle.std.specs.Prelude.{◌==◌, ◌&&◌, Vec, slice_set}
 use Rattle.std.proofs.lemmas.Bool.{ne_eqb}
 use Rattle.std.proofs.lemmas.Slice.Eq.{bytes_eq-Decides}
 use Rattle.std.specs.Str.{bytes_eq}
-use Rattle.code.specs.Blocks.{ArmsBlock, Block, BodyBlock, ChosenBlock, IsReal, OwnBlock, PartsBlock, RestBlock}
-use Rattle.code.specs.Code.{ArmsAt, At, BodyAt, PartsAt, RestAt, no_match, otherwise, shares, some_arms, switch_words, switched, takes, test_of, with_arms}
+use Rattle.code.specs.Blocks.{ArmsBlock, Block, BodyBlock, ChosenBlock, IsReal, OwnBlock, PartsBlock, RestBlock, SwitchBlock}
+use Rattle.code.specs.Code.{ArmsAt, At, BodyAt, RestAt, no_match, otherwise, shares, some_arms, switch_words, switched, takes, test_of, with_arms}
 use Rattle.code.specs.Switch.{AreArms, AreWhole, IsShort, are_globs, is_default, last_arm, no_arm, one_arm}
 use Rattle.code.specs.declared.instruction.Instruction.{Instruction}
 use Rattle.code.specs.declared.instruction.Instruction.TheVariants as i
@@ -13,7 +13,7 @@ use Rattle.code.specs.declared.options.Options.{Options}
 use Rattle.code.proofs.Built.{extended, kept_on, longer, onward, stands}
 use Rattle.code.proofs.Forks.{filled_length, forked, second_begins}
 use Rattle.code.proofs.Literals.{behind_two}
-use Rattle.code.proofs.Sequences.{filled_then, then_block}
+use Rattle.code.proofs.Sequences.{filled_then}
 use Rattle.tclparse.specs.Tree.{Parts}
 
 -- a pattern, its body, and those that are left
@@ -258,30 +258,37 @@ module _ {A : Type 0} where
             (subst (λ n. At later n it) at_value (stands dropped new later it tt put kept)));
       }
 
-  -- the string, and the patterns with their bodies, where no procedure hides the command
-  pub switch_block : (old listed hole dealt new : List (Instruction A)) (options : Options)
-      (string : Parts) (after : Vec (List ℕ) A) (arms : List (List ℕ)) →
-      AreArms arms after.items → PartsBlock old listed string → hole ≡ listed ++ i.Hole ∷ [] →
-      RestBlock (are_globs options.flag) hole dealt arms →
-      new ≡ slice_set dealt (length listed) (i.Switch options after (length dealt)) →
-      OwnBlock true old new (switch_words options string after.items)
-  switch_block old listed hole dealt new options string after arms are strings put_hole rest fill =
-      let n = length listed in
+  -- the patterns with their bodies, where no procedure hides the command
+  pub switch_block : (old hole dealt new : List (Instruction A)) (options : Options)
+      (after : Vec (List ℕ) A) (arms : List (List ℕ)) → AreArms arms after.items →
+      hole ≡ old ++ i.Hole ∷ [] → RestBlock (are_globs options.flag) hole dealt arms →
+      new ≡ slice_set dealt (length old) (i.Switch options after (length dealt)) →
+      SwitchBlock old new options after.items
+  switch_block old hole dealt new options after arms are put_hole rest fill =
+      let n = length old in
       let globs = are_globs options.flag in
       let it : Instruction A = i.Switch options after (length dealt) in
-      let at_rest : length hole ≡ n + 1 = longer listed hole i.Hole put_hole in
+      let at_rest : length hole ≡ n + 1 = longer old hole i.Hole put_hole in
       let at_end : length dealt ≡ length new = sym (filled_length dealt new n it fill) in
-      let all = then_block old listed new (λ later. PartsAt later false (length old) string n)
-      (λ later. At later n it × RestAt later globs (length hole) arms (length dealt)) strings
-      (filled_then listed hole dealt new it
-      (λ later. RestAt later globs (length hole) arms (length dealt)) tt put_hole rest fill) in
+      let all = filled_then old hole dealt new it
+      (λ later. RestAt later globs (length hole) arms (length dealt)) tt put_hole rest fill in
       record {
         extends = all.extends;
         lies = λ later kept.
             let lies = all.lies later kept in
-            switched lies.0
-            (with_arms after refl are
-            (subst (λ k. At later n (i.Switch options after k)) at_end lies.1.0)
+            with_arms after refl are
+            (subst (λ k. At later n (i.Switch options after k)) at_end lies.0)
             (subst (λ k. RestAt later globs (n + 1) arms k) at_end
-            (subst (λ k. RestAt later globs k arms (length dealt)) at_rest lies.1.1)));
+            (subst (λ k. RestAt later globs k arms (length dealt)) at_rest lies.1));
       }
+
+  -- the string before that
+  pub string_block : (old listed new : List (Instruction A)) (options : Options)
+      (string : Parts) (after : List (List ℕ)) → PartsBlock old listed string →
+      SwitchBlock listed new options after →
+      OwnBlock true old new (switch_words options string after)
+  string_block old listed new options string after strings choice = record {
+    extends = onward strings.extends choice.extends;
+    lies = λ later kept. switched (strings.lies later (kept_on choice.extends kept))
+        (choice.lies later kept);
+  }

@@ -1,8 +1,8 @@
 -- The code of foreach.
-use Rattle.std.proofs.Common.{◌≡◌, ◌∙◌, ℕ, suc, ◌+◌, ◌<◌, false, true, List, [], ◌∷◌, ◌++◌, length, drop, get_or, sym, ap, subst, arith, add-one, drop-cons}
+use Rattle.std.proofs.Common.{◌≡◌, ◌∙◌, ℕ, suc, ◌+◌, ◌<◌, true, List, [], ◌∷◌, ◌++◌, length, drop, get_or, sym, ap, subst, arith, add-one, drop-cons}
 use Rattle.std.specs.Prelude.{slice_set}
-use Rattle.code.specs.Blocks.{AssignsBlock, Block, BodyBlock, DealBlock, NextBlock, OwnBlock, PartsBlock}
-use Rattle.code.specs.Code.{AreNames, AssignsAt, At, BodyAt, DealAt, NextAt, PartsAt, all_set, deals, foreach_loop, foreach_words, next_turn, sets, with_names}
+use Rattle.code.specs.Blocks.{AssignsBlock, Block, BodyBlock, DealBlock, ForeachBlock, NextBlock, OwnBlock, PartsBlock}
+use Rattle.code.specs.Code.{AreNames, AssignsAt, At, BodyAt, DealAt, NextAt, all_set, deals, foreach_loop, foreach_words, next_turn, sets, with_names}
 use Rattle.code.specs.declared.instruction.Instruction.{Instruction}
 use Rattle.code.specs.declared.instruction.Instruction.TheVariants as i
 use Rattle.code.proofs.Built.{extended, kept_on, longer, onward, same, stands}
@@ -126,28 +126,34 @@ module _ {A : Type 0} where
             (subst (λ k. NextAt later k names (length hole) mid (length new)) at_next lies.1));
       }
 
-  -- the list, and the turns, where no procedure hides the command
-  pub each_block : (old listed hole dealt new : List (Instruction A))
-      (variables body : List ℕ) (names : List (List ℕ)) (list : Parts) →
-      AreNames variables names → PartsBlock old listed list → hole ≡ listed ++ i.Hole ∷ [] →
+  -- the turns, where no procedure hides the command
+  pub each_block : (old hole dealt new : List (Instruction A)) (variables body : List ℕ)
+      (names : List (List ℕ)) → AreNames variables names → hole ≡ old ++ i.Hole ∷ [] →
       DealBlock hole dealt names body →
-      new ≡ slice_set dealt (length listed) (i.Foreach variables body (length dealt)) →
-      OwnBlock true old new (foreach_words variables list body)
-  each_block old listed hole dealt new variables body names list are lists put_hole dealing fill =
-      let n = length listed in
+      new ≡ slice_set dealt (length old) (i.Foreach variables body (length dealt)) →
+      ForeachBlock old new variables body
+  each_block old hole dealt new variables body names are put_hole dealing fill =
+      let n = length old in
       let it : Instruction A = i.Foreach variables body (length dealt) in
-      let at_deal : length hole ≡ n + 1 = longer listed hole i.Hole put_hole in
+      let at_deal : length hole ≡ n + 1 = longer old hole i.Hole put_hole in
       let at_end : length dealt ≡ length new = sym (filled_length dealt new n it fill) in
-      let all = then_block old listed new (λ later. PartsAt later false (length old) list n)
-      (λ later. At later n it × DealAt later (length hole) names body (length dealt)) lists
-      (filled_then listed hole dealt new it
-      (λ later. DealAt later (length hole) names body (length dealt)) tt put_hole dealing fill) in
+      let all = filled_then old hole dealt new it
+      (λ later. DealAt later (length hole) names body (length dealt)) tt put_hole dealing fill in
       record {
         extends = all.extends;
         lies = λ later kept.
             let lies = all.lies later kept in
-            foreach_loop lies.0
-            (with_names are (subst (λ k. At later n (i.Foreach variables body k)) at_end lies.1.0)
+            with_names are (subst (λ k. At later n (i.Foreach variables body k)) at_end lies.0)
             (subst (λ k. DealAt later (n + 1) names body k) at_end
-            (subst (λ k. DealAt later k names body (length dealt)) at_deal lies.1.1)));
+            (subst (λ k. DealAt later k names body (length dealt)) at_deal lies.1));
       }
+
+  -- the list before that
+  pub listed_block : (old listed new : List (Instruction A)) (variables body : List ℕ)
+      (list : Parts) → PartsBlock old listed list → ForeachBlock listed new variables body →
+      OwnBlock true old new (foreach_words variables list body)
+  listed_block old listed new variables body list lists turns = record {
+    extends = onward lists.extends turns.extends;
+    lies = λ later kept. foreach_loop (lists.lies later (kept_on turns.extends kept))
+        (turns.lies later kept);
+  }

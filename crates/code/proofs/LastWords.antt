@@ -1,5 +1,5 @@
 -- The code of a command that is one instruction, after the value of its last word.
-use Rattle.std.proofs.Common.{◌≡◌, ◌∙◌, ℕ, ◌+◌, ◌≤◌, ◌<◌, true, false, List, [], ◌∷◌, ◌++◌, length, get_or, sym, ap, subst, arith}
+use Rattle.std.proofs.Common.{◌≡◌, ◌∙◌, ℕ, ◌≤◌, ◌<◌, true, false, List, [], ◌∷◌, ◌++◌, length, get_or, sym, ap, subst, arith}
 use Rattle.code.specs.Blocks.{IsReal, OwnBlock, PartsBlock}
 use Rattle.code.specs.Code.{CommandAt, IsDirect, adds_last, appends_last, direct, increments_last, returns_last, sets_last}
 use Rattle.code.specs.Conditional.{IsLiteral}

@@ -8,11 +8,13 @@ pub mod Scripts
 pub mod Formulas
 pub mod Literals
 pub mod Fronts
+pub mod Inners
 pub mod Conditionals
 pub mod Turns
 pub mod Owns
 pub mod Sequences
 pub mod Foreach
+pub mod Tops
 pub mod Evals
 pub mod Arguments
 pub mod Choices

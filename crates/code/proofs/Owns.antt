@@ -1,11 +1,11 @@
 -- A command that has code of its own.
-use Rattle.std.proofs.Common.{◌≡◌, ℕ, ◌+◌, false, true, List, [], ◌∷◌, ◌++◌, codes, length, Option, None, sym, subst}
+use Rattle.std.proofs.Common.{◌≡◌, ℕ, ◌+◌, false, true, List, [], ◌∷◌, ◌++◌, codes, length, Some, sym, subst}
 use Rattle.std.specs.Prelude.{slice_set}
 use Rattle.code.specs.Blocks.{BranchesBlock, ItsBlock, OwnBlock, TurnsBlock, WordsBlock}
-use Rattle.code.specs.Code.{At, CommandAt, OwnAt, WordsAt, conditional, own, while_loop}
+use Rattle.code.specs.Code.{At, CommandAt, HasFormula, OwnAt, TurnsAt, WordsAt, conditional, own, while_loop}
 use Rattle.code.specs.Conditional.{IsConditional}
 use Rattle.code.specs.Own.{IsOwn, name_of}
-use Rattle.code.specs.Repeat.{AreTurns, IsFor}
+use Rattle.code.specs.Repeat.{for_args}
 use Rattle.code.specs.declared.conditional.Conditional.{Conditional}
 use Rattle.code.specs.declared.instruction.Instruction.{Instruction}
 use Rattle.code.specs.declared.instruction.Instruction.TheVariants as i
@@ -65,28 +65,28 @@ module _ {A : Type 0} where
 
   -- what while does
   pub while_block : (old new : List (Instruction A)) (known : Own A) (it : Turns A) →
-      known ≡ read.While it →
-      ((test : List ℕ) (step : Option (List ℕ)) (body : List ℕ) → AreTurns it test step body →
-      TurnsBlock old new test step body) →
+      known ≡ read.While it → (HasFormula it.test → TurnsBlock old new it.test it.step it.body) →
       (args : List (List ℕ)) → IsOwn known args → ItsBlock (name_of known) old new args
   while_block old new known it is block args read_as =
       subst (λ o. IsOwn o args → ItsBlock (name_of o) old new args) (sym is)
-      (λ r. let put = block r.0 None r.1 r.3 in
+      (λ r. let put = block r.1 in
       subst (λ texts. ItsBlock (codes "while") old new texts) (sym r.2)
       (record {
         extends = put.extends;
-        lies = λ later kept. while_loop (put.lies later kept);
+        lies = λ later kept. while_loop
+            (subst (λ s. TurnsAt later (length old) it.test s it.body (length new)) r.0
+            (put.lies later kept));
       }))
       read_as
 
   -- what for does
   pub for_block : (old new : List (Instruction A)) (known : Own A) (it : For A) →
       known ≡ read.For it →
-      ((start test step body : List ℕ) → IsFor it start test step body →
-      ItsBlock (codes "for") old new (start ∷ test ∷ step ∷ body ∷ [])) →
+      ((step : List ℕ) → it.turns.step ≡ Some step → HasFormula it.turns.test →
+      ItsBlock (codes "for") old new (for_args it step)) →
       (args : List (List ℕ)) → IsOwn known args → ItsBlock (name_of known) old new args
   for_block old new known it is block args read_as =
       subst (λ o. IsOwn o args → ItsBlock (name_of o) old new args) (sym is)
-      (λ r. subst (λ texts. ItsBlock (codes "for") old new texts) (sym r.4)
-      (block r.0 r.1 r.2 r.3 r.5))
+      (λ r. subst (λ texts. ItsBlock (codes "for") old new texts) (sym r.3)
+      (block r.0 r.1 r.2))
       read_as

@@ -1,30 +1,24 @@
 -- The code of the turns of a loop.
-use Rattle.std.proofs.Common.{◌≡◌, ℕ, ◌+◌, List, [], ◌∷◌, ◌++◌, Option, Some, None, Ok, length, codes, sym, subst, arith}
+use Rattle.std.proofs.Common.{◌≡◌, ℕ, ◌+◌, List, [], ◌∷◌, ◌++◌, Option, Some, None, length, codes, sym, subst, arith}
 use Rattle.std.specs.Prelude.{slice_set}
-use Rattle.code.specs.Blocks.{BodyBlock, Extends, FormulaBlock, ItsBlock, Keeps, StepBlock, TurnsBlock}
-use Rattle.code.specs.Code.{At, BodyAt, FormulaAt, StepAt, TurnsAt, for_loop, no_step, steps, turns}
-use Rattle.code.specs.Conditional.{IsBody}
-use Rattle.code.specs.Repeat.{IsStep}
+use Rattle.code.specs.Blocks.{BodyBlock, Extends, ExpressionBlock, ItsBlock, Keeps, StepBlock, TurnsBlock}
+use Rattle.code.specs.Code.{At, BodyAt, ExpressionAt, HasFormula, StepAt, TurnsAt, for_loop, no_step, steps, turns}
 use Rattle.code.specs.declared.instruction.Instruction.{Instruction}
 use Rattle.code.specs.declared.instruction.Instruction.TheVariants as i
 use Rattle.code.proofs.Built.{extended, filled, filled_after, holes, kept_on, kept_then, longer, onward, stands, stands_filled}
 use Rattle.code.proofs.Forks.{filled_length}
-use Rattle.tclparse.specs.Formula.{Formula}
-use Rattle.tclparse.specs.FormulaGrammar.{IsFormula}
-use Rattle.tclparse.specs.declared.script.Script.{Script}
 
 module _ {A : Type 0} where
   -- the end of a turn, where no script runs after it
-  pub no_step_block : (old new : List (Instruction A)) (read : Option (Script A))
-      (text : Option (List ℕ)) → read ≡ None → IsStep read text →
-      new ≡ old ++ i.EndTurn ∷ [] → StepBlock old new text
-  no_step_block old new None None none is put = record {
-    extends = extended old new i.EndTurn put;
-    lies = λ later kept. subst (λ n. StepAt later (length old) None n)
-        (sym (longer old new i.EndTurn put)) (no_step (stands old new later i.EndTurn tt put kept));
-  }
-  no_step_block old new None (Some text) none is put = absurd is
-  no_step_block old new (Some script) text none is put = absurd cc
+  pub no_step_block : (old new : List (Instruction A)) (step : Option (List ℕ)) → step ≡ None →
+      new ≡ old ++ i.EndTurn ∷ [] → StepBlock old new step
+  no_step_block old new step none put =
+      subst (λ s. StepBlock old new s) (sym none) (record {
+        extends = extended old new i.EndTurn put;
+        lies = λ later kept. subst (λ n. StepAt later (length old) None n)
+            (sym (longer old new i.EndTurn put))
+            (no_step (stands old new later i.EndTurn tt put kept));
+      })
 
   -- the script that runs after each turn, and the end of a turn
   pub step_block : (old entered between new : List (Instruction A)) (text : List ℕ) →
@@ -44,26 +38,17 @@ module _ {A : Type 0} where
             (stands between new later i.EndTurn tt put kept));
       }
 
-  pub some_step_block : (old new : List (Instruction A)) (read : Option (Script A))
-      (script : Script A) (text : Option (List ℕ)) → read ≡ Some script → IsStep read text →
-      ((known : List ℕ) → IsBody script known → StepBlock old new (Some known)) →
-      StepBlock old new text
-  some_step_block old new read script None some is block =
-      let none : IsStep (Some script) None = subst (λ r. IsStep r None) some is in absurd none
-  some_step_block old new read script (Some text) some is block =
-      block text (subst (λ r. IsStep r (Some text)) some is)
-
   -- a body, after a jump to the test, and what stands after it; and a test, after which a turn
   -- begins
   pub turns_block : (old hole bodied stepped filled_one tested turned new : List (Instruction A))
-      (f : Formula) (test : List ℕ) (step : Option (List ℕ)) (body : List ℕ) →
-      IsFormula (Ok f) test → hole ≡ old ++ i.Hole ∷ [] → BodyBlock hole bodied body →
+      (test : List ℕ) (step : Option (List ℕ)) (body : List ℕ) → HasFormula test →
+      hole ≡ old ++ i.Hole ∷ [] → BodyBlock hole bodied body →
       StepBlock bodied stepped step →
       filled_one ≡ slice_set stepped (length old) (i.Jump (length stepped)) →
-      FormulaBlock filled_one tested f →
+      ExpressionBlock filled_one tested test →
       turned ≡ tested ++ i.Turn (length hole) (length bodied) ∷ [] →
       new ≡ turned ++ i.Text [] ∷ [] → TurnsBlock old new test step body
-  turns_block old hole bodied stepped filled_one tested turned new f test step body is put_hole
+  turns_block old hole bodied stepped filled_one tested turned new test step body is put_hole
       bodies ends fill tests put_turn put_over =
       let n = length old in
       let jump : Instruction A = i.Jump (length stepped) in
@@ -102,7 +87,7 @@ module _ {A : Type 0} where
             (subst (λ k. BodyAt later k body (length bodied)) at_body
             (bodies.lies later (kept_on ends.extends kept_stepped)))
             (ends.lies later kept_stepped)
-            (subst (λ k. FormulaAt later k f (length tested))
+            (subst (λ k. ExpressionAt later k test (length tested))
             (filled_length stepped filled_one n jump fill) (tests.lies later kept_tested))
             (subst (λ k. At later (length tested) (i.Turn k (length bodied))) at_body
             (stands tested turned later turn tt put_turn kept_turned))

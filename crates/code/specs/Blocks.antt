@@ -1,8 +1,9 @@
 -- What a call puts after the code that stands there already.
 use Rattle.std.specs.Prelude.{⊤, ◌≡◌, ℕ, ◌+◌, Bool, true, false, List, Option, length}
-use Rattle.code.specs.Code.{At, JoinsAt, PartsAt, WordsAt, CommandAt, CommandsAt, ScriptAt, BranchesAt, BehindAt, BodyAt, OwnAt, TurnsAt, StepAt, AssignsAt, NextAt, DealAt, RestAt, ArmsAt, FormulaAt, LinksAt, ArgumentsAt, TakenAt}
+use Rattle.code.specs.Code.{At, JoinsAt, PartsAt, WordsAt, CommandAt, CommandsAt, ScriptAt, BranchesAt, BehindAt, BodyAt, ExpressionAt, OwnAt, TurnsAt, StepAt, AssignsAt, NextAt, DealAt, ForeachAt, RestAt, ArmsAt, SwitchAt, FormulaAt, LinksAt, ArgumentsAt, TakenAt}
 use Rattle.code.specs.declared.instruction.Instruction.{Instruction}
 use Rattle.code.specs.declared.instruction.Instruction.TheVariants as i
+use Rattle.code.specs.declared.options.Options.{Options}
 use Rattle.tclparse.specs.Fault.{Fault}
 use Rattle.tclparse.specs.Formula.{Formula, Formulas, Links}
 use Rattle.tclparse.specs.Tree.{Parts, Words, no_words, Commands}
@@ -104,6 +105,12 @@ abbrev pub BodyBlock : {A : Type 0} → List (Instruction A) → List (Instructi
     Type 0
 BodyBlock old new text = Block old new (λ later. BodyAt later (length old) text (length new))
 
+-- a text whose value as a formula is put on top
+abbrev pub ExpressionBlock : {A : Type 0} → List (Instruction A) → List (Instruction A) →
+    List ℕ → Type 0
+ExpressionBlock old new text = Block old new (λ later.
+    ExpressionAt later (length old) text (length new))
+
 -- what the command of this name does with the words after it
 abbrev pub ItsBlock : {A : Type 0} → List ℕ → List (Instruction A) → List (Instruction A) →
     List (List ℕ) → Type 0
@@ -145,6 +152,12 @@ abbrev pub DealBlock : {A : Type 0} → List (Instruction A) → List (Instructi
 DealBlock old new names body = Block old new (λ later.
     DealAt later (length old) names body (length new))
 
+-- foreach with these variables and this body, after the value of its list
+abbrev pub ForeachBlock : {A : Type 0} → List (Instruction A) → List (Instruction A) → List ℕ →
+    List ℕ → Type 0
+ForeachBlock old new variables body = Block old new (λ later.
+    ForeachAt later (length old) variables body (length new))
+
 -- a body that runs once the string of a switch is dropped
 abbrev pub ChosenBlock : {A : Type 0} → List (Instruction A) → List (Instruction A) → List ℕ →
     Type 0
@@ -162,6 +175,12 @@ abbrev pub RestBlock : {A : Type 0} → Bool → List (Instruction A) → List (
     List (List ℕ) → Type 0
 RestBlock globs old new arms = Block old new (λ later.
     RestAt later globs (length old) arms (length new))
+
+-- switch with these options and these words after its string, once that is on top
+abbrev pub SwitchBlock : {A : Type 0} → List (Instruction A) → List (Instruction A) → Options →
+    List (List ℕ) → Type 0
+SwitchBlock old new options after = Block old new (λ later.
+    SwitchAt later (length old) options after (length new))
 
 -- a formula
 abbrev pub FormulaBlock : {A : Type 0} → List (Instruction A) → List (Instruction A) → Formula →

@@ -123,6 +123,10 @@ pub data IsDirect {A : Type 0} : Instruction A → List (List ℕ) → Type 0 wh
   increments_last : IsDirect i.Increment (codes "incr" ∷ [])
   returns_last : IsDirect i.Return (codes "return" ∷ [])
 
+-- a text is a formula (expr(n))
+abbrev pub HasFormula : List ℕ → Type 0
+HasFormula text = (f : Formula) × IsFormula (Ok f) text
+
 -- The code of the tree stands from the first place up to the second.
 mutual
   -- parts of a word, before which there is something of the word or nothing: their values are put
@@ -201,9 +205,9 @@ mutual
   -- what the command of this name does with the words after it: if; while; for, whose start runs
   -- before its turns, and has its value dropped; eval, whose only word is a script once there is no
   -- white space at its ends; catch, whose script may have its value taken by a variable; expr,
-  -- whose only word is a formula in the same way; or a command that takes branches, whose only word
-  -- is an argument in braces, with its name before the words of that (if(n); while(n); for(n);
-  -- eval(n); concat(n); catch(n); expr(n); expect(1), expect)
+  -- whose only word is an expression in the same way; or a command that takes branches, whose only
+  -- word is an argument in braces, with its name before the words of that (if(n); while(n);
+  -- for(n); eval(n); concat(n); catch(n); expr(n); expect(1), expect)
   pub data OwnAt {A : Type 0} (code : List (Instruction A)) :
       List ℕ → ℕ → List (List ℕ) → ℕ → Type 0 where
     conditional : {place end : ℕ} {args : List (List ℕ)} → BranchesAt code place args end →
@@ -221,22 +225,22 @@ mutual
         {more : List (List ℕ)} → IsTaker variable more → At code place (i.Catch (mid + 1)) →
         BodyAt code (place + 1) text mid → At code mid i.EndCatch →
         TakenAt code (mid + 1) variable end → OwnAt code (codes "catch") place (text ∷ more) end
-    valued : {place mid : ℕ} {text : List ℕ} {f : Formula} →
-        IsFormula (Ok f) (concatenated (text ∷ [])) → FormulaAt code place f mid →
+    valued : {place mid : ℕ} {text : List ℕ} →
+        ExpressionAt code place (concatenated (text ∷ [])) mid →
         At code mid i.Result → OwnAt code (codes "expr") place (text ∷ []) (mid + 1)
     argued : {place end : ℕ} {name text : List ℕ} {ws : Words} → takes_branches name ≡ true →
         is_braced text ≡ true → IsArgument ws None text → At code place (i.Text name) →
         WordsAt code true false 1 (place + 1) ws end → OwnAt code name place (text ∷ []) end
 
-  -- the turns of a loop with this test, this script after each turn, if there is one, and this
-  -- body: the body stands before the test, with which the loop begins, and after both of them the
-  -- empty value (while(n); for(n))
+  -- the turns of a loop with this test, which is a formula, this script after each turn, if there
+  -- is one, and this body: the body stands before the test, with which the loop begins, and after
+  -- both of them the empty value (while(n); for(n))
   pub data TurnsAt {A : Type 0} (code : List (Instruction A)) :
       ℕ → List ℕ → Option (List ℕ) → List ℕ → ℕ → Type 0 where
-    turns : {place mid again turn : ℕ} {test body : List ℕ} {step : Option (List ℕ)}
-        {f : Formula} → IsFormula (Ok f) test → At code place (i.Jump again) →
-        BodyAt code (place + 1) body mid → StepAt code mid step again →
-        FormulaAt code again f turn → At code turn (i.Turn (place + 1) mid) →
+    turns : {place mid again turn : ℕ} {test body : List ℕ} {step : Option (List ℕ)} →
+        HasFormula test → At code place (i.Jump again) → BodyAt code (place + 1) body mid →
+        StepAt code mid step again → ExpressionAt code again test turn →
+        At code turn (i.Turn (place + 1) mid) →
         At code (turn + 1) (i.Text []) → TurnsAt code place test step body (turn + 2)
 
   -- what stands after the body of a turn: the end of the turn, and before that the script that runs
@@ -304,15 +308,14 @@ mutual
         RestAt code globs (jump + 1) more end →
         ArmsAt code globs place (place + 1) (pattern ∷ body ∷ more) end
 
-  -- a test, a body that runs where it holds, and what is done where it does not; the test and the
-  -- body are what their words are read as (if(n))
+  -- a test, a body that runs where it holds, and what is done where it does not (if(n))
   pub data BranchesAt {A : Type 0} (code : List (Instruction A)) :
       ℕ → List (List ℕ) → ℕ → Type 0 where
-    branch : {place unless jump end : ℕ} {test body : List ℕ} {behind args : List (List ℕ)}
-        {f : Formula} → IsBranch test body behind args → IsFormula (Ok f) test →
-        FormulaAt code place f unless → At code unless (i.Unless (jump + 1)) →
-        BodyAt code (unless + 1) body jump → At code jump (i.Jump end) →
-        BehindAt code (jump + 1) behind end → BranchesAt code place args end
+    branch : {place unless jump end : ℕ} {test body : List ℕ} {behind args : List (List ℕ)} →
+        IsBranch test body behind args → ExpressionAt code place test unless →
+        At code unless (i.Unless (jump + 1)) → BodyAt code (unless + 1) body jump →
+        At code jump (i.Jump end) → BehindAt code (jump + 1) behind end →
+        BranchesAt code place args end
 
   -- the words after a body: none, where the value is empty, or those of the last body, or elseif
   -- and a further branch (if(n))
@@ -324,11 +327,23 @@ mutual
     else_if : {place end : ℕ} {args : List (List ℕ)} → BranchesAt code place args end →
         BehindAt code place (codes "elseif" ∷ args) end
 
-  -- what a text is read as, as a script that runs one level deeper
+  -- a text that runs as a script, one level deeper: what it is read as stands here, or the text
+  -- itself, which is read when it runs (Tcl(n), rule 7)
   pub data BodyAt {A : Type 0} (code : List (Instruction A)) : ℕ → List ℕ → ℕ → Type 0 where
     deeper : {place mid leave after : ℕ} {body : List ℕ} {cs : Commands} {f : Option Fault} →
         IsScript cs f body → At code place (i.Body after) → CommandsAt code (place + 1) cs mid →
         FaultAt code f mid leave → At code leave i.Leave → BodyAt code place body (leave + 1)
+    by_text : {place after : ℕ} {body : List ℕ} → At code place (i.Run body after) →
+        BodyAt code place body (place + 1)
+
+  -- a text whose value as a formula is put on top: the formula that it is read as stands here, or
+  -- the text itself, which is read when its value is wanted (expr(n))
+  pub data ExpressionAt {A : Type 0} (code : List (Instruction A)) :
+      ℕ → List ℕ → ℕ → Type 0 where
+    by_formula : {place end : ℕ} {text : List ℕ} {f : Formula} → IsFormula (Ok f) text →
+        FormulaAt code place f end → ExpressionAt code place text end
+    from_text : {place : ℕ} {text : List ℕ} → At code place (i.Evaluate text) →
+        ExpressionAt code place text (place + 1)
 
   -- a formula: its value is put on top (expr(n))
   pub data FormulaAt {A : Type 0} (code : List (Instruction A)) : ℕ → Formula → ℕ → Type 0 where

@@ -1,19 +1,14 @@
--- What the words of if are read as.
-use Rattle.std.specs.Prelude.{◌≡◌, ℕ, false, List, [], ◌∷◌, codes, Option, Some, None, option_map, Ok, reverse}
+-- What the words of if are kept as.
+use Rattle.std.specs.Prelude.{◌≡◌, ℕ, false, List, [], ◌∷◌, codes, Option, Some, None, reverse}
 use Rattle.code.specs.Code.{IsBranch, IsLast}
 use Rattle.code.specs.declared.branches.Behind.{Behind}
 use Rattle.code.specs.declared.branches.Behind.TheVariants as after
 use Rattle.code.specs.declared.branches.Front.{Front}
 use Rattle.code.specs.declared.conditional.Branch.{Branch}
 use Rattle.code.specs.declared.conditional.Conditional.{Conditional}
-use Rattle.formulas.specs.View.{formula_of}
-use Rattle.tclparse.specs.FormulaGrammar.{IsFormula}
-use Rattle.tclparse.specs.Grammar.{IsScript}
-use Rattle.tclparse.specs.Seen.{fault_of}
 use Rattle.tclparse.specs.Tree.{Words, bytes_then, no_parts, no_words, literals}
 use Rattle.tclparse.specs.Tree as tree
-use Rattle.tclparse.specs.View.{commands_of, word_view, words_then}
-use Rattle.tclparse.specs.declared.script.Script.{Script}
+use Rattle.tclparse.specs.View.{word_view, words_then}
 use Rattle.tclparse.specs.declared.tree.Word.{Word}
 
 -- the word is this text as it stands
@@ -39,32 +34,25 @@ IsBehind words (after.Last body) =
     (args : List (List ℕ)) × Are words args × IsLast body.now args
 IsBehind words after.Wrong = Unit {0}
 
--- the script is what the text is read as (Tcl(n))
-abbrev pub IsBody : {A : Type 0} → Script A → List ℕ → Type 0
-IsBody script text =
-    IsScript (commands_of script.commands) (option_map fault_of script.fault) text
+-- the words after the last branch are none, or those of the last body
+pub data AreEnd : Option (List ℕ) → List (List ℕ) → Type 0 where
+  nothing : AreEnd None []
+  ends : {body : List ℕ} {args : List (List ℕ)} → IsLast body args → AreEnd (Some body) args
 
--- a test and its body are what these texts are read as
-pub record IsRead {A : Type 0} (own : Branch A) (test body : List ℕ) : Type 0 where
-  pub test_is : IsFormula (Ok (formula_of own.test)) test
-  pub body_is : IsBody own.body body
-
--- the branches, the first one first, and the last body, where there is one, are what words are read
+-- the branches, the first one first, and the last body, where there is one, are what words are kept
 -- as: those after if, and those after a body
 mutual
   pub data AreBranches {A : Type 0} :
-      List (Branch A) → Option (Script A) → List (List ℕ) → Type 0 where
-    first : {own : Branch A} {more : List (Branch A)} {otherwise : Option (Script A)}
-        {test body : List ℕ} {behind args : List (List ℕ)} → IsBranch test body behind args →
-        IsRead own test body → AreBehind more otherwise behind →
-        AreBranches (own ∷ more) otherwise args
+      List (Branch A) → Option (List ℕ) → List (List ℕ) → Type 0 where
+    first : {own : Branch A} {more : List (Branch A)} {otherwise : Option (List ℕ)}
+        {behind args : List (List ℕ)} → IsBranch own.test own.body behind args →
+        AreBehind more otherwise behind → AreBranches (own ∷ more) otherwise args
 
   pub data AreBehind {A : Type 0} :
-      List (Branch A) → Option (Script A) → List (List ℕ) → Type 0 where
-    nothing : AreBehind [] None []
-    ends : {script : Script A} {body : List ℕ} {args : List (List ℕ)} → IsLast body args →
-        IsBody script body → AreBehind [] (Some script) args
-    goes_on : {more : List (Branch A)} {otherwise : Option (Script A)} {args : List (List ℕ)} →
+      List (Branch A) → Option (List ℕ) → List (List ℕ) → Type 0 where
+    over : {otherwise : Option (List ℕ)} {args : List (List ℕ)} → AreEnd otherwise args →
+        AreBehind [] otherwise args
+    goes_on : {more : List (Branch A)} {otherwise : Option (List ℕ)} {args : List (List ℕ)} →
         AreBranches more otherwise args → AreBehind more otherwise (codes "elseif" ∷ args)
 
 -- what is kept of these words, whose last branch stands first

@@ -3,7 +3,6 @@ pub mod Code
 pub mod Blocks
 pub mod Conditional
 pub mod Repeat
-pub mod Catch
 pub mod Argument
 pub mod Own
 pub mod StoredFormula

@@ -1,39 +1,33 @@
--- What the words of a command that has code of its own are read as.
-use Rattle.std.specs.Prelude.{◌≡◌, ℕ, List, [], ◌∷◌, codes, None, Ok}
-use Rattle.code.specs.Argument.{IsArgued}
-use Rattle.code.specs.Catch.{IsCatch}
-use Rattle.code.specs.Conditional.{IsBody, IsConditional}
-use Rattle.code.specs.Repeat.{AreTurns, IsFor}
+-- What the words of a command that has code of its own are kept as.
+use Rattle.std.specs.Prelude.{◌≡◌, ℕ, List, [], ◌∷◌, codes, None, Some}
+use Rattle.code.specs.Code.{HasFormula, IsTaker}
+use Rattle.code.specs.Conditional.{IsConditional}
+use Rattle.code.specs.Repeat.{for_args}
 use Rattle.code.specs.declared.own.Own.{Own}
 use Rattle.code.specs.declared.own.Own.TheVariants as own
-use Rattle.formulas.specs.View.{formula_of}
 use Rattle.pure.specs.Concat.{concatenated}
-use Rattle.tclparse.specs.FormulaGrammar.{IsFormula}
 
 -- the name of the command
 abbrev pub name_of : {A : Type 0} → Own A → List ℕ
 name_of (own.If it) = codes "if"
 name_of (own.While it) = codes "while"
 name_of (own.For it) = codes "for"
-name_of (own.Eval it) = codes "eval"
+name_of (own.Eval joined) = codes "eval"
 name_of (own.Catch it) = codes "catch"
-name_of (own.Expr it) = codes "expr"
-name_of (own.Argued it) = it.name
+name_of (own.Expr joined) = codes "expr"
 
--- it is what the words after the name are read as (if(n); while(n); for(n); eval(n); catch(n);
--- expr(n); expect(1), expect)
+-- it is what the words after the name are kept as; of eval and of expr, their only word without the
+-- white space at its ends (if(n); while(n); for(n); eval(n); concat(n); catch(n); expr(n))
 abbrev pub IsOwn : {A : Type 0} → Own A → List (List ℕ) → Type 0
 IsOwn (own.If it) args = IsConditional it args
 IsOwn (own.While it) args =
-    (test : List ℕ) × (body : List ℕ) × (args ≡ test ∷ body ∷ []) × AreTurns it test None body
+    (it.step ≡ None) × HasFormula it.test × (args ≡ it.test ∷ it.body ∷ [])
 IsOwn (own.For it) args =
-    (start : List ℕ) × (test : List ℕ) × (step : List ℕ) × (body : List ℕ) ×
-    (args ≡ start ∷ test ∷ step ∷ body ∷ []) × IsFor it start test step body
-IsOwn (own.Eval it) args =
-    (text : List ℕ) × (args ≡ text ∷ []) × IsBody it (concatenated (text ∷ []))
+    (step : List ℕ) × (it.turns.step ≡ Some step) × HasFormula it.turns.test
+    × (args ≡ for_args it step)
+IsOwn (own.Eval joined) args =
+    (text : List ℕ) × (args ≡ text ∷ []) × (joined ≡ concatenated (text ∷ []))
 IsOwn (own.Catch it) args =
-    (text : List ℕ) × (more : List (List ℕ)) × (args ≡ text ∷ more) × IsCatch it text more
-IsOwn (own.Expr it) args =
-    (text : List ℕ) × (args ≡ text ∷ []) ×
-    IsFormula (Ok (formula_of it)) (concatenated (text ∷ []))
-IsOwn (own.Argued it) args = (text : List ℕ) × (args ≡ text ∷ []) × IsArgued it text
+    (more : List (List ℕ)) × IsTaker it.variable more × (args ≡ it.body ∷ more)
+IsOwn (own.Expr joined) args =
+    (text : List ℕ) × (args ≡ text ∷ []) × (joined ≡ concatenated (text ∷ []))

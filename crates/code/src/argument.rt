@@ -4,10 +4,13 @@
 ghost use Rattle.std.specs.Prelude.{◌≡◌, [], ◌∷◌, ℕ, List, true, IfOk, IfSome, OnOk};
 ghost use Rattle.code.specs.Argument as definition;
 ghost use Rattle.code.specs.Argument.{IsArgued};
-ghost use Rattle.code.specs.Blocks.{ItsBlock};
+ghost use Rattle.code.specs.Blocks.{ItsBlock, OwnBlock};
 ghost use Rattle.code.specs.Conditional.{Are};
+ghost use Rattle.tclparse.specs.Tree.{no_words};
+ghost use Rattle.tclparse.specs.View.{words_then};
 
-use crate::emit::emit_argument;
+use crate::emit::{emit_argument, emit_words};
+use crate::formula::fill;
 use crate::instruction::Instruction;
 use crate::literal::{first_of, texts_of};
 use crate::nest::Nest;
@@ -19,7 +22,7 @@ use tcltext::Value;
 
 /// A command that takes branches, with its name and the words of its argument in braces.
 #[derive(Drop)]
-pub(crate) struct Argued<A: Allocator> {
+struct Argued<A: Allocator> {
     pub name: Value<A>,
     pub words: Rc<Vec<Word<A>, A>, A>,
 }
@@ -85,7 +88,7 @@ fn named_of<A: Allocator>(words: &[Word<A>]) -> Option<Named<'_>>
 /// Reads the words of a command as those of one that takes branches, with one argument in braces.
 /// `None` where they are not that, where the argument has a fault, or where its words are texts as
 /// they stand, so that nothing in them is to be run.
-pub(crate) fn read_argued<A: Allocator + Copy>(
+fn read_argued<A: Allocator + Copy>(
     alloc: A,
     words: &[Word<A>],
 ) -> Result<Option<Argued<A>>, NoMemory>
@@ -105,7 +108,7 @@ pub(crate) fn read_argued<A: Allocator + Copy>(
 
 /// Puts the name of a command that takes branches on top, and after it the words of its argument,
 /// by which it says its branches.
-pub(crate) fn emit_argued<A: Allocator + Copy, N: Nest<A>>(
+fn emit_argued<A: Allocator + Copy, N: Nest<A>>(
     code: &mut Vec<Instruction<A>, A>,
     own: &Argued<A>,
     nest: &N,
@@ -117,4 +120,30 @@ pub(crate) fn emit_argued<A: Allocator + Copy, N: Nest<A>>(
     code.push(Instruction::Text(name))?;
     emit_argument(code, &own.words, nest)?;
     Ok(())
+}
+
+/// Puts the code of a command that takes branches and has an argument in braces, and says whether
+/// these words are one: its words, for where a procedure hides it, and then the words of its
+/// argument.
+pub(crate) fn put_argued<A: Allocator + Copy, N: Nest<A>>(
+    code: &mut Vec<Instruction<A>, A>,
+    words: &[Word<A>],
+    nest: &N,
+) -> Result<bool, NoMemory>
+    ensures { IfOk result (λ put. OwnBlock put code.old.items code.new.items
+        (words_then words.now no_words)) }
+{
+    let Some(own) = read_argued(*code.allocator(), words)? else {
+        return Ok(false);
+    };
+    let name = own.name.share()?;
+    let unhidden = code.len();
+    code.push(Instruction::Hole)?;
+    emit_words(code, words, nest)?;
+    let over = code.len();
+    code.push(Instruction::Hole)?;
+    fill(code, unhidden, Instruction::Unhidden(name, code.len()));
+    emit_argued(code, &own, nest)?;
+    fill(code, over, Instruction::Jump(code.len()));
+    Ok(true)
 }

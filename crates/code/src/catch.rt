@@ -2,24 +2,22 @@
 
 ghost use Rattle.std.specs.Prelude.{◌≡◌, ◌∷◌, ℕ, List, codes, option_copied, IfOk, IfSome, OnOk};
 ghost use Rattle.code.specs.Blocks.{ItsBlock, TakenBlock};
-ghost use Rattle.code.specs.Catch.{IsCatch};
 ghost use Rattle.code.specs.Code.{IsTaker};
 ghost use Rattle.code.specs.Conditional.{Are};
 
-use crate::conditional::emit_body;
 use crate::formula::fill;
 use crate::instruction::Instruction;
 use crate::literal::first_of;
 use crate::nest::Nest;
 use memory::NoMemory;
 use std::alloc::Allocator;
-use tclparse::{Script, Word, variable_name};
+use tclparse::{Word, variable_name};
 use tcltext::Value;
 
 /// A `catch`: its script, and the variable that takes the value that it ends with, if there is one.
 #[derive(Drop)]
 pub(crate) struct Catch<A: Allocator> {
-    body: Script<A>,
+    body: Value<A>,
     variable: Option<Value<A>>,
 }
 
@@ -85,14 +83,13 @@ pub(crate) fn read_catch<A: Allocator + Copy>(
     alloc: A,
     words: &[Word<A>],
 ) -> Result<Option<Catch<A>>, NoMemory>
-    ensures { IfOk result (λ read. IfSome read (λ own. (text : List ℕ) ×
-        (more : List (List ℕ)) × Are words.now (codes "catch" ∷ text ∷ more) ×
-        IsCatch own text more)) }
+    ensures { IfOk result (λ read. IfSome read (λ own. (more : List (List ℕ)) ×
+        Are words.now (codes "catch" ∷ own.body ∷ more) × IsTaker own.variable more)) }
 {
     let Some(found) = catch_words(words) else {
         return Ok(None);
     };
-    let body = Script::read(alloc, found.script)?;
+    let body = Value::from_slice(alloc, found.script)?;
     let variable = value_of(alloc, found.variable)?;
     Ok(Some(Catch { body, variable }))
 }
@@ -121,13 +118,14 @@ pub(crate) fn emit_catch<A: Allocator + Copy, N: Nest<A>>(
     own: &Catch<A>,
     nest: &N,
 ) -> Result<(), NoMemory>
-    ensures { (text : List ℕ) → (more : List (List ℕ)) → IsCatch own.now text more →
-        OnOk result (ItsBlock (codes "catch") code.old.items code.new.items (text ∷ more)) }
+    ensures { (more : List (List ℕ)) → IsTaker own.now.variable more →
+        OnOk result (ItsBlock (codes "catch") code.old.items code.new.items
+        (own.now.body ∷ more)) }
 {
     let catch = code.len();
     code.push(Instruction::Hole)?;
     let after = usize::from(own.variable.is_some());
-    emit_body(code, &own.body, after, nest)?;
+    nest.put_body(code, &own.body, after)?;
     code.push(Instruction::EndCatch)?;
     fill(code, catch, Instruction::Catch(code.len()));
     emit_taker(code, &own.variable)?;

@@ -1,19 +1,17 @@
 //! The code of `if` whose words are literals (if(n)).
 
-ghost use Rattle.std.specs.Prelude.{[], ◌∷◌, ℕ, List, codes, reverse, IfOk, IfSome, OnOk};
-ghost use Rattle.code.specs.Blocks.{BehindBlock, BodyBlock, BranchesBlock};
-ghost use Rattle.code.specs.Conditional.{Are, AreBehind, AreBranches, IsAfter, IsBody, IsConditional, IsRead};
+ghost use Rattle.std.specs.Prelude.{◌≡◌, ◌∷◌, ℕ, List, codes, reverse, IfOk, IfSome, OnOk};
+ghost use Rattle.code.specs.Blocks.{BehindBlock, BranchesBlock};
+ghost use Rattle.code.specs.Conditional.{Are, AreBehind, AreBranches, AreEnd, IsAfter, IsConditional};
 
-use crate::branches::{Behind, behind_of, front_of};
-use crate::emit::emit_script;
-use crate::formula::{emit_formula, fill};
+use crate::branches::{Behind, Front, behind_of, front_of};
+use crate::formula::fill;
 use crate::instruction::Instruction;
 use crate::literal::literal_of;
 use crate::nest::Nest;
-use formulas::{Formula, ReadError};
 use memory::NoMemory;
 use std::alloc::Allocator;
-use tclparse::{Script, Word};
+use tclparse::Word;
 use tcltext::Value;
 
 /// How many branches an `if` with code of its own has at most.
@@ -22,36 +20,28 @@ const MOST_BRANCHES: u32 = 100;
 /// A test and its body.
 #[derive(Drop)]
 pub(crate) struct Branch<A: Allocator> {
-    pub test: Formula<A>,
-    pub body: Script<A>,
+    test: Value<A>,
+    body: Value<A>,
     /// How many words stand after the body.
-    pub after: usize,
+    after: usize,
 }
 
 /// The branches, the last one first, and the last body, if there is one.
 #[derive(Drop)]
 pub(crate) struct Conditional<A: Allocator> {
     branches: Vec<Branch<A>, A>,
-    otherwise: Option<Script<A>>,
+    otherwise: Option<Value<A>>,
 }
 
-/// Reads a test and its body, after which so many words stand; `None` where the test is no formula.
-pub(crate) fn read_branch<A: Allocator + Copy>(
-    alloc: A,
-    test: &[u8],
-    body: &[u8],
-    after: usize,
-) -> Result<Option<Branch<A>>, NoMemory>
-    ensures { IfOk result (λ read. IfSome read (λ own. IsRead own test.now body.now)) }
+/// A test and its body, which stand at the front of some words.
+fn branch_of<A: Allocator + Copy>(alloc: A, front: &Front<'_, A>) -> Result<Branch<A>, NoMemory>
+    ensures { IfOk result (λ own.
+        (own.test ≡ front.now.test.now) × (own.body ≡ front.now.body.now)) }
 {
-    match Formula::read(alloc, test) {
-        Ok(test) => {
-            let body = Script::read(alloc, body)?;
-            Ok(Some(Branch { test, body, after }))
-        }
-        Err(ReadError::Fault(_)) => Ok(None),
-        Err(ReadError::Memory(refusal)) => Err(refusal),
-    }
+    let test = Value::from_slice(alloc, front.test)?;
+    let body = Value::from_slice(alloc, front.body)?;
+    let after = front.behind.len();
+    Ok(Branch { test, body, after })
 }
 
 /// Reads words as branches, at most this many.
@@ -70,9 +60,7 @@ fn read_branches<A: Allocator + Copy>(
     let Some(front) = front_of(words) else {
         return Ok(None);
     };
-    let Some(branch) = read_branch(alloc, front.test, front.body, front.behind.len())? else {
-        return Ok(None);
-    };
+    let branch = branch_of(alloc, &front)?;
     let Some(mut own) = read_behind(alloc, most - 1, front.behind)? else {
         return Ok(None);
     };
@@ -97,7 +85,7 @@ fn read_behind<A: Allocator + Copy>(
             otherwise: None,
         })),
         Behind::Last(text) => {
-            let body = Script::read(alloc, text)?;
+            let body = Value::from_slice(alloc, text)?;
             Ok(Some(Conditional {
                 branches: Vec::new(alloc),
                 otherwise: Some(body),
@@ -109,7 +97,7 @@ fn read_behind<A: Allocator + Copy>(
 
 impl<A: Allocator + Copy> Conditional<A> {
     /// Reads the words of a command as those of `if`. `None` where they are not that, where one of
-    /// them is no literal, where a test is no formula, or where there are very many branches.
+    /// them is no literal, or where there are very many branches.
     pub(crate) fn read(alloc: A, words: &[Word<A>]) -> Result<Option<Conditional<A>>, NoMemory>
         ensures { IfOk result (λ read. IfSome read (λ own. (args : List (List ℕ)) ×
             Are words.now (codes "if" ∷ args) × IsConditional own args)) }
@@ -128,33 +116,17 @@ impl<A: Allocator + Copy> Conditional<A> {
     }
 }
 
-/// Puts the code of a body, which runs one level deeper, and after which so many words stand.
-pub(crate) fn emit_body<A: Allocator + Copy, N: Nest<A>>(
-    code: &mut Vec<Instruction<A>, A>,
-    body: &Script<A>,
-    after: usize,
-    nest: &N,
-) -> Result<(), NoMemory>
-    ensures { (text : List ℕ) → IsBody body.now text →
-        OnOk result (BodyBlock code.old.items code.new.items text) }
-{
-    code.push(Instruction::Body(after))?;
-    emit_script(code, body, nest)?;
-    code.push(Instruction::Leave)?;
-    Ok(())
-}
-
 /// Puts the code of what is done where no test holds: the last body, or the empty text.
 fn emit_otherwise<A: Allocator + Copy, N: Nest<A>>(
     code: &mut Vec<Instruction<A>, A>,
-    otherwise: &Option<Script<A>>,
+    otherwise: &Option<Value<A>>,
     nest: &N,
 ) -> Result<(), NoMemory>
-    ensures { (args : List (List ℕ)) → AreBehind [] otherwise.now args →
+    ensures { (args : List (List ℕ)) → AreEnd otherwise.now args →
         OnOk result (BehindBlock code.old.items code.new.items args) }
 {
     match otherwise {
-        Some(body) => emit_body(code, body, 0, nest)?,
+        Some(body) => nest.put_body(code, body, 0)?,
         None => code.push(Instruction::Text(Value::empty()))?,
     }
     Ok(())
@@ -166,17 +138,17 @@ fn emit_branch<A: Allocator + Copy, N: Nest<A>>(
     code: &mut Vec<Instruction<A>, A>,
     own: &Branch<A>,
     more: &[Branch<A>],
-    otherwise: &Option<Script<A>>,
+    otherwise: &Option<Value<A>>,
     nest: &N,
 ) -> Result<(), NoMemory>
     ensures { (args : List (List ℕ)) →
         AreBranches (own.now ∷ reverse more.now) otherwise.now args →
         OnOk result (BranchesBlock code.old.items code.new.items args) }
 {
-    emit_formula(code, &own.test, nest)?;
+    nest.put_expression(code, &own.test)?;
     let unless = code.len();
     code.push(Instruction::Hole)?;
-    emit_body(code, &own.body, own.after, nest)?;
+    nest.put_body(code, &own.body, own.after)?;
     let jump = code.len();
     code.push(Instruction::Hole)?;
     fill(code, unless, Instruction::Unless(code.len()));
@@ -190,7 +162,7 @@ fn emit_branch<A: Allocator + Copy, N: Nest<A>>(
 fn emit_behind<A: Allocator + Copy, N: Nest<A>>(
     code: &mut Vec<Instruction<A>, A>,
     branches: &[Branch<A>],
-    otherwise: &Option<Script<A>>,
+    otherwise: &Option<Value<A>>,
     nest: &N,
 ) -> Result<(), NoMemory>
     ensures { (args : List (List ℕ)) → AreBehind (reverse branches.now) otherwise.now args →

@@ -1,25 +1,30 @@
 //! The code of `foreach` whose variables and whose body are literals, and that has one list
 //! (foreach(n)).
 
-ghost use Rattle.std.specs.Prelude.{◌≡◌, ℕ, List, is_some, true, IfOk, IfSome, OnOk};
+ghost use Rattle.std.specs.Prelude.{◌≡◌, is_some, IfOk, IfSome, OnOk};
 ghost use Rattle.std.specs.List.{list_all};
-ghost use Rattle.code.specs.Blocks.{AssignsBlock, DealBlock, NextBlock, OwnBlock};
+ghost use Rattle.code.specs.Blocks.{AssignsBlock, DealBlock, ForeachBlock, NextBlock};
 ghost use Rattle.code.specs.Code.{AreNames, foreach_words};
-ghost use Rattle.code.specs.Conditional.{IsBody};
-ghost use Rattle.tclparse.specs.Tree.{no_parts, no_words};
+ghost use Rattle.tclparse.specs.Tree.{Parts, no_parts, no_words};
 ghost use Rattle.tclparse.specs.Variable.{named};
 ghost use Rattle.tclparse.specs.View.{parts_then, words_then};
 
-use crate::conditional::emit_body;
-use crate::emit::emit_parts;
 use crate::formula::fill;
 use crate::instruction::Instruction;
 use crate::literal::{first_of, plain_of};
 use crate::nest::Nest;
 use memory::NoMemory;
 use std::alloc::Allocator;
-use tclparse::{Part, Script, Word, variable_name};
+use tclparse::{Part, Word, variable_name};
 use tcltext::{ListFault, Value, split_values};
+
+/// A `foreach` with one list: the word of its variables, their names, and the body.
+#[derive(Drop)]
+pub(crate) struct Each<A: Allocator> {
+    variables: Value<A>,
+    names: Vec<Value<A>, A>,
+    body: Value<A>,
+}
 
 /// The words after `foreach`: the variables, the word of their list, and the body.
 #[derive(Drop)]
@@ -80,6 +85,31 @@ fn names_of<A: Allocator + Copy>(
     Ok(Some(names))
 }
 
+/// Reads the words of a command as those of `foreach` with one list. `None` where they are not
+/// that, where a word around the list is no literal, or where that of the variables names none.
+pub(crate) fn read_each<A: Allocator + Copy>(
+    alloc: A,
+    words: &[Word<A>],
+) -> Result<Option<Each<A>>, NoMemory>
+    ensures { IfOk result (λ read. IfSome read (λ own. (list : Parts) ×
+        (words_then words.now no_words ≡ foreach_words own.variables list own.body) ×
+        AreNames own.variables own.names.items)) }
+{
+    let Some(found) = each_words(words) else {
+        return Ok(None);
+    };
+    let Some(names) = names_of(alloc, found.variables)? else {
+        return Ok(None);
+    };
+    let variables = Value::from_slice(alloc, found.variables)?;
+    let body = Value::from_slice(alloc, found.body)?;
+    Ok(Some(Each {
+        variables,
+        names,
+        body,
+    }))
+}
+
 /// Puts code by which each variable takes an element.
 fn emit_assigns<A: Allocator + Copy>(
     code: &mut Vec<Instruction<A>, A>,
@@ -118,16 +148,15 @@ fn emit_next<A: Allocator + Copy>(
 fn emit_deal<A: Allocator + Copy, N: Nest<A>>(
     code: &mut Vec<Instruction<A>, A>,
     names: &[Value<A>],
-    body: &Script<A>,
+    body: &Value<A>,
     nest: &N,
 ) -> Result<(), NoMemory>
-    ensures { (text : List ℕ) → IsBody body.now text →
-        OnOk result (DealBlock code.old.items code.new.items names.now text) }
+    ensures { OnOk result (DealBlock code.old.items code.new.items names.now body.now) }
 {
     let deal = code.len();
     code.push(Instruction::Hole)?;
     let first = code.len();
-    emit_body(code, body, 0, nest)?;
+    nest.put_body(code, body, 0)?;
     let end = code.len();
     code.push(Instruction::EndTurn)?;
     fill(code, deal, Instruction::Deal(code.len()));
@@ -135,49 +164,25 @@ fn emit_deal<A: Allocator + Copy, N: Nest<A>>(
     Ok(())
 }
 
-/// Puts the code of a `foreach` with these words: its list, and its turns.
-fn emit_each<A: Allocator + Copy, N: Nest<A>>(
+/// Puts what a `foreach` does once its list is on top: its turns.
+pub(crate) fn emit_each<A: Allocator + Copy, N: Nest<A>>(
     code: &mut Vec<Instruction<A>, A>,
-    found: &EachWords<'_, A>,
-    names: &[Value<A>],
-    body: &Script<A>,
+    own: &Each<A>,
     nest: &N,
 ) -> Result<(), NoMemory>
-    ensures { AreNames found.now.variables.now names.now → IsBody body.now found.now.body.now →
-        OnOk result (OwnBlock true code.old.items code.new.items
-        (foreach_words found.now.variables.now (parts_then found.now.list.now no_parts)
-        found.now.body.now)) }
+    ensures { AreNames own.now.variables own.now.names.items →
+        OnOk result (ForeachBlock code.old.items code.new.items
+        own.now.variables own.now.body) }
 {
-    emit_parts(code, found.list, nest)?;
     let each = code.len();
     code.push(Instruction::Hole)?;
-    emit_deal(code, names, body, nest)?;
-    let variables = Value::from_slice(*code.allocator(), found.variables)?;
-    let text = Value::from_slice(*code.allocator(), found.body)?;
+    emit_deal(code, &own.names, &own.body, nest)?;
+    let variables = own.variables.share()?;
+    let body = own.body.share()?;
     fill(
         code,
         each,
-        Instruction::Foreach(variables, text, code.len()),
+        Instruction::Foreach(variables, body, code.len()),
     );
     Ok(())
-}
-
-/// Puts the code of a `foreach` that has code of its own, and says whether these words are one.
-pub(crate) fn put_each<A: Allocator + Copy, N: Nest<A>>(
-    code: &mut Vec<Instruction<A>, A>,
-    words: &[Word<A>],
-    nest: &N,
-) -> Result<bool, NoMemory>
-    ensures { IfOk result (λ put. OwnBlock put code.old.items code.new.items
-        (words_then words.now no_words)) }
-{
-    let Some(found) = each_words(words) else {
-        return Ok(false);
-    };
-    let Some(names) = names_of(*code.allocator(), found.variables)? else {
-        return Ok(false);
-    };
-    let body = Script::read(*code.allocator(), found.body)?;
-    emit_each(code, &found, &names, &body, nest)?;
-    Ok(true)
 }

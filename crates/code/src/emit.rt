@@ -7,8 +7,12 @@ ghost use Rattle.tclparse.specs.Tree.{no_commands, no_parts, no_words};
 ghost use Rattle.tclparse.specs.View.{commands_of, commands_then, part_view, parts_then, word_view, words_then};
 
 use crate::direct::{direct_of, direct_on};
+use crate::each::{emit_each, read_each};
+use crate::formula::fill;
 use crate::instruction::Instruction;
 use crate::nest::Nest;
+use crate::own::{Own, emit_its};
+use crate::switch::{emit_switch, read_switch};
 use memory::NoMemory;
 use std::alloc::Allocator;
 use tclparse::{Command, Part, Script, Word};
@@ -198,6 +202,101 @@ fn emit_of_two<A: Allocator + Copy, N: Nest<A>>(
     Ok(true)
 }
 
+/// Puts the code of a command whose words are literals: its words, for where a procedure hides it,
+/// and then what it does. Says whether these words are one that has such code.
+#[cycle(emit)]
+#[inline(never)]
+fn emit_of_literals<A: Allocator + Copy, N: Nest<A>>(
+    code: &mut Vec<Instruction<A>, A>,
+    words: &[Word<A>],
+    nest: &N,
+) -> Result<bool, NoMemory>
+    ensures { IfOk result (λ put. OwnBlock put code.old.items code.new.items
+        (words_then words.now no_words)) }
+{
+    let Some(own) = Own::read(*code.allocator(), words)? else {
+        return Ok(false);
+    };
+    let name = Value::from_slice(*code.allocator(), own.name())?;
+    let unhidden = code.len();
+    code.push(Instruction::Hole)?;
+    emit_words(code, words, nest)?;
+    let over = code.len();
+    code.push(Instruction::Hole)?;
+    fill(code, unhidden, Instruction::Unhidden(name, code.len()));
+    emit_its(code, &own, nest)?;
+    fill(code, over, Instruction::Jump(code.len()));
+    Ok(true)
+}
+
+/// Puts the code of a `foreach` that has code of its own, and says whether these words are one: its
+/// list, and its turns.
+#[cycle(emit)]
+#[inline(never)]
+fn emit_of_list<A: Allocator + Copy, N: Nest<A>>(
+    code: &mut Vec<Instruction<A>, A>,
+    words: &[Word<A>],
+    nest: &N,
+) -> Result<bool, NoMemory>
+    ensures { IfOk result (λ put. OwnBlock put code.old.items code.new.items
+        (words_then words.now no_words)) }
+{
+    let Some(own) = read_each(*code.allocator(), words)? else {
+        return Ok(false);
+    };
+    let Some(list) = words.get(2) else {
+        return Ok(false);
+    };
+    emit_parts(code, &list.parts, nest)?;
+    emit_each(code, &own, nest)?;
+    Ok(true)
+}
+
+/// Puts the code of a `switch` that has code of its own, and says whether these words are one: its
+/// string, and its patterns with their bodies.
+#[cycle(emit)]
+#[inline(never)]
+fn emit_of_string<A: Allocator + Copy, N: Nest<A>>(
+    code: &mut Vec<Instruction<A>, A>,
+    words: &[Word<A>],
+    nest: &N,
+) -> Result<bool, NoMemory>
+    ensures { IfOk result (λ put. OwnBlock put code.old.items code.new.items
+        (words_then words.now no_words)) }
+{
+    let Some(own) = read_switch(*code.allocator(), words)? else {
+        return Ok(false);
+    };
+    let Some(string) = words.get(own.options.before()) else {
+        return Ok(false);
+    };
+    emit_parts(code, &string.parts, nest)?;
+    emit_switch(code, own, nest)?;
+    Ok(true)
+}
+
+/// Puts the code of a command that has code of its own, and says whether it has any.
+#[cycle(emit)]
+fn emit_whole<A: Allocator + Copy, N: Nest<A>>(
+    code: &mut Vec<Instruction<A>, A>,
+    words: &[Word<A>],
+    nest: &N,
+) -> Result<bool, NoMemory>
+    ensures { IfOk result (λ put. OwnBlock put code.old.items code.new.items
+        (words_then words.now no_words)) }
+{
+    if emit_of_literals(code, words, nest)? {
+        return Ok(true);
+    }
+    if nest.put_argued(code, words)? {
+        return Ok(true);
+    }
+    if emit_of_list(code, words, nest)? {
+        return Ok(true);
+    }
+    Ok(emit_of_string(code, words, nest)?)
+}
+
 /// Puts the code of a command that has code or an instruction of its own, and says whether it has.
 #[cycle(emit)]
 fn emit_own<A: Allocator + Copy, N: Nest<A>>(
@@ -208,7 +307,7 @@ fn emit_own<A: Allocator + Copy, N: Nest<A>>(
     ensures { IfOk result (λ put. OwnBlock put code.old.items code.new.items
         (words_then words.now no_words)) }
 {
-    if nest.put(code, words)? {
+    if emit_whole(code, words, nest)? {
         return Ok(true);
     }
     if emit_of_three(code, words, nest)? {

@@ -1,17 +1,14 @@
 //! The words of `eval` and of `expr` where they are the name and one literal (eval(n); expr(n)).
 
-ghost use Rattle.std.specs.Prelude.{[], ◌∷◌, ℕ, List, codes, IfOk, IfSome, Ok};
-ghost use Rattle.code.specs.Conditional.{Are, IsBody};
-ghost use Rattle.formulas.specs.View.{formula_of};
+ghost use Rattle.std.specs.Prelude.{◌≡◌, [], ◌∷◌, ℕ, List, IfOk, IfSome};
+ghost use Rattle.code.specs.Conditional.{Are};
 ghost use Rattle.pure.specs.Concat.{concatenated as joined_of};
-ghost use Rattle.tclparse.specs.FormulaGrammar.{IsFormula};
 
 use crate::literal::first_of;
-use formulas::{Formula, ReadError};
 use memory::NoMemory;
 use pure::concatenated;
 use std::alloc::Allocator;
-use tclparse::{Script, Word};
+use tclparse::Word;
 use tcltext::Value;
 
 /// The word after a command's name, where it is a literal, and the only one.
@@ -27,42 +24,20 @@ fn only_word<'a, A: Allocator>(words: &'a [Word<A>], command: &[u8]) -> Option<&
     }
 }
 
-/// Reads the words of a command as those of `eval`. `None` where they are not that, where the word
-/// after the name is no literal, or where there are more.
-pub(crate) fn read_eval<A: Allocator + Copy>(
+/// Reads the words of a command as this name and one word, which is given without the white space
+/// at its ends (concat(n)). `None` where they are not that, or where that word is no literal.
+pub(crate) fn read_joined<A: Allocator + Copy>(
     alloc: A,
     words: &[Word<A>],
-) -> Result<Option<Script<A>>, NoMemory>
+    command: &[u8],
+) -> Result<Option<Value<A>>, NoMemory>
     ensures { IfOk result (λ read. IfSome read (λ own. (text : List ℕ) ×
-        Are words.now (codes "eval" ∷ text ∷ []) × IsBody own (joined_of (text ∷ [])))) }
+        Are words.now (command.now ∷ text ∷ []) × (own ≡ joined_of (text ∷ [])))) }
 {
-    let Some(text) = only_word(words, b"eval") else {
+    let Some(text) = only_word(words, command) else {
         return Ok(None);
     };
     let word = Value::from_slice(alloc, text)?;
     let joined = concatenated(alloc, &[word])?;
-    let own = Script::read(alloc, &joined)?;
-    Ok(Some(own))
-}
-
-/// Reads the words of a command as those of `expr`. `None` where they are not that, where the word
-/// after the name is no literal, where there are more, or where it is no formula.
-pub(crate) fn read_expr<A: Allocator + Copy>(
-    alloc: A,
-    words: &[Word<A>],
-) -> Result<Option<Formula<A>>, NoMemory>
-    ensures { IfOk result (λ read. IfSome read (λ own. (text : List ℕ) ×
-        Are words.now (codes "expr" ∷ text ∷ []) ×
-        IsFormula (Ok (formula_of own)) (joined_of (text ∷ [])))) }
-{
-    let Some(text) = only_word(words, b"expr") else {
-        return Ok(None);
-    };
-    let word = Value::from_slice(alloc, text)?;
-    let joined = concatenated(alloc, &[word])?;
-    match Formula::read(alloc, &joined) {
-        Ok(own) => Ok(Some(own)),
-        Err(ReadError::Fault(_)) => Ok(None),
-        Err(ReadError::Memory(refusal)) => Err(refusal),
-    }
+    Ok(Some(Value::from_slice(alloc, &joined)?))
 }

@@ -29,6 +29,9 @@ pub enum Instruction<A: Allocator> {
     Body(usize),
     /// That script is over; its value is on top (Tcl(n), rule 7).
     Leave,
+    /// The script of this text runs, one level deeper, and its value is put on top; so many words
+    /// stand after it (Tcl(n), rule 7; if(n)).
+    Run(Value<A>, usize),
     /// From here on the words of a command are counted, since one is after `{*}`; this many of them
     /// are operands already (Tcl(n), rule 5).
     Count(usize),
@@ -59,6 +62,8 @@ pub enum Instruction<A: Allocator> {
     OrElse(usize),
     /// Replaces the operand on top by its truth value, 0 or 1 (expr(n), operators).
     Truth,
+    /// The value of this text as a formula is put on top (expr(n)).
+    Evaluate(Value<A>),
     /// Replaces the value of a formula on top by what `expr` gives: a number in decimal, all else
     /// as it stands (expr(n)).
     Result,

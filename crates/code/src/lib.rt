@@ -12,6 +12,7 @@ mod each;
 mod emit;
 mod evaluate;
 mod formula;
+mod inner;
 mod instruction;
 mod literal;
 mod made;

@@ -1,7 +1,7 @@
 //! The options of `switch` (switch(n)).
 
-ghost use Rattle.std.specs.Prelude.{◌≡◌};
-ghost use Rattle.code.specs.Switch.{are_globs};
+ghost use Rattle.std.specs.Prelude.{◌≡◌, length};
+ghost use Rattle.code.specs.Switch.{are_globs, words_before};
 
 /// How the patterns of a `switch` are compared with its string (switch(n)).
 #[derive(Clone, Copy, Debug)]
@@ -27,5 +27,12 @@ impl Options {
         ensures { result ≡ are_globs self.flag }
     {
         matches!(self.flag, Some(Flag::Glob))
+    }
+
+    /// How many words stand before the string.
+    pub(crate) fn before(self) -> usize
+        ensures { result ≡ length (words_before self) }
+    {
+        1 + usize::from(self.flag.is_some()) + usize::from(self.dashes)
     }
 }

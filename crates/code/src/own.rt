@@ -1,28 +1,20 @@
-//! The code that a command has of its own.
+//! What a command does that has code of its own and whose words are literals.
 
-ghost use Rattle.std.specs.Prelude.{◌≡◌, [], ◌∷◌, ℕ, List, codes, true, IfOk, IfSome, Ok, OnOk};
-ghost use Rattle.code.specs.Blocks.{ItsBlock, OwnBlock};
+ghost use Rattle.std.specs.Prelude.{◌≡◌, [], ◌∷◌, ℕ, List, codes, IfOk, IfSome, OnOk};
+ghost use Rattle.code.specs.Blocks.{ItsBlock};
 ghost use Rattle.code.specs.Conditional.{Are};
 ghost use Rattle.code.specs.Own.{IsOwn, name_of};
-ghost use Rattle.formulas.specs.View.{formula_of};
 ghost use Rattle.pure.specs.Concat.{concatenated as joined_of};
-ghost use Rattle.tclparse.specs.FormulaGrammar.{IsFormula};
-ghost use Rattle.tclparse.specs.Tree.{no_words};
-ghost use Rattle.tclparse.specs.View.{words_then};
 
-use crate::argument::{Argued, emit_argued, read_argued};
 use crate::catch::{Catch, emit_catch, read_catch};
-use crate::conditional::{Conditional, emit_body, emit_branches};
-use crate::emit::emit_words;
-use crate::evaluate::{read_eval, read_expr};
-use crate::formula::{emit_formula, fill};
+use crate::conditional::{Conditional, emit_branches};
+use crate::evaluate::read_joined;
 use crate::instruction::Instruction;
-use crate::nest::{Flat, Nest};
+use crate::nest::Nest;
 use crate::repeat::{For, Turns, emit_for, emit_turns, read_for, read_while};
-use formulas::Formula;
 use memory::NoMemory;
 use std::alloc::Allocator;
-use tclparse::{Script, Word};
+use tclparse::Word;
 use tcltext::Value;
 
 /// What the words of a command are read as.
@@ -35,13 +27,11 @@ pub(crate) enum Own<A: Allocator> {
     /// `for`.
     For(For<A>),
     /// `eval`, with its script.
-    Eval(Script<A>),
+    Eval(Value<A>),
     /// `catch`.
     Catch(Catch<A>),
-    /// `expr`, with its formula.
-    Expr(Formula<A>),
-    /// A command that takes branches, with an argument in braces.
-    Argued(Argued<A>),
+    /// `expr`, with its expression.
+    Expr(Value<A>),
 }
 
 impl<A: Allocator + Copy> Own<A> {
@@ -59,23 +49,20 @@ impl<A: Allocator + Copy> Own<A> {
         if let Some(own) = read_for(alloc, words)? {
             return Ok(Some(Own::For(own)));
         }
-        if let Some(own) = read_eval(alloc, words)? {
+        if let Some(own) = read_joined(alloc, words, b"eval")? {
             return Ok(Some(Own::Eval(own)));
         }
         if let Some(own) = read_catch(alloc, words)? {
             return Ok(Some(Own::Catch(own)));
         }
-        if let Some(own) = read_expr(alloc, words)? {
-            return Ok(Some(Own::Expr(own)));
-        }
-        match read_argued(alloc, words)? {
-            Some(own) => Ok(Some(Own::Argued(own))),
+        match read_joined(alloc, words, b"expr")? {
+            Some(own) => Ok(Some(Own::Expr(own))),
             None => Ok(None),
         }
     }
 
     /// The name of the command.
-    fn name(&self) -> &[u8]
+    pub(crate) fn name(&self) -> &[u8]
         ensures { result.now ≡ name_of self.now }
     {
         match self {
@@ -85,27 +72,26 @@ impl<A: Allocator + Copy> Own<A> {
             Own::Eval(_) => b"eval",
             Own::Catch(_) => b"catch",
             Own::Expr(_) => b"expr",
-            Own::Argued(own) => own.name.as_slice(),
         }
     }
 }
 
-/// Puts what `expr` does: the value of its formula, as text.
+/// Puts what `expr` does: the value of its expression, as text.
 fn emit_expr<A: Allocator + Copy, N: Nest<A>>(
     code: &mut Vec<Instruction<A>, A>,
-    formula: &Formula<A>,
+    joined: &Value<A>,
     nest: &N,
 ) -> Result<(), NoMemory>
-    ensures { (text : List ℕ) → IsFormula (Ok (formula_of formula.now)) (joined_of (text ∷ [])) →
+    ensures { (text : List ℕ) → joined.now ≡ joined_of (text ∷ []) →
         OnOk result (ItsBlock (codes "expr") code.old.items code.new.items (text ∷ [])) }
 {
-    emit_formula(code, formula, nest)?;
+    nest.put_expression(code, joined)?;
     code.push(Instruction::Result)?;
     Ok(())
 }
 
 /// Puts what the command does.
-fn emit_its<A: Allocator + Copy, N: Nest<A>>(
+pub(crate) fn emit_its<A: Allocator + Copy, N: Nest<A>>(
     code: &mut Vec<Instruction<A>, A>,
     own: &Own<A>,
     nest: &N,
@@ -117,32 +103,8 @@ fn emit_its<A: Allocator + Copy, N: Nest<A>>(
         Own::If(own) => Ok(emit_branches(code, own, nest)?),
         Own::While(own) => Ok(emit_turns(code, own, nest)?),
         Own::For(own) => Ok(emit_for(code, own, nest)?),
-        Own::Eval(own) => Ok(emit_body(code, own, 0, nest)?),
+        Own::Eval(own) => Ok(nest.put_body(code, own, 0)?),
         Own::Catch(own) => Ok(emit_catch(code, own, nest)?),
         Own::Expr(own) => Ok(emit_expr(code, own, nest)?),
-        Own::Argued(own) => Ok(emit_argued(code, own, nest)?),
     }
-}
-
-/// Puts the code of a command: its words, for where a procedure hides it, and then its own.
-pub(crate) fn emit_own<A: Allocator + Copy, N: Nest<A>>(
-    code: &mut Vec<Instruction<A>, A>,
-    words: &[Word<A>],
-    own: &Own<A>,
-    nest: &N,
-) -> Result<(), NoMemory>
-    ensures { (args : List (List ℕ)) → Are words.now (name_of own.now ∷ args) →
-        IsOwn own.now args →
-        OnOk result (OwnBlock true code.old.items code.new.items (words_then words.now no_words)) }
-{
-    let name = Value::from_slice(*code.allocator(), own.name())?;
-    let unhidden = code.len();
-    code.push(Instruction::Hole)?;
-    emit_words(code, words, &Flat)?;
-    let over = code.len();
-    code.push(Instruction::Hole)?;
-    fill(code, unhidden, Instruction::Unhidden(name, code.len()));
-    emit_its(code, own, nest)?;
-    fill(code, over, Instruction::Jump(code.len()));
-    Ok(())
 }

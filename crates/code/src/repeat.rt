@@ -1,32 +1,34 @@
 //! The code of `while` and of `for` whose words are literals (while(n), for(n)).
 
-ghost use Rattle.std.specs.Prelude.{[], ◌∷◌, ℕ, List, None, Option, Some, codes, IfOk, IfSome, OnOk};
+ghost use Rattle.std.specs.Prelude.{◌≡◌, [], ◌∷◌, ℕ, List, None, Some, codes, IfOk, IfSome, OnOk};
 ghost use Rattle.code.specs.Blocks.{ItsBlock, StepBlock, TurnsBlock};
-ghost use Rattle.code.specs.Conditional.{Are, IsBody};
-ghost use Rattle.code.specs.Repeat.{AreTurns, IsFor, IsStep};
+ghost use Rattle.code.specs.Code.{HasFormula};
+ghost use Rattle.code.specs.Conditional.{Are};
+ghost use Rattle.code.specs.Repeat.{for_args};
 
-use crate::conditional::{Branch, emit_body, read_branch};
-use crate::formula::{emit_formula, fill};
+use crate::formula::fill;
 use crate::instruction::Instruction;
 use crate::literal::first_of;
 use crate::nest::Nest;
+use formulas::{Formula, ReadError};
 use memory::NoMemory;
 use std::alloc::Allocator;
-use tclparse::{Script, Word};
+use tclparse::Word;
 use tcltext::Value;
 
 /// The turns of a loop: its test and its body, and the script that runs after each turn, if there
 /// is one.
 #[derive(Drop)]
 pub(crate) struct Turns<A: Allocator> {
-    turn: Branch<A>,
-    step: Option<Script<A>>,
+    test: Value<A>,
+    body: Value<A>,
+    step: Option<Value<A>>,
 }
 
 /// A `for`: the script that runs before its turns, and these.
 #[derive(Drop)]
 pub(crate) struct For<A: Allocator> {
-    start: Script<A>,
+    start: Value<A>,
     turns: Turns<A>,
 }
 
@@ -76,22 +78,64 @@ fn for_words<A: Allocator>(words: &[Word<A>]) -> Option<ForWords<'_>>
     }
 }
 
+/// The text of a formula, which was read and is let go.
+fn text_of<A: Allocator + Copy>(
+    alloc: A,
+    text: &[u8],
+    _formula: Formula<A>,
+) -> Result<Option<Value<A>>, NoMemory>
+    ensures { IfOk result (λ test. test ≡ Some text.now) }
+{
+    Ok(Some(Value::from_slice(alloc, text)?))
+}
+
+/// The test of a loop, where it is a formula.
+fn test_of<A: Allocator + Copy>(alloc: A, text: &[u8]) -> Result<Option<Value<A>>, NoMemory>
+    ensures { IfOk result (λ read. IfSome read (λ test.
+        (test ≡ text.now) × HasFormula test)) }
+{
+    match Formula::read(alloc, text) {
+        Ok(formula) => Ok(text_of(alloc, text, formula)?),
+        Err(ReadError::Fault(_)) => Ok(None),
+        Err(ReadError::Memory(refusal)) => Err(refusal),
+    }
+}
+
 /// Reads the words of a command as those of `while`. `None` where they are not that, where one of
 /// them is no literal, or where the test is no formula.
 pub(crate) fn read_while<A: Allocator + Copy>(
     alloc: A,
     words: &[Word<A>],
 ) -> Result<Option<Turns<A>>, NoMemory>
-    ensures { IfOk result (λ read. IfSome read (λ own. (test : List ℕ) × (body : List ℕ) ×
-        Are words.now (codes "while" ∷ test ∷ body ∷ []) × AreTurns own test None body)) }
+    ensures { IfOk result (λ read. IfSome read (λ own. (own.step ≡ None) × HasFormula own.test ×
+        Are words.now (codes "while" ∷ own.test ∷ own.body ∷ []))) }
 {
     let Some((test, body)) = while_words(words) else {
         return Ok(None);
     };
-    let Some(turn) = read_branch(alloc, test, body, 0)? else {
+    let Some(test) = test_of(alloc, test)? else {
         return Ok(None);
     };
-    Ok(Some(Turns { turn, step: None }))
+    let body = Value::from_slice(alloc, body)?;
+    Ok(Some(Turns {
+        test,
+        body,
+        step: None,
+    }))
+}
+
+/// The turns of a `for` with this test.
+fn turns_of<A: Allocator + Copy>(
+    alloc: A,
+    test: Value<A>,
+    found: &ForWords<'_>,
+) -> Result<Turns<A>, NoMemory>
+    ensures { IfOk result (λ own. (own.test ≡ test) ×
+        (own.body ≡ found.now.body.now) × (own.step ≡ Some found.now.step.now)) }
+{
+    let body = Value::from_slice(alloc, found.body)?;
+    let step = Some(Value::from_slice(alloc, found.step)?);
+    Ok(Turns { test, body, step })
 }
 
 /// Reads the words of a command as those of `for`. `None` where they are not that, where one of
@@ -100,37 +144,31 @@ pub(crate) fn read_for<A: Allocator + Copy>(
     alloc: A,
     words: &[Word<A>],
 ) -> Result<Option<For<A>>, NoMemory>
-    ensures { IfOk result (λ read. IfSome read (λ own.
-        (start : List ℕ) × (test : List ℕ) × (step : List ℕ) × (body : List ℕ) ×
-        Are words.now (codes "for" ∷ start ∷ test ∷ step ∷ body ∷ []) ×
-        IsFor own start test step body)) }
+    ensures { IfOk result (λ read. IfSome read (λ own. (step : List ℕ) ×
+        (own.turns.step ≡ Some step) × HasFormula own.turns.test ×
+        Are words.now (codes "for" ∷ for_args own step))) }
 {
     let Some(found) = for_words(words) else {
         return Ok(None);
     };
-    let Some(turn) = read_branch(alloc, found.test, found.body, 0)? else {
+    let Some(test) = test_of(alloc, found.test)? else {
         return Ok(None);
     };
-    let start = Script::read(alloc, found.start)?;
-    let step = Script::read(alloc, found.step)?;
-    let turns = Turns {
-        turn,
-        step: Some(step),
-    };
+    let start = Value::from_slice(alloc, found.start)?;
+    let turns = turns_of(alloc, test, &found)?;
     Ok(Some(For { start, turns }))
 }
 
 /// Puts the script that runs after each turn, and the end of a turn.
 fn emit_step<A: Allocator + Copy, N: Nest<A>>(
     code: &mut Vec<Instruction<A>, A>,
-    step: &Script<A>,
+    step: &Value<A>,
     nest: &N,
 ) -> Result<(), NoMemory>
-    ensures { (text : List ℕ) → IsBody step.now text →
-        OnOk result (StepBlock code.old.items code.new.items (Some text)) }
+    ensures { OnOk result (StepBlock code.old.items code.new.items (Some step.now)) }
 {
     code.push(Instruction::Step)?;
-    emit_body(code, step, 1, nest)?;
+    nest.put_body(code, step, 1)?;
     code.push(Instruction::EndTurn)?;
     Ok(())
 }
@@ -138,11 +176,10 @@ fn emit_step<A: Allocator + Copy, N: Nest<A>>(
 /// Puts what stands after the body of a turn.
 fn emit_end<A: Allocator + Copy, N: Nest<A>>(
     code: &mut Vec<Instruction<A>, A>,
-    step: &Option<Script<A>>,
+    step: &Option<Value<A>>,
     nest: &N,
 ) -> Result<(), NoMemory>
-    ensures { (text : Option (List ℕ)) → IsStep step.now text →
-        OnOk result (StepBlock code.old.items code.new.items text) }
+    ensures { OnOk result (StepBlock code.old.items code.new.items step.now) }
 {
     match step {
         Some(step) => Ok(emit_step(code, step, nest)?),
@@ -157,18 +194,17 @@ pub(crate) fn emit_turns<A: Allocator + Copy, N: Nest<A>>(
     own: &Turns<A>,
     nest: &N,
 ) -> Result<(), NoMemory>
-    ensures { (test : List ℕ) → (step : Option (List ℕ)) → (body : List ℕ) →
-        AreTurns own.now test step body →
-        OnOk result (TurnsBlock code.old.items code.new.items test step body) }
+    ensures { HasFormula own.now.test → OnOk result (TurnsBlock code.old.items code.new.items
+        own.now.test own.now.step own.now.body) }
 {
     let jump = code.len();
     code.push(Instruction::Hole)?;
     let body = code.len();
-    emit_body(code, &own.turn.body, own.turn.after, nest)?;
+    nest.put_body(code, &own.body, 0)?;
     let end = code.len();
     emit_end(code, &own.step, nest)?;
     fill(code, jump, Instruction::Jump(code.len()));
-    emit_formula(code, &own.turn.test, nest)?;
+    nest.put_expression(code, &own.test)?;
     code.push(Instruction::Turn(body, end))?;
     code.push(Instruction::Text(Value::empty()))?;
     Ok(())
@@ -180,11 +216,11 @@ pub(crate) fn emit_for<A: Allocator + Copy, N: Nest<A>>(
     own: &For<A>,
     nest: &N,
 ) -> Result<(), NoMemory>
-    ensures { (start : List ℕ) → (test : List ℕ) → (step : List ℕ) → (body : List ℕ) →
-        IsFor own.now start test step body → OnOk result (ItsBlock (codes "for")
-        code.old.items code.new.items (start ∷ test ∷ step ∷ body ∷ [])) }
+    ensures { (step : List ℕ) → own.now.turns.step ≡ Some step → HasFormula own.now.turns.test →
+        OnOk result (ItsBlock (codes "for") code.old.items code.new.items
+        (for_args own.now step)) }
 {
-    emit_body(code, &own.start, 3, nest)?;
+    nest.put_body(code, &own.start, 3)?;
     code.push(Instruction::Discard)?;
     emit_turns(code, &own.turns, nest)?;
     Ok(())

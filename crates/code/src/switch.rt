@@ -1,25 +1,63 @@
 //! The code of `switch` whose words are literals, but for its string (switch(n)).
 
-ghost use Rattle.std.specs.Prelude.{◌≡◌, ◌<◌, ◌∷◌, false, true, codes, length, IfOk, OnOk};
+ghost use Rattle.std.specs.Prelude.{◌≡◌, ◌<◌, ◌∷◌, false, codes, length, IfOk, IfSome, OnOk};
 ghost use Rattle.std.specs.Str.{bytes_eq};
-ghost use Rattle.code.specs.Blocks.{ArmsBlock, ChosenBlock, OwnBlock, RestBlock};
+ghost use Rattle.code.specs.Blocks.{ArmsBlock, ChosenBlock, RestBlock, SwitchBlock};
 ghost use Rattle.code.specs.Code.{switch_words as words_of, test_of as test_for};
 ghost use Rattle.code.specs.Switch.{AreArms, AreWhole, IsShort, are_globs, is_default};
-ghost use Rattle.tclparse.specs.Tree.{no_parts, no_words};
-ghost use Rattle.tclparse.specs.View.{parts_then, words_then};
+ghost use Rattle.tclparse.specs.Tree.{Parts, no_words};
+ghost use Rattle.tclparse.specs.View.{words_then};
 
-use crate::arms::{SwitchWords, arms_of, have_code, is_last_default, switch_words};
-use crate::conditional::emit_body;
-use crate::emit::emit_parts;
+use crate::arms::{arms_of, have_code, is_last_default, switch_words};
 use crate::formula::fill;
 use crate::instruction::Instruction;
 use crate::literal::texts_of;
 use crate::nest::Nest;
+use crate::options::Options;
 use memory::NoMemory;
 use patterns::{Pattern, PatternError};
 use std::alloc::Allocator;
-use tclparse::{Script, Word};
+use tclparse::Word;
 use tcltext::Value;
+
+/// A `switch`: its options, the words after its string, and its patterns with their bodies.
+#[derive(Drop)]
+pub(crate) struct Switch<A: Allocator> {
+    pub options: Options,
+    after: Vec<Value<A>, A>,
+    arms: Vec<Value<A>, A>,
+}
+
+/// Reads the words of a command as those of `switch`. `None` where they are not that, where one of
+/// them is no literal, but for the string, or where the patterns and bodies have no code.
+pub(crate) fn read_switch<A: Allocator + Copy>(
+    alloc: A,
+    words: &[Word<A>],
+) -> Result<Option<Switch<A>>, NoMemory>
+    ensures { IfOk result (λ read. IfSome read (λ own. (string : Parts) ×
+        (words_then words.now no_words ≡ words_of own.options string own.after.items) ×
+        AreArms own.arms.items own.after.items ×
+        AreWhole (are_globs own.options.flag) own.arms.items)) }
+{
+    let Some(found) = switch_words(words) else {
+        return Ok(None);
+    };
+    let Some(after) = texts_of(alloc, found.after)? else {
+        return Ok(None);
+    };
+    let Some(arms) = arms_of(alloc, &after)? else {
+        return Ok(None);
+    };
+    let options = found.options;
+    if !have_code(options.globs(), &arms) {
+        return Ok(None);
+    }
+    Ok(Some(Switch {
+        options,
+        after,
+        arms,
+    }))
+}
 
 /// What compares the string with a pattern that is not too long: where that takes it, the first
 /// place is next, else the second.
@@ -54,9 +92,8 @@ fn emit_chosen<A: Allocator + Copy, N: Nest<A>>(
 ) -> Result<(), NoMemory>
     ensures { OnOk result (ChosenBlock code.old.items code.new.items body.now) }
 {
-    let script = Script::read(*code.allocator(), body.as_slice())?;
     code.push(Instruction::Discard)?;
-    emit_body(code, &script, after, nest)?;
+    nest.put_body(code, body, after)?;
     Ok(())
 }
 
@@ -158,52 +195,24 @@ fn emit_rest<A: Allocator + Copy, N: Nest<A>>(
     Ok(())
 }
 
-/// Puts the code of a `switch` with these words: its string, and its patterns with their bodies.
-fn emit_switch<A: Allocator + Copy, N: Nest<A>>(
+/// Puts what a `switch` does once its string is on top: its patterns with their bodies.
+pub(crate) fn emit_switch<A: Allocator + Copy, N: Nest<A>>(
     code: &mut Vec<Instruction<A>, A>,
-    found: &SwitchWords<'_, A>,
-    after: Vec<Value<A>, A>,
-    arms: &[Value<A>],
+    own: Switch<A>,
     nest: &N,
 ) -> Result<(), NoMemory>
-    ensures { AreArms arms.now after.items →
-        AreWhole (are_globs found.now.options.flag) arms.now →
-        OnOk result (OwnBlock true code.old.items code.new.items
-        (words_of found.now.options (parts_then found.now.string.now no_parts) after.items)) }
+    ensures { AreArms own.arms.items own.after.items →
+        AreWhole (are_globs own.options.flag) own.arms.items →
+        OnOk result (SwitchBlock code.old.items code.new.items own.options own.after.items) }
 {
-    emit_parts(code, found.string, nest)?;
+    let Switch {
+        options,
+        after,
+        arms,
+    } = own;
     let place = code.len();
     code.push(Instruction::Hole)?;
-    emit_rest(code, found.options.globs(), arms, nest)?;
-    fill(
-        code,
-        place,
-        Instruction::Switch(found.options, after, code.len()),
-    );
+    emit_rest(code, options.globs(), &arms, nest)?;
+    fill(code, place, Instruction::Switch(options, after, code.len()));
     Ok(())
-}
-
-/// Puts the code of a `switch` that has code of its own, and says whether these words are one.
-pub(crate) fn put_switch<A: Allocator + Copy, N: Nest<A>>(
-    code: &mut Vec<Instruction<A>, A>,
-    words: &[Word<A>],
-    nest: &N,
-) -> Result<bool, NoMemory>
-    ensures { IfOk result (λ put. OwnBlock put code.old.items code.new.items
-        (words_then words.now no_words)) }
-{
-    let Some(found) = switch_words(words) else {
-        return Ok(false);
-    };
-    let Some(after) = texts_of(*code.allocator(), found.after)? else {
-        return Ok(false);
-    };
-    let Some(arms) = arms_of(*code.allocator(), &after)? else {
-        return Ok(false);
-    };
-    if !have_code(found.options.globs(), &arms) {
-        return Ok(false);
-    }
-    emit_switch(code, &found, after, &arms, nest)?;
-    Ok(true)
 }

@@ -31,7 +31,7 @@ pub(crate) fn read<A: Allocator + Copy>(
 }
 
 /// Why a text is no formula, as the script's error (expr(n)).
-fn no_formula<A: Allocator>(fault: formulas::Fault) -> Fault<A>
+pub fn no_formula<A: Allocator>(fault: formulas::Fault) -> Fault<A>
     ensures { flaw_of result ≡ flaw_of_formula (fault_of fault) }
 {
     match fault {

@@ -7,7 +7,7 @@ pub mod conditional;
 mod deeper;
 pub mod expr;
 pub mod for_loop;
-mod formula;
+pub mod formula;
 mod step;
 mod test;
 pub mod turning;

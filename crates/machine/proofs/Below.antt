@@ -3,6 +3,7 @@ use Rattle.std.proofs.Common.{◌≡◌, ◌∙◌, ℕ, zero, suc, ◌+◌, ◌
 use Rattle.tclparse.specs.ScriptTree.{seen}
 use Rattle.code.specs.declared.instruction.Instruction.{Instruction}
 use Rattle.machine.specs.Frames.{Onward, left_of, onward_of, stack}
+use Rattle.machine.specs.Inner.{IsScriptOf, IsValueOf}
 use Rattle.machine.specs.Phases.{Leads, course_of_next}
 use Rattle.machine.specs.Below.{Beneath, BeginsIn, ComesFrom, ComesOver, Falls, GoesOn, Hands, IsBack, IsBelow, IsLess, IsWhole, StandsOver, StaysDeep, depth, height, one_for, parts_of, waits_in}
 use Rattle.machine.specs.declared.frame.Frame.{Frame}
@@ -14,6 +15,7 @@ use Rattle.machine.specs.declared.running.Running.{Running}
 use Rattle.machine.specs.declared.starting.Next.{Next}
 use Rattle.machine.specs.declared.starting.Next.TheVariants as next
 use Rattle.machine.specs.declared.waits.Waits.{Waits}
+use Rattle.kept.specs.declared.Parsed.{Parsed}
 use Rattle.machine.proofs.Machines.{leads_from, stands_from}
 use Rattle.expects.specs.Expect.{by_name}
 use Rattle.plan.specs.Plan.{and_then, onward}
@@ -34,6 +36,7 @@ use Rattle.steps.specs.Run.{Awaits, HasStopped}
 use Rattle.steps.specs.declared.progress.Progress.{Progress}
 use Rattle.steps.specs.declared.progress.Progress.TheVariants as went
 use Rattle.steps.specs.declared.run.Run.{Run}
+use Rattle.steps.specs.View.{text_in}
 use Rattle.tclparse.specs.Grammar.{IsScript}
 use Rattle.tclparse.specs.Seen.{fault_of}
 use Rattle.tclparse.specs.View.{commands_of}
@@ -96,6 +99,41 @@ module _ {A : Type 0} where
         };
       }
 
+  -- the script of a text runs
+  pub runs_in : (last : Onward) (n : Next A) (run : Run A) (state : State A) (p : Dialogue Over) →
+      HasStopped last went.Runs run state p →
+      IsScriptOf n (text_in run.spot.words.items) (run.spot.levels - 1) →
+      BeginsIn last n run state p
+  runs_in last n run state p stopped read =
+      let waits = stopped.follows read.0 read.1 in
+      record {
+        onward = waits.next;
+        awaits = λ t outcome. waits.resumes t outcome;
+        begins = record {
+          status = stopped.status;
+          fits = stopped.fits;
+          goes = subst (λ c. Goes p (and_then c (onward waits.next)))
+              (sym (read.2 stopped.status)) waits.goes;
+        };
+      }
+
+  -- a text is evaluated as a formula
+  pub evaluates_in : (last : Onward) (n : Next A) (run : Run A) (state : State A)
+      (p : Dialogue Over) → HasStopped last went.Evaluates run state p →
+      IsValueOf n (text_in run.spot.words.items) run.spot.levels → BeginsIn last n run state p
+  evaluates_in last n run state p stopped read =
+      let waits = stopped.follows read.0 read.1 in
+      record {
+        onward = waits.next;
+        awaits = λ t outcome. waits.resumes t outcome;
+        begins = record {
+          status = stopped.status;
+          fits = stopped.fits;
+          goes = subst (λ c. Goes p (and_then c (onward waits.next)))
+              (sym (read.2 stopped.status)) waits.goes;
+        };
+      }
+
   -- the code is over, with its outcome
   pub over_in : (last : Onward) (run : Run A) (outcome : Result (List ℕ) (Leave A))
       (state : State A) (p : Dialogue Over) → HasStopped last went.Over run state p →
@@ -110,12 +148,18 @@ module _ {A : Type 0} where
   -- it stops where something begins, or is over
   pub never_stops : (last : Onward) (progress : Progress) (run : Run A) (state : State A)
       (p : Dialogue Over) → (progress ≡ went.Begins → ⊥) → (progress ≡ went.Says → ⊥) →
-      (progress ≡ went.Over → ⊥) → HasStopped last progress run state p → ⊥
-  never_stops last went.GoesOn run state p begins says over stopped = stopped.stops refl
-  never_stops last went.Begins run state p begins says over stopped = begins refl
-  never_stops last went.Says run state p begins says over stopped = says refl
-  never_stops last went.Over run state p begins says over stopped = over refl
-  never_stops last went.Stuck run state p begins says over stopped = stopped.follows
+      (progress ≡ went.Runs → ⊥) → (progress ≡ went.Evaluates → ⊥) → (progress ≡ went.Over → ⊥) →
+      HasStopped last progress run state p → ⊥
+  never_stops last went.GoesOn run state p begins says runs evaluates over stopped =
+      stopped.stops refl
+  never_stops last went.Begins run state p begins says runs evaluates over stopped = begins refl
+  never_stops last went.Says run state p begins says runs evaluates over stopped = says refl
+  never_stops last went.Runs run state p begins says runs evaluates over stopped = runs refl
+  never_stops last went.Evaluates run state p begins says runs evaluates over stopped =
+      evaluates refl
+  never_stops last went.Over run state p begins says runs evaluates over stopped = over refl
+  never_stops last went.Stuck run state p begins says runs evaluates over stopped =
+      stopped.follows
 
   -- what ended hands its outcome to the part that waits, or nothing is left
   pub end_goes : (parts : List (Part A)) (h : Handed A) (o : Result (List ℕ) (Leave A))
@@ -170,13 +214,16 @@ module _ {A : Type 0} where
 
   -- a command begins in code that is entered above the frames, which wait with the code below them
   pub enters_over : (old : Running A) (waiting : Vec (Frame A) A) (below : Option (Run A))
-      (frames : Vec (Frame A) A) (code : Option (Run A)) (parts : Vec (Part A) A) (run : Run A)
-      (n : Next A) (state : State A) (last : Onward) {p : Dialogue Over} →
+      (frames : Vec (Frame A) A) (code : Option (Run A)) (parts : Vec (Part A) A)
+      (parsed : Parsed A) (run : Run A) (n : Next A) (state : State A) (last : Onward)
+      {p : Dialogue Over} →
       waiting ≡ old.frames → below ≡ old.code → stack frames ≡ [] → code ≡ Some run →
       reverse parts.items ≡ record { frames = waiting; code = below } ∷ parts_of old →
       IsBelow old last → BeginsIn (onward_of last (stack old.frames)) n run state p →
-      GoesOn (handed.Begins n) (record old { frames = frames; code = code; parts = parts }) state p
-  enters_over old waiting below frames code parts run n state last waits was none is put lies on =
+      GoesOn (handed.Begins n)
+      (record { frames = frames; code = code; parts = parts; parsed = parsed }) state p
+  enters_over old waiting below frames code parts parsed run n state last waits was none is put lies
+      on =
       record {
         last = on.onward;
         below = record {
@@ -218,7 +265,8 @@ module _ {A : Type 0} where
       depth mid < depth old → Falls h old new
   stays_falls (handed.Over outcome) old mid new stays less = tt
   stays_falls (handed.Begins n) old mid new stays less = tt
-  stays_falls (handed.Has outcome) old mid new stays less = rw stays less
+  stays_falls (handed.Has outcome) old mid new stays less =
+      subst (λ now. depth now < depth old) (sym stays) less
 
   -- a session that has this outcome hands it on
   pub leads_over : (running : Running A) {state : State A} (o : Result (List ℕ) (Leave A))

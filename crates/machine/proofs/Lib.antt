@@ -6,3 +6,4 @@ pub mod Held
 pub mod Waiting
 pub mod Added
 pub mod Below
+pub mod Texts

@@ -126,11 +126,11 @@ HasTicked (handed.Over outcome) now left = Unit {0}
 HasTicked (handed.Begins next) now left = Unit {0}
 HasTicked (handed.Has outcome) now left = now < left
 
--- where an outcome is handed on, nothing else has changed
+-- where an outcome is handed on, nothing else has changed but what is kept of texts
 abbrev pub StaysDeep : {A : Type 0} → Handed A → Running A → Running A → Type 0
 StaysDeep (handed.Over outcome) old new = Unit {0}
 StaysDeep (handed.Begins next) old new = Unit {0}
-StaysDeep (handed.Has outcome) old new = new ≡ old
+StaysDeep (handed.Has outcome) old new = new ≡ record old { parsed = new.parsed }
 
 -- nothing has begun but branches that are given last, where they may be given, and what is handed
 -- on is not of exp_continue

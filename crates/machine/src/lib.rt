@@ -8,6 +8,7 @@ pub mod beginning;
 mod closing;
 mod end;
 pub mod frame;
+mod inner;
 mod phase;
 pub mod running;
 mod starting;

@@ -10,13 +10,14 @@ ghost use Rattle.steps.specs.Entered.{entered};
 ghost use Rattle.steps.specs.Run.{Awaits, IsFresh, IsValue, branches_in, places_left};
 
 use crate::frame::Frame;
+use crate::inner::{script_of, value_of};
 use crate::starting::Next;
 use crate::unwinding::{Unwound, unwind};
 use crate::waits::Waits;
 use crate::watch::Watch;
 use acts::NoMemory;
 use code::{CodedScript, Entry, Made};
-use kept::{Kept, Parsed};
+use kept::Parsed;
 use state::{Leaf, Outcome, State};
 use std::alloc::Allocator;
 use std::mem;
@@ -204,7 +205,7 @@ fn enter<A: Allocator + Copy, T: Watch<A, Running<A>, State<A>, Leaf<A, Waits<A>
     match go_on(
         alloc,
         &mut run,
-        &running.parsed.scripts,
+        &mut running.parsed,
         state,
         Ok(value),
         watch,
@@ -243,18 +244,19 @@ fn hand_down<A: Allocator + Copy, T: Watch<A, Running<A>, State<A>, Leaf<A, Wait
     let Some(run) = &mut running.code else {
         return Ok(running.end_part(outcome));
     };
-    match go_on(alloc, run, &running.parsed.scripts, state, outcome, watch)? {
+    match go_on(alloc, run, &mut running.parsed, state, outcome, watch)? {
         Handed::Has(last) => Ok(running.end_part(last)),
         Handed::Begins(next) => Ok(Handed::Begins(next)),
         Handed::Over(last) => Ok(Handed::Over(last)),
     }
 }
 
-/// Hands an outcome to a code, up to the next command, which begins by its words, or to the end.
+/// Hands an outcome to a code, up to the next command, which begins by its words, to a text, which
+/// begins by what it is read as, or to the end.
 fn go_on<A: Allocator + Copy, T: Watch<A, Running<A>, State<A>, Leaf<A, Waits<A>>>>(
     alloc: A,
     run: &mut Run<A>,
-    kept: &Kept<A>,
+    parsed: &mut Parsed<A>,
     state: &mut State<A>,
     outcome: Outcome<A>,
     watch: &mut T,
@@ -280,9 +282,19 @@ fn go_on<A: Allocator + Copy, T: Watch<A, Running<A>, State<A>, Leaf<A, Waits<A>
             watch.says(words.as_slice());
             Ok(Handed::Begins(Next::Says(words, run.spot.levels)))
         }
+        Progress::Runs => {
+            let words = run.spot.words.as_slice();
+            let next = script_of(&mut parsed.scripts, words, run.spot.levels)?;
+            Ok(Handed::Begins(next))
+        }
+        Progress::Evaluates => {
+            let words = run.spot.words.as_slice();
+            let next = value_of(alloc, &mut parsed.formulas, words, run.spot.levels)?;
+            Ok(Handed::Begins(next))
+        }
         Progress::Over => {
             let outcome = mem::replace(&mut run.spot.outcome, Ok(Value::empty()));
-            watch.ends(&run.code, run.spot.place, kept, &outcome);
+            watch.ends(&run.code, run.spot.place, &parsed.scripts, &outcome);
             Ok(Handed::Has(outcome))
         }
         // It never stops otherwise: no code lacks an operand.

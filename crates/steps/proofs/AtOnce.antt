@@ -1,5 +1,5 @@
 -- Commands that are over at once, in the run of a code.
-use Rattle.std.proofs.Common.{◌≡◌, ℕ, ◌+◌, ◌*◌, ◌≤◌, List, ◌∷◌, length, None, Result, refl, sym, subst, arith}
+use Rattle.std.proofs.Common.{◌≡◌, ◌∙◌, ℕ, ◌+◌, ◌-◌, ◌*◌, ◌≤◌, List, ◌∷◌, length, None, Result, refl, sym, ap, subst, arith}
 use Rattle.std.proofs.Math.Nat.{mul-le-mul_right}
 use Rattle.code.specs.declared.instruction.Instruction.{Instruction}
 use Rattle.commands.specs.Commands as plain
@@ -16,13 +16,14 @@ use Rattle.steps.specs.Follows.{Follows, Resumes}
 use Rattle.steps.specs.Goes.{Goes, here, reads}
 use Rattle.steps.specs.Handling.{resumed}
 use Rattle.steps.specs.Run.{Awaits, HasCome, HasStopped, IsDone, most_commands}
-use Rattle.steps.specs.Spot.{Did, Went, Reads, Begins, Says, Over, Stuck}
-use Rattle.steps.specs.View.{IsCall, below_words, did_of, spot_of, stop_of, words_of}
+use Rattle.steps.specs.Spot.{Did, Begins, Says, Runs, Evaluates}
+use Rattle.steps.specs.View.{IsCall, below_words, did_of, spot_of, stop_of, text_in, words_of}
 use Rattle.steps.specs.declared.progress.Progress.{Progress}
 use Rattle.steps.specs.declared.progress.Progress.TheVariants as went
 use Rattle.steps.specs.declared.run.Run.{Run}
 use Rattle.steps.specs.declared.spot.Spot.{Spot}
 use Rattle.steps.proofs.Leads.Silent.{then_goes}
+use Rattle.steps.proofs.Leads.Standing.{silently}
 use Rattle.tclstate.specs.Pairs.{found}
 
 -- what is no procedure, runs no script and takes no branches is a plain command
@@ -42,25 +43,7 @@ module _ {A X : Type 0} (code : List (Instruction A)) (last : Status → Outcome
   -- what an instruction did is what was left to be done before some silent steps
   pub follows_after : (did : Did) (p q : Dialogue X) → Goes p q → Follows code last did q →
       Follows code last did p
-  follows_after (Went spot s) p q goes comes = record {
-    then = comes.then;
-    goes = then_goes goes comes.goes;
-    at = comes.at;
-  }
-  follows_after (Reads text next) p q goes follows =
-      λ tree is. follows_after (next tree) p q goes (follows tree is)
-  follows_after (Begins words spot s) p q goes waits = record {
-    next = waits.next;
-    goes = then_goes goes waits.goes;
-    resumes = waits.resumes;
-  }
-  follows_after (Says words spot s) p q goes waits = record {
-    next = waits.next;
-    goes = then_goes goes waits.goes;
-    resumes = waits.resumes;
-  }
-  follows_after (Over outcome s) p q goes over = then_goes goes over
-  follows_after Stuck p q goes stuck = absurd stuck
+  follows_after did p q goes follows = silently code last did goes follows
 
 -- the run of a code has come to where it waits for an outcome: for some state of the definition
 -- that the code's state fits, the dialogue continues as what is left to be done with it
@@ -91,6 +74,8 @@ module _ {A : Type 0} (last : Status → Outcome → Dialogue Ended) where
   over_stops went.GoesOn run state p other came = absurd (came.stops refl)
   over_stops went.Begins run state p other came = absurd (other tt)
   over_stops went.Says run state p other came = absurd (other tt)
+  over_stops went.Runs run state p other came = absurd (other tt)
+  over_stops went.Evaluates run state p other came = absurd (other tt)
   over_stops went.Over run state p other came = record {
     status = came.status;
     fits = came.fits;
@@ -114,6 +99,17 @@ module _ {A : Type 0} (last : Status → Outcome → Dialogue Ended) where
       let code = run.code.value.items in
       subst (λ ws. Follows code last (Says ws (spot_of spot) s) p) (sym words)
       (subst (λ at. Follows code last (Says (words_of run.spot) at s) p) (sym stands) follows)
+  taken_off went.Runs run spot s p is words stands follows =
+      let code = run.code.value.items in
+      subst (λ ws. Follows code last (Runs (text_in ws) (spot.levels - 1) (spot_of spot) s) p)
+      (sym words)
+      (subst (λ at. Follows code last (Runs (text_in (words_of run.spot)) (at.levels - 1) at s) p)
+      (sym stands) follows)
+  taken_off went.Evaluates run spot s p is words stands follows =
+      let code = run.code.value.items in
+      subst (λ ws. Follows code last (Evaluates (text_in ws) (spot_of spot) s) p) (sym words)
+      (subst (λ at. Follows code last (Evaluates (text_in (words_of run.spot)) at s) p) (sym stands)
+      follows)
   taken_off went.Over run spot s p is words stands follows = absurd is
   taken_off went.Stuck run spot s p is words stands follows = absurd is
 
@@ -146,6 +142,14 @@ module _ {A : Type 0} (last : Status → Outcome → Dialogue Ended) where
             (waits.resumes t outcome);
         goes = then_goes waits.goes (reaches_goes waits.next over.reaches);
       }
+
+-- at the same place of the same code as many commands may begin
+pub same_commands : {A : Type 0} (run new : Run A) (left : ℕ) →
+    new.code.value.items ≡ run.code.value.items → new.spot.place ≡ run.spot.place →
+    most_commands new left ≡ most_commands run left
+same_commands run new left code place =
+    ap (λ items. left * (length items + 1) + (length items - new.spot.place)) code
+    ∙ ap (λ n. left * (length run.code.value.items + 1) + (length run.code.value.items - n)) place
 
 -- with fewer ticks no more commands may begin at the same place
 pub fewer_commands : {A : Type 0} (run : Run A) (spot : Spot A) (left now : ℕ) → now ≤ left →

@@ -1,5 +1,5 @@
 -- The results of taking operands off, of reading variables and of reading lists.
-use Rattle.std.proofs.Common.{◌≡◌, ◌∙◌, ℕ, List, [], ◌∷◌, ◌++◌, Option, Some, Result, Ok, Err, MatchResult, sym, ap, subst, option_to_list}
+use Rattle.std.proofs.Common.{◌≡◌, ◌∙◌, ℕ, zero, suc, ◌-◌, ◌<◌, List, [], ◌∷◌, ◌++◌, Option, Some, Result, Ok, Err, MatchResult, sym, ap, subst, option_to_list, arith}
 use Rattle.std.specs.Prelude.{reverse}
 use Rattle.std.proofs.lemmas.List.{reverse-append}
 use Rattle.acts.specs.Flaw as acts
@@ -12,9 +12,9 @@ use Rattle.state.specs.Piece.{ListText}
 use Rattle.state.specs.Stores.{IsTold}
 use Rattle.state.specs.Variables.{flaw_of_trouble, spelled}
 use Rattle.steps.specs.Does.{Does, same, reads}
-use Rattle.steps.specs.Machine.{does, reading, with_value}
+use Rattle.steps.specs.Machine.{does, reading, running, with_value}
 use Rattle.steps.specs.Handling.{fails}
-use Rattle.steps.specs.Spot.{Spot, Did, Reads, Went, with_top}
+use Rattle.steps.specs.Spot.{Spot, Did, Reads, Runs, Went, with_top}
 use Rattle.tclstate.specs.Scopes.{Trouble, read}
 use Rattle.tclstate.specs.ScopeError.{HasTrouble}
 use Rattle.tclstate.specs.declared.error.ScopeError.{ScopeError}
@@ -29,6 +29,13 @@ same_does {a = a} is = subst (λ d. Does a d) (sym is) same
 pub does_so : {A : Type 0} (it known : Instruction A) (spot : Spot) (s : Status) {did : Did} →
     it ≡ known → Does (does known spot s) did → Does (does it spot s) did
 does_so it known spot s {did = did} is d = subst (λ i. Does (does i spot s) did) (sym is) d
+
+-- the script of a text runs where a level is left
+pub runs_so : (levels : ℕ) (text : List ℕ) (spot : Spot) (s : Status) → 0 < levels →
+    Runs text (levels - 1) spot s ≡ running levels text spot s
+runs_so zero text spot s some = absurd (omega (arith, some))
+runs_so (suc levels) text spot s some =
+    let one_less : suc levels - 1 ≡ levels = omega arith in ap (λ n. Runs text n spot s) one_less
 
 -- an operand was taken off
 pub one_on_top : {V : Type 0} (old new : List V) (taken : Option V) (v : V) →

@@ -14,7 +14,7 @@ use Rattle.bodies.specs.Catch.{number_of}
 use Rattle.steps.specs.Machine.{machine}
 use Rattle.steps.specs.Moves.{jumping, on_top}
 use Rattle.steps.specs.Run.{IsIdle, IsValue}
-use Rattle.steps.specs.Spot.{Spot, Did, Handler, Went, Reads, Begins, Says, Over, Stuck, with_top}
+use Rattle.steps.specs.Spot.{Spot, Did, Handler, Went, Reads, Begins, Says, Runs, Evaluates, Over, Stuck, with_top}
 use Rattle.steps.specs.View.{did_of, spot_of}
 use Rattle.steps.specs.declared.handler.Way.{Way}
 use Rattle.steps.specs.declared.handler.Way.TheVariants as way
@@ -41,6 +41,8 @@ spot_in (Went spot s) other = spot
 spot_in (Reads text next) other = other
 spot_in (Begins words spot s) other = other
 spot_in (Says words spot s) other = other
+spot_in (Runs text levels spot s) other = other
+spot_in (Evaluates text spot s) other = other
 spot_in (Over outcome s) other = other
 spot_in Stuck other = other
 
@@ -82,6 +84,8 @@ Counts most (Went spot s) = Unit {0}
 Counts most (Reads text next) = ⊥
 Counts most (Begins words spot s) = Unit {0}
 Counts most (Says words spot s) = Unit {0}
+Counts most (Runs text levels spot s) = Unit {0}
+Counts most (Evaluates text spot s) = Unit {0}
 Counts most (Over outcome s) = again_of outcome ≤ most
 Counts most Stuck = Unit {0}
 
@@ -155,6 +159,10 @@ value_idle said code went.Begins new old outcome is does =
     leads_nowhere went.Begins new (spot_of old) (outcome_of outcome) does tt
 value_idle said code went.Says new old outcome is does =
     absurd (leads_nowhere went.Says new (spot_of old) (outcome_of outcome) does tt)
+value_idle said code went.Runs new old outcome is does =
+    leads_nowhere went.Runs new (spot_of old) (outcome_of outcome) does tt
+value_idle said code went.Evaluates new old outcome is does =
+    leads_nowhere went.Evaluates new (spot_of old) (outcome_of outcome) does tt
 value_idle said code went.Over new old (Ok value) is does =
     let counts = outcome_counts went.Over new (spot_of old) (Gives value) does refl in
     omega (arith, counts)
@@ -170,6 +178,8 @@ idle_stays said code went.GoesOn old new place over idle = tt
 idle_stays said code went.Begins old new place over idle = absurd idle
 idle_stays said code went.Says old new place over idle =
     (idle.0, subst (λ n. slice_get code n ≡ None) (sym place) idle.1)
+idle_stays said code went.Runs old new place over idle = absurd idle
+idle_stays said code went.Evaluates old new place over idle = absurd idle
 idle_stays {A = A} said code went.Over old new place over idle =
     subst (λ (o : Result (List ℕ) (Leave A)). again_of (outcome_of o) ≡ 0) (sym (over refl)) idle
 idle_stays said code went.Stuck old new place over idle = tt

@@ -6,7 +6,7 @@ use Rattle.bodies.specs.Catch.{number_of}
 use Rattle.state.specs.Prelude.{Code, Gives, Leaves, Outcome, Status, Stops}
 use Rattle.steps.specs.Handling.{handled, led, outside, resumed, way_of, with_code}
 use Rattle.steps.specs.Moves.{jumping}
-use Rattle.steps.specs.Spot.{Begins, Did, Handler, Over, Says, Spot, Stuck, Went, with_top}
+use Rattle.steps.specs.Spot.{Begins, Did, Evaluates, Handler, Over, Runs, Says, Spot, Stuck, Went, with_top}
 use Rattle.runs.specs.Run.{initial}
 use Rattle.steps.specs.View.{IsCall, did_of, handler_of}
 use Rattle.steps.specs.declared.handler.Handler as opened
@@ -82,10 +82,12 @@ module _ (code : Code) (value : List ℕ) (s : Status) where
       sym (ap (λ hs. handled (reverse (map handler_of hs)) code value spot s)
       (nil_from_length handlers none))
 
--- something begins by words
+-- something begins by words, or by a text
 abbrev IsBegun : Did → Type 0
 IsBegun (Begins words spot s) = Unit {0}
 IsBegun (Says words spot s) = Unit {0}
+IsBegun (Runs text levels spot s) = Unit {0}
+IsBegun (Evaluates text spot s) = Unit {0}
 IsBegun did = ⊥
 
 call_begins : {A : Type 0} (progress : Progress) (spot : coded.Spot A) (s : Status) →
@@ -93,6 +95,8 @@ call_begins : {A : Type 0} (progress : Progress) (spot : coded.Spot A) (s : Stat
 call_begins went.GoesOn spot s is = absurd is
 call_begins went.Begins spot s is = tt
 call_begins went.Says spot s is = tt
+call_begins went.Runs spot s is = tt
+call_begins went.Evaluates spot s is = tt
 call_begins went.Over spot s is = absurd is
 call_begins went.Stuck spot s is = absurd is
 

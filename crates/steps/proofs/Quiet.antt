@@ -31,7 +31,7 @@ use Rattle.steps.specs.Machine.{ahead, does, entering, machine, reading, spread,
 use Rattle.steps.specs.Moves.{jumping, on_top, ticked, with_operands}
 use Rattle.steps.specs.Run.{Forks, IsIdle, IsPlain, IsQuiet, branches_in}
 use Rattle.steps.specs.Run as run
-use Rattle.steps.specs.Spot.{Spot, Did, Went, Reads, Begins, Says, Over, Stuck, with_top}
+use Rattle.steps.specs.Spot.{Spot, Did, Went, Reads, Begins, Says, Runs, Evaluates, Over, Stuck, with_top}
 use Rattle.steps.specs.View.{did_of}
 use Rattle.steps.specs.declared.progress.Progress.{Progress}
 use Rattle.steps.specs.declared.progress.Progress.TheVariants as went
@@ -49,6 +49,8 @@ Calm At left (Went spot s) = At spot.place × (spot.handlers ≡ []) × (s.left 
 Calm At left (Reads text next) = (tree : Tree text) → Calm At left (next tree)
 Calm At left (Begins words spot s) = ⊥
 Calm At left (Says words spot s) = ⊥
+Calm At left (Runs text levels spot s) = ⊥
+Calm At left (Evaluates text spot s) = ⊥
 Calm At left (Over outcome s) = again_of outcome ≡ 0
 Calm At left Stuck = Unit {0}
 
@@ -234,6 +236,8 @@ Passed said code left (Reads text next) = (tree : Tree text) → Passed said cod
 Passed said code left (Begins words spot s) = ⊥
 Passed said code left (Says words spot s) =
     (0 < said) × (slice_get code spot.place ≡ None)
+Passed said code left (Runs text levels spot s) = ⊥
+Passed said code left (Evaluates text spot s) = ⊥
 Passed said code left (Over outcome s) = again_of outcome ≡ 0
 Passed said code left Stuck = Unit {0}
 
@@ -243,6 +247,8 @@ module _ {A : Type 0} (said : ℕ) (code : List (Instruction A)) where
   calm_passed left (Reads text next) calm = λ tree. calm_passed left (next tree) (calm tree)
   calm_passed left (Begins words spot s) calm = calm
   calm_passed left (Says words spot s) calm = absurd calm
+  calm_passed left (Runs text levels spot s) calm = calm
+  calm_passed left (Evaluates text spot s) calm = calm
   calm_passed left (Over outcome s) calm = calm
   calm_passed left Stuck calm = tt
 
@@ -317,6 +323,8 @@ module _ {A : Type 0} (said : ℕ) (code : List (Instruction A)) where
   idle went.GoesOn spot s left passed = tt
   idle went.Begins spot s left passed = passed
   idle went.Says spot s left passed = passed
+  idle went.Runs spot s left passed = passed
+  idle went.Evaluates spot s left passed = passed
   idle went.Over spot s left passed = passed
   idle went.Stuck spot s left passed = tt
 

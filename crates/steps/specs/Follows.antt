@@ -1,22 +1,35 @@
 -- What an instruction did is what was left to be done.
-use Rattle.std.specs.Prelude.{◌≡◌, ℕ, ◌+◌, ◌≤◌, List, [], length, slice_get}
+use Rattle.std.specs.Prelude.{◌≡◌, ℕ, ◌+◌, ◌≤◌, List, [], Result, length, slice_get}
 use Rattle.code.specs.Code.{FormulaAt, ScriptAt}
 use Rattle.expects.specs.Expect.{by_name}
 use Rattle.code.specs.declared.instruction.Instruction.{Instruction}
+use Rattle.conditions.specs.Formulas.{on_formula}
 use Rattle.state.specs.Evaluated.{evaluated}
+use Rattle.plan.specs.Plan as plan
 use Rattle.plan.specs.Plan.{and_then, onward}
 use Rattle.runs.specs.Commands.{command}
 use Rattle.runs.specs.Scripts.{plan_of}
 use Rattle.state.specs.Prelude.{Course, Dialogue, gives, IsTree, Outcome, Status}
-use Rattle.state.specs.Piece.{Script, ScriptTree, Tree}
+use Rattle.state.specs.Piece.{FormulaText, Script, ScriptText, ScriptTree, Tree}
 use Rattle.tclparse.specs.Formula.{Formula}
+use Rattle.tclparse.specs.FormulaFault.{FormulaFault}
 use Rattle.steps.specs.Does.{Arrives}
 use Rattle.steps.specs.Goes.{Goes}
 use Rattle.steps.specs.Layout.{HeadAt, FramesAt}
 use Rattle.steps.specs.Machine.{machine}
 use Rattle.steps.specs.Places.{Head, Frame, brackets, left_of, spot_at}
 use Rattle.steps.specs.Handling.{resumed}
-use Rattle.steps.specs.Spot.{Spot, Did, Went, Reads, Begins, Says, Over, Stuck, beginning_at}
+use Rattle.steps.specs.Spot.{Spot, Did, Went, Reads, Begins, Says, Runs, Evaluates, Over, Stuck, beginning_at}
+
+-- the course of a script that is read as this, within which so many levels may nest (Tcl(n),
+-- rule 7)
+abbrev pub run_by : ScriptTree → ℕ → Status → Course
+run_by tree levels s = plan.goes (Script tree levels) s
+
+-- the course of a text that is read as this formula, or the error that it is none (expr(n))
+abbrev pub value_by : Result Formula FormulaFault → ℕ → Status → Course
+value_by tree levels s =
+    on_formula s (λ f. evaluated levels f s (λ t value. gives value t)) tree
 
 module _ {A X : Type 0} (code : List (Instruction A)) (last : Status → Outcome → Dialogue X) where
   -- the run of the code stands where this is left to be done, and then what is done last
@@ -57,6 +70,11 @@ module _ {A X : Type 0} (code : List (Instruction A)) (last : Status → Outcome
   Follows (Reads text next) p = (tree : Tree text) → IsTree text tree → Follows (next tree) p
   Follows (Begins words spot s) p = Waits (command spot.levels s words) spot p
   Follows (Says words spot s) p = Waits (by_name spot.levels s words) spot p
+  Follows (Runs text levels spot s) p =
+      (tree : ScriptTree) → IsTree (ScriptText text) tree → Waits (run_by tree levels s) spot p
+  Follows (Evaluates text spot s) p =
+      (tree : Result Formula FormulaFault) → IsTree (FormulaText text) tree →
+      Waits (value_by tree spot.levels s) spot p
   Follows (Over outcome s) p = Goes p (last s outcome)
   Follows Stuck p = ⊥
 

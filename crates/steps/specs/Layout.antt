@@ -1,16 +1,16 @@
 -- Where the code of what is left to be done stands.
 use Rattle.std.specs.Prelude.{◌≡◌, ℕ, suc, ◌+◌, ◌<◌, ◌≤◌, List, [], ◌∷◌, Bool, true, false, Option, Some, None, Ok, is_some, length, slice_get}
-use Rattle.code.specs.Code.{At, IsDirect, JoinsAt, PartsAt, WordsAt, CommandAt, ScriptAt, BodyAt, TurnsAt, AssignsAt, ForeachAt, DealAt, SwitchAt, RestAt, FormulaAt, LinksAt, ArgumentsAt, TakenAt}
+use Rattle.code.specs.Code.{At, IsDirect, JoinsAt, PartsAt, WordsAt, CommandAt, ScriptAt, BodyAt, ExpressionAt, TurnsAt, AssignsAt, ForeachAt, DealAt, SwitchAt, RestAt, FormulaAt, LinksAt, ArgumentsAt, TakenAt}
 use Rattle.code.specs.declared.instruction.Instruction.{Instruction}
 use Rattle.code.specs.declared.instruction.Instruction.TheVariants as i
 use Rattle.conditions.specs.Branches.{Branch}
-use Rattle.state.specs.Prelude.{LoopTree, ScriptTree}
+use Rattle.state.specs.Piece.{FormulaText}
+use Rattle.state.specs.Prelude.{IsTree, LoopTree, ScriptText, ScriptTree}
 use Rattle.steps.specs.Each.{Each}
 use Rattle.steps.specs.Operand.{Outer, Prefixed, Row, Right, Holds, Argument, Test, Chosen, Condition, Turning, Resulting}
-use Rattle.steps.specs.Places.{Head, Has, Part, Joins, Gathers, Evaluates, Values, Starts, Chooses, Enters, Repeats, Finishes, Deals, Takes, Sets, Drops, Compares, Runs, Frame, Rest, Bracket, Body, Skip, Alone, For, Turns, Elements, Tries, Stores, Catches}
+use Rattle.steps.specs.Places.{Head, Has, Part, Joins, Gathers, Evaluates, Expresses, Values, Starts, Chooses, Enters, Repeats, Finishes, Deals, Takes, Sets, Drops, Compares, Runs, Frame, Rest, Bracket, Body, Skip, Alone, For, Turns, Elements, Tries, Stores, Catches}
 use Rattle.steps.specs.Word.{Around, Open, Word, Plain, Expands, Operand, Listed, Switched, Last}
 use Rattle.tclparse.specs.Formula.{Formula}
-use Rattle.tclparse.specs.FormulaGrammar.{IsFormula}
 
 module _ {A : Type 0} (code : List (Instruction A)) where
   -- words that are not counted: their number stands in the instruction that begins the command
@@ -26,14 +26,29 @@ module _ {A : Type 0} (code : List (Instruction A)) where
       ((mid : ℕ) × (stop : ℕ) × JoinsAt code (is_some o.so_far) (place + 1) mid ×
       PartsAt code true mid o.parts stop × AroundAt stop os end)
 
-  -- the body that a script is, one level deeper
-  pub record EntersAt (place : ℕ) (tree : ScriptTree) (end : ℕ) : Type 0 where
+  -- the code of a script that is a body, one level deeper
+  pub record DeeperAt (place : ℕ) (tree : ScriptTree) (end : ℕ) : Type 0 where
     pub after : ℕ
     pub enters : At code place (i.Body after)
     pub stop : ℕ
     pub script : ScriptAt code (place + 1) tree.commands tree.fault stop
     pub leaves : At code stop i.Leave
     pub ends : end ≡ stop + 1
+
+  -- a script that is a body, one level deeper: its code, or its text
+  pub data EntersAt : ℕ → ScriptTree → ℕ → Type 0 where
+    body_code : {place end : ℕ} {tree : ScriptTree} → DeeperAt place tree end →
+        EntersAt place tree end
+    body_text : {place after : ℕ} {tree : ScriptTree} {text : List ℕ} →
+        At code place (i.Run text after) → IsTree (ScriptText text) tree →
+        EntersAt place tree (place + 1)
+
+  -- a formula whose value is put on top: its code, or its text
+  pub data EvaluatesAt : ℕ → Formula → ℕ → Type 0 where
+    formula_code : {place end : ℕ} {f : Formula} → FormulaAt code place f end →
+        EvaluatesAt place f end
+    formula_text : {place : ℕ} {f : Formula} {text : List ℕ} → At code place (i.Evaluate text) →
+        IsTree (FormulaText text) (Ok f) → EvaluatesAt place f (place + 1)
 
   -- after the body of a turn: the script that runs after it, if there is one, and then the end of
   -- the turn
@@ -51,7 +66,7 @@ module _ {A : Type 0} (code : List (Instruction A)) where
     pub test : ℕ
     pub enters : EntersAt body loop.body ends
     pub steps : StepsAt ends loop.step test
-    pub formula : FormulaAt code test loop.test turn
+    pub formula : EvaluatesAt test loop.test turn
     pub turns : At code turn (i.Turn body ends)
     pub over : At code (turn + 1) (i.Text [])
 
@@ -88,7 +103,7 @@ module _ {A : Type 0} (code : List (Instruction A)) where
   ChoosesAt place [] None end = At code place (i.Text []) × (end ≡ place + 1)
   ChoosesAt place [] (Some body) end = BodyAt code place body end
   ChoosesAt place (branch ∷ more) otherwise end =
-      (f : Formula) × (mid : ℕ) × IsFormula (Ok f) branch.test × FormulaAt code place f mid ×
+      (mid : ℕ) × ExpressionAt code place branch.test mid ×
       ((jump : ℕ) × At code mid (i.Unless (jump + 1)) × BodyAt code (mid + 1) branch.body jump ×
       At code jump (i.Jump end) × (jump + 1 ≤ end) × ChoosesAt (jump + 1) more otherwise end)
 
@@ -169,7 +184,9 @@ module _ {A : Type 0} (code : List (Instruction A)) where
       (count : ℕ) × CountIs counted count (length before) ×
       WordsAt code braced counted count place rest end
   HeadAt place (Evaluates f outer) end =
-      (mid : ℕ) × FormulaAt code place f mid × OperandAt mid outer end
+      (mid : ℕ) × EvaluatesAt place f mid × OperandAt mid outer end
+  HeadAt place (Expresses text outer) end =
+      (mid : ℕ) × ExpressionAt code place text mid × OperandAt mid outer end
   HeadAt place (Values value outer) end = OperandAt place outer end
   HeadAt place (Starts ws) end = CommandAt code place ws end
   HeadAt place (Chooses more otherwise) end = ChoosesAt place more otherwise end

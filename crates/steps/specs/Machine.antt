@@ -18,7 +18,7 @@ use Rattle.steps.specs.Handling.{fails}
 use Rattle.steps.specs.Loops.{ending, stepping, turned, turning}
 use Rattle.steps.specs.Moves.{jumping, lowest, on_top, ticked, with_operands}
 use Rattle.steps.specs.Switch as switch
-use Rattle.steps.specs.Spot.{Spot, Did, Went, Reads, Begins, Says, Over, Stuck, with_top}
+use Rattle.steps.specs.Spot.{Spot, Did, Went, Reads, Begins, Says, Runs, Evaluates, Over, Stuck, with_top}
 use Rattle.tclparse.specs.Seen.{fault_of}
 use Rattle.tclstate.specs.Pairs.{found}
 use Rattle.tclstate.specs.Procs.{Procedure, Procs}
@@ -57,6 +57,11 @@ joining spot s =
 abbrev pub entering : ℕ → Spot → Status → Did
 entering zero spot s = fails flaw.TooManyNested spot s
 entering (suc levels) spot s = Went (record (with_top [] spot) { levels = levels }) s
+
+-- the script of a text runs, where a level is left (Tcl(n), rule 7; interp(n), recursionlimit)
+abbrev pub running : ℕ → List ℕ → Spot → Status → Did
+running zero text spot s = fails flaw.TooManyNested spot s
+running (suc levels) text spot s = Runs text levels spot s
 
 -- a script in brackets is over; levels are counted up to 255 (this project's own rule)
 abbrev pub leaving : Spot → Status → Did
@@ -151,6 +156,7 @@ does i.Join spot s = joining spot s
 does i.Enter spot s = entering spot.levels spot s
 does (i.Body after) spot s = entering spot.levels spot s
 does i.Leave spot s = leaving spot s
+does (i.Run text after) spot s = running spot.levels text spot s
 does (i.Count n) spot s = counting n spot s
 does i.Spread spot s = spreading spot s
 does (i.Command n) spot s = starting (length spot.operands - n) spot s
@@ -164,6 +170,7 @@ does (i.Call function n) spot s = calling function (length spot.operands - n) sp
 does (i.AndAlso place) spot s = choosing place false spot s
 does (i.OrElse place) spot s = choosing place true spot s
 does i.Truth spot s = telling spot s
+does (i.Evaluate text) spot s = Evaluates text spot s
 does i.Result spot s = resulting spot s
 does (i.Unless place) spot s = unless place spot s
 does (i.Jump place) spot s = jumping place spot s

@@ -4,6 +4,7 @@ use Rattle.bodies.specs.Catch.{caught, stores_in}
 use Rattle.conditions.specs.Branches.{Branch}
 use Rattle.conditions.specs.Conditional.{chooses, passes}
 use Rattle.conditions.specs.ForLoop.{started}
+use Rattle.conditions.specs.Formulas.{with_formula}
 use Rattle.conditions.specs.Loop.{again, behind_body, on_step}
 use Rattle.state.specs.Evaluated.{evaluated}
 use Rattle.plan.specs.Plan.{and_then, onward, after}
@@ -26,7 +27,7 @@ use Rattle.state.specs.Words.{words}
 -- what is being done at a place: a value is on top; an open word goes on with its next part; a
 -- value is put after the bytes of an open word; a command, or an argument in braces, goes on with
 -- its next word, after these words, the last one first, which are counted or not; a formula is
--- evaluated; the value of an
+-- evaluated; a text is read as a formula, which is evaluated then; the value of an
 -- operand is on top; a command begins with its first word, or with its own code; the branches of if
 -- that are left are looked through; a body begins; a loop goes on with its next turn; a loop is
 -- over; the list of a foreach is on top; a foreach goes on with its next turn; the variables of a
@@ -41,6 +42,7 @@ pub data Head : Type 0 where
   Joins : (value : List ℕ) (word : Open) → Head
   Gathers : (braced counted : Bool) (before : List (List ℕ)) (rest : Words) → Head
   Evaluates : (formula : Formula) (outer : List Outer) → Head
+  Expresses : (text : List ℕ) (outer : List Outer) → Head
   Values : (value : List ℕ) (outer : List Outer) → Head
   Starts : (words : Words) → Head
   Chooses : (more : List Branch) (otherwise : Option (List ℕ)) → Head
@@ -86,6 +88,8 @@ course_of levels (Joins value word) s = course_with levels word (bytes_of word.s
 course_of levels (Gathers braced counted before rest) s =
     words levels rest (reverse before) s (call_of braced levels)
 course_of levels (Evaluates f outer) s = evaluated levels f s (operand_on levels outer)
+course_of levels (Expresses text outer) s =
+    with_formula text s (λ f. evaluated levels f s (operand_on levels outer))
 course_of levels (Values value outer) s = operand_on levels outer s value
 course_of levels (Starts ws) s = words levels ws [] s (command levels)
 course_of levels (Chooses more otherwise) s = chooses levels more otherwise s
@@ -215,6 +219,7 @@ operands_at (Part word) frames = operands_of word (beneath frames)
 operands_at (Joins value word) frames = value ∷ operands_of word (beneath frames)
 operands_at (Gathers braced counted before rest) frames = before ++ beneath frames
 operands_at (Evaluates f outer) frames = waiting outer (beneath frames)
+operands_at (Expresses text outer) frames = waiting outer (beneath frames)
 operands_at (Values value outer) frames = value ∷ waiting outer (beneath frames)
 operands_at (Starts ws) frames = beneath frames
 operands_at (Chooses more otherwise) frames = beneath frames
@@ -238,6 +243,7 @@ marks_at (Joins value word) frames = marks_beneath (Bracket word ∷ frames)
 marks_at (Gathers braced counted before rest) frames =
     marked counted (length (beneath frames)) (marks_beneath frames)
 marks_at (Evaluates f outer) frames = marks_beneath frames
+marks_at (Expresses text outer) frames = marks_beneath frames
 marks_at (Values value outer) frames = marks_beneath frames
 marks_at (Starts ws) frames = marks_beneath frames
 marks_at (Chooses more otherwise) frames = marks_beneath frames

@@ -25,9 +25,9 @@ use Rattle.tclparse.specs.declared.operator.Unary.{Unary}
 abbrev pub places_left : {A : Type 0} → Run A → ℕ
 places_left run = length run.code.value.items - run.spot.place
 
--- with so many ticks left no more commands than this begin before the code is over: without a tick
--- a command stands further on than the one before, and with each tick the run may go back to any
--- place (this project's own rule)
+-- with so many ticks left no more commands, and no more texts, than this begin before the code is
+-- over: without a tick one stands further on than the one before, and with each tick the run may go
+-- back to any place (this project's own rule)
 abbrev pub most_commands : {A : Type 0} → Run A → ℕ → ℕ
 most_commands run left = left * (length run.code.value.items + 1) + places_left run
 
@@ -87,6 +87,8 @@ abbrev pub IsIdle : {A : Type 0} → ℕ → List (Instruction A) → Progress �
 IsIdle said code went.GoesOn spot = Unit {0}
 IsIdle said code went.Begins spot = ⊥
 IsIdle said code went.Says spot = (0 < said) × (slice_get code spot.place ≡ None)
+IsIdle said code went.Runs spot = ⊥
+IsIdle said code went.Evaluates spot = ⊥
 IsIdle said code went.Over spot = again_of (outcome_of spot.outcome) ≡ 0
 IsIdle said code went.Stuck spot = Unit {0}
 
@@ -112,8 +114,8 @@ module _ {A X : Type 0} (last : Status → Outcome → Dialogue X) where
       (s : Status) (outcome : Outcome) →
       Resumes run.code.value.items last (resumed (spot_of run.spot) outcome s) (next s outcome)
 
-  -- for some state of the definition that the code's state fits, the dialogue continues as the
-  -- command that begins by the words on top, without which the run awaits its outcome, or as what
+  -- for some state of the definition that the code's state fits, the dialogue continues as what
+  -- begins by the words on top, without which the run awaits its outcome, or as what
   -- is done last
   pub record HasCome (progress : Progress) (run : Run A) (state : State A) (p : Dialogue X) :
       Type 0 where
@@ -122,8 +124,8 @@ module _ {A X : Type 0} (last : Status → Outcome → Dialogue X) where
     pub stops : progress ≢ went.GoesOn
     pub follows : Follows run.code.value.items last (did_of progress run.spot status) p
 
-  -- for some state of the definition that the code's state fits, the dialogue continues as the
-  -- command that begins, whose outcome the run awaits, or as what is done last
+  -- for some state of the definition that the code's state fits, the dialogue continues as what
+  -- begins, whose outcome the run awaits, or as what is done last
   pub record HasStopped (progress : Progress) (run : Run A) (state : State A) (p : Dialogue X) :
       Type 0 where
     pub status : Status

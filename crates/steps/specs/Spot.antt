@@ -27,12 +27,16 @@ pub record Spot : Type 0 where
 
 -- an instruction leads on; it leads on by what a text is read as; a command begins by its words,
 -- whose value is to be put on top; or its branches are given by its name and the words of an
--- argument in braces; the code is over; or an operand is missing (this project's own rule)
+-- argument in braces; or the script of a text runs, within which so many levels may nest, or a text
+-- is evaluated as a formula, and that value is to be put on top; the code is over; or an operand is
+-- missing (this project's own rule)
 pub data Did : Type 0 where
   Went : (spot : Spot) (s : Status) → Did
   Reads : (text : Text) → (Tree text → Did) → Did
   Begins : (words : List (List ℕ)) (spot : Spot) (s : Status) → Did
   Says : (words : List (List ℕ)) (spot : Spot) (s : Status) → Did
+  Runs : (text : List ℕ) (levels : ℕ) (spot : Spot) (s : Status) → Did
+  Evaluates : (text : List ℕ) (spot : Spot) (s : Status) → Did
   Over : (outcome : Outcome) (s : Status) → Did
   Stuck : Did
 

@@ -1,6 +1,6 @@
 //! The run of a code as one value: the code, which is shared, and where the run stands in it.
 
-ghost use Rattle.std.specs.Prelude.{◌≡◌, ◌≢◌, ◌+◌, ◌*◌, ◌<◌, ◌≤◌, ℕ, IfOk};
+ghost use Rattle.std.specs.Prelude.{◌≡◌, ◌+◌, ◌*◌, ◌<◌, ◌≤◌, ℕ, IfOk};
 ghost use Rattle.plan.specs.Plan.{and_then, onward};
 ghost use Rattle.runs.specs.Ending.{Over};
 ghost use Rattle.state.specs.Budget.{again_of};
@@ -50,13 +50,13 @@ impl<A: Allocator + Copy> Run<A> {
     }
 
     /// Hands in the outcome that the run waits for, and runs the code up to the next command that
-    /// is not over at once, or to branches that are given, whose words lie in the spot and whose
-    /// outcome the run waits for then, or to the end, whose outcome lies there. It never answers
-    /// `GoesOn`.
+    /// is not over at once, or to branches that are given, or to a text that runs or is evaluated,
+    /// whose words lie in the spot and whose outcome the run waits for then, or to the end, whose
+    /// outcome lies there. It never answers `GoesOn`.
     ///
     /// What begins without a tick before it stands further on in the code than what began before,
     /// so that a run ends after so many outcomes. A run of which nothing is done yet takes a tick
-    /// before its first command, and gives branches last.
+    /// before its first command and before a text, and gives branches last.
     ///
     /// # Errors
     /// `NoMemory` where memory is refused.
@@ -73,7 +73,7 @@ impl<A: Allocator + Copy> Run<A> {
         ensures left { IfOk result (λ _. state.new.left ≤ state.old.left) }
         ensures onward { IfOk result (λ progress. IsCall progress →
             state.new.left ≡ state.old.left → places_left self.new < places_left self.old) }
-        ensures falls { IfOk result (λ progress. progress ≡ went.Begins →
+        ensures falls { IfOk result (λ progress. IsCall progress →
             most_commands self.new state.new.left < most_commands self.old state.old.left) }
         ensures first { (said : ℕ) → IsFresh said self.old → IsValue outcome →
             IfOk result (λ progress. state.new.left ≡ state.old.left →
@@ -101,26 +101,25 @@ impl<A: Allocator + Copy> Run<A> {
         }
     }
 
-    /// Takes the words off the operands by which branches are given, where the run has come there.
+    /// Takes the words off the operands by which something begins, where the run has come there.
     fn stop(&mut self, progress: Progress) -> Result<Progress, NoMemory>
         ensures same { IfOk result (λ stopped. stopped ≡ progress) }
         ensures stops { (last : Status → Ending → Dialogue Over) (state : State A)
-            (p : Dialogue Over) → progress ≢ went.Begins →
-            HasCome last progress self.old state p →
+            (p : Dialogue Over) → HasCome last progress self.old state p →
             IfOk result (λ _. HasStopped last progress self.new state p) }
         ensures code { self.new.code.value.items ≡ self.old.code.value.items }
         ensures place { self.new.spot.place ≡ self.old.spot.place }
         ensures outcome { progress ≡ went.Over → self.new ≡ self.old }
     {
-        if progress != Progress::Says {
+        if !progress.is_call() {
             return Ok(progress);
         }
         self.spot.take_words()?;
         Ok(progress)
     }
 
-    /// Hands in the outcome that the run waits for, and runs the code up to the next command, or to
-    /// branches that are given, whose words are operands still, or to the end.
+    /// Hands in the outcome that the run waits for, and runs the code up to the next command, to
+    /// branches that are given, or to a text, whose words are operands still, or to the end.
     fn reach_command(
         &mut self,
         alloc: A,
@@ -134,7 +133,7 @@ impl<A: Allocator + Copy> Run<A> {
         ensures left { IfOk result (λ _. state.new.left ≤ state.old.left) }
         ensures onward { IfOk result (λ progress. IsCall progress →
             state.new.left ≡ state.old.left → places_left self.new < places_left self.old) }
-        ensures falls { IfOk result (λ progress. progress ≡ went.Begins →
+        ensures falls { IfOk result (λ progress. IsCall progress →
             most_commands self.new state.new.left < most_commands self.old state.old.left) }
         ensures first { (said : ℕ) → IsFresh said self.old → IsValue outcome →
             IfOk result (λ progress. state.new.left ≡ state.old.left →

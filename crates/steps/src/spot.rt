@@ -1,10 +1,10 @@
 //! Where the run of a code stands, and how instructions change it.
 
-ghost use Rattle.std.specs.Prelude.{◌≡◌, ◌≤◌, [], Some, IfOk, OnOk};
+ghost use Rattle.std.specs.Prelude.{◌≡◌, ◌≤◌, ◌-◌, [], Some, IfOk, OnOk};
 ghost use Rattle.state.specs.Prelude.{Gives, Status, outcome_of};
 ghost use Rattle.steps.specs.Machine.{beginning, beginning_counted, counting, discarding, joining, leaving, saying_counted, ticking};
 ghost use Rattle.steps.specs.Moves.{on_top};
-ghost use Rattle.steps.specs.Spot.{Begins, Over as is_over, Went as goes, beginning_at, with_top};
+ghost use Rattle.steps.specs.Spot.{Begins, Evaluates, Over as is_over, Runs, Went as goes, beginning_at, with_top};
 ghost use Rattle.steps.specs.View.{IsOpen, below_words, did_of, spot_of, with_parts, words_of};
 ghost use Rattle.steps.specs.declared.progress.Progress.TheVariants as went;
 
@@ -252,6 +252,28 @@ impl<A: Allocator + Copy> Spot<A> {
         self.below = self.operands.len();
         self.operands.append(&mut words)?;
         Ok(Progress::Begins)
+    }
+
+    /// Runs the script of a text, which is the only word.
+    pub(crate) fn run_text(&mut self, text: &Value<A>) -> Result<Progress, NoMemory>
+        ensures does { (s : Status) → IfOk result (λ progress. did_of progress self.new s
+            ≡ Runs text.now (self.old.levels - 1) (spot_of self.old) s) }
+        ensures place { self.new.place ≡ self.old.place }
+    {
+        self.below = self.operands.len();
+        put_on(&mut self.operands, text.share()?)?;
+        Ok(Progress::Runs)
+    }
+
+    /// Evaluates a text as a formula, which is the only word.
+    pub(crate) fn evaluate_text(&mut self, text: &Value<A>) -> Result<Progress, NoMemory>
+        ensures does { (s : Status) → IfOk result (λ progress.
+            did_of progress self.new s ≡ Evaluates text.now (spot_of self.old) s) }
+        ensures place { self.new.place ≡ self.old.place }
+    {
+        self.below = self.operands.len();
+        put_on(&mut self.operands, text.share()?)?;
+        Ok(Progress::Evaluates)
     }
 
     /// The words by which something begins.

@@ -7,7 +7,7 @@ ghost use Rattle.state.specs.Piece.{ListText};
 ghost use Rattle.state.specs.Prelude.{Status};
 ghost use Rattle.steps.specs.Does.{Does};
 ghost use Rattle.steps.specs.Handling.{fails};
-ghost use Rattle.steps.specs.Machine.{does as said, entering, indexing, machine, reading, spread as spread_of, spreading, unhidden};
+ghost use Rattle.steps.specs.Machine.{does as said, entering, indexing, machine, reading, running, spread as spread_of, spreading, unhidden};
 ghost use Rattle.steps.specs.Spot.{Reads as reads_text};
 ghost use Rattle.steps.specs.View.{IsOpen, did_of, spot_of, with_parts};
 ghost use Rattle.tclparse.specs.Seen.{fault_of};
@@ -111,6 +111,22 @@ fn enter<A: Allocator + Copy>(alloc: A, spot: &mut Spot<A>) -> Result<Progress, 
     Ok(spot.put(Value::empty())?)
 }
 
+/// The script of a text runs, where a level is left.
+fn run_text<A: Allocator + Copy>(
+    alloc: A,
+    spot: &mut Spot<A>,
+    text: &Value<A>,
+) -> Result<Progress, NoMemory>
+    ensures does { (s : Status) → IfOk result (λ progress. did_of progress spot.new s
+        ≡ running spot.old.levels text.now (spot_of spot.old) s) }
+    ensures place { spot.old.place ≤ spot.new.place }
+{
+    if spot.levels == 0 {
+        return Ok(refuse_level(alloc, spot)?);
+    }
+    Ok(spot.run_text(text)?)
+}
+
 /// Puts the elements of a list on top.
 fn spread_text<A: Allocator + Copy>(
     alloc: A,
@@ -200,6 +216,7 @@ fn perform<A: Allocator + Copy>(
         Instruction::Enter => Ok(enter(alloc, spot)?),
         Instruction::Body(_) => Ok(enter(alloc, spot)?),
         Instruction::Leave => Ok(spot.leave()),
+        Instruction::Run(text, _) => Ok(run_text(alloc, spot, text)?),
         Instruction::Count(n) => Ok(spot.count(*n)?),
         Instruction::Spread => Ok(spread(alloc, spot)?),
         Instruction::Command(n) => Ok(start(alloc, spot, procs, *n)?),
@@ -213,6 +230,7 @@ fn perform<A: Allocator + Copy>(
         Instruction::AndAlso(place) => Ok(choose(alloc, spot, *place, false)?),
         Instruction::OrElse(place) => Ok(choose(alloc, spot, *place, true)?),
         Instruction::Truth => Ok(tell(alloc, spot)?),
+        Instruction::Evaluate(text) => Ok(spot.evaluate_text(text)?),
         Instruction::Result => Ok(give_result(alloc, spot)?),
         Instruction::Unless(place) => Ok(jump_unless(alloc, spot, *place)?),
         Instruction::Jump(place) => Ok(jump(spot, *place)),

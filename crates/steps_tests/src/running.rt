@@ -1,4 +1,5 @@
-//! The commands that a code begins, with their words, and how it ends.
+//! The commands that a code begins, with their words, the texts that it has run or evaluated, and
+//! how it ends.
 
 use crate::coded::{code_of_formula, script_code};
 use crate::stand_ins::outcome_of;
@@ -92,8 +93,9 @@ fn set<A: Allocator + Copy>(
     }
 }
 
-/// Writes the words of each command that a code begins, and how the code ends, where these
-/// procedures are defined and so many ticks and levels are left.
+/// Writes the words of each command that a code begins, and each text that it has run or evaluated,
+/// which a command of this name stands in for, and how the code ends, where these procedures are
+/// defined and so many ticks and levels are left.
 fn tell_run<A: Allocator + Copy>(
     answer: &mut Vec<u8, A>,
     procs: &Procs<A>,
@@ -107,8 +109,9 @@ fn tell_run<A: Allocator + Copy>(
     let mut counts = 0;
     for _ in 0..MOST_COMMANDS {
         let progress = advance(alloc, code, &mut spot, &mut scopes, procs, &mut ticks)?;
-        if progress != Progress::Begins && progress != Progress::Says {
-            return tell_end(answer, progress, &spot.outcome);
+        match progress {
+            Progress::Begins | Progress::Says | Progress::Runs | Progress::Evaluates => {}
+            _ => return tell_end(answer, progress, &spot.outcome),
         }
         spot.take_words()?;
         tell_words(answer, &spot.words)?;

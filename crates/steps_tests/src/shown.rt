@@ -36,6 +36,7 @@ fn name_of<A: Allocator>(it: &Instruction<A>) -> &'static [u8] {
         Instruction::Enter => b"enter",
         Instruction::Body(_) => b"body",
         Instruction::Leave => b"leave",
+        Instruction::Run(_, _) => b"run",
         Instruction::Count(_) => b"count",
         Instruction::Spread => b"spread",
         Instruction::Command(_) => b"command",
@@ -49,6 +50,7 @@ fn name_of<A: Allocator>(it: &Instruction<A>) -> &'static [u8] {
         Instruction::AndAlso(_) => b"and also",
         Instruction::OrElse(_) => b"or else",
         Instruction::Truth => b"truth",
+        Instruction::Evaluate(_) => b"evaluate",
         Instruction::Result => b"result",
         _ => name_of_own(it),
     }
@@ -88,6 +90,7 @@ fn name_of_own<A: Allocator>(it: &Instruction<A>) -> &'static [u8] {
 fn numbers_of<A: Allocator>(it: &Instruction<A>) -> [Option<usize>; 2] {
     match it {
         Instruction::Body(n)
+        | Instruction::Run(_, n)
         | Instruction::Count(n)
         | Instruction::Command(n)
         | Instruction::Call(_, n)
@@ -115,6 +118,8 @@ fn text_of<A: Allocator>(it: &Instruction<A>) -> Option<&[u8]> {
         | Instruction::Variable(text)
         | Instruction::Element(text)
         | Instruction::Numeral(text)
+        | Instruction::Run(text, _)
+        | Instruction::Evaluate(text)
         | Instruction::Unhidden(text, _)
         | Instruction::Foreach(text, _, _)
         | Instruction::Assign(text)

@@ -1,5 +1,5 @@
 -- A command that has code of its own.
-use Rattle.std.proofs.Common.{◌≡◌, ◌∙◌, ℕ, ◌+◌, ◌≤◌, List, [], ◌∷◌, Bool, false, Option, Some, None, Ok, option_map, codes, true, refl, ap, subst, sym, arith, if◌then◌else◌}
+use Rattle.std.proofs.Common.{◌≡◌, ◌∙◌, ℕ, ◌+◌, ◌≤◌, List, [], ◌∷◌, Bool, false, Option, Some, None, option_map, codes, true, refl, ap, subst, sym, arith, if◌then◌else◌}
 use Rattle.std.proofs.lemmas.Slice.Eq.{bytes_eq-Decides}
 use Rattle.std.specs.Prelude.{slice_get}
 use Rattle.std.specs.Str.{bytes_eq}
@@ -18,17 +18,17 @@ use Rattle.expects.specs.Words.{Form, Stands, Waits, named}
 use Rattle.plan.specs.Plan.{and_then, onward}
 use Rattle.pure.specs.Concat.{concatenated}
 use Rattle.runs.specs.Commands.{called, command}
-use Rattle.state.specs.Piece.{ArgumentText, FormulaText, ScriptText}
+use Rattle.state.specs.Piece.{ArgumentText, ScriptText}
 use Rattle.state.specs.Prelude.{Dialogue, Outcome, Status}
 use Rattle.steps.specs.Follows.{Comes, Follows}
 use Rattle.steps.specs.Goes.{here, reads}
 use Rattle.steps.specs.Layout.{ChoosesAt, FramesAt}
 use Rattle.steps.specs.Machine.{machine, unhidden}
 use Rattle.steps.specs.Operand.{Condition, Resulting}
-use Rattle.steps.specs.Places.{Has, Gathers, Evaluates, Starts, Chooses, Frame, Skip, brackets, left_of, onward_of, spot_at}
+use Rattle.steps.specs.Places.{Has, Gathers, Expresses, Starts, Chooses, Frame, Skip, brackets, left_of, onward_of, spot_at}
 use Rattle.steps.proofs.Leads.Bodies.{body_begins, body_read, enters_leads}
 use Rattle.steps.proofs.Leads.Catches.{catch_begins}
-use Rattle.steps.proofs.Leads.Formulas.{formula_leads}
+use Rattle.steps.proofs.Leads.Formulas.{expression_leads}
 use Rattle.steps.proofs.Leads.Grows.{behind_grows, own_grows, words_grow}
 use Rattle.state.proofs.Words.{literal, literal_words, text_words}
 use Rattle.steps.proofs.Leads.Loops.{for_begins, while_begins}
@@ -88,16 +88,14 @@ module _ {A X : Type 0} (code : List (Instruction A)) (last : Status → Outcome
     branches_found : (place : ℕ) (args : List (List ℕ)) (end : ℕ) →
         BranchesAt code place args end → Found place args end
     branches_found place args end (branch {unless = mid} {jump = jump} {test = test} {body = body}
-        {behind = more} {f = f} words is formula unless body_at jump_at behind_at) =
+        {behind = more} words test_at unless body_at jump_at behind_at) =
         let rest = behind_found (jump + 1) more end behind_at in record {
           it = with_branch test body rest.it;
           is = branch_is test body more args words
               ∙ ap (option_map (with_branch test body)) rest.is;
           at = (
-            f,
             mid,
-            is,
-            formula,
+            test_at,
             (jump, unless, body_at, jump_at, behind_grows code behind_at, rest.at),
           );
         }
@@ -118,9 +116,8 @@ module _ {A X : Type 0} (code : List (Instruction A)) (last : Status → Outcome
       silently code last _ (reads {text = ScriptText body} read.tree read.is here)
       (enters_leads code last levels read.tree fs s place end read.at behind fits)
   chooses_lead levels end fs s place (first ∷ more) otherwise at behind fits =
-      silently code last _ (reads {text = FormulaText first.test} (Ok at.0) at.2 here)
-      (formula_leads code last levels end fs s (Condition first.body more otherwise ∷ []) place at.0
-      at.1 at.3 at.4 behind fits)
+      expression_leads code last levels end fs s (Condition first.body more otherwise ∷ []) place
+      first.test at.0 at.1 at.2 behind fits
 
   -- a command that takes branches, with an argument in braces
   record Takes (levels : ℕ) (name text : List ℕ) (s : Status) : Type 0 where
@@ -198,15 +195,14 @@ module _ {A X : Type 0} (code : List (Instruction A)) (last : Status → Outcome
       (literal_words levels (codes "eval" ∷ args) [] s (command levels)
       ∙ ap (λ procedure. called procedure levels (codes "eval") args s) none)))
       (body_begins code last place levels (concatenated (text ∷ [])) fs end s at behind fits)
-  own_begins levels fs s name place args end none (valued {mid = mid} {text = text} {f = f} is at
-      gives) behind fits =
+  own_begins levels fs s name place args end none (valued {mid = mid} {text = text} at gives)
+      behind fits =
       sooner code last _ s
       (same_goes (ap (λ c. and_then c (onward (onward_of last levels fs)))
       (literal_words levels (codes "expr" ∷ args) [] s (command levels)
       ∙ ap (λ procedure. called procedure levels (codes "expr") args s) none)))
-      (sooner code last _ s (reads {text = FormulaText (concatenated (text ∷ []))} (Ok f) is here)
-      (stands code last place levels (Evaluates f (Resulting ∷ [])) fs end s (mid, at, (gives, refl))
-      behind fits))
+      (stands code last place levels (Expresses (concatenated (text ∷ [])) (Resulting ∷ [])) fs end s
+      (mid, at, (gives, refl)) behind fits)
   own_begins levels fs s name place args end none (caught {mid = mid} {text = text}
       {variable = variable} {more = more} words begins body_at ended takes) behind fits =
       sooner code last _ s

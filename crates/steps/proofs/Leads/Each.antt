@@ -13,16 +13,16 @@ use Rattle.tclparse.specs.Formula.{Formula}
 use Rattle.steps.specs.Follows.{Here, Follows, InstructionsLead, CodeLeads, FormulasBegin, ScriptsBegin}
 use Rattle.steps.specs.Does.{Does, same, reads, Arrives, stays, then}
 use Rattle.steps.specs.Goes.{here}
-use Rattle.steps.specs.Layout.{FramesAt, HeadAt}
+use Rattle.steps.specs.Layout.{FramesAt, HeadAt, formula_code}
 use Rattle.steps.specs.Machine.{machine}
-use Rattle.steps.specs.Places.{Head, Has, Part, Joins, Gathers, Evaluates, Values, Starts, Chooses, Enters, Repeats, Finishes, Deals, Takes, Sets, Drops, Compares, Runs, Frame, Rest, brackets, left_of, spot_at, Tries, Stores}
+use Rattle.steps.specs.Places.{Head, Has, Part, Joins, Gathers, Evaluates, Expresses, Values, Starts, Chooses, Enters, Repeats, Finishes, Deals, Takes, Sets, Drops, Compares, Runs, Frame, Rest, brackets, left_of, spot_at, Tries, Stores}
 use Rattle.steps.specs.Spot.{Spot, Did, beginning_at}
 use Rattle.steps.proofs.Leads.Bodies.{enters_leads}
 use Rattle.steps.proofs.Leads.Catches.{kept_leads, tries_lead}
 use Rattle.steps.proofs.Leads.Conditionals.{chooses_lead, starts_leads}
 use Rattle.steps.proofs.Leads.Opened.{joins_lead, open_leads}
 use Rattle.steps.proofs.Leads.Foreach.{deals_lead, drops_lead, sets_lead, takes_lead}
-use Rattle.steps.proofs.Leads.Formulas.{formula_leads}
+use Rattle.steps.proofs.Leads.Formulas.{evaluates_lead, expression_leads}
 use Rattle.steps.proofs.Leads.Loops.{finishes_lead, repeats_lead}
 use Rattle.steps.proofs.Leads.Operators.{operand_leads}
 use Rattle.steps.proofs.Leads.Scripts.{has_leads}
@@ -48,7 +48,9 @@ module _ {A X : Type 0} (code : List (Instruction A)) (last : Status → Outcome
       words_lead code last levels before frames s braced counted at.0 place rest end at.1 at.2
       behind fits
   head_leads place levels (Evaluates f outer) frames end s at behind fits =
-      formula_leads code last levels end frames s outer place f at.0 at.1 at.2 behind fits
+      evaluates_lead code last levels end frames s outer place f at.0 at.1 at.2 behind fits
+  head_leads place levels (Expresses text outer) frames end s at behind fits =
+      expression_leads code last levels end frames s outer place text at.0 at.1 at.2 behind fits
   head_leads place levels (Values v outer) frames end s at behind fits =
       operand_leads code last levels end frames s place v outer at behind fits
   head_leads place levels (Starts ws) frames end s at behind fits =
@@ -118,7 +120,8 @@ module _ {A X : Type 0} (code : List (Instruction A)) (last : Status → Outcome
       Here code last (record { place = 0; operands = []; marks = []; levels = levels; handlers = [] }) s
       (and_then (evaluated levels f s (λ t value. gives value t)) (onward last))
   formula_begins f levels s at fits =
-      stands_here code last 0 levels (Evaluates f []) [] (length code) s (length code, at, refl)
+      stands_here code last 0 levels (Evaluates f []) [] (length code) s
+      (length code, formula_code at, refl)
       (slice_get_past code (length code) (omega arith)) (omega (arith, fits))
 
 pub instructions_lead : {A X : Type 0} → InstructionsLead A X

@@ -3,11 +3,12 @@ use Rattle.std.proofs.Common.{ℕ, ◌+◌, ◌≤◌, List, [], ◌∷◌, Opti
 use Rattle.code.specs.Code.{ScriptAt}
 use Rattle.code.specs.declared.instruction.Instruction.{Instruction}
 use Rattle.state.specs.Prelude.{LoopTree, ScriptTree}
-use Rattle.steps.specs.Layout.{AroundAt, EntersAt, JoinedAt, LoopAt, OperandAt, OuterAt, PartAt, StepsAt, WordAt}
+use Rattle.steps.specs.Layout.{AroundAt, EntersAt, EvaluatesAt, body_code, body_text, formula_code, formula_text, JoinedAt, LoopAt, OperandAt, OuterAt, PartAt, StepsAt, WordAt}
 use Rattle.steps.specs.Operand.{Outer, Prefixed, Row, Right, Holds, Argument, Test, Chosen, Condition, Turning, Resulting}
 use Rattle.steps.specs.Word.{Around, Open, Word, Plain, Expands, Operand, Listed, Switched, Last}
 use Rattle.steps.proofs.Leads.Grows.{arguments_grow, body_grows, commands_grow, fault_grows, foreach_grows, formula_grows, joins_grow, links_grow, parts_grow, switch_grows, words_grow}
 use Rattle.tclparse.specs.Fault.{Fault}
+use Rattle.tclparse.specs.Formula.{Formula}
 use Rattle.tclparse.specs.Tree.{Commands}
 
 module _ {A : Type 0} (code : List (Instruction A)) where
@@ -19,9 +20,15 @@ module _ {A : Type 0} (code : List (Instruction A)) where
 
   -- a body
   pub enters_grow : (place : ℕ) (tree : ScriptTree) (end : ℕ) → EntersAt code place tree end →
-      place + 2 ≤ end
-  enters_grow place tree end at =
+      place + 1 ≤ end
+  enters_grow place tree end (body_code at) =
       omega (arith, script_grows (place + 1) tree.commands tree.fault at.stop at.script, at.ends)
+  enters_grow place tree end (body_text at is) = omega arith
+
+  -- a formula, or its text
+  evaluates_grow : (place : ℕ) (f : Formula) (end : ℕ) → EvaluatesAt code place f end → place ≤ end
+  evaluates_grow place f end (formula_code at) = formula_grows code at
+  evaluates_grow place f end (formula_text at is) = omega arith
 
   -- what is evaluated after an operand
   pub operand_grows : (place : ℕ) (outer : List Outer) (end : ℕ) → OperandAt code place outer end →
@@ -103,6 +110,7 @@ module _ {A : Type 0} (code : List (Instruction A)) where
         arith,
         part.1,
         steps_grow at.ends loop.step at.test at.steps,
-        formula_grows code at.formula,
+        evaluates_grow at.test loop.test turn at.formula,
       )
-  part_grows place loop turn at None part = omega (arith, part.1, formula_grows code at.formula)
+  part_grows place loop turn at None part =
+      omega (arith, part.1, evaluates_grow at.test loop.test turn at.formula)

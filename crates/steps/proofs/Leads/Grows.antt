@@ -1,6 +1,6 @@
 -- Code ends at its beginning, or after it.
 use Rattle.std.proofs.Common.{ℕ, ◌≤◌, List, Bool, Option, arith}
-use Rattle.code.specs.Code.{JoinsAt, first, joined, PartsAt, over, empty, text, value, item, bracket, WordsAt, begins, begins_counted, says, one, counts, spread, CommandAt, by_words, own, foreach_loop, direct, CommandsAt, done, next, FaultAt, none, fault, OwnAt, conditional, while_loop, for_loop, evaluated, valued, argued, TurnsAt, turns, StepAt, no_step, steps, AssignsAt, all_set, sets, NextAt, next_turn, ForeachAt, with_names, DealAt, deals, switched, SwitchAt, with_arms, RestAt, no_match, some_arms, ArmsAt, otherwise, shares, takes, BranchesAt, branch, BehindAt, no_else, at_last, else_if, BodyAt, deeper, FormulaAt, number, parts, called, prefixed, in_row, chosen, LinksAt, no_more, both, and_also, or_else, ArgumentsAt, no_argument, argument, caught, TakenAt, dropped, taken}
+use Rattle.code.specs.Code.{JoinsAt, first, joined, PartsAt, over, empty, text, value, item, bracket, WordsAt, begins, begins_counted, says, one, counts, spread, CommandAt, by_words, own, foreach_loop, direct, CommandsAt, done, next, FaultAt, none, fault, OwnAt, conditional, while_loop, for_loop, evaluated, valued, argued, TurnsAt, turns, StepAt, no_step, steps, AssignsAt, all_set, sets, NextAt, next_turn, ForeachAt, with_names, DealAt, deals, switched, SwitchAt, with_arms, RestAt, no_match, some_arms, ArmsAt, otherwise, shares, takes, BranchesAt, branch, BehindAt, no_else, at_last, else_if, BodyAt, deeper, by_text, ExpressionAt, by_formula, from_text, FormulaAt, number, parts, called, prefixed, in_row, chosen, LinksAt, no_more, both, and_also, or_else, ArgumentsAt, no_argument, argument, caught, TakenAt, dropped, taken}
 use Rattle.code.specs.declared.instruction.Instruction.{Instruction}
 use Rattle.code.specs.declared.options.Options.{Options}
 use Rattle.tclparse.specs.Fault.{Fault}
@@ -69,7 +69,7 @@ module _ {A : Type 0} (code : List (Instruction A)) where
     own_grows (while_loop it) = turns_grow it
     own_grows (for_loop start drops it) = omega (arith, body_grows start, turns_grow it)
     own_grows (evaluated body) = body_grows body
-    own_grows (valued is it gives) = omega (arith, formula_grows it)
+    own_grows (valued it gives) = omega (arith, expression_grows it)
     own_grows (argued branching braced is name ws) = omega (arith, words_grow ws)
     own_grows (caught words starts body ends stands) =
         omega (arith, body_grows body, taken_grows stands)
@@ -77,7 +77,7 @@ module _ {A : Type 0} (code : List (Instruction A)) where
     pub turns_grow : {place : ℕ} {test : List ℕ} {step : Option (List ℕ)} {body : List ℕ} {end : ℕ} →
         TurnsAt code place test step body end → place ≤ end
     turns_grow (turns is jump body after test turn last) =
-        omega (arith, body_grows body, step_grows after, formula_grows test)
+        omega (arith, body_grows body, step_grows after, expression_grows test)
 
     step_grows : {place : ℕ} {step : Option (List ℕ)} {end : ℕ} → StepAt code place step end →
         place ≤ end
@@ -110,8 +110,8 @@ module _ {A : Type 0} (code : List (Instruction A)) where
 
     branches_grow : {place : ℕ} {args : List (List ℕ)} {end : ℕ} → BranchesAt code place args end →
         place ≤ end
-    branches_grow (branch words is test unless body jump behind) =
-        omega (arith, formula_grows test, body_grows body, behind_grows behind)
+    branches_grow (branch words test unless body jump behind) =
+        omega (arith, expression_grows test, body_grows body, behind_grows behind)
 
     pub behind_grows : {place : ℕ} {args : List (List ℕ)} {end : ℕ} → BehindAt code place args end →
         place ≤ end
@@ -123,6 +123,12 @@ module _ {A : Type 0} (code : List (Instruction A)) where
         place ≤ end
     body_grows (deeper is enter commands ends leave) =
         omega (arith, commands_grow commands, fault_grows ends)
+    body_grows (by_text at) = omega arith
+
+    pub expression_grows : {place : ℕ} {text : List ℕ} {end : ℕ} → ExpressionAt code place text end →
+        place ≤ end
+    expression_grows (by_formula is f) = formula_grows f
+    expression_grows (from_text at) = omega arith
 
     pub formula_grows : {place : ℕ} {f : Formula} {end : ℕ} → FormulaAt code place f end →
         place ≤ end

@@ -1,7 +1,7 @@
 -- A loop: a turn begins, a part of it is over, the loop goes on with its test, and it is over.
 use Rattle.std.proofs.Common.{◌≡◌, ℕ, ◌+◌, ◌≤◌, List, [], ◌∷◌, Option, None, Some, Ok, refl, sym, subst, arith}
 use Rattle.std.specs.Prelude.{slice_get}
-use Rattle.code.specs.Code.{At, BodyAt, FormulaAt, TurnsAt, no_step, steps, turns}
+use Rattle.code.specs.Code.{At, BodyAt, ExpressionAt, HasFormula, TurnsAt, by_formula, from_text, no_step, steps, turns}
 use Rattle.code.specs.declared.instruction.Instruction.{Instruction}
 use Rattle.code.specs.declared.instruction.Instruction.TheVariants as i
 use Rattle.conditions.specs.ForLoop as fors
@@ -11,20 +11,35 @@ use Rattle.conditions.specs.Loop.{again, behind_body, on_step}
 use Rattle.conditions.specs.WhileLoop as whiles
 use Rattle.plan.specs.Plan.{and_then, onward}
 use Rattle.state.specs.Piece.{FormulaText, ScriptText}
-use Rattle.state.specs.Prelude.{Dialogue, inside, LoopTree, on_value, Outcome, ScriptTree, Status}
+use Rattle.state.specs.Prelude.{Dialogue, inside, IsTree, LoopTree, on_value, Outcome, ScriptTree, Status}
 use Rattle.steps.specs.Follows.{Comes, Follows, Here}
 use Rattle.steps.specs.Goes.{here, calls, reads}
-use Rattle.steps.specs.Layout.{EntersAt, FramesAt, LeadsTo, LoopAt, PartAt, RepeatsAt, StepsAt, jumps, there}
+use Rattle.steps.specs.Layout.{EntersAt, EvaluatesAt, formula_code, formula_text, FramesAt, LeadsTo, LoopAt, PartAt, RepeatsAt, StepsAt, jumps, there}
 use Rattle.steps.specs.Loops.{begin_turn}
 use Rattle.steps.specs.Machine.{machine}
 use Rattle.steps.specs.Operand.{Turning}
 use Rattle.steps.specs.Places.{Has, Enters, Repeats, Finishes, Frame, For, Turns, brackets, left_of, onward_of, spot_at}
 use Rattle.steps.proofs.Leads.Bodies.{body_read, inside_passes}
-use Rattle.steps.proofs.Leads.Formulas.{formula_leads}
+use Rattle.steps.proofs.Leads.Formulas.{evaluates_lead}
 use Rattle.steps.proofs.Leads.Grows.{body_grows}
 use Rattle.steps.proofs.Leads.Meanings.{below_at, jump_leads}
 use Rattle.steps.proofs.Leads.Silent.{same_goes}
 use Rattle.steps.proofs.Leads.Standing.{by, silently, sooner, stands, stands_here}
+use Rattle.tclparse.specs.Formula.{Formula}
+
+-- what a test is read as, and where that stands
+record Tested {A : Type 0} (code : List (Instruction A)) (place : ℕ) (test : List ℕ) (end : ℕ) :
+    Type 0 where
+  formula : Formula
+  is : IsTree (FormulaText test) (Ok formula)
+  at : EvaluatesAt code place formula end
+
+test_read : {A : Type 0} (code : List (Instruction A)) {place : ℕ} {test : List ℕ} {end : ℕ} →
+    HasFormula test → ExpressionAt code place test end → Tested code place test end
+test_read code read (by_formula {f = f} is at) =
+    record { formula = f; is = is; at = formula_code at }
+test_read code read (from_text at) =
+    record { formula = read.0; is = read.1; at = formula_text at read.1 }
 
 module _ {A X : Type 0} (code : List (Instruction A)) (last : Status → Outcome → Dialogue X) where
   -- the body of a turn begins
@@ -122,7 +137,7 @@ module _ {A X : Type 0} (code : List (Instruction A)) (last : Status → Outcome
       (left_of last levels (Repeats loop) fs s)
   repeats_so levels end fs s loop place turn at there is behind fits =
       silently code last _ (calls here)
-      (formula_leads code last levels end fs s (Turning loop ∷ []) at.test loop.test turn at.formula
+      (evaluates_lead code last levels end fs s (Turning loop ∷ []) at.test loop.test turn at.formula
       (at, is) behind fits)
   repeats_so levels end fs s loop place turn at (jumps jump far) is behind fits =
       by code last (i.Jump at.test) (spot_at place levels (Repeats loop) fs) s _ jump
@@ -141,7 +156,7 @@ module _ {A X : Type 0} (code : List (Instruction A)) (last : Status → Outcome
   loop_begins : (levels : ℕ) (fs : List Frame) (s : Status) (place mid test turn : ℕ)
       (loop : LoopTree) → EntersAt code (place + 1) loop.body mid →
       StepsAt code mid loop.step test →
-      FormulaAt code test loop.test turn → At code place (i.Jump test) → place + 1 ≤ test →
+      EvaluatesAt code test loop.test turn → At code place (i.Jump test) → place + 1 ≤ test →
       At code turn (i.Turn (place + 1) mid) → At code (turn + 1) (i.Text []) →
       FramesAt code (turn + 2) fs → levels + brackets fs ≤ 255 →
       Comes code last (below_at code last place levels [] fs) s
@@ -169,13 +184,15 @@ module _ {A X : Type 0} (code : List (Instruction A)) (last : Status → Outcome
       (and_then (whiles.while_loop levels (test ∷ body ∷ []) s)
       (onward (onward_of last levels fs)))
   while_begins levels fs s place test body end (turns {mid = mid} {again = at_test} {turn = turn}
-      {f = f} is jump body_at (no_step ended) formula begins over) behind fits =
+      has jump body_at (no_step ended) test_at begins over) behind fits =
       let read = body_read code body_at in
+      let tested = test_read code has test_at in
       sooner code last _ s
-      (reads {text = FormulaText test} (Ok f) is
+      (reads {text = FormulaText test} (Ok tested.formula) tested.is
       (reads {text = ScriptText body} read.tree read.is here))
       (loop_begins levels fs s place mid at_test turn
-      (record { test = f; body = read.tree; step = None }) read.at (ended, refl) formula jump
+      (record { test = tested.formula; body = read.tree; step = None }) read.at (ended, refl) tested.at
+      jump
       (omega (arith, body_grows code body_at)) begins over behind fits)
 
   -- the turns of for begin: its test, the script after each turn and its body are read
@@ -185,17 +202,18 @@ module _ {A X : Type 0} (code : List (Instruction A)) (last : Status → Outcome
       Comes code last (below_at code last place levels [] fs) s
       (and_then (started levels test step body s v) (onward (onward_of last levels fs)))
   for_turns levels fs s v place test step body end (turns {mid = mid} {again = at_test}
-      {turn = turn} {f = f} is jump body_at (steps {mid = over_step} enters step_at ended) formula
-      begins over) behind fits =
+      {turn = turn} has jump body_at (steps {mid = over_step} enters step_at ended) test_at begins
+      over) behind fits =
       let read = body_read code body_at in
       let after = body_read code step_at in
+      let tested = test_read code has test_at in
       sooner code last _ s
-      (reads {text = FormulaText test} (Ok f) is
+      (reads {text = FormulaText test} (Ok tested.formula) tested.is
       (reads {text = ScriptText step} after.tree after.is
       (reads {text = ScriptText body} read.tree read.is here)))
       (loop_begins levels fs s place mid at_test turn
-      (record { test = f; body = read.tree; step = Some after.tree }) read.at
-      (over_step, enters, after.at, ended, refl) formula jump
+      (record { test = tested.formula; body = read.tree; step = Some after.tree }) read.at
+      (over_step, enters, after.at, ended, refl) tested.at jump
       (omega (arith, body_grows code body_at, body_grows code step_at)) begins over behind fits)
 
   -- for begins: its start is read

@@ -17,7 +17,7 @@ use Rattle.plan.specs.Plan.{and_then, onward}
 use Rattle.state.specs.Meant.{on_meaning}
 use Rattle.state.specs.Prelude.{Dialogue, inside, Outcome, Status}
 use Rattle.steps.specs.Follows.{Follows}
-use Rattle.steps.specs.Layout.{FramesAt, OperandAt}
+use Rattle.steps.specs.Layout.{FramesAt, OperandAt, formula_code}
 use Rattle.steps.specs.Machine.{machine}
 use Rattle.steps.specs.Operand.{Outer, Prefixed, Row, Right, Holds, Argument, Test, Chosen, Condition, Turning, Resulting, operand_on, waiting}
 use Rattle.steps.specs.Places.{Has, Evaluates, Values, Chooses, Frame, Skip, beneath, brackets, handlers_beneath, left_of, marks_beneath, onward_of, spot_at}
@@ -75,7 +75,7 @@ module _ {A X : Type 0} (code : List (Instruction A)) (last : Status → Outcome
         else operand_on levels (Row more ∷ outer) s (truth false))
         (elim [
           | true ↦ stands code last (place + 1) levels (Evaluates f (Holds more ∷ outer)) fs end s
-              (at_truth, f_at, (tells, (mid, rest, at))) behind fits
+              (at_truth, formula_code f_at, (tells, (mid, rest, at))) behind fits
           | false ↦ jump_leads code last (at_truth + 1) _ s _
               (omega (arith, formula_grows code f_at))
               (stands code last (at_truth + 1) levels (Values (truth false) (Row more ∷ outer)) fs
@@ -106,7 +106,7 @@ module _ {A X : Type 0} (code : List (Instruction A)) (last : Status → Outcome
               end s
               (mid, rest, at) behind fits)
           | false ↦ stands code last (place + 1) levels (Evaluates f (Holds more ∷ outer)) fs end s
-              (at_truth, f_at, (tells, (mid, rest, at))) behind fits
+              (at_truth, formula_code f_at, (tells, (mid, rest, at))) behind fits
         ]))
 
     counted : (n m : ℕ) → n + 1 + suc m ≡ n + suc (suc m)
@@ -210,11 +210,11 @@ module _ {A X : Type 0} (code : List (Instruction A)) (last : Status → Outcome
         else evaluated levels other s (operand_on levels outer))
         (elim [
           | true ↦ stands code last (place + 1) levels (Evaluates this (Chosen ∷ outer)) fs end s
-              (at.0, at.3, (at.1, at.4, formula_grows code at.5, at.6)) behind fits
+              (at.0, formula_code at.3, (at.1, at.4, formula_grows code at.5, at.6)) behind fits
           | false ↦ jump_leads code last (at.0 + 1) _ s _
               (omega (arith, formula_grows code at.3))
               (stands code last (at.0 + 1) levels (Evaluates other outer) fs end s
-              (at.1, at.5, at.6) behind fits)
+              (at.1, formula_code at.5, at.6) behind fits)
         ]))
     operand_leads place v (Chosen ∷ outer) at behind fits =
         by code last (i.Jump at.0) (spot_at place levels (Values v (Chosen ∷ outer)) fs) s _ at.1

@@ -12,7 +12,7 @@ use Rattle.steps.specs.Handling.{fails, handled, led, resumed, way_of}
 use Rattle.steps.specs.Layout.{FramesAt}
 use Rattle.steps.specs.Moves.{jumping, lowest}
 use Rattle.steps.specs.Places.{Has, Finishes, Drops, Stores, Part, Frame, Rest, Bracket, Body, Skip, Alone, For, Turns, Elements, Catches, beneath, brackets, handlers_beneath, marks_beneath, onward_of, part_of, spot_at}
-use Rattle.steps.specs.Spot.{Did, Went, Reads, Begins, Says, Over, Stuck, Handler, Spot}
+use Rattle.steps.specs.Spot.{Did, Went, Reads, Begins, Says, Runs, Evaluates, Over, Stuck, Handler, Spot}
 use Rattle.steps.specs.Word.{Open, is_counted, operands_of}
 use Rattle.steps.specs.declared.handler.Covered.{Covered}
 use Rattle.steps.specs.declared.handler.Covered.TheVariants as covers
@@ -280,12 +280,26 @@ module _ {A X : Type 0} (code : List (Instruction A)) (last : Status → Outcome
     handlers = refl;
   }
 
+  -- where the outcome of what began amid that leads
+  pub leaves_so : (c : Code) (value : List ℕ) (spot : Spot) (levels : ℕ) (fs : List Frame)
+      (s : Status) → Amid spot levels fs →
+      Resumes code last (handled spot.handlers c value spot s)
+      (onward_of last levels fs s (Leaves c value))
+  leaves_so c value spot levels fs s amid =
+      subst (λ hs. Resumes code last (handled hs c value spot s)
+      (onward_of last levels fs s (Leaves c value)))
+      (sym amid.handlers)
+      (handled_leads c value spot s levels amid.end fs amid.behind amid.fits
+      (record { before = amid.before; operands = amid.operands; marks = amid.marks }))
+
   -- what is left where an outcome leads is what was left to be done
   pub resumes_so : (did : Did) (p : Dialogue X) → Resumes code last did p → Follows code last did p
   resumes_so (Went spot s) p at = comes_here code last spot s at
   resumes_so (Reads text next) p at = absurd at
   resumes_so (Begins words spot s) p at = absurd at
   resumes_so (Says words spot s) p at = absurd at
+  resumes_so (Runs text levels spot s) p at = absurd at
+  resumes_so (Evaluates text spot s) p at = absurd at
   resumes_so (Over outcome s) p is = same_goes is
   resumes_so Stuck p at = absurd at
 
@@ -296,9 +310,4 @@ module _ {A X : Type 0} (code : List (Instruction A)) (last : Status → Outcome
       (onward_of last levels fs s (Leaves Error (text_of flaw)))
   failure_leads flaw spot levels fs s amid =
       let value = text_of flaw in
-      resumes_so (fails flaw spot s) _
-      (subst (λ hs. Resumes code last (handled hs Error value spot s)
-      (onward_of last levels fs s (Leaves Error value)))
-      (sym amid.handlers)
-      (handled_leads Error value spot s levels amid.end fs amid.behind amid.fits
-      (record { before = amid.before; operands = amid.operands; marks = amid.marks })))
+      resumes_so (fails flaw spot s) _ (leaves_so Error value spot levels fs s amid)

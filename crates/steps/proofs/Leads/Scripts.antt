@@ -10,7 +10,7 @@ use Rattle.state.specs.Faults.{flaw_of_fault}
 use Rattle.state.specs.Prelude.{Dialogue, Gives, Outcome, Status}
 use Rattle.steps.specs.Follows.{Follows}
 use Rattle.steps.specs.Goes.{here, calls}
-use Rattle.steps.specs.Layout.{FramesAt}
+use Rattle.steps.specs.Layout.{FramesAt, formula_code}
 use Rattle.steps.specs.Machine.{ahead, machine}
 use Rattle.steps.specs.Places.{Has, Evaluates, Joins, Starts, Frame, Rest, Bracket, Body, Skip, Alone, For, Turns, Elements, Catches, beneath, brackets, onward_of, spot_at}
 use Rattle.steps.specs.Spot.{Went, Stuck}
@@ -107,7 +107,7 @@ module _ {A X : Type 0} (code : List (Instruction A)) (last : Status → Outcome
   alone_leads place levels f fs v s at fits =
       by code last i.Discard (spot_at place levels (Has v) (Alone f ∷ fs)) s _ at.0
       (stands code last (place + 1) levels (Evaluates f []) fs at.1.0 s
-      (at.1.0, at.1.1, refl) at.1.2 fits)
+      (at.1.0, formula_code at.1.1, refl) at.1.2 fits)
 
   -- each frame
   pub has_leads : (place levels : ℕ) (fs : List Frame) (v : List ℕ) (s : Status) →

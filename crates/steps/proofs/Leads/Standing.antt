@@ -7,16 +7,27 @@ use Rattle.plan.specs.Plan.{and_then, onward}
 use Rattle.state.specs.Dialogue.{tick_of}
 use Rattle.state.specs.Outcome.{Stop}
 use Rattle.state.specs.Prelude.{Course, Dialogue, Outcome, Status, Stops}
-use Rattle.steps.specs.Follows.{Here, Comes, Follows}
+use Rattle.expects.specs.Expect.{by_name}
+use Rattle.runs.specs.Commands.{command}
+use Rattle.steps.specs.Follows.{Here, Comes, Follows, Waits, run_by, value_by}
 use Rattle.steps.specs.Goes.{Goes, here}
 use Rattle.steps.specs.Layout.{HeadAt, FramesAt}
 use Rattle.steps.specs.Machine.{machine}
 use Rattle.steps.specs.Moves.{ticked}
 use Rattle.steps.specs.Places.{Head, Frame, Rest, Bracket, Body, Skip, Alone, For, Turns, Elements, Catches, brackets, left_of, onward_of, spot_at}
-use Rattle.steps.specs.Spot.{Spot, Did, Went, Reads, Begins, Says, Over, Stuck}
+use Rattle.steps.specs.Spot.{Spot, Did, Went, Reads, Begins, Says, Runs, Evaluates, Over, Stuck}
 use Rattle.steps.proofs.Leads.Silent.{same_goes, then_goes}
 
 module _ {A X : Type 0} (code : List (Instruction A)) (last : Status → Outcome → Dialogue X) where
+  -- what waits for an outcome did so before some silent steps
+  pub waits_silently : {p q : Dialogue X} (course : Course) (spot : Spot) → Goes p q →
+      Waits code last course spot q → Waits code last course spot p
+  waits_silently course spot g waits = record {
+    next = waits.next;
+    goes = then_goes g waits.goes;
+    resumes = waits.resumes;
+  }
+
   -- a stop goes past all frames
   pub stops_pass : (levels : ℕ) (frames : List Frame) (s : Status) (stop : Stop) →
       onward_of last levels frames s (Stops stop) ≡ last s (Stops stop)
@@ -74,16 +85,12 @@ module _ {A X : Type 0} (code : List (Instruction A)) (last : Status → Outcome
       Follows code last did p
   silently (Went spot s) g f = sooner spot s g f
   silently (Reads text next) g f = λ tree is. silently (next tree) g (f tree is)
-  silently (Begins words spot s) g f = record {
-    next = f.next;
-    goes = then_goes g f.goes;
-    resumes = f.resumes;
-  }
-  silently (Says words spot s) g f = record {
-    next = f.next;
-    goes = then_goes g f.goes;
-    resumes = f.resumes;
-  }
+  silently (Begins words spot s) g f = waits_silently (command spot.levels s words) spot g f
+  silently (Says words spot s) g f = waits_silently (by_name spot.levels s words) spot g f
+  silently (Runs text levels spot s) g f =
+      λ tree is. waits_silently (run_by tree levels s) spot g (f tree is)
+  silently (Evaluates text spot s) g f =
+      λ tree is. waits_silently (value_by tree spot.levels s) spot g (f tree is)
   silently (Over outcome s) g f = then_goes g f
   silently Stuck g f = f
 

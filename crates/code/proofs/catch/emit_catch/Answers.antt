@@ -3,8 +3,9 @@ use Rattle.code.proofs.Catches.{catch_block}
 use Rattle.code.proofs.catch.emit_catch.Goals as goal
 
 pub returns : goal.returns
-returns g c = λ text more is.
-    catch_block c.args.code.now.items c.push.new.self.items c.emit_body.new.code.items
-    c.push-2.new.self.items c.fill.new.code.items c.emit_taker.new.code.items text more
-    c.args.own.now.variable is.variable_is (search rules) (c.in_ok-emit_body.ensures text is.body_is)
-    (search rules) (search rules) c.in_ok-emit_taker.ensures
+returns g c = λ more is.
+    let own = c.args.own.now in
+    catch_block c.args.code.now.items c.push.new.self.items c.put_body.new.code.items
+    c.push-2.new.self.items c.fill.new.code.items c.emit_taker.new.code.items own.body more
+    own.variable is (search rules) (search rules) (search rules) (search rules)
+    c.in_ok-emit_taker.ensures

@@ -1,4 +1,4 @@
-use Rattle.std.proofs.Common.{Some, rules}
+use Rattle.std.proofs.Common.{rules}
 use Rattle.code.proofs.Catches.{dropped_block, taken_block}
 use Rattle.code.proofs.catch.emit_taker.Goals as goal
 

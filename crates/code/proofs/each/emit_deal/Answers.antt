@@ -3,8 +3,7 @@ use Rattle.code.proofs.Foreach.{deal_block}
 use Rattle.code.proofs.each.emit_deal.Goals as goal
 
 pub returns : goal.returns
-returns g c = λ text is.
-    deal_block c.args.code.now.items c.push.new.self.items c.emit_body.new.code.items
-    c.push-2.new.self.items c.fill.new.code.items c.emit_next.new.code.items c.args.names.now text
-    (search rules) (c.in_ok-emit_body.ensures text is) (search rules) (search rules)
-    (search rules)
+returns g c =
+    deal_block c.args.code.now.items c.push.new.self.items c.put_body.new.code.items
+    c.push-2.new.self.items c.fill.new.code.items c.emit_next.new.code.items c.args.names.now
+    c.args.body.now (search rules) (search rules) (search rules) (search rules) (search rules)

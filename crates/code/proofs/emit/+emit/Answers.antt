@@ -1,15 +1,21 @@
-use Rattle.std.proofs.Common.{false, true, ℕ, List, IfSome, [], ◌∷◌, length, rules, arith, ◌≡◌, ◌∙◌, ◌+◌, drop, sym, ap, subst}
+use Rattle.std.proofs.Common.{false, true, ℕ, List, IfSome, [], ◌∷◌, codes, length, rules, arith, ◌≡◌, ◌∙◌, ◌+◌, drop, get_or, sym, ap, subst}
 use Rattle.std.proofs.Math.ListN.{drop_of_length-le}
 use Rattle.std.proofs.lemmas.List.{nil_from_length}
 use Rattle.code.proofs.Commands.{all_left, command_block, own_after, own_command_block, values_block, words_block, command_left, commands_block, counting_block, plain_block, spread_block, word_left}
 use Rattle.code.proofs.LastWords.{direct_block, three_words, two_words}
+use Rattle.code.proofs.Choices.{string_block}
+use Rattle.code.proofs.Foreach.{listed_block}
+use Rattle.code.proofs.Owns.{own_block}
+use Rattle.code.proofs.Tops.{word_after}
 use Rattle.code.proofs.Parts.{bracket_block, element_block, empty_block, first_left, next_left, text_block, variable_block, word_block}
 use Rattle.code.proofs.Places.{command_at, part_at, word_at}
 use Rattle.code.specs.Blocks.{OwnBlock, PartsBlock, ValuesBlock, WordBlock, WordsBlock}
-use Rattle.code.specs.Code.{IsDirect}
-use Rattle.code.specs.Conditional.{IsLiteral}
+use Rattle.code.specs.Code.{AreNames, IsDirect, foreach_words, switch_words}
+use Rattle.code.specs.Conditional.{Are, IsLiteral}
+use Rattle.code.specs.Own.{IsOwn, name_of}
+use Rattle.code.specs.Switch.{AreArms, AreWhole, are_globs, words_before}
 use Rattle.tclparse.proofs.Trees.{view_Bracket, view_Command, view_Element, view_Literal, view_Variable, view_Word}
-use Rattle.tclparse.specs.Tree.{Words, no_commands, no_parts, no_words, command, word, texts_then}
+use Rattle.tclparse.specs.Tree.{Parts, Words, no_commands, no_parts, no_words, command, word, literals, texts_then}
 use Rattle.tclparse.specs.declared.tree.Command.{out-Command}
 use Rattle.tclparse.specs.View.{commands_of, commands_then, part_view, parts_of, parts_then, word_view, words_then}
 use Rattle.code.proofs.emit.+emit.Goals as goal
@@ -205,31 +211,139 @@ emit_of_two-returns g t c =
     c.in-Some.direct (name ∷ []) (parts_of last.parts) c.in-Some.ensures.2 (search rules)
     (search rules))
 
+pub emit_of_literals-returns : goal.emit_of_literals-returns
+emit_of_literals-returns g t c =
+    let words = c.args.words.now in
+    let own = c.in-Some.own in
+    let read : (args : List (List ℕ)) × Are words (name_of own ∷ args) × IsOwn own args =
+    subst (λ r. IfSome r (λ it. (args : List (List ℕ)) × Are words (name_of it ∷ args) ×
+    IsOwn it args)) c.in-Some.is c.in_ok-own.ensures in
+    own_block c.args.code.now.items c.push.new.self.items c.emit_words.new.code.items
+    c.push-2.new.self.items c.fill.new.code.items c.emit_its.new.code.items
+    c.fill-2.new.code.items c.in_ok-name.name (name_of own) read.0 (words_then words no_words)
+    (search rules) read.1 (search rules) (search rules) (search rules) (search rules)
+    (c.in_ok-emit_its.ensures read.0 read.2) (search rules)
+
+pub emit_of_list-returns : goal.emit_of_list-returns
+emit_of_list-returns g t c =
+    let words = c.args.words.now in
+    let own = c.in-Some.own in
+    let read : (list : Parts) ×
+    (words_then words no_words ≡ foreach_words own.variables list own.body) ×
+    AreNames own.variables own.names.items =
+    subst (λ r. IfSome r (λ it. (list : Parts) ×
+    (words_then words no_words ≡ foreach_words it.variables list it.body) ×
+    AreNames it.variables it.names.items)) c.in-Some.is c.in_ok-own.ensures in
+    let list = c.in-Some-get.list.now in
+    let at : list ≡ get_or words 2 list = search rules in
+    let parts : parts_of list.parts ≡ read.0 =
+    word_after (codes "foreach" ∷ own.variables ∷ []) words read.0 (literals (own.body ∷ []))
+    read.1 list at in
+    subst (λ ws. OwnBlock true c.args.code.now.items c.emit_each.new.code.items ws) (sym read.1)
+    (listed_block c.args.code.now.items c.emit_parts.new.code.items c.emit_each.new.code.items
+    own.variables own.body read.0
+    (subst (λ ps. PartsBlock c.args.code.now.items c.emit_parts.new.code.items ps) parts
+    (search rules))
+    (c.in_ok-emit_each.ensures read.2))
+
+pub emit_of_string-returns : goal.emit_of_string-returns
+emit_of_string-returns g t c =
+    let words = c.args.words.now in
+    let own = c.in-Some.own in
+    let read : (string : Parts) ×
+    (words_then words no_words ≡ switch_words own.options string own.after.items) ×
+    AreArms own.arms.items own.after.items ×
+    AreWhole (are_globs own.options.flag) own.arms.items =
+    subst (λ r. IfSome r (λ it. (string : Parts) ×
+    (words_then words no_words ≡ switch_words it.options string it.after.items) ×
+    AreArms it.arms.items it.after.items ×
+    AreWhole (are_globs it.options.flag) it.arms.items)) c.in-Some.is c.in_ok-own.ensures in
+    let string = c.in-Some-get.string.now in
+    let at : string ≡ get_or words (length (words_before own.options)) string = search rules in
+    let parts : parts_of string.parts ≡ read.0 =
+    word_after (words_before own.options) words read.0 (literals own.after.items) read.1 string
+    at in
+    subst (λ ws. OwnBlock true c.args.code.now.items c.emit_switch.new.code.items ws) (sym read.1)
+    (string_block c.args.code.now.items c.emit_parts.new.code.items c.emit_switch.new.code.items
+    own.options read.0 own.after.items
+    (subst (λ ps. PartsBlock c.args.code.now.items c.emit_parts.new.code.items ps) parts
+    (search rules))
+    (c.in_ok-emit_switch.ensures read.2 read.3))
+
+pub emit_whole-returns-then-branch : goal.emit_whole-returns-then-branch
+emit_whole-returns-then-branch g t c =
+    let ws = words_then c.args.words.now no_words in
+    let some : c.in_ok-emit_of_literals.field-0 ≡ true = search rules in
+    subst (λ put. OwnBlock put c.args.code.now.items c.emit_of_literals.new.code.items ws) some
+    c.in_ok-emit_of_literals.ensures
+
+pub emit_whole-returns-then-branch-2 : goal.emit_whole-returns-then-branch-2
+emit_whole-returns-then-branch-2 g t c =
+    let ws = words_then c.args.words.now no_words in
+    let none : c.in_ok-emit_of_literals.field-0 ≡ false = search rules in
+    let some : c.in_ok-put_argued.field-0 ≡ true = search rules in
+    own_after c.args.code.now.items c.emit_of_literals.new.code.items c.put_argued.new.code.items ws
+    _ true c.in_ok-emit_of_literals.ensures none
+    (subst (λ put. OwnBlock put c.emit_of_literals.new.code.items c.put_argued.new.code.items ws)
+    some c.in_ok-put_argued.ensures)
+
+pub emit_whole-returns-then-branch-3 : goal.emit_whole-returns-then-branch-3
+emit_whole-returns-then-branch-3 g t c =
+    let ws = words_then c.args.words.now no_words in
+    let old = c.args.code.now.items in
+    let one = c.emit_of_literals.new.code.items in
+    let two = c.put_argued.new.code.items in
+    let new = c.emit_of_list.new.code.items in
+    let none : c.in_ok-emit_of_literals.field-0 ≡ false = search rules in
+    let none_two : c.in_ok-put_argued.field-0 ≡ false = search rules in
+    let some : c.in_ok-emit_of_list.field-0 ≡ true = search rules in
+    own_after old one new ws _ true c.in_ok-emit_of_literals.ensures none
+    (own_after one two new ws _ true c.in_ok-put_argued.ensures none_two
+    (subst (λ put. OwnBlock put two new ws) some c.in_ok-emit_of_list.ensures))
+
+pub emit_whole-returns : goal.emit_whole-returns
+emit_whole-returns g t c =
+    let ws = words_then c.args.words.now no_words in
+    let old = c.args.code.now.items in
+    let one = c.emit_of_literals.new.code.items in
+    let two = c.put_argued.new.code.items in
+    let three = c.emit_of_list.new.code.items in
+    let new = c.emit_of_string.new.code.items in
+    let none : c.in_ok-emit_of_literals.field-0 ≡ false = search rules in
+    let none_two : c.in_ok-put_argued.field-0 ≡ false = search rules in
+    let none_three : c.in_ok-emit_of_list.field-0 ≡ false = search rules in
+    own_after old one new ws _ _ c.in_ok-emit_of_literals.ensures none
+    (own_after one two new ws _ _ c.in_ok-put_argued.ensures none_two
+    (own_after two three new ws _ _ c.in_ok-emit_of_list.ensures none_three
+    c.in_ok-emit_of_string.ensures))
+
 pub emit_own-returns-then-branch : goal.emit_own-returns-then-branch
 emit_own-returns-then-branch g t c =
     let ws = words_then c.args.words.now no_words in
-    let some : c.in_ok-put.field-0 ≡ true = search rules in
-    subst (λ put. OwnBlock put c.args.code.now.items c.put.new.code.items ws) some
-    c.in_ok-put.ensures
+    let some : c.in_ok-emit_whole.field-0 ≡ true = search rules in
+    subst (λ put. OwnBlock put c.args.code.now.items c.emit_whole.new.code.items ws) some
+    c.in_ok-emit_whole.ensures
 
 pub emit_own-returns-then-branch-2 : goal.emit_own-returns-then-branch-2
 emit_own-returns-then-branch-2 g t c =
     let ws = words_then c.args.words.now no_words in
     let some : c.in_ok-emit_of_three.field-0 ≡ true = search rules in
-    let none : c.in_ok-put.field-0 ≡ false = search rules in
-    own_after c.args.code.now.items c.put.new.code.items c.emit_of_three.new.code.items ws _ true
-    c.in_ok-put.ensures none
-    (subst (λ put. OwnBlock put c.put.new.code.items c.emit_of_three.new.code.items ws) some
+    let none : c.in_ok-emit_whole.field-0 ≡ false = search rules in
+    own_after c.args.code.now.items c.emit_whole.new.code.items c.emit_of_three.new.code.items ws _
+    true
+    c.in_ok-emit_whole.ensures none
+    (subst (λ put. OwnBlock put c.emit_whole.new.code.items c.emit_of_three.new.code.items ws) some
     c.in_ok-emit_of_three.ensures)
 
 pub emit_own-returns : goal.emit_own-returns
 emit_own-returns g t c =
     let ws = words_then c.args.words.now no_words in
-    let none : c.in_ok-put.field-0 ≡ false = search rules in
+    let none : c.in_ok-emit_whole.field-0 ≡ false = search rules in
     let none_three : c.in_ok-emit_of_three.field-0 ≡ false = search rules in
-    own_after c.args.code.now.items c.put.new.code.items c.emit_of_two.new.code.items ws _ _
-    c.in_ok-put.ensures none
-    (own_after c.put.new.code.items c.emit_of_three.new.code.items c.emit_of_two.new.code.items ws _ _
+    own_after c.args.code.now.items c.emit_whole.new.code.items c.emit_of_two.new.code.items ws _ _
+    c.in_ok-emit_whole.ensures none
+    (own_after c.emit_whole.new.code.items c.emit_of_three.new.code.items
+    c.emit_of_two.new.code.items ws _ _
     c.in_ok-emit_of_three.ensures none_three c.in_ok-emit_of_two.ensures)
 
 pub emit_command-returns-in_ok-emit_words : goal.emit_command-returns-in_ok-emit_words

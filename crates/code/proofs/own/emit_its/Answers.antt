@@ -1,4 +1,3 @@
-use Rattle.code.proofs.Arguments.{argued_own_block}
 use Rattle.code.proofs.Catches.{catch_own_block}
 use Rattle.code.proofs.Evals.{eval_block, expr_own_block}
 use Rattle.code.proofs.Owns.{for_block, if_block, while_block}
@@ -19,10 +18,10 @@ returns-in_ok-emit_for-in-For g c = λ args is.
     for_block c.args.code.now.items c.emit_for.new.code.items c.args.own.now c.in-For.own
     c.in-For.is c.in_ok-emit_for-in-For.ensures args is
 
-pub returns-in_ok-emit_body-in-Eval : goal.returns-in_ok-emit_body-in-Eval
-returns-in_ok-emit_body-in-Eval g c = λ args is.
-    eval_block c.args.code.now.items c.emit_body.new.code.items c.args.own.now c.in-Eval.own
-    c.in-Eval.is c.in_ok-emit_body-in-Eval.ensures args is
+pub returns-in_ok-put_body-in-Eval : goal.returns-in_ok-put_body-in-Eval
+returns-in_ok-put_body-in-Eval g c = λ args is.
+    eval_block c.args.code.now.items c.put_body.new.code.items c.args.own.now c.in-Eval.own
+    c.in-Eval.is c.in_ok-put_body-in-Eval.ensures args is
 
 pub returns-in_ok-emit_catch-in-Catch : goal.returns-in_ok-emit_catch-in-Catch
 returns-in_ok-emit_catch-in-Catch g c = λ args is.
@@ -33,8 +32,3 @@ pub returns-in_ok-emit_expr-in-Expr : goal.returns-in_ok-emit_expr-in-Expr
 returns-in_ok-emit_expr-in-Expr g c = λ args is.
     expr_own_block c.args.code.now.items c.emit_expr.new.code.items c.args.own.now c.in-Expr.own
     c.in-Expr.is c.in_ok-emit_expr-in-Expr.ensures args is
-
-pub returns-in_ok-emit_argued-in-Argued : goal.returns-in_ok-emit_argued-in-Argued
-returns-in_ok-emit_argued-in-Argued g c = λ args is.
-    argued_own_block c.args.code.now.items c.emit_argued.new.code.items c.args.own.now
-    c.in-Argued.own c.in-Argued.is c.in_ok-emit_argued-in-Argued.ensures args is

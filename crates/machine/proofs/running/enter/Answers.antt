@@ -73,7 +73,8 @@ returns-in_ok-push-in-Begins-clause-goes_on g c = λ last s fits below.
     let part : Part g.row.A.Denot =
     record { frames = c.replace-frames.result; code = c.replace-code.result } in
     enters_over old c.replace-frames.result c.replace-code.result c.replace-frames.new.dest
-    c.replace-code.new.dest c.push.new.self c.go_on.new.run c.in-Begins.next c.go_on.new.state last
+    c.replace-code.new.dest c.push.new.self c.go_on.new.parsed c.go_on.new.run c.in-Begins.next
+    c.go_on.new.state last
     c.replace-frames.ensures.value c.replace-code.ensures.value
     (ap stack c.replace-frames.ensures.after ∙ ap reverse c.new.ensures.items)
     c.replace-code.ensures.after

@@ -343,3 +343,18 @@ returns-in_ok-add-in-Add-clause-does g c = λ s.
     let t = with_parts c.args.scopes.now c.args.procs.now c.args.left.now s in
     does_so c.args.instruction.now _ spot t c.in-Add.is
     (same_does (c.in_ok-add-in-Add.ensures.does t refl))
+
+pub returns-in_ok-run_text-in-Run-clause-does : goal.returns-in_ok-run_text-in-Run-clause-does
+returns-in_ok-run_text-in-Run-clause-does g c = λ s.
+    let spot = spot_of c.args.spot.now in
+    let t = with_parts c.args.scopes.now c.args.procs.now c.args.left.now s in
+    does_so c.args.instruction.now _ spot t c.in-Run.is
+    (same_does (c.in_ok-run_text-in-Run.ensures.does t))
+
+pub returns-in_ok-evaluate_text-in-Evaluate-clause-does :
+    goal.returns-in_ok-evaluate_text-in-Evaluate-clause-does
+returns-in_ok-evaluate_text-in-Evaluate-clause-does g c = λ s.
+    let spot = spot_of c.args.spot.now in
+    let t = with_parts c.args.scopes.now c.args.procs.now c.args.left.now s in
+    does_so c.args.instruction.now _ spot t c.in-Evaluate.is
+    (same_does (c.in_ok-evaluate_text-in-Evaluate.ensures.does t))

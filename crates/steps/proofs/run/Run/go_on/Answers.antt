@@ -1,12 +1,13 @@
-use Rattle.std.proofs.Common.{◌≡◌, ◌≢◌, ◌∙◌, MatchOption, inl, inr, refl, rules, subst, sym, ap, ⊎_elim, arith}
+use Rattle.std.proofs.Common.{◌≡◌, ◌∙◌, MatchOption, inl, inr, refl, subst, sym, ap, ⊎_elim, arith}
 use Rattle.runs.specs.Commands.{command}
 use Rattle.state.specs.Budget.{again_of}
 use Rattle.state.specs.Prelude.{FitsState, outcome_of}
 use Rattle.steps.specs.Goes.{here}
 use Rattle.steps.specs.Run.{HasCome, HasStopped, IsDone, IsFresh, IsIdle, IsValue}
+use Rattle.steps.specs.View.{IsCall}
 use Rattle.steps.specs.declared.progress.Progress.TheVariants as went
 use Rattle.steps.specs.declared.run.Run.{Run}
-use Rattle.steps.proofs.AtOnce.{begun_stops, comes_after, done_stands, fewer_commands}
+use Rattle.steps.proofs.AtOnce.{begun_stops, comes_after, done_stands, fewer_commands, same_commands}
 use Rattle.steps.proofs.First.{again_small, idle_stays, ticked_by}
 use Rattle.steps.proofs.Goes.{begins, begun_call}
 use Rattle.steps.proofs.run.Run.go_on.Goals as goal
@@ -32,14 +33,21 @@ returns-then-ne-clause-stops g c = λ last next s fits awaits.
     let run = c.reach_command.new.self in
     let progress = c.in_ok-progress.progress in
     let stood = c.commands.invariant.stands last next s fits awaits in
-    let other : progress ≢ went.Begins = search rules in
     let state = c.reach_command.new.state in
     let p = next s (outcome_of c.args.outcome) in
     subst (λ stopped. HasStopped last stopped c.stop.new.self state p)
     (sym c.in_ok-stop.ensures.same)
-    (c.in_ok-stop.ensures.stops last state p other (comes_after last progress run state p
+    (c.in_ok-stop.ensures.stops last state p (comes_after last progress run state p
     (stood.next stood.status (outcome_of c.commands.outcome)) stood.goes
     (c.in_ok-progress.ensures.stops last stood.next stood.status stood.fits stood.awaits)))
+
+pub returns-then-ne-clause-falls : goal.returns-then-ne-clause-falls
+returns-then-ne-clause-falls g c = λ is.
+    let left = c.reach_command.new.state.left in
+    let less = c.in_ok-progress.ensures.falls (subst IsCall c.in_ok-stop.ensures.same is) in
+    let same = same_commands c.reach_command.new.self c.stop.new.self left c.stop.ensures.code
+    c.stop.ensures.place in
+    omega (arith, less, same, c.commands.invariant.fewer)
 
 pub returns-in-None-clause-stops : goal.returns-in-None-clause-stops
 returns-in-None-clause-stops g c = λ last next s fits awaits.
@@ -66,7 +74,7 @@ returns-in-None-clause-falls g c = λ is.
     let run = c.reach_command.new.self in
     let begun : c.in_ok-progress.progress ≡ went.Begins =
     begins c.in_ok-progress.progress (sym c.ne.ensures ∙ c.if-ne.false) in
-    let less = c.in_ok-progress.ensures.falls begun in
+    let less = c.in_ok-progress.ensures.falls (begun_call c.in_ok-progress.progress begun) in
     let fewer = fewer_commands run c.take_words.new.self c.reach_command.new.state.left
     c.perform.new.state.left c.perform.ensures.left c.take_words.ensures.place in
     omega (arith, less, fewer, c.commands.invariant.fewer)
@@ -77,7 +85,7 @@ commands-preserved g c =
     let begun : c.in_ok-progress.progress ≡ went.Begins =
     begins c.in_ok-progress.progress (sym c.ne.ensures ∙ c.if-ne.false) in
     let before = c.commands.invariant in
-    let less = c.in_ok-progress.ensures.falls begun in
+    let less = c.in_ok-progress.ensures.falls (begun_call c.in_ok-progress.progress begun) in
     let fewer = fewer_commands run c.drop_words.new.self c.reach_command.new.state.left
     c.perform.new.state.left c.perform.ensures.left c.drop_words.ensures.place in
     record {
@@ -134,7 +142,7 @@ pub commands-smaller : goal.commands-smaller
 commands-smaller g c =
     let begun : c.in_ok-progress.progress ≡ went.Begins =
     begins c.in_ok-progress.progress (sym c.ne.ensures ∙ c.if-ne.false) in
-    let less = c.in_ok-progress.ensures.falls begun in
+    let less = c.in_ok-progress.ensures.falls (begun_call c.in_ok-progress.progress begun) in
     let fewer = fewer_commands c.reach_command.new.self c.drop_words.new.self
     c.reach_command.new.state.left c.perform.new.state.left c.perform.ensures.left
     c.drop_words.ensures.place in

@@ -9,7 +9,7 @@ use Rattle.steps.specs.Spot.{Went}
 use Rattle.steps.specs.View.{did_of, spot_of, with_parts}
 use Rattle.steps.specs.declared.progress.Progress.TheVariants as went
 use Rattle.steps.proofs.First.{again_small, outcome_counts, places_bound, stands_still, value_idle}
-use Rattle.steps.proofs.Goes.{begun_call, goes_on}
+use Rattle.steps.proofs.Goes.{goes_on}
 use Rattle.steps.proofs.Handlers.{leads_nowhere}
 use Rattle.steps.proofs.Leads.Resumed.{resumes_so}
 use Rattle.steps.proofs.Measure.{command_falls}
@@ -38,8 +38,7 @@ returns-then-ne-clause-onward g c = λ begun same.
 pub returns-then-ne-clause-falls : goal.returns-then-ne-clause-falls
 returns-then-ne-clause-falls g c = λ begun.
     absurd (leads_nowhere c.in_ok-progress.progress c.resume.new.spot
-    (spot_of c.args.self.now.spot) (outcome_of c.args.outcome) c.in_ok-progress.ensures.does
-    (begun_call c.in_ok-progress.progress begun))
+    (spot_of c.args.self.now.spot) (outcome_of c.args.outcome) c.in_ok-progress.ensures.does begun)
 
 pub returns-clause-stops : goal.returns-clause-stops
 returns-clause-stops g c = λ last next s fits awaits.
@@ -97,7 +96,7 @@ returns-clause-falls g c = λ begun.
     c.advance.ensures.ticks (λ same.
     let fewer : length code - new < length code - mid =
     subst (λ items. length items - new < length items - mid) is_code
-    (c.in_ok-advance.ensures.onward (begun_call c.in_ok-advance.field-0 begun) same) in
+    (c.in_ok-advance.ensures.onward begun same) in
     omega (arith, fewer, c.resume.ensures.place))
 
 pub returns-then-ne-clause-first : goal.returns-then-ne-clause-first

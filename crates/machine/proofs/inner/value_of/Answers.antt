@@ -1,0 +1,24 @@
+use Rattle.std.proofs.Common.{Ok, refl, subst}
+use Rattle.acts.specs.Flaw.{flaw_of}
+use Rattle.code.specs.ReadsCode.{ReadsCode}
+use Rattle.state.specs.Piece.{FormulaText}
+use Rattle.state.specs.Prelude.{IsTree}
+use Rattle.machine.proofs.Texts.{fault_ends}
+use Rattle.machine.proofs.inner.value_of.Goals as goal
+
+pub returns-in-Ok : goal.returns-in-Ok
+returns-in-Ok g c =
+    let formula = c.in-Ok.formula in (
+      Ok formula,
+      subst (λ text. IsTree (FormulaText text) (Ok formula)) c.text_of.ensures c.in-Ok.ensures,
+      λ s. refl,
+      refl,
+    )
+
+pub returns-in_ok-raised-in-Err-Fault : goal.returns-in_ok-raised-in-Err-Fault
+returns-in_ok-raised-in-Err-Fault g c =
+    fault_ends _ c.args.levels c.read.result c.in-Err-Fault.field-0 c.in-Err-Fault.fault
+    (flaw_of c.no_formula.result) c.in_ok-raised-in-Err-Fault.field-0 c.in-Err-Fault.is
+    c.in-Err-Fault.field-0-is
+    (subst (λ text. ReadsCode text c.read.result) c.text_of.ensures c.read.ensures)
+    c.no_formula.ensures c.in_ok-raised-in-Err-Fault.ensures
