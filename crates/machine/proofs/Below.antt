@@ -1,11 +1,12 @@
 -- Frames, the code below them, and the parts below that.
-use Rattle.std.proofs.Common.{◌≡◌, ◌∙◌, ℕ, zero, suc, ◌+◌, ◌-◌, ◌<◌, ◌≤◌, List, [], ◌∷◌, Option, Some, None, option_map, Result, Vec, length, refl, reverse, slice_get, sym, ap, subst, arith}
+use Rattle.std.proofs.Common.{◌≡◌, ◌∙◌, ℕ, zero, suc, ◌+◌, ◌-◌, ◌*◌, ◌<◌, ◌≤◌, List, [], ◌∷◌, ◌++◌, Option, Some, None, option_map, Result, Vec, length, refl, reverse, slice_get, sym, ap, subst, arith}
+use Rattle.std.proofs.lemmas.List.{reverse-append}
 use Rattle.tclparse.specs.ScriptTree.{seen}
 use Rattle.code.specs.declared.instruction.Instruction.{Instruction}
 use Rattle.machine.specs.Frames.{Onward, left_of, onward_of, stack}
-use Rattle.machine.specs.Inner.{IsScriptOf, IsValueOf}
-use Rattle.machine.specs.Phases.{Leads, course_of_next}
-use Rattle.machine.specs.Below.{Beneath, BeginsIn, ComesFrom, ComesOver, Falls, GoesOn, Hands, IsBack, IsBelow, IsLess, IsWhole, StandsOver, StaysDeep, depth, height, one_for, parts_of, waits_in}
+use Rattle.machine.specs.Inner.{Puts}
+use Rattle.machine.specs.Phases.{Begins, Leads, course_of_next}
+use Rattle.machine.specs.Below.{Beneath, ComesFrom, ComesOver, Falls, GoesOn, Hands, IsBack, IsBelow, IsLess, IsOpen, IsWhole, Opens, StandsOver, StaysDeep, depth, height, parts_of, places_in, takes_of, waits_in}
 use Rattle.machine.specs.declared.frame.Frame.{Frame}
 use Rattle.machine.specs.declared.phase.Phase.{Phase}
 use Rattle.machine.specs.declared.running.Handed.{Handed}
@@ -13,19 +14,15 @@ use Rattle.machine.specs.declared.running.Handed.TheVariants as handed
 use Rattle.machine.specs.declared.running.Part.{Part}
 use Rattle.machine.specs.declared.running.Running.{Running}
 use Rattle.machine.specs.declared.starting.Next.{Next}
-use Rattle.machine.specs.declared.starting.Next.TheVariants as next
 use Rattle.machine.specs.declared.waits.Waits.{Waits}
-use Rattle.kept.specs.declared.Parsed.{Parsed}
 use Rattle.machine.proofs.Machines.{leads_from, stands_from}
-use Rattle.expects.specs.Expect.{by_name}
 use Rattle.plan.specs.Plan.{and_then, onward}
 use Rattle.runs.specs.Closing.{closing}
-use Rattle.runs.specs.Commands.{command}
 use Rattle.runs.specs.Ending.{Over}
 use Rattle.runs.specs.Run.{most_levels}
 use Rattle.runs.specs.Scripts.{script as meant}
 use Rattle.state.specs.Budget.{again_of}
-use Rattle.state.specs.Prelude.{Dialogue, FitsState, Outcome, ScriptText, Status, on_value, outcome_of}
+use Rattle.state.specs.Prelude.{Course, Dialogue, FitsState, Outcome, ScriptText, Status, on_value, outcome_of}
 use Rattle.state.specs.declared.leaf.Leaf.{Leaf}
 use Rattle.state.specs.declared.leaf.Leaf.TheVariants as leaf
 use Rattle.state.specs.declared.outcome.Leave.{Leave}
@@ -36,7 +33,8 @@ use Rattle.steps.specs.Run.{Awaits, HasStopped}
 use Rattle.steps.specs.declared.progress.Progress.{Progress}
 use Rattle.steps.specs.declared.progress.Progress.TheVariants as went
 use Rattle.steps.specs.declared.run.Run.{Run}
-use Rattle.steps.specs.View.{text_in}
+use Rattle.steps.specs.Follows as follows
+use Rattle.steps.specs.View.{spot_of}
 use Rattle.tclparse.specs.Grammar.{IsScript}
 use Rattle.tclparse.specs.Seen.{fault_of}
 use Rattle.tclparse.specs.View.{commands_of}
@@ -63,76 +61,36 @@ module _ {A : Type 0} where
     hands = hands_from on.last h (stack running.frames) state goes on.hands;
   }
 
-  -- a command of the code begins by its words
-  pub begins_in : (last : Onward) (run : Run A) (words kept : Vec (List ℕ) A) (state : State A)
-      (p : Dialogue Over) → HasStopped last went.Begins run state p → words ≡ run.spot.words →
-      BeginsIn last (next.Call words run.spot.levels)
-      (record run { spot = record run.spot { words = kept } }) state p
-  begins_in last run words kept state p stopped is =
-      let waits = stopped.follows in
-      record {
-        onward = waits.next;
-        awaits = λ t outcome. waits.resumes t outcome;
-        begins = record {
-          status = stopped.status;
-          fits = stopped.fits;
-          goes = subst (λ ws. Goes p (and_then (command run.spot.levels stopped.status ws)
-              (onward waits.next))) (ap (λ (v : Vec (List ℕ) A). v.items) (sym is)) waits.goes;
-        };
-      }
+  -- something begins by words of the code, which waits for it
+  pub begins_in : (last : Onward) (n : Next A) (run : Run A) (state : State A) (p : Dialogue Over)
+      (s : Status) (course : Course) → FitsState state s → course ≡ course_of_next n s →
+      follows.Waits run.code.value.items last course (spot_of run.spot) p →
+      (let none : List (Frame A) = [] in
+      Opens last run (λ onward. Begins onward (course_of_next n) none state p))
+  begins_in last n run state p s course fits is waits = record {
+    onward = waits.next;
+    awaits = λ t outcome. waits.resumes t outcome;
+    on = record {
+      status = s;
+      fits = fits;
+      goes = subst (λ c. Goes p (and_then c (onward waits.next))) is waits.goes;
+    };
+  }
 
-  -- branches are given by the name of a command and words
-  pub says_in : (last : Onward) (run : Run A) (words kept : Vec (List ℕ) A) (state : State A)
-      (p : Dialogue Over) → HasStopped last went.Says run state p → words ≡ run.spot.words →
-      BeginsIn last (next.Says words run.spot.levels)
-      (record run { spot = record run.spot { words = kept } }) state p
-  says_in last run words kept state p stopped is =
-      let waits = stopped.follows in
-      record {
-        onward = waits.next;
-        awaits = λ t outcome. waits.resumes t outcome;
-        begins = record {
-          status = stopped.status;
-          fits = stopped.fits;
-          goes = subst (λ ws. Goes p (and_then (by_name run.spot.levels stopped.status ws)
-              (onward waits.next))) (ap (λ (v : Vec (List ℕ) A). v.items) (sym is)) waits.goes;
-        };
-      }
-
-  -- the script of a text runs
-  pub runs_in : (last : Onward) (n : Next A) (run : Run A) (state : State A) (p : Dialogue Over) →
-      HasStopped last went.Runs run state p →
-      IsScriptOf n (text_in run.spot.words.items) (run.spot.levels - 1) →
-      BeginsIn last n run state p
-  runs_in last n run state p stopped read =
-      let waits = stopped.follows read.0 read.1 in
-      record {
-        onward = waits.next;
-        awaits = λ t outcome. waits.resumes t outcome;
-        begins = record {
-          status = stopped.status;
-          fits = stopped.fits;
-          goes = subst (λ c. Goes p (and_then c (onward waits.next)))
-              (sym (read.2 stopped.status)) waits.goes;
-        };
-      }
-
-  -- a text is evaluated as a formula
-  pub evaluates_in : (last : Onward) (n : Next A) (run : Run A) (state : State A)
-      (p : Dialogue Over) → HasStopped last went.Evaluates run state p →
-      IsValueOf n (text_in run.spot.words.items) run.spot.levels → BeginsIn last n run state p
-  evaluates_in last n run state p stopped read =
-      let waits = stopped.follows read.0 read.1 in
-      record {
-        onward = waits.next;
-        awaits = λ t outcome. waits.resumes t outcome;
-        begins = record {
-          status = stopped.status;
-          fits = stopped.fits;
-          goes = subst (λ c. Goes p (and_then c (onward waits.next)))
-              (sym (read.2 stopped.status)) waits.goes;
-        };
-      }
+  -- what a text is read as stands above the code, which waits for it
+  pub puts_in : (last : Onward) (o : Result (List ℕ) (Leave A)) (below frames : List (Frame A))
+      (run : Run A) (state : State A) (p : Dialogue Over) (s : Status)
+      (course : Status → Course) → FitsState state s → below ≡ [] →
+      Puts o below frames course →
+      follows.Waits run.code.value.items last (course s) (spot_of run.spot) p →
+      Opens last run (λ onward. Leads onward (leaf.Has o) frames state p)
+  puts_in last o below frames run state p s course fits none puts waits = record {
+    onward = waits.next;
+    awaits = λ t outcome. waits.resumes t outcome;
+    on = leads_from waits.next frames state waits.goes
+        (subst (λ fs. Leads waits.next (leaf.Has o) frames state (left_of waits.next (course s) fs))
+        none (puts.leads waits.next state s fits));
+  }
 
   -- the code is over, with its outcome
   pub over_in : (last : Onward) (run : Run A) (outcome : Result (List ℕ) (Leave A))
@@ -201,44 +159,48 @@ module _ {A : Type 0} where
   end_less (part ∷ parts) h o new most back less =
       rw (back.0, back.1, back.2, back.3) (omega (arith, less))
 
-  one_at_most : (code : Option (Run A)) → one_for code ≤ 1
-  one_at_most None = omega arith
-  one_at_most (Some run) = omega arith
+  takes_at_most : (code : Option (Run A)) → takes_of code ≤ 1 + 3 * places_in code
+  takes_at_most None = omega arith
+  takes_at_most (Some run) = omega arith
 
   -- and less is left to hand an outcome to
   pub end_falls : (parts : List (Part A)) (h : Handed A) (o : Result (List ℕ) (Leave A))
       (old new : Running A) → IsBack parts h o new → height parts ≤ depth old → Falls h old new
   end_falls [] h o old new back most = rw back.0 tt
   end_falls (part ∷ parts) h o old new back most =
-      rw (back.0, back.1, back.2, back.3) (omega (arith, most, one_at_most part.code))
+      rw (back.0, back.1, back.2, back.3) (omega (arith, most, takes_at_most part.code))
 
-  -- a command begins in code that is entered above the frames, which wait with the code below them
-  pub enters_over : (old : Running A) (waiting : Vec (Frame A) A) (below : Option (Run A))
-      (frames : Vec (Frame A) A) (code : Option (Run A)) (parts : Vec (Part A) A)
-      (parsed : Parsed A) (run : Run A) (n : Next A) (state : State A) (last : Onward)
-      {p : Dialogue Over} →
-      waiting ≡ old.frames → below ≡ old.code → stack frames ≡ [] → code ≡ Some run →
-      reverse parts.items ≡ record { frames = waiting; code = below } ∷ parts_of old →
-      IsBelow old last → BeginsIn (onward_of last (stack old.frames)) n run state p →
-      GoesOn (handed.Begins n)
-      (record { frames = frames; code = code; parts = parts; parsed = parsed }) state p
-  enters_over old waiting below frames code parts parsed run n state last waits was none is put lies
-      on =
-      record {
-        last = on.onward;
-        below = record {
-          after = onward_of last (stack old.frames);
-          beneath = rw put (record {
-            base = lies.after;
-            last = last;
-            beneath = lies.beneath;
-            under = rw was lies.under;
-            is = ap (λ fs. onward_of last (stack fs)) (sym waits);
-          });
-          under = rw is on.awaits;
-        };
-        hands = rw none on.begins;
-      }
+  -- the frames and the code that were taken out wait as a part, the last one
+  pub opened : (old new : Running A) (run : Run A) (frames waiting : Vec (Frame A) A)
+      (code : Option (Run A)) → waiting ≡ old.frames → code ≡ old.code →
+      new.parts.items ≡ old.parts.items ++ record { frames = waiting; code = code } ∷ [] →
+      new.frames ≡ frames → new.code ≡ Some run → IsOpen old run frames new
+  opened old new run frames waiting code was below put above is =
+      let part : Part A = record { frames = waiting; code = code } in (
+        ap reverse put ∙ reverse-append old.parts.items (part ∷ [])
+            ∙ ap (λ fs. let it : Part A = record { frames = fs; code = code } in
+            it ∷ parts_of old) was
+            ∙ ap (λ c. let it : Part A = record { frames = old.frames; code = c } in
+            it ∷ parts_of old) below,
+        above,
+        is,
+      )
+
+  -- below a code that is entered above the frames lie these, and what was below them
+  pub open_below : (old new : Running A) (run : Run A) (frames : Vec (Frame A) A)
+      (last onward : Onward) → IsOpen old run frames new → IsBelow old last →
+      Awaits (onward_of last (stack old.frames)) run onward → IsBelow new onward
+  open_below old new run frames last onward is lies awaits = record {
+    after = onward_of last (stack old.frames);
+    beneath = rw is.0 (record {
+      base = lies.after;
+      last = last;
+      beneath = lies.beneath;
+      under = lies.under;
+      is = refl;
+    });
+    under = rw is.2 awaits;
+  }
 
   -- what is less than this is less than more
   pub less_more : (h : Handed A) (running : Running A) (few most : ℕ) → few ≤ most →

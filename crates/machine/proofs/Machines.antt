@@ -1,15 +1,12 @@
 -- What the parts of the machine do.
-use Rattle.std.proofs.Common.{◌≡◌, ◌∙◌, ℕ, List, [], ◌∷◌, Result, Ok, Err, IfOk, refl, sym, ap}
+use Rattle.std.proofs.Common.{◌≡◌, ℕ, List, [], ◌∷◌, Result, Ok, Err, IfOk, refl, sym, ap}
 use Rattle.acts.specs.declared.act.Act.{Act}
 use Rattle.code.specs.declared.made.Entry.{Entry}
-use Rattle.code.specs.declared.made.Entry.TheVariants as entry
-use Rattle.code.specs.declared.made.Made.{Made}
-use Rattle.code.specs.declared.made.Made.TheVariants as made
 use Rattle.machine.specs.Began.{HasBegun}
 use Rattle.machine.specs.Waiting as waiting
 use Rattle.machine.specs.declared.waits.Waits.{Waits}
 use Rattle.machine.specs.Frames.{Onward, next_of, onward_of, left_of}
-use Rattle.machine.specs.Phases.{Leads, Unwinds, Stands, course_of_made}
+use Rattle.machine.specs.Phases.{Leads, Unwinds, Stands}
 use Rattle.machine.specs.declared.frame.Frame.{Frame}
 use Rattle.machine.specs.declared.frame.Frame.TheVariants as frame
 use Rattle.machine.specs.declared.starting.Begun.{Begun}
@@ -27,7 +24,7 @@ use Rattle.state.specs.declared.leaf.Leaf.TheVariants as leaf
 use Rattle.state.specs.declared.outcome.Leave.{Leave}
 use Rattle.state.specs.declared.outcome.Leave.TheVariants as leave
 use Rattle.state.specs.declared.state.State.{State}
-use Rattle.steps.specs.Goes.{Goes, here, calls}
+use Rattle.steps.specs.Goes.{Goes}
 use Rattle.steps.proofs.Leads.Silent.{same_goes, then_goes}
 
 -- where P implies Q, a result whose value has P has a value that has Q
@@ -111,26 +108,6 @@ module _ {A : Type 0} (last : Onward) (fs : List (Frame A)) where
       FitsState state s → Leads last (leaf.Has (Ok value)) fs state (left_of last (gives [] s) fs)
   nothing_leads value s state is fits =
       record { status = s; fits = fits; goes = same_left last fs (ap (λ v. gives v s) (sym is)) }
-
--- what a text is read as stands on the stack, and is entered with the empty text
-pub made_leads : {A : Type 0} (last : Onward) (fs new : List (Frame A)) (it : Made A)
-    (levels : ℕ) (value : List ℕ) (s : Status) (state : State A) → value ≡ [] →
-    new ≡ frame.Code (entry.Made it) levels ∷ fs → FitsState state s →
-    Leads last (leaf.Has (Ok value)) new state (left_of last (course_of_made it levels s) fs)
-made_leads last fs new (made.Script tree) levels value s state is on fits = record {
-  status = s;
-  fits = fits;
-  goes = then_goes (calls here) (same_goes
-      (ap (λ l. left_of last (gives [] s) l) (sym on)
-      ∙ ap (λ v. left_of last (gives v s) new) (sym is)));
-}
-made_leads last fs new (made.Formula f) levels value s state is on fits = record {
-  status = s;
-  fits = fits;
-  goes = same_goes
-      (ap (λ l. left_of last (gives [] s) l) (sym on)
-      ∙ ap (λ v. left_of last (gives v s) new) (sym is));
-}
 
 -- a stack continues by its top frame
 pub top_goes : {A : Type 0} (last : Onward) (fs rest : List (Frame A)) (f : Frame A) (s : Status)

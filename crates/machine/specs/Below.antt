@@ -1,5 +1,5 @@
 -- What a session has still to do: frames, the code below them, and the parts below that.
-use Rattle.std.specs.Prelude.{◌≡◌, ℕ, ◌+◌, ◌*◌, ◌<◌, ◌≤◌, List, [], ◌∷◌, reverse, Option, Some, None, Result}
+use Rattle.std.specs.Prelude.{◌≡◌, ℕ, ◌+◌, ◌*◌, ◌<◌, ◌≤◌, List, [], ◌∷◌, reverse, Option, Some, None, Result, Vec}
 use Rattle.machine.specs.Frames.{Onward, onward_of, stack, weight, words_in}
 use Rattle.machine.specs.Phases.{Begins, IsTold, Leads, Stands, course_of_next, more_of}
 use Rattle.machine.specs.declared.advancing.Settled.{Settled}
@@ -8,9 +8,10 @@ use Rattle.machine.specs.declared.frame.Frame.{Frame}
 use Rattle.machine.specs.declared.phase.Phase.{Phase}
 use Rattle.machine.specs.declared.running.Handed.{Handed}
 use Rattle.machine.specs.declared.running.Handed.TheVariants as handed
+use Rattle.machine.specs.declared.running.Led.{Led}
+use Rattle.machine.specs.declared.running.Led.TheVariants as led
 use Rattle.machine.specs.declared.running.Part.{Part}
 use Rattle.machine.specs.declared.running.Running.{Running}
-use Rattle.machine.specs.declared.starting.Next.{Next}
 use Rattle.runs.specs.Closing.{closing}
 use Rattle.runs.specs.Ending.{Over}
 use Rattle.runs.specs.Run.{initial, whole}
@@ -93,20 +94,22 @@ abbrev pub rest_of : {A : Type 0} → Running A → ℕ
 rest_of running =
     words_in (stack running.frames) + 2 * places_in running.code + waits_in (parts_of running)
 
--- whether there is code
-abbrev pub one_for : {A : Type 0} → Option (Run A) → ℕ
-one_for None = 0
-one_for (Some run) = 1
+-- how often a code may take an outcome before the next tick: once, and after each of its texts,
+-- which stands above it then
+abbrev pub takes_of : {A : Type 0} → Option (Run A) → ℕ
+takes_of None = 0
+takes_of (Some run) = 1 + 3 * places_left run
 
 -- how often an outcome may be handed on in the parts that wait, before the next tick
 abbrev pub height : {A : Type 0} → List (Part A) → ℕ
 height [] = 0
-height (part ∷ parts) = 2 * weight (stack part.frames) + 2 + height parts
+height (part ∷ parts) =
+    2 * weight (stack part.frames) + 2 + 3 * places_in part.code + height parts
 
 -- how often an outcome may be handed on in a session before the next tick
 abbrev pub depth : {A : Type 0} → Running A → ℕ
 depth running =
-    2 * weight (stack running.frames) + one_for running.code + height (parts_of running)
+    2 * weight (stack running.frames) + takes_of running.code + height (parts_of running)
 
 -- where an outcome is handed on without a tick, less is left to hand it to
 abbrev pub Falls : {A : Type 0} → Handed A → Running A → Running A → Type 0
@@ -132,19 +135,33 @@ StaysDeep (handed.Over outcome) old new = Unit {0}
 StaysDeep (handed.Begins next) old new = Unit {0}
 StaysDeep (handed.Has outcome) old new = new ≡ record old { parsed = new.parsed }
 
--- nothing has begun but branches that are given last, where they may be given, and what is handed
--- on is not of exp_continue
-abbrev pub TicksFirst : {A : Type 0} → ℕ → Handed A → Run A → Type 0
-TicksFirst said (handed.Over outcome) run = ⊥
-TicksFirst said (handed.Begins next) run =
+-- nothing has begun but branches that are given last, where they may be given, and what the code
+-- ends with is not of exp_continue
+abbrev pub TicksFirst : {A : Type 0} → ℕ → Led A → Run A → Type 0
+TicksFirst said (led.Over outcome) run = again_of (outcome_of outcome) ≡ 0
+TicksFirst said (led.Has outcome) run = ⊥
+TicksFirst said (led.Begins next) run =
     (0 < said) × (more_of next ≡ 0) × (places_left run ≡ 0)
-TicksFirst said (handed.Has outcome) run = again_of (outcome_of outcome) ≡ 0
 
 -- how much may begin by the code before the next tick, and one more where something begins
-abbrev pub left_to_run : {A : Type 0} → Handed A → Run A → ℕ
-left_to_run (handed.Over outcome) run = 0
-left_to_run (handed.Begins next) run = 1 + more_of next + 2 * places_left run
-left_to_run (handed.Has outcome) run = again_of (outcome_of outcome)
+abbrev pub left_to_run : {A : Type 0} → Led A → Run A → ℕ
+left_to_run (led.Over outcome) run = again_of (outcome_of outcome)
+left_to_run (led.Has outcome) run = 2 * places_left run
+left_to_run (led.Begins next) run = 1 + more_of next + 2 * places_left run
+
+-- a code that is not over stands further on than before
+abbrev pub IsOnward : {A : Type 0} → Led A → Run A → Run A → Type 0
+IsOnward (led.Over outcome) old new = Unit {0}
+IsOnward (led.Has outcome) old new = places_left new < places_left old
+IsOnward (led.Begins next) old new = places_left new < places_left old
+
+-- above a code stand the frames that stood there; where they take an outcome of a text, no more may
+-- begin by them before the next tick, and one may be new
+abbrev pub IsAbove : {A : Type 0} → Led A → List (Frame A) → List (Frame A) → Type 0
+IsAbove (led.Over outcome) old new = Unit {0}
+IsAbove (led.Has outcome) old new =
+    (again_of (outcome_of outcome) + words_in new ≤ words_in old) × (weight new ≤ 1 + weight old)
+IsAbove (led.Begins next) old new = new ≡ old
 
 -- the code is over with this outcome: the part that waits goes on, or nothing is left
 abbrev pub IsBack : {A : Type 0} → List (Part A) → Handed A → Result (List ℕ) (Leave A) →
@@ -154,20 +171,30 @@ IsBack (part ∷ parts) h outcome new =
     (h ≡ handed.Has outcome) × (new.frames ≡ part.frames) × (new.code ≡ part.code) ×
     (parts_of new ≡ parts)
 
--- for some state of the definition that the code's state fits, the dialogue continues as the
--- command that begins, and then as the code says
-pub record BeginsIn {A : Type 0} (last : Onward) (next : Next A) (run : Run A) (state : State A)
-    (p : Dialogue Over) : Type 0 where
+-- these frames wait, with the code below them, for this code, which waits for its frames
+abbrev pub IsOpen : {A : Type 0} → Running A → Run A → Vec (Frame A) A → Running A → Type 0
+IsOpen old run frames new =
+    (parts_of new ≡ record { frames = old.frames; code = old.code } ∷ parts_of old)
+    × (new.frames ≡ frames) × (new.code ≡ Some run)
+
+-- for some state of the definition that the code's state fits, the dialogue continues as what the
+-- code led to, and then as the code says
+pub record Opens {A : Type 0} (last : Onward) (run : Run A) (On : Onward → Type 0) : Type 0 where
   pub onward : Onward
   pub awaits : Awaits last run onward
-  pub begins : (let none : List (Frame A) = [] in Begins onward (course_of_next next) none state p)
+  pub on : On onward
 
--- the code went on with an outcome: it is over, with this outcome, or a command begins in it
-abbrev pub RunsOn : {A : Type 0} → Onward → Handed A → Run A → State A → Dialogue Over → Type 0
-RunsOn last (handed.Over outcome) run state p = ⊥
-RunsOn {A} last (handed.Has outcome) run state p =
+-- the code went on with an outcome: it is over, with this outcome, or the frames above it take
+-- this outcome, or something begins by its words
+abbrev pub RunsOn : {A : Type 0} → Onward → Led A → List (Frame A) → Run A → State A →
+    Dialogue Over → Type 0
+RunsOn {A} last (led.Over outcome) frames run state p =
     let none : List (Frame A) = [] in Leads last (leaf.Has outcome) none state p
-RunsOn last (handed.Begins next) run state p = BeginsIn last next run state p
+RunsOn last (led.Has outcome) frames run state p =
+    Opens last run (λ onward. Leads onward (leaf.Has outcome) frames state p)
+RunsOn {A} last (led.Begins next) frames run state p =
+    let none : List (Frame A) = [] in
+    Opens last run (λ onward. Begins onward (course_of_next next) none state p)
 
 -- for some state of the definition that the code's state fits, the dialogue continues as what the
 -- session is still to do

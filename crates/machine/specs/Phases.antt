@@ -3,8 +3,6 @@ use Rattle.std.specs.Prelude.{◌≡◌, ℕ, ◌+◌, ◌<◌, ◌≤◌, List,
 use Rattle.state.specs.Prelude.{Deed, Reply, deed_of, reply_of, NoMemory, Ends, Asks, Dialogue, Course, gives, Status, FitsState, outcome_of}
 use Rattle.acts.specs.History.{History}
 use Rattle.acts.specs.declared.answer.Answer.{Answer}
-use Rattle.code.specs.declared.made.Made.{Made}
-use Rattle.code.specs.declared.made.Made.TheVariants as made
 use Rattle.machine.specs.Waiting.{next_of}
 use Rattle.machine.specs.declared.waits.Waits.{Waits}
 use Rattle.machine.specs.Frames.{Onward, load, onward_of, left_of, weight, words_in}
@@ -22,9 +20,7 @@ use Rattle.machine.specs.declared.phase.Phase.TheVariants as phase
 use Rattle.runs.specs.Commands.{command}
 use Rattle.runs.specs.Closing.{does, ends_with, reported}
 use Rattle.runs.specs.Ending.{Over, numbered}
-use Rattle.state.specs.Evaluated.{evaluated}
 use Rattle.steps.specs.Entered.{entered}
-use Rattle.steps.specs.Follows.{run_by}
 use Rattle.steps.specs.Run.{branches_in}
 use Rattle.expects.specs.Expect.{by_name}
 use Rattle.expects.specs.Turn.{turns}
@@ -51,20 +47,12 @@ pub record Begins {A : Type 0} (last : Onward) (course : Status → Course)
   pub fits : FitsState state status
   pub goes : Goes p (left_of last (course status) frames)
 
--- a script or a formula, whose outcome is what there is (Tcl(n), rule 7; expr(n))
-abbrev pub course_of_made : {A : Type 0} → Made A → ℕ → Status → Course
-course_of_made (made.Script tree) levels s = run_by tree levels s
-course_of_made (made.Formula formula) levels s =
-    evaluated levels formula s (λ t value. gives value t)
-
 -- what begins, as a course
 abbrev pub course_of_next : {A : Type 0} → Next A → Status → Course
 course_of_next (next.Call words levels) s = command levels s words.items
 course_of_next (next.Says words levels) s = by_name levels s words.items
 course_of_next (next.Turn turn) s = turns (turn_of turn.value) turn.value.levels s
 course_of_next next.Again s = gives [] s
-course_of_next (next.Runs it levels) s = course_of_made it levels s
-course_of_next (next.Ends outcome) s = Ends (s, outcome_of outcome)
 
 -- what a frame did with an outcome: it gave another one, something begins, or a code is entered
 abbrev pub Unwinds : {A : Type 0} → Onward → Unwound A → List (Frame A) → State A →
@@ -81,8 +69,6 @@ more_of (next.Call words levels) = 1
 more_of (next.Says words levels) = 0
 more_of (next.Turn turn) = 0
 more_of next.Again = 0
-more_of (next.Runs it levels) = 0
-more_of (next.Ends outcome) = again_of (outcome_of outcome)
 
 -- an outcome leaves lighter frames, and where something begins, less is left that may begin
 abbrev pub Lightens : {A : Type 0} → Unwound A → List (Frame A) → State A → ℕ → ℕ → ℕ → Type 0

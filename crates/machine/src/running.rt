@@ -1,16 +1,16 @@
 //! What a session has still to do: frames, below them the code that runs, and below that what waits
 //! for this code.
 
-ghost use Rattle.std.specs.Prelude.{◌≡◌, ◌+◌, ◌*◌, ◌≤◌, ℕ, [], Some, IfOk};
+ghost use Rattle.std.specs.Prelude.{◌≡◌, ◌+◌, ◌*◌, ◌≤◌, ℕ, [], Some, IfOk, OnOk};
 ghost use Rattle.machine.specs.Frames.{Onward, left_of, onward_of, stack};
-ghost use Rattle.machine.specs.Below.{Falls, GoesOn, HasTicked, IsBack, IsBelow, IsLess, IsWhole, RunsOn, StaysDeep, TicksFirst, left_to_run, parts_of, rest_of};
+ghost use Rattle.machine.specs.Below.{Falls, GoesOn, HasTicked, IsAbove, IsBack, IsBelow, IsLess, IsOnward, IsOpen, IsWhole, RunsOn, StaysDeep, TicksFirst, left_to_run, parts_of, rest_of};
 ghost use Rattle.state.specs.Budget.{again_of};
 ghost use Rattle.state.specs.Prelude.{Status, FitsState, outcome_of};
 ghost use Rattle.steps.specs.Entered.{entered};
 ghost use Rattle.steps.specs.Run.{Awaits, IsFresh, IsValue, branches_in, places_left};
 
 use crate::frame::Frame;
-use crate::inner::{script_of, value_of};
+use crate::inner::{put_script, put_value};
 use crate::starting::Next;
 use crate::unwinding::{Unwound, unwind};
 use crate::waits::Waits;
@@ -71,7 +71,28 @@ pub enum Handed<A: Allocator> {
     Begins(Next<A>),
 }
 
+/// Where a code led.
+#[derive(Drop)]
+pub enum Led<A: Allocator> {
+    /// It is over, with this outcome.
+    Over(Outcome<A>),
+    /// The frames above it, if there are any, take this outcome next, and then the code does.
+    Has(Outcome<A>),
+    /// This begins by words of the code, which takes its outcome.
+    Begins(Next<A>),
+}
+
 impl<A: Allocator> Running<A> {
+    /// What there is waits for this code, which waits for these frames.
+    fn open(&mut self, run: Run<A>, frames: Vec<Frame<A>, A>) -> Result<(), NoMemory>
+        ensures { OnOk result (IsOpen self.old run frames self.new) }
+    {
+        let frames = mem::replace(&mut self.frames, frames);
+        let code = mem::replace(&mut self.code, Some(run));
+        self.parts.push(Part { frames, code })?;
+        Ok(())
+    }
+
     /// Ends the code, or the frames where there is no code, with this outcome: the part that waits
     /// for it goes on, where there is one.
     fn end_part(&mut self, outcome: Outcome<A>) -> Handed<A>
@@ -202,22 +223,30 @@ fn enter<A: Allocator + Copy, T: Watch<A, Running<A>, State<A>, Leaf<A, Waits<A>
     ensures watched { T.told watch.old [] watch.new }
 {
     let mut run = Run::begin(alloc, it, levels);
+    let mut frames = Vec::new(alloc);
+    let parsed = &mut running.parsed;
     match go_on(
         alloc,
         &mut run,
-        &mut running.parsed,
+        &mut frames,
+        parsed,
         state,
         Ok(value),
         watch,
     )? {
-        Handed::Begins(next) => {
-            let frames = mem::replace(&mut running.frames, Vec::new(alloc));
+        Led::Over(outcome) => Ok(Handed::Has(outcome)),
+        Led::Has(outcome) => {
+            running.open(run, frames)?;
+            watch.stands(running);
+            Ok(Handed::Has(outcome))
+        }
+        // As `open` does: a run is wide, and a call would copy it once more for each procedure.
+        Led::Begins(next) => {
+            let frames = mem::replace(&mut running.frames, frames);
             let code = mem::replace(&mut running.code, Some(run));
             running.parts.push(Part { frames, code })?;
             Ok(Handed::Begins(next))
         }
-        Handed::Has(outcome) => Ok(Handed::Has(outcome)),
-        Handed::Over(outcome) => Ok(Handed::Over(outcome)),
     }
 }
 
@@ -244,60 +273,75 @@ fn hand_down<A: Allocator + Copy, T: Watch<A, Running<A>, State<A>, Leaf<A, Wait
     let Some(run) = &mut running.code else {
         return Ok(running.end_part(outcome));
     };
-    match go_on(alloc, run, &mut running.parsed, state, outcome, watch)? {
-        Handed::Has(last) => Ok(running.end_part(last)),
-        Handed::Begins(next) => Ok(Handed::Begins(next)),
-        Handed::Over(last) => Ok(Handed::Over(last)),
+    let frames = &mut running.frames;
+    match go_on(
+        alloc,
+        run,
+        frames,
+        &mut running.parsed,
+        state,
+        outcome,
+        watch,
+    )? {
+        Led::Over(last) => Ok(running.end_part(last)),
+        Led::Has(next) => {
+            watch.stands(running);
+            Ok(Handed::Has(next))
+        }
+        Led::Begins(next) => Ok(Handed::Begins(next)),
     }
 }
 
 /// Hands an outcome to a code, up to the next command, which begins by its words, to a text, which
-/// begins by what it is read as, or to the end.
+/// is put on top of the frames as what it is read as, or to the end.
 fn go_on<A: Allocator + Copy, T: Watch<A, Running<A>, State<A>, Leaf<A, Waits<A>>>>(
     alloc: A,
     run: &mut Run<A>,
+    frames: &mut Vec<Frame<A>, A>,
     parsed: &mut Parsed<A>,
     state: &mut State<A>,
     outcome: Outcome<A>,
     watch: &mut T,
-) -> Result<Handed<A>, NoMemory>
+) -> Result<Led<A>, NoMemory>
     ensures runs { (last next : Onward) (s : Status) → FitsState state.old s →
-        Awaits last run.old next → IfOk result (λ handed.
-        RunsOn last handed run.new state.new (next s (outcome_of outcome))) }
+        stack frames.old ≡ [] → Awaits last run.old next → IfOk result (λ led.
+        RunsOn last led (stack frames.new) run.new state.new (next s (outcome_of outcome))) }
+    ensures above { IfOk result (λ led. IsAbove led (stack frames.old) (stack frames.new)) }
     ensures left { IfOk result (λ _. state.new.left ≤ state.old.left) }
-    ensures less { IfOk result (λ handed. state.new.left ≡ state.old.left →
-        left_to_run handed run.new
-        ≤ again_of (outcome_of outcome) + 2 * places_left run.old) }
-    ensures first { (said : ℕ) → IsFresh said run.old → IsValue outcome → IfOk result (λ handed.
-        state.new.left ≡ state.old.left → TicksFirst said handed run.new) }
+    ensures less { IfOk result (λ led. state.new.left ≡ state.old.left →
+        left_to_run led run.new ≤ again_of (outcome_of outcome) + 2 * places_left run.old) }
+    ensures onward { IfOk result (λ led. state.new.left ≡ state.old.left →
+        IsOnward led run.old run.new) }
+    ensures first { (said : ℕ) → IsFresh said run.old → IsValue outcome → IfOk result (λ led.
+        state.new.left ≡ state.old.left → TicksFirst said led run.new) }
     ensures watched { T.told watch.old [] watch.new }
 {
     match run.go_on(alloc, state, outcome)? {
         Progress::Begins => {
             let words = mem::replace(&mut run.spot.words, Vec::new(alloc));
-            Ok(Handed::Begins(Next::Call(words, run.spot.levels)))
+            Ok(Led::Begins(Next::Call(words, run.spot.levels)))
         }
         Progress::Says => {
             let words = mem::replace(&mut run.spot.words, Vec::new(alloc));
             watch.says(words.as_slice());
-            Ok(Handed::Begins(Next::Says(words, run.spot.levels)))
+            Ok(Led::Begins(Next::Says(words, run.spot.levels)))
         }
         Progress::Runs => {
             let words = run.spot.words.as_slice();
-            let next = script_of(&mut parsed.scripts, words, run.spot.levels)?;
-            Ok(Handed::Begins(next))
+            let kept = &mut parsed.scripts;
+            Ok(Led::Has(put_script(kept, frames, words, run.spot.levels)?))
         }
         Progress::Evaluates => {
             let words = run.spot.words.as_slice();
-            let next = value_of(alloc, &mut parsed.formulas, words, run.spot.levels)?;
-            Ok(Handed::Begins(next))
+            let kept = &mut parsed.formulas;
+            Ok(Led::Has(put_value(alloc, kept, frames, words, run.spot.levels)?))
         }
         Progress::Over => {
             let outcome = mem::replace(&mut run.spot.outcome, Ok(Value::empty()));
             watch.ends(&run.code, run.spot.place, &parsed.scripts, &outcome);
-            Ok(Handed::Has(outcome))
+            Ok(Led::Over(outcome))
         }
         // It never stops otherwise: no code lacks an operand.
-        _ => Ok(Handed::Has(Ok(Value::empty()))),
+        _ => Ok(Led::Over(Ok(Value::empty()))),
     }
 }

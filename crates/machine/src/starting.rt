@@ -30,7 +30,6 @@ use crate::turns::{say, take_turn, wait};
 use crate::waits::{Waits, plainly};
 use crate::watch::Watch;
 use acts::NoMemory;
-use code::{Entry, Made};
 use commands::{Acting, Began};
 use control::{Control, Held};
 use expects::form::Form;
@@ -53,10 +52,6 @@ pub enum Next<A: Allocator> {
     Turn(Box<Turn<A>, A>),
     /// The script on the stack, which a command runs again after a tick.
     Again,
-    /// What a text is read as, and how many levels may still nest in it.
-    Runs(Made<A>, u8),
-    /// An outcome.
-    Ends(Outcome<A>),
 }
 
 /// What may ask for acts, once all else about it is done.
@@ -128,11 +123,6 @@ fn begin_next<A: Allocator + Copy, T: Watch<A, Running<A>, State<A>, Leaf<A, Wai
         Next::Says(words, levels) => Ok(give(words, levels)),
         Next::Turn(turn) => Ok(Begun::Asks(Asking::Turn(turn))),
         Next::Again => Ok(Begun::Has(Ok(Value::empty()))),
-        Next::Runs(it, levels) => {
-            Frame::Code(Entry::Made(it), levels).push(frames)?;
-            Ok(Begun::Has(Ok(Value::empty())))
-        }
-        Next::Ends(outcome) => Ok(Begun::Has(outcome)),
     }
 }
 

@@ -1,7 +1,7 @@
 use Rattle.std.proofs.Common.{ap}
 use Rattle.machine.specs.Frames.{stack}
 use Rattle.machine.specs.Phases.{course_of_next}
-use Rattle.machine.proofs.Machines.{begun_from, leads_from, made_leads, nothing_leads, on_ok}
+use Rattle.machine.proofs.Machines.{begun_from, leads_from, nothing_leads, on_ok}
 use Rattle.machine.proofs.Silent.{same_left}
 use Rattle.machine.proofs.starting.begin_next.Goals as goal
 
@@ -33,18 +33,3 @@ returns-in-Says-clause-begins g c = λ last s fits.
     (same_left last (stack c.args.frames.now) (ap (λ n. course_of_next n s) c.in-Says.is))
     c.give.result
     (c.give.ensures.begins (stack c.args.frames.now) c.args.state.now last s fits)
-
-pub returns-in_ok-push-in-Runs-clause-begins : goal.returns-in_ok-push-in-Runs-clause-begins
-returns-in_ok-push-in-Runs-clause-begins g c = λ last s fits.
-    let frames = stack c.args.frames.now in
-    leads_from last (stack c.push.new.frames) c.args.state.now
-    (same_left last frames (ap (λ n. course_of_next n s) c.in-Runs.is))
-    (made_leads last frames (stack c.push.new.frames) c.in-Runs.it c.in-Runs.levels
-    c.empty-in-Runs.result s c.args.state.now c.empty-in-Runs.ensures c.in_ok-push-in-Runs.ensures fits)
-
-pub returns-in-Ends-clause-begins : goal.returns-in-Ends-clause-begins
-returns-in-Ends-clause-begins g c = λ last s fits. record {
-  status = s;
-  fits = fits;
-  goes = same_left last (stack c.args.frames.now) (ap (λ n. course_of_next n s) c.in-Ends.is);
-}
