@@ -4,7 +4,7 @@
 # make install  puts both, their man pages, documents and examples under PREFIX (PREFIX=/usr/local DESTDIR=)
 # make uninstall  removes what make install put there
 # make deb      makes a Debian package of out/rx and all that make install puts in place: out/rx_*.deb
-# make test     the gate: every proof from nothing, the must-fail edits, the tests and the programs
+# make test     the gate: every proof from nothing, the must-fail edits, the tests and the programs (JOBS=N at once)
 # Beside the gate:
 # make house    rules of this repository that the prover does not know, its links and its tables of
 #               commands, in a moment
@@ -86,8 +86,11 @@ uninstall:
 deb:
 	tools/deb
 
+# rt reckons with two to three times the memory that a proof takes, and so would leave processors idle: as many
+# proofs run at once as there are processors, where each has 5 GB.
+JOBS ?= $(shell awk -v of=$$(nproc) '/^MemTotal/ { n = int($$2 / 5000000) } END { print n < 1 ? 1 : n < of ? n : of }' /proc/meminfo)
 test:
-	rt ci
+	RT_JOBS=$(JOBS) rt ci
 
 house:
 	tools/house
