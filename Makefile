@@ -86,7 +86,7 @@ uninstall:
 deb:
 	tools/deb
 
-# rt reckons with two to three times the memory that a proof takes, and so would leave processors idle: as many
+# rt reckons with up to three times the memory that a proof takes, and so would leave processors idle: as many
 # proofs run at once as there are processors, where each has 5 GB.
 JOBS ?= $(shell awk -v of=$$(nproc) '/^MemTotal/ { n = int($$2 / 5000000) } END { print n < 1 ? 1 : n < of ? n : of }' /proc/meminfo)
 test:
