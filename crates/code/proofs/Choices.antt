@@ -1,5 +1,5 @@
 -- The code of switch.
-use Rattle.std.proofs.Common.{◌≡◌, ◌∙◌, ℕ, ◌+◌, ◌-◌, ◌<◌, ◌≤◌, Bool, true, false, List, [], ◌∷◌, ◌++◌, codes, length, drop, take, get_or, refl, sym, ap, subst, arith}
+use Rattle.std.proofs.Common.{◌≡◌, ◌∙◌, ℕ, ◌+◌, ◌<◌, Bool, true, false, List, [], ◌∷◌, ◌++◌, codes, length, refl, sym, ap, subst, arith}
 use Rattle.std.specs.Prelude.{◌==◌, ◌&&◌, Vec, slice_set}
 use Rattle.std.proofs.lemmas.Bool.{ne_eqb}
 use Rattle.std.proofs.lemmas.Slice.Eq.{bytes_eq-Decides}
@@ -12,19 +12,8 @@ use Rattle.code.specs.declared.instruction.Instruction.TheVariants as i
 use Rattle.code.specs.declared.options.Options.{Options}
 use Rattle.code.proofs.Built.{extended, kept_on, longer, onward, stands}
 use Rattle.code.proofs.Forks.{filled_length, forked, second_begins}
-use Rattle.code.proofs.Literals.{behind_two}
 use Rattle.code.proofs.Sequences.{filled_then}
 use Rattle.tclparse.specs.Tree.{Parts}
-
--- a pattern, its body, and those that are left
-pub arms_are : (arms : List (List ℕ)) (pattern body : List ℕ) → 2 ≤ length arms →
-    pattern ≡ get_or arms 0 pattern → body ≡ get_or arms 1 body →
-    arms ≡ pattern ∷ body ∷ take (length arms - 2) (drop 2 arms)
-arms_are [] pattern body two first second = absurd (omega arith)
-arms_are (a ∷ []) pattern body two first second = absurd (omega arith)
-arms_are (a ∷ b ∷ more) pattern body two first second =
-    ap (λ p. p ∷ b ∷ more) (sym first) ∙ ap (λ b. pattern ∷ b ∷ more) (sym second)
-    ∙ ap (λ rest. pattern ∷ body ∷ rest) (sym (behind_two a b more))
 
 -- two tests that hold
 both : (a b : Bool) → (a && b) ≡ true → (a ≡ true) × (b ≡ true)

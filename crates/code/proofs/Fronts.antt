@@ -1,53 +1,42 @@
--- The words of if, read from left to right.
-use Rattle.std.proofs.Common.{◌≡◌, ℕ, ◌-◌, ◌<◌, ◌≤◌, List, [], ◌∷◌, length, drop, take, get_or, Option, Some, None, IfSome, codes, sym, subst}
-use Rattle.std.specs.Borrow.{Bor}
-use Rattle.code.specs.Code.{with_then}
-use Rattle.code.specs.Conditional.{Are, IsAfter, IsConditional, IsFront, IsLiteral, goes_on}
-use Rattle.code.specs.declared.branches.Front.{Front}
-use Rattle.code.specs.declared.conditional.Conditional.{Conditional}
-use Rattle.code.proofs.Literals.{first_literal, only_literal, two_literals}
-use Rattle.tclparse.specs.declared.tree.Word.{Word}
+-- Lists by the elements at their front, as the code takes them apart.
+use Rattle.std.proofs.Common.{◌≡◌, ◌∙◌, ◌-◌, ◌<◌, ◌≤◌, List, [], ◌∷◌, length, drop, take, get_or, refl, sym, ap, arith}
+use Rattle.std.proofs.Math.Seq.{take-length}
 
-module _ {A : Type 0} where
-  -- the only word, where it is a literal
-  pub alone_literal : (ws : List (Word A)) (w : Word A) (text : Option (Bor (List ℕ))) →
-      1 ≤ length ws → length ws < 2 → w ≡ get_or ws 0 w → IfSome text (λ t. IsLiteral w t.now) →
-      IfSome text (λ t. Are ws (t.now ∷ []))
-  alone_literal ws w None one two first is = is
-  alone_literal ws w (Some t) one two first is = only_literal ws w t.now one two first is
+module _ {X : Type 0} where
+  -- the rest of a list after one element, and after two
+  pub behind_one : (x : X) (more : List X) →
+      take (length (x ∷ more) - 1) (drop 1 (x ∷ more)) ≡ more
+  behind_one x more =
+      let n : length (x ∷ more) - 1 ≡ length more = omega arith in rw n (take-length more)
 
-  -- a test, the word then, and what is at the front of the words after that
-  pub then_front : (ws : List (Word A)) (v w : Word A) (test : List ℕ)
-      (found : Option (Front A)) → 2 ≤ length ws → v ≡ get_or ws 0 v → w ≡ get_or ws 1 w →
-      IsLiteral v test → IsLiteral w (codes "then") →
-      IfSome found (λ front. (front.test.now ≡ test) ×
-      ((behind : List (List ℕ)) → Are front.behind.now behind →
-      Are (take (length ws - 2) (drop 2 ws)) (front.body.now ∷ behind))) →
-      IfSome found (λ front. IsFront ws front)
-  then_front ws v w test None two first second is named after = after
-  then_front ws v w test (Some front) two first second is named after = λ behind are. (
-    front.test.now ∷ codes "then" ∷ front.body.now ∷ behind,
-    two_literals ws v w front.test.now (codes "then") (front.body.now ∷ behind) two first second
-        (subst (λ t. IsLiteral v t) (sym after.0) is) named (after.1 behind are),
-    with_then,
-  )
+  pub behind_two : (x y : X) (more : List X) →
+      take (length (x ∷ y ∷ more) - 2) (drop 2 (x ∷ y ∷ more)) ≡ more
+  behind_two x y more =
+      let n : length (x ∷ y ∷ more) - 2 ≡ length more = omega arith in rw n (take-length more)
 
-  -- elseif, and branches
-  pub else_if_read : (ws more : List (Word A)) (read : Option (Conditional A)) →
-      ((args : List (List ℕ)) → Are more args → Are ws (codes "elseif" ∷ args)) →
-      IfSome read (λ it. (args : List (List ℕ)) × Are more args × IsConditional it args) →
-      IfSome read (λ it. (args : List (List ℕ)) × Are ws args × IsAfter it args)
-  else_if_read ws more None before is = is
-  else_if_read ws more (Some it) before is =
-      (codes "elseif" ∷ is.0, before is.0 is.1, goes_on is.2)
+  -- one element and more, and two and more
+  pub one_first : (xs : List X) (x : X) → 1 ≤ length xs → x ≡ get_or xs 0 x →
+      xs ≡ x ∷ take (length xs - 1) (drop 1 xs)
+  one_first [] x one first = absurd (omega arith)
+  one_first (a ∷ xs) x one first =
+      ap (λ v. v ∷ xs) (sym first) ∙ ap (λ rest. x ∷ rest) (sym (behind_one a xs))
 
-  -- the name of the command, and branches
-  pub if_read : (ws : List (Word A)) (w : Word A) (read : Option (Conditional A)) →
-      1 ≤ length ws → w ≡ get_or ws 0 w → IsLiteral w (codes "if") →
-      IfSome read (λ it. (args : List (List ℕ)) ×
-      Are (take (length ws - 1) (drop 1 ws)) args × IsConditional it args) →
-      IfSome read (λ it. (args : List (List ℕ)) × Are ws (codes "if" ∷ args) ×
-      IsConditional it args)
-  if_read ws w None one first named is = is
-  if_read ws w (Some it) one first named is =
-      (is.0, first_literal ws w (codes "if") is.0 one first named is.1, is.2)
+  pub two_first : (xs : List X) (x y : X) → 2 ≤ length xs → x ≡ get_or xs 0 x →
+      y ≡ get_or xs 1 y → xs ≡ x ∷ y ∷ take (length xs - 2) (drop 2 xs)
+  two_first [] x y two first second = absurd (omega arith)
+  two_first (a ∷ []) x y two first second = absurd (omega arith)
+  two_first (a ∷ b ∷ xs) x y two first second =
+      ap (λ v. v ∷ b ∷ xs) (sym first) ∙ ap (λ v. x ∷ v ∷ xs) (sym second)
+      ∙ ap (λ rest. x ∷ y ∷ rest) (sym (behind_two a b xs))
+
+  -- one element alone
+  pub one_alone : (xs : List X) (x : X) → 1 ≤ length xs → length xs < 2 → x ≡ get_or xs 0 x →
+      xs ≡ x ∷ []
+  one_alone [] x one two first = absurd (omega (arith, one))
+  one_alone (a ∷ []) x one two first = ap (λ v. v ∷ []) (sym first)
+  one_alone (a ∷ b ∷ xs) x one two first = absurd (omega (arith, two))
+
+  pub alone : (xs : List X) → 1 ≤ length xs → length xs < 2 → (x : X) × (xs ≡ x ∷ [])
+  alone [] one two = absurd (omega (arith, one))
+  alone (x ∷ []) one two = (x, refl)
+  alone (x ∷ y ∷ xs) one two = absurd (omega (arith, two))

@@ -2,7 +2,7 @@
 use Rattle.std.proofs.Common.{◌≡◌, ◌∙◌, ℕ, ◌≤◌, ◌<◌, true, false, List, [], ◌∷◌, ◌++◌, length, get_or, sym, ap, subst, arith}
 use Rattle.code.specs.Blocks.{IsReal, OwnBlock, PartsBlock}
 use Rattle.code.specs.Code.{CommandAt, IsDirect, adds_last, appends_last, direct, increments_last, returns_last, sets_last}
-use Rattle.code.specs.Conditional.{IsLiteral}
+use Rattle.code.specs.Literals.{IsLiteral}
 use Rattle.code.specs.declared.instruction.Instruction.{Instruction}
 use Rattle.code.proofs.Built.{extended, kept_on, longer, onward, stands}
 use Rattle.tclparse.proofs.Trees.{view_Word}

@@ -6,8 +6,9 @@ pub mod Commands
 pub mod LastWords
 pub mod Scripts
 pub mod Formulas
-pub mod Literals
 pub mod Fronts
+pub mod Branching
+pub mod Literals
 pub mod Inners
 pub mod Conditionals
 pub mod Turns

@@ -1,12 +1,15 @@
 -- A command that has code of its own.
-use Rattle.std.proofs.Common.{◌≡◌, ℕ, ◌+◌, false, true, List, [], ◌∷◌, ◌++◌, codes, length, Some, sym, subst}
-use Rattle.std.specs.Prelude.{slice_set}
+use Rattle.std.proofs.Common.{◌≡◌, ◌∙◌, ℕ, ◌+◌, false, true, List, [], ◌∷◌, ◌++◌, codes, length, Option, Some, None, IfSome, sym, ap, subst}
+use Rattle.std.proofs.lemmas.Slice.Eq.{bytes_eq-Decides}
+use Rattle.std.specs.Prelude.{IsSomeAnd, MatchOption, slice_set}
+use Rattle.std.specs.Str.{bytes_eq}
 use Rattle.code.specs.Blocks.{BranchesBlock, ItsBlock, OwnBlock, TurnsBlock, WordsBlock}
 use Rattle.code.specs.Code.{At, CommandAt, HasFormula, OwnAt, TurnsAt, WordsAt, conditional, own, while_loop}
-use Rattle.code.specs.Conditional.{IsConditional}
+use Rattle.code.specs.Branching.{branches_of}
+use Rattle.code.specs.Literals.{Are}
 use Rattle.code.specs.Own.{IsOwn, name_of}
 use Rattle.code.specs.Repeat.{for_args}
-use Rattle.code.specs.declared.conditional.Conditional.{Conditional}
+use Rattle.code.specs.declared.branches.Branches.{Branches}
 use Rattle.code.specs.declared.instruction.Instruction.{Instruction}
 use Rattle.code.specs.declared.instruction.Instruction.TheVariants as i
 use Rattle.code.specs.declared.own.Own.{Own}
@@ -16,8 +19,34 @@ use Rattle.code.specs.declared.repeat.Turns.{Turns}
 use Rattle.code.proofs.Built.{longer}
 use Rattle.code.proofs.Forks.{filled_length, forked, second_begins}
 use Rattle.tclparse.specs.Tree.{Words, literals}
+use Rattle.tclparse.specs.declared.tree.Word.{Word}
 
 module _ {A : Type 0} where
+  -- a command of this name, by what the words after that are read as
+  pub read_by_name : {X : Type 0} (make : X → Own A) (known name : List ℕ)
+      (texts args : List (List ℕ)) (read : Option X) (made : Option (Own A)) →
+      ((it : X) → name_of (make it) ≡ known) → bytes_eq name known ≡ true → texts ≡ name ∷ args →
+      IfSome read (λ it. IsOwn (make it) args) →
+      MatchOption read (made ≡ None) (λ it. IsSomeAnd made (λ o. o ≡ make it)) →
+      IfSome made (λ it. (args : List (List ℕ)) × (texts ≡ name_of it ∷ args) × IsOwn it args)
+  read_by_name make known name texts args read None named same are is made = tt
+  read_by_name make known name texts args None (Some known_it) named same are is made = absurd cc
+  read_by_name make known name texts args (Some it) (Some known_it) named same are is made = (
+    args,
+    are ∙ ap (λ n. n ∷ args) ((bytes_eq-Decides name known).0 same ∙ sym (named it)
+        ∙ ap (λ o. name_of o) (sym made)),
+    subst (λ o. IsOwn o args) (sym made) is,
+  )
+
+  -- words that are these texts
+  pub read_of_literals : (ws : List (Word A)) (texts : List (List ℕ)) (read : Option (Own A)) →
+      Are ws texts →
+      IfSome read (λ it. (args : List (List ℕ)) × (texts ≡ name_of it ∷ args) × IsOwn it args) →
+      IfSome read (λ it. (args : List (List ℕ)) × Are ws (name_of it ∷ args) × IsOwn it args)
+  read_of_literals ws texts None are is = is
+  read_of_literals ws texts (Some known_it) are is =
+      (is.0, subst (λ them. Are ws them) is.1 are, is.2)
+
   -- the words of a command, for where a procedure hides it, and then its own code
   pub own_block : (old hole one two filled_one all new : List (Instruction A))
       (name known : List ℕ) (args : List (List ℕ)) (ws : Words) → name ≡ known →
@@ -52,15 +81,14 @@ module _ {A : Type 0} where
       }
 
   -- what if does
-  pub if_block : (old new : List (Instruction A)) (known : Own A) (it : Conditional A) →
-      known ≡ read.If it →
-      ((args : List (List ℕ)) → IsConditional it args → BranchesBlock old new args) →
+  pub if_block : (old new : List (Instruction A)) (known : Own A) (it : Branches A) →
+      known ≡ read.If it → BranchesBlock old new (branches_of it).tests it.otherwise →
       (args : List (List ℕ)) → IsOwn known args → ItsBlock (name_of known) old new args
-  if_block old new known it is block args read_as =
+  if_block old new known it is put args read_as =
       subst (λ o. IsOwn o args → ItsBlock (name_of o) old new args) (sym is)
-      (λ r. let put = block args r in record {
+      (λ r. record {
         extends = put.extends;
-        lies = λ later kept. conditional (put.lies later kept);
+        lies = λ later kept. conditional {found = branches_of it} r (put.lies later kept);
       }) read_as
 
   -- what while does

@@ -3,7 +3,7 @@ use Rattle.std.proofs.Common.{◌≡◌, ◌∙◌, ℕ, ◌+◌, ◌<◌, false
 use Rattle.std.proofs.lemmas.List.{append-nil}
 use Rattle.std.proofs.lemmas.Slice.Eq.{bytes_eq-Decides}
 use Rattle.std.specs.Str.{bytes_eq}
-use Rattle.code.specs.Conditional.{Are, IsLiteral}
+use Rattle.code.specs.Literals.{Are, IsLiteral}
 use Rattle.code.proofs.Places.{word_at}
 use Rattle.tclparse.specs.Tree.{Words, bytes_then, no_parts, no_words, word, texts_then}
 use Rattle.tclparse.specs.View.{words_then}

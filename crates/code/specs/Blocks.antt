@@ -1,6 +1,7 @@
 -- What a call puts after the code that stands there already.
 use Rattle.std.specs.Prelude.{⊤, ◌≡◌, ℕ, ◌+◌, Bool, true, false, List, Option, length}
-use Rattle.code.specs.Code.{At, JoinsAt, PartsAt, WordsAt, CommandAt, CommandsAt, ScriptAt, BranchesAt, BehindAt, BodyAt, ExpressionAt, OwnAt, TurnsAt, StepAt, AssignsAt, NextAt, DealAt, ForeachAt, RestAt, ArmsAt, SwitchAt, FormulaAt, LinksAt, ArgumentsAt, TakenAt}
+use Rattle.code.specs.Branches.{Branch}
+use Rattle.code.specs.Code.{At, JoinsAt, PartsAt, WordsAt, CommandAt, CommandsAt, ScriptAt, BranchesAt, BodyAt, ExpressionAt, OwnAt, TurnsAt, StepAt, AssignsAt, NextAt, DealAt, ForeachAt, RestAt, ArmsAt, SwitchAt, FormulaAt, LinksAt, ArgumentsAt, TakenAt}
 use Rattle.code.specs.declared.instruction.Instruction.{Instruction}
 use Rattle.code.specs.declared.instruction.Instruction.TheVariants as i
 use Rattle.code.specs.declared.options.Options.{Options}
@@ -89,16 +90,11 @@ abbrev pub ScriptBlock : {A : Type 0} → List (Instruction A) → List (Instruc
 ScriptBlock old new cs f = Block old new (λ later.
     ScriptAt later (length old) cs f (length new))
 
--- the words after if
+-- branches, and the last body, if there is one
 abbrev pub BranchesBlock : {A : Type 0} → List (Instruction A) → List (Instruction A) →
-    List (List ℕ) → Type 0
-BranchesBlock old new args = Block old new (λ later.
-    BranchesAt later (length old) args (length new))
-
--- the words after a body
-abbrev pub BehindBlock : {A : Type 0} → List (Instruction A) → List (Instruction A) →
-    List (List ℕ) → Type 0
-BehindBlock old new args = Block old new (λ later. BehindAt later (length old) args (length new))
+    List Branch → Option (List ℕ) → Type 0
+BranchesBlock old new tests otherwise = Block old new (λ later.
+    BranchesAt later (length old) tests otherwise (length new))
 
 -- a body
 abbrev pub BodyBlock : {A : Type 0} → List (Instruction A) → List (Instruction A) → List ℕ →

@@ -3,6 +3,7 @@ use Rattle.std.specs.Prelude.{◌≡◌, ℕ, ◌+◌, ◌<◌, Bool, true, fals
 use Rattle.std.specs.List.{list_all}
 use Rattle.std.specs.Str.{bytes_eq}
 use Rattle.code.specs.Argument.{is_braced, takes_branches}
+use Rattle.code.specs.Branches.{Branch, Branches, branches}
 use Rattle.code.specs.declared.instruction.Instruction.{Instruction}
 use Rattle.code.specs.declared.instruction.Instruction.TheVariants as i
 use Rattle.code.specs.declared.options.Options.{Options}
@@ -39,19 +40,6 @@ pub data FaultAt {A : Type 0} (code : List (Instruction A)) : Option Fault → �
   none : {place : ℕ} → FaultAt code None place place
   fault : {place : ℕ} {fault : read.Fault} → At code place (i.Fault fault) →
       FaultAt code (Some (fault_of fault)) place (place + 1)
-
--- a test and a body, with the word then between them or without, and the words after the body
--- (if(n))
-pub data IsBranch (test body : List ℕ) (behind : List (List ℕ)) : List (List ℕ) → Type 0 where
-  without_then : bytes_eq body (codes "then") ≡ false →
-      IsBranch test body behind (test ∷ body ∷ behind)
-  with_then : IsBranch test body behind (test ∷ codes "then" ∷ body ∷ behind)
-
--- the last body, with the word else before it or without (if(n))
-pub data IsLast (body : List ℕ) : List (List ℕ) → Type 0 where
-  with_else : IsLast body (codes "else" ∷ body ∷ [])
-  without_else : bytes_eq body (codes "elseif") ≡ false → bytes_eq body (codes "else") ≡ false →
-      IsLast body (body ∷ [])
 
 -- a word of variables is this list, of at least one, each of which names a variable (foreach(n);
 -- set(n))
@@ -210,7 +198,8 @@ mutual
   -- for(n); eval(n); concat(n); catch(n); expr(n); expect(1), expect)
   pub data OwnAt {A : Type 0} (code : List (Instruction A)) :
       List ℕ → ℕ → List (List ℕ) → ℕ → Type 0 where
-    conditional : {place end : ℕ} {args : List (List ℕ)} → BranchesAt code place args end →
+    conditional : {place end : ℕ} {args : List (List ℕ)} {found : Branches} →
+        branches args ≡ Some found → BranchesAt code place found.tests found.otherwise end →
         OwnAt code (codes "if") place args end
     while_loop : {place end : ℕ} {test body : List ℕ} → TurnsAt code place test None body end →
         OwnAt code (codes "while") place (test ∷ body ∷ []) end
@@ -308,24 +297,19 @@ mutual
         RestAt code globs (jump + 1) more end →
         ArmsAt code globs place (place + 1) (pattern ∷ body ∷ more) end
 
-  -- a test, a body that runs where it holds, and what is done where it does not (if(n))
+  -- the branches that are left: a test, its body, which runs where it holds, a jump past all of them,
+  -- and what is left where it does not hold; and then the last body, or the empty value where there
+  -- is none (if(n))
   pub data BranchesAt {A : Type 0} (code : List (Instruction A)) :
-      ℕ → List (List ℕ) → ℕ → Type 0 where
-    branch : {place unless jump end : ℕ} {test body : List ℕ} {behind args : List (List ℕ)} →
-        IsBranch test body behind args → ExpressionAt code place test unless →
-        At code unless (i.Unless (jump + 1)) → BodyAt code (unless + 1) body jump →
-        At code jump (i.Jump end) → BehindAt code (jump + 1) behind end →
-        BranchesAt code place args end
-
-  -- the words after a body: none, where the value is empty, or those of the last body, or elseif
-  -- and a further branch (if(n))
-  pub data BehindAt {A : Type 0} (code : List (Instruction A)) :
-      ℕ → List (List ℕ) → ℕ → Type 0 where
-    no_else : {place : ℕ} → At code place (i.Text []) → BehindAt code place [] (place + 1)
-    at_last : {place end : ℕ} {body : List ℕ} {args : List (List ℕ)} → IsLast body args →
-        BodyAt code place body end → BehindAt code place args end
-    else_if : {place end : ℕ} {args : List (List ℕ)} → BranchesAt code place args end →
-        BehindAt code place (codes "elseif" ∷ args) end
+      ℕ → List Branch → Option (List ℕ) → ℕ → Type 0 where
+    no_else : {place : ℕ} → At code place (i.Text []) → BranchesAt code place [] None (place + 1)
+    at_last : {place end : ℕ} {body : List ℕ} → BodyAt code place body end →
+        BranchesAt code place [] (Some body) end
+    branch : {place unless jump end : ℕ} {it : Branch} {more : List Branch}
+        {otherwise : Option (List ℕ)} → ExpressionAt code place it.test unless →
+        At code unless (i.Unless (jump + 1)) → BodyAt code (unless + 1) it.body jump →
+        At code jump (i.Jump end) → BranchesAt code (jump + 1) more otherwise end →
+        BranchesAt code place (it ∷ more) otherwise end
 
   -- a text that runs as a script, one level deeper: what it is read as stands here, or the text
   -- itself, which is read when it runs (Tcl(n), rule 7)

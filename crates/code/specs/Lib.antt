@@ -1,7 +1,9 @@
 pub mod Switch
 pub mod Code
 pub mod Blocks
-pub mod Conditional
+pub mod Branches
+pub mod Branching
+pub mod Literals
 pub mod Repeat
 pub mod Argument
 pub mod Own

@@ -1,11 +1,20 @@
 -- What the words of a command that has code of its own are kept as.
-use Rattle.std.specs.Prelude.{◌≡◌, ℕ, List, [], ◌∷◌, codes, None, Some}
+use Rattle.std.specs.Prelude.{◌≡◌, ℕ, ◌||◌, Bool, List, [], ◌∷◌, codes, None, Some}
+use Rattle.std.specs.Str.{bytes_eq}
+use Rattle.code.specs.Branches.{branches}
+use Rattle.code.specs.Branching.{branches_of}
 use Rattle.code.specs.Code.{HasFormula, IsTaker}
-use Rattle.code.specs.Conditional.{IsConditional}
 use Rattle.code.specs.Repeat.{for_args}
 use Rattle.code.specs.declared.own.Own.{Own}
 use Rattle.code.specs.declared.own.Own.TheVariants as own
 use Rattle.pure.specs.Concat.{concatenated}
+
+-- whether a command of this name may have code of its own (this project's own rule)
+abbrev pub has_own : List ℕ → Bool
+has_own name =
+    bytes_eq name (codes "if") || (bytes_eq name (codes "while") || (bytes_eq name (codes "for")
+    || (bytes_eq name (codes "eval") || (bytes_eq name (codes "catch")
+    || bytes_eq name (codes "expr")))))
 
 -- the name of the command
 abbrev pub name_of : {A : Type 0} → Own A → List ℕ
@@ -19,7 +28,7 @@ name_of (own.Expr joined) = codes "expr"
 -- it is what the words after the name are kept as; of eval and of expr, their only word without the
 -- white space at its ends (if(n); while(n); for(n); eval(n); concat(n); catch(n); expr(n))
 abbrev pub IsOwn : {A : Type 0} → Own A → List (List ℕ) → Type 0
-IsOwn (own.If it) args = IsConditional it args
+IsOwn (own.If it) args = branches args ≡ Some (branches_of it)
 IsOwn (own.While it) args =
     (it.step ≡ None) × HasFormula it.test × (args ≡ it.test ∷ it.body ∷ [])
 IsOwn (own.For it) args =

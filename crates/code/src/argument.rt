@@ -5,7 +5,7 @@ ghost use Rattle.std.specs.Prelude.{◌≡◌, [], ◌∷◌, ℕ, List, true, I
 ghost use Rattle.code.specs.Argument as definition;
 ghost use Rattle.code.specs.Argument.{IsArgued};
 ghost use Rattle.code.specs.Blocks.{ItsBlock, OwnBlock};
-ghost use Rattle.code.specs.Conditional.{Are};
+ghost use Rattle.code.specs.Literals.{Are};
 ghost use Rattle.tclparse.specs.Tree.{no_words};
 ghost use Rattle.tclparse.specs.View.{words_then};
 

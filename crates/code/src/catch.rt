@@ -1,17 +1,15 @@
-//! The code of `catch` whose words are literals (catch(n)).
+//! The code of `catch` whose words are texts (catch(n)).
 
-ghost use Rattle.std.specs.Prelude.{◌≡◌, ◌∷◌, ℕ, List, codes, option_copied, IfOk, IfSome, OnOk};
+ghost use Rattle.std.specs.Prelude.{◌≡◌, ◌∷◌, ℕ, List, codes, IfOk, IfSome, OnOk};
 ghost use Rattle.code.specs.Blocks.{ItsBlock, TakenBlock};
 ghost use Rattle.code.specs.Code.{IsTaker};
-ghost use Rattle.code.specs.Conditional.{Are};
 
 use crate::formula::fill;
 use crate::instruction::Instruction;
-use crate::literal::first_of;
 use crate::nest::Nest;
 use memory::NoMemory;
 use std::alloc::Allocator;
-use tclparse::{Word, variable_name};
+use tclparse::variable_name;
 use tcltext::Value;
 
 /// A `catch`: its script, and the variable that takes the value that it ends with, if there is one.
@@ -21,76 +19,31 @@ pub(crate) struct Catch<A: Allocator> {
     variable: Option<Value<A>>,
 }
 
-/// The words after `catch`.
-#[derive(Clone, Copy)]
-struct CatchWords<'a> {
-    script: &'a [u8],
-    variable: Option<&'a [u8]>,
-}
-
 /// The variable that the words after the script name, if there is one; `None` where they are
 /// neither that nor none.
-fn variable_of<A: Allocator>(words: &[Word<A>]) -> Option<Option<&[u8]>>
-    ensures { IfSome result (λ variable. (more : List (List ℕ)) × Are words.now more ×
-        IsTaker (option_copied variable) more) }
+fn variable_of<A: Allocator>(words: &[Value<A>]) -> Result<Option<Option<Value<A>>>, NoMemory>
+    ensures { IfOk result (λ read. IfSome read (λ variable. IsTaker variable words.now)) }
 {
-    if words.is_empty() {
-        return Some(None);
-    }
-    let word = first_of(words)?;
-    if variable_name(word.text).is_ok() && word.rest.is_empty() {
-        Some(Some(word.text))
-    } else {
-        None
+    match words {
+        [] => Ok(Some(None)),
+        [name] if variable_name(name.as_slice()).is_ok() => Ok(Some(Some(name.share()?))),
+        _ => Ok(None),
     }
 }
 
-/// The words after `catch`, where they are literals.
-fn catch_words<A: Allocator>(words: &[Word<A>]) -> Option<CatchWords<'_>>
-    ensures { IfSome result (λ found. (more : List (List ℕ)) ×
-        Are words.now (codes "catch" ∷ found.script.now ∷ more) ×
-        IsTaker (option_copied found.variable) more) }
-{
-    let name = first_of(words)?;
-    let script = first_of(name.rest)?;
-    let variable = variable_of(script.rest)?;
-    if name.text == b"catch".as_slice() {
-        Some(CatchWords {
-            script: script.text,
-            variable,
-        })
-    } else {
-        None
-    }
-}
-
-/// The name of a variable, if there is one, as a value.
-fn value_of<A: Allocator + Copy>(
-    alloc: A,
-    name: Option<&[u8]>,
-) -> Result<Option<Value<A>>, NoMemory>
-    ensures { IfOk result (λ value. value ≡ option_copied name.entry) }
-{
-    match name {
-        Some(name) => Ok(Some(Value::from_slice(alloc, name)?)),
-        None => Ok(None),
-    }
-}
-
-/// Reads the words of a command as those of `catch`. `None` where they are not that, where one of
-/// them is no literal, or where the last one names no variable.
-pub(crate) fn read_catch<A: Allocator + Copy>(
-    alloc: A,
-    words: &[Word<A>],
-) -> Result<Option<Catch<A>>, NoMemory>
+/// Reads the words after `catch`. `None` where they are not a script, or where the word after that
+/// names no variable.
+pub(crate) fn read_catch<A: Allocator>(args: &[Value<A>]) -> Result<Option<Catch<A>>, NoMemory>
     ensures { IfOk result (λ read. IfSome read (λ own. (more : List (List ℕ)) ×
-        Are words.now (codes "catch" ∷ own.body ∷ more) × IsTaker own.variable more)) }
+        IsTaker own.variable more × (args.now ≡ own.body ∷ more))) }
 {
-    let Some(found) = catch_words(words) else {
+    let [script, more @ ..] = args else {
         return Ok(None);
     };
-    let body = Value::from_slice(alloc, found.script)?;
-    let variable = value_of(alloc, found.variable)?;
+    let Some(variable) = variable_of(more)? else {
+        return Ok(None);
+    };
+    let body = script.share()?;
     Ok(Some(Catch { body, variable }))
 }
 

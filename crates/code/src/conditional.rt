@@ -1,118 +1,33 @@
-//! The code of `if` whose words are literals (if(n)).
+//! The code of `if` whose words are texts (if(n)).
 
-ghost use Rattle.std.specs.Prelude.{◌≡◌, ◌∷◌, ℕ, List, codes, reverse, IfOk, IfSome, OnOk};
-ghost use Rattle.code.specs.Blocks.{BehindBlock, BranchesBlock};
-ghost use Rattle.code.specs.Conditional.{Are, AreBehind, AreBranches, AreEnd, IsAfter, IsConditional};
+ghost use Rattle.std.specs.Prelude.{◌≡◌, [], Some, drop, IfOk, IfSome, OnOk};
+ghost use Rattle.code.specs.Blocks.{BranchesBlock};
+ghost use Rattle.code.specs.Branches as definition;
+ghost use Rattle.code.specs.Branching.{branches_of};
 
-use crate::branches::{Behind, Front, behind_of, front_of};
+use crate::branches::Branches;
 use crate::formula::fill;
 use crate::instruction::Instruction;
-use crate::literal::literal_of;
 use crate::nest::Nest;
 use memory::NoMemory;
 use std::alloc::Allocator;
-use tclparse::Word;
 use tcltext::Value;
 
-/// How many branches an `if` with code of its own has at most.
-const MOST_BRANCHES: u32 = 100;
+/// How many branches an `if` with code of its own has at most: each stands in a call within that of
+/// the branch before it.
+const MOST_BRANCHES: usize = 100;
 
-/// A test and its body.
-#[derive(Drop)]
-pub(crate) struct Branch<A: Allocator> {
-    test: Value<A>,
-    body: Value<A>,
-    /// How many words stand after the body.
-    after: usize,
-}
-
-/// The branches, the last one first, and the last body, if there is one.
-#[derive(Drop)]
-pub(crate) struct Conditional<A: Allocator> {
-    branches: Vec<Branch<A>, A>,
-    otherwise: Option<Value<A>>,
-}
-
-/// A test and its body, which stand at the front of some words.
-fn branch_of<A: Allocator + Copy>(alloc: A, front: &Front<'_, A>) -> Result<Branch<A>, NoMemory>
-    ensures { IfOk result (λ own.
-        (own.test ≡ front.now.test.now) × (own.body ≡ front.now.body.now)) }
-{
-    let test = Value::from_slice(alloc, front.test)?;
-    let body = Value::from_slice(alloc, front.body)?;
-    let after = front.behind.len();
-    Ok(Branch { test, body, after })
-}
-
-/// Reads words as branches, at most this many.
-#[cycle(read)]
-fn read_branches<A: Allocator + Copy>(
+/// Reads the words after `if`. `None` where they make no branches, or very many.
+pub(crate) fn read_if<A: Allocator + Copy>(
     alloc: A,
-    most: u32,
-    words: &[Word<A>],
-) -> Result<Option<Conditional<A>>, NoMemory>
+    args: &[Value<A>],
+) -> Result<Option<Branches<A>>, NoMemory>
     ensures { IfOk result (λ read. IfSome read (λ own.
-        (args : List (List ℕ)) × Are words.now args × IsConditional own args)) }
+        definition.branches args.now ≡ Some (branches_of own))) }
 {
-    if most == 0 {
-        return Ok(None);
-    }
-    let Some(front) = front_of(words) else {
-        return Ok(None);
-    };
-    let branch = branch_of(alloc, &front)?;
-    let Some(mut own) = read_behind(alloc, most - 1, front.behind)? else {
-        return Ok(None);
-    };
-    own.branches.push(branch)?;
-    Ok(Some(own))
-}
-
-/// Reads the words after a body, with at most this many branches.
-#[cycle(read)]
-fn read_behind<A: Allocator + Copy>(
-    alloc: A,
-    most: u32,
-    words: &[Word<A>],
-) -> Result<Option<Conditional<A>>, NoMemory>
-    ensures { IfOk result (λ read. IfSome read (λ own.
-        (args : List (List ℕ)) × Are words.now args × IsAfter own args)) }
-{
-    match behind_of(words) {
-        Behind::Branches(more) => Ok(read_branches(alloc, most, more)?),
-        Behind::Nothing => Ok(Some(Conditional {
-            branches: Vec::new(alloc),
-            otherwise: None,
-        })),
-        Behind::Last(text) => {
-            let body = Value::from_slice(alloc, text)?;
-            Ok(Some(Conditional {
-                branches: Vec::new(alloc),
-                otherwise: Some(body),
-            }))
-        }
-        Behind::Wrong => Ok(None),
-    }
-}
-
-impl<A: Allocator + Copy> Conditional<A> {
-    /// Reads the words of a command as those of `if`. `None` where they are not that, where one of
-    /// them is no literal, or where there are very many branches.
-    pub(crate) fn read(alloc: A, words: &[Word<A>]) -> Result<Option<Conditional<A>>, NoMemory>
-        ensures { IfOk result (λ read. IfSome read (λ own. (args : List (List ℕ)) ×
-            Are words.now (codes "if" ∷ args) × IsConditional own args)) }
-    {
-        let [name, rest @ ..] = words else {
-            return Ok(None);
-        };
-        match literal_of(name) {
-            Some(name) if name == b"if".as_slice() => Ok(read_branches(
-                alloc,
-                MOST_BRANCHES,
-                rest,
-            )?),
-            _ => Ok(None),
-        }
+    match Branches::read(alloc, args)? {
+        Some(own) if own.tests.len() <= MOST_BRANCHES => Ok(Some(own)),
+        _ => Ok(None),
     }
 }
 
@@ -122,8 +37,7 @@ fn emit_otherwise<A: Allocator + Copy, N: Nest<A>>(
     otherwise: &Option<Value<A>>,
     nest: &N,
 ) -> Result<(), NoMemory>
-    ensures { (args : List (List ℕ)) → AreEnd otherwise.now args →
-        OnOk result (BehindBlock code.old.items code.new.items args) }
+    ensures { OnOk result (BranchesBlock code.old.items code.new.items [] otherwise.now) }
 {
     match otherwise {
         Some(body) => nest.put_body(code, body, 0)?,
@@ -132,59 +46,41 @@ fn emit_otherwise<A: Allocator + Copy, N: Nest<A>>(
     Ok(())
 }
 
-/// Puts the code of a test and its body, and of what is done where the test does not hold.
+/// Puts the code of the branches from this place on, and of the last body.
 #[cycle(emit_branches)]
-fn emit_branch<A: Allocator + Copy, N: Nest<A>>(
+fn emit_from<A: Allocator + Copy, N: Nest<A>>(
     code: &mut Vec<Instruction<A>, A>,
-    own: &Branch<A>,
-    more: &[Branch<A>],
-    otherwise: &Option<Value<A>>,
+    own: &Branches<A>,
+    from: usize,
     nest: &N,
 ) -> Result<(), NoMemory>
-    ensures { (args : List (List ℕ)) →
-        AreBranches (own.now ∷ reverse more.now) otherwise.now args →
-        OnOk result (BranchesBlock code.old.items code.new.items args) }
+    ensures { OnOk result (BranchesBlock code.old.items code.new.items
+        (drop from (branches_of own.now).tests) own.now.otherwise) }
 {
-    nest.put_expression(code, &own.test)?;
+    let Some(branch) = own.tests.get(from) else {
+        return Ok(emit_otherwise(code, &own.otherwise, nest)?);
+    };
+    nest.put_expression(code, &branch.test)?;
     let unless = code.len();
     code.push(Instruction::Hole)?;
-    nest.put_body(code, &own.body, own.after)?;
+    nest.put_body(code, &branch.body, branch.after)?;
     let jump = code.len();
     code.push(Instruction::Hole)?;
     fill(code, unless, Instruction::Unless(code.len()));
-    emit_behind(code, more, otherwise, nest)?;
+    emit_from(code, own, from + 1, nest)?;
     fill(code, jump, Instruction::Jump(code.len()));
     Ok(())
 }
 
-/// Puts the code of the branches that are left, the last one first, and of the last body.
-#[cycle(emit_branches)]
-fn emit_behind<A: Allocator + Copy, N: Nest<A>>(
-    code: &mut Vec<Instruction<A>, A>,
-    branches: &[Branch<A>],
-    otherwise: &Option<Value<A>>,
-    nest: &N,
-) -> Result<(), NoMemory>
-    ensures { (args : List (List ℕ)) → AreBehind (reverse branches.now) otherwise.now args →
-        OnOk result (BehindBlock code.old.items code.new.items args) }
-{
-    match branches.split_last() {
-        Some((first, more)) => Ok(emit_branch(code, first, more, otherwise, nest)?),
-        None => Ok(emit_otherwise(code, otherwise, nest)?),
-    }
-}
-
-/// Puts the code of all branches.
+/// Puts the code of all branches: a test, its body, a jump past the others, and what is left where
+/// the test does not hold.
 pub(crate) fn emit_branches<A: Allocator + Copy, N: Nest<A>>(
     code: &mut Vec<Instruction<A>, A>,
-    own: &Conditional<A>,
+    own: &Branches<A>,
     nest: &N,
 ) -> Result<(), NoMemory>
-    ensures { (args : List (List ℕ)) → IsConditional own.now args →
-        OnOk result (BranchesBlock code.old.items code.new.items args) }
+    ensures { OnOk result (BranchesBlock code.old.items code.new.items
+        (branches_of own.now).tests own.now.otherwise) }
 {
-    match own.branches.split_last() {
-        Some((first, more)) => Ok(emit_branch(code, first, more, &own.otherwise, nest)?),
-        None => Ok(()),
-    }
+    Ok(emit_from(code, own, 0, nest)?)
 }

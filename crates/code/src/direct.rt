@@ -2,7 +2,7 @@
 
 ghost use Rattle.std.specs.Prelude.{ℕ, List, [], ◌∷◌, IfOk, IfSome};
 ghost use Rattle.code.specs.Code.{IsDirect};
-ghost use Rattle.code.specs.Conditional.{IsLiteral};
+ghost use Rattle.code.specs.Literals.{IsLiteral};
 
 use crate::instruction::Instruction;
 use crate::literal::literal_of;

@@ -214,7 +214,7 @@ fn emit_of_literals<A: Allocator + Copy, N: Nest<A>>(
     ensures { IfOk result (λ put. OwnBlock put code.old.items code.new.items
         (words_then words.now no_words)) }
 {
-    let Some(own) = Own::read(*code.allocator(), words)? else {
+    let Some(own) = Own::of_literals(*code.allocator(), words)? else {
         return Ok(false);
     };
     let name = Value::from_slice(*code.allocator(), own.name())?;

@@ -4,7 +4,7 @@
 
 mod argument;
 mod arms;
-mod branches;
+pub mod branches;
 mod catch;
 mod conditional;
 mod direct;

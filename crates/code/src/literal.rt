@@ -1,7 +1,7 @@
 //! Words that are texts as they stand.
 
 ghost use Rattle.std.specs.Prelude.{◌≡◌, false, IfOk, IfSome};
-ghost use Rattle.code.specs.Conditional.{Are, IsLiteral};
+ghost use Rattle.code.specs.Literals.{Are, IsLiteral};
 ghost use Rattle.tclparse.specs.Tree.{Words, bytes_then, no_parts, no_words, word as word_then};
 ghost use Rattle.tclparse.specs.View.{part_view, parts_then, words_then};
 

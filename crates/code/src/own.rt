@@ -1,15 +1,18 @@
-//! What a command does that has code of its own and whose words are literals.
+//! What a command does that has code of its own and whose words are texts.
 
 ghost use Rattle.std.specs.Prelude.{◌≡◌, [], ◌∷◌, ℕ, List, codes, IfOk, IfSome, OnOk};
 ghost use Rattle.code.specs.Blocks.{ItsBlock};
-ghost use Rattle.code.specs.Conditional.{Are};
+ghost use Rattle.code.specs.Literals.{Are};
+ghost use Rattle.code.specs.Own as definition;
 ghost use Rattle.code.specs.Own.{IsOwn, name_of};
 ghost use Rattle.pure.specs.Concat.{concatenated as joined_of};
 
+use crate::branches::Branches;
 use crate::catch::{Catch, emit_catch, read_catch};
-use crate::conditional::{Conditional, emit_branches};
+use crate::conditional::{emit_branches, read_if};
 use crate::evaluate::read_joined;
 use crate::instruction::Instruction;
+use crate::literal::{first_of, texts_of};
 use crate::nest::Nest;
 use crate::repeat::{For, Turns, emit_for, emit_turns, read_for, read_while};
 use memory::NoMemory;
@@ -21,7 +24,7 @@ use tcltext::Value;
 #[derive(Drop)]
 pub(crate) enum Own<A: Allocator> {
     /// `if`.
-    If(Conditional<A>),
+    If(Branches<A>),
     /// `while`.
     While(Turns<A>),
     /// `for`.
@@ -34,31 +37,63 @@ pub(crate) enum Own<A: Allocator> {
     Expr(Value<A>),
 }
 
+/// Whether a command of this name may have code of its own.
+fn has_own(name: &[u8]) -> bool
+    ensures { result ≡ definition.has_own name.now }
+{
+    if name == b"if".as_slice() || name == b"while".as_slice() || name == b"for".as_slice() {
+        return true;
+    }
+    name == b"eval".as_slice() || name == b"catch".as_slice() || name == b"expr".as_slice()
+}
+
 impl<A: Allocator + Copy> Own<A> {
-    /// Reads the words of a command that has code of its own; `None` where it has none.
-    pub(crate) fn read(alloc: A, words: &[Word<A>]) -> Result<Option<Own<A>>, NoMemory>
+    /// Reads the words of a command that has code of its own; `None` where it has none, or where a
+    /// word is no literal.
+    pub(crate) fn of_literals(alloc: A, words: &[Word<A>]) -> Result<Option<Own<A>>, NoMemory>
         ensures { IfOk result (λ read. IfSome read (λ own. (args : List (List ℕ)) ×
             Are words.now (name_of own ∷ args) × IsOwn own args)) }
     {
-        if let Some(own) = Conditional::read(alloc, words)? {
-            return Ok(Some(Own::If(own)));
+        let Some(name) = first_of(words) else {
+            return Ok(None);
+        };
+        if !has_own(name.text) {
+            return Ok(None);
         }
-        if let Some(own) = read_while(alloc, words)? {
-            return Ok(Some(Own::While(own)));
+        let Some(texts) = texts_of(alloc, words)? else {
+            return Ok(None);
+        };
+        Ok(Own::read(alloc, &texts)?)
+    }
+
+    /// Reads the words of a command that has code of its own; `None` where it has none.
+    pub(crate) fn read(alloc: A, texts: &[Value<A>]) -> Result<Option<Own<A>>, NoMemory>
+        ensures { IfOk result (λ read. IfSome read (λ own. (args : List (List ℕ)) ×
+            (texts.now ≡ name_of own ∷ args) × IsOwn own args)) }
+    {
+        let [name, args @ ..] = texts else {
+            return Ok(None);
+        };
+        let name = name.as_slice();
+        if name == b"if".as_slice() {
+            return Ok(read_if(alloc, args)?.map(|own| Own::If(own)));
         }
-        if let Some(own) = read_for(alloc, words)? {
-            return Ok(Some(Own::For(own)));
+        if name == b"while".as_slice() {
+            return Ok(read_while(alloc, args)?.map(|own| Own::While(own)));
         }
-        if let Some(own) = read_joined(alloc, words, b"eval")? {
-            return Ok(Some(Own::Eval(own)));
+        if name == b"for".as_slice() {
+            return Ok(read_for(alloc, args)?.map(|own| Own::For(own)));
         }
-        if let Some(own) = read_catch(alloc, words)? {
-            return Ok(Some(Own::Catch(own)));
+        if name == b"eval".as_slice() {
+            return Ok(read_joined(alloc, args)?.map(|own| Own::Eval(own)));
         }
-        match read_joined(alloc, words, b"expr")? {
-            Some(own) => Ok(Some(Own::Expr(own))),
-            None => Ok(None),
+        if name == b"catch".as_slice() {
+            return Ok(read_catch(args)?.map(|own| Own::Catch(own)));
         }
+        if name == b"expr".as_slice() {
+            return Ok(read_joined(alloc, args)?.map(|own| Own::Expr(own)));
+        }
+        Ok(None)
     }
 
     /// The name of the command.

@@ -3,7 +3,7 @@
 use Rattle.std.proofs.Common.{ℕ, List, [], ◌∷◌, Bool, true, false, Option, Some, None, Result, Ok, Err, if◌then◌else◌, refl}
 use Rattle.std.specs.Prelude.{codes}
 use Rattle.acts.specs.Flaw as flaw
-use Rattle.conditions.specs.Branches.{Branch, Branches, branches}
+use Rattle.code.specs.Branches.{Branch, Branches, branches}
 use Rattle.conditions.specs.Conditional.{chooses, conditional, last, on_branches, passes}
 use Rattle.conditions.specs.Expr.{expr}
 use Rattle.conditions.specs.ForLoop.{for_loop, started}

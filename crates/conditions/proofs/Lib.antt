@@ -1,7 +1,6 @@
 pub mod Advancing
 pub mod Asked
 pub mod Beginning
-pub mod Branching
 pub mod Closed
 pub mod Comings
 pub mod Evaluating

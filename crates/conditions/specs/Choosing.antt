@@ -1,49 +1,15 @@
--- How the branches of the code, and what the command if holds, correspond to those of the
--- definition.
-use Rattle.std.specs.Prelude.{◌≡◌, ℕ, ◌+◌, ◌<◌, List, length, map, option_map, Option, Some, None}
+-- How what the command if holds corresponds to the definition.
+use Rattle.std.specs.Prelude.{ℕ, ◌+◌, List, length}
 use Rattle.state.specs.Prelude.{Course, on_value, Outcome, Status}
-use Rattle.conditions.specs.Branches.{Branch, Branches, branches, no_branch, with_branch, behind as after_body}
+use Rattle.code.specs.Branching.{branches_of}
+use Rattle.code.specs.declared.branches.Branches as all
 use Rattle.conditions.specs.Conditional.{chooses, chosen, passes}
 use Rattle.conditions.specs.Formulas.{with_formula}
 use Rattle.conditions.specs.Test.{on_tested}
-use Rattle.conditions.specs.declared.branches.Behind.{Behind}
-use Rattle.conditions.specs.declared.branches.Behind.TheVariants as behind
-use Rattle.conditions.specs.declared.branches.Branch as coded
-use Rattle.conditions.specs.declared.branches.Branches as all
-use Rattle.conditions.specs.declared.branches.Front.{Front}
 use Rattle.conditions.specs.declared.conditional.Held.{Held}
 use Rattle.conditions.specs.declared.conditional.Held.TheVariants as held
 use Rattle.conditions.specs.declared.conditional.Tested.{Tested}
 use Rattle.state.specs.Evaluated.{evaluated}
-
--- the branch that one of the code's stands for
-abbrev pub branch_of : {A : Type 0} → coded.Branch A → Branch
-branch_of b = record { test = b.test; body = b.body }
-
--- the branches that those of the code stand for
-abbrev pub branches_of : {A : Type 0} → all.Branches A → Branches
-branches_of all = record {
-  tests = map (λ b. branch_of b) all.tests.items;
-  otherwise = all.otherwise;
-}
-
--- what stands after a body in the code, as branches
-abbrev pub behind_of : {A : Type 0} → Behind A → Option Branches
-behind_of (behind.Branches words) = branches words.now
-behind_of (behind.End last) = Some (no_branch (option_map (λ body. body.now) last))
-behind_of behind.Wrong = None
-
--- further branches, if there are any, have fewer than n words
-abbrev pub HasFewerWords : {A : Type 0} → Behind A → ℕ → Type 0
-HasFewerWords (behind.Branches words) n = length words.now < n
-HasFewerWords (behind.End last) n = Unit {0}
-HasFewerWords behind.Wrong n = Unit {0}
-
--- some words are branches of which this is the first, or none is there
-abbrev pub IsFront : {A : Type 0} → Option (Front A) → Option Branches → Type 0
-IsFront None found = found ≡ None
-IsFront (Some front) found =
-    found ≡ option_map (with_branch front.test.now front.body.now) (after_body front.behind.now)
 
 -- the body after the first test that holds, of branches of the code
 abbrev pub chosen_of : {A : Type 0} → ℕ → all.Branches A → Status → Course

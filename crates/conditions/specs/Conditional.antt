@@ -2,7 +2,7 @@
 use Rattle.std.specs.Prelude.{ℕ, List, [], ◌∷◌, codes, Bool, Option, Some, None, if◌then◌else◌}
 use Rattle.state.specs.Prelude.{Ends, Course, gives, raises, within, Outcome, Status}
 use Rattle.acts.specs.Flaw as flaw
-use Rattle.conditions.specs.Branches.{Branch, Branches, branches}
+use Rattle.code.specs.Branches.{Branch, Branches, branches}
 use Rattle.conditions.specs.Formulas.{with_formula}
 use Rattle.state.specs.Evaluated.{tested}
 

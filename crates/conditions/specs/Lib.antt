@@ -3,7 +3,6 @@ pub mod Deeper
 pub mod View
 pub mod Test
 pub mod Expr
-pub mod Branches
 pub mod Conditional
 pub mod Choosing
 pub mod Loop

@@ -8,12 +8,12 @@ ghost use Rattle.conditions.specs.Conditional.{passes};
 ghost use Rattle.nesting.specs.Nesting.{Advances, Nests, course_of as at_hand};
 
 use crate::arguments::wrong_args;
-use crate::branches::{Branch, Branches};
 use crate::deeper::deeper;
 use crate::formula::read;
 use crate::test::{Test, of_outcome};
 use acts::NoMemory;
 use code::Made;
+use code::branches::{Branch, Branches};
 use kept::{Kept, KeptFormulas, Parsed};
 use nesting::Nesting;
 use state::outcome::raised;
@@ -137,7 +137,14 @@ fn choose<A: Allocator + Copy>(
         mut tests,
         otherwise,
     } = branches;
-    let Some(Branch { test, body }) = tests.pop_front() else {
+    let Some(
+        Branch {
+            test,
+            body,
+            after: _,
+        },
+    ) = tests.pop_front()
+    else {
         return run_last(alloc, kept, otherwise, levels);
     };
     let branches = Branches { tests, otherwise };

@@ -2,7 +2,6 @@
 #![tactic(auto)]
 
 mod arguments;
-pub mod branches;
 pub mod conditional;
 mod deeper;
 pub mod expr;

@@ -1,9 +1,9 @@
 -- Where the code of what is left to be done stands.
 use Rattle.std.specs.Prelude.{◌≡◌, ℕ, suc, ◌+◌, ◌<◌, ◌≤◌, List, [], ◌∷◌, Bool, true, false, Option, Some, None, Ok, is_some, length, slice_get}
-use Rattle.code.specs.Code.{At, IsDirect, JoinsAt, PartsAt, WordsAt, CommandAt, ScriptAt, BodyAt, ExpressionAt, TurnsAt, AssignsAt, ForeachAt, DealAt, SwitchAt, RestAt, FormulaAt, LinksAt, ArgumentsAt, TakenAt}
+use Rattle.code.specs.Code.{At, IsDirect, JoinsAt, PartsAt, WordsAt, CommandAt, ScriptAt, BranchesAt, BodyAt, ExpressionAt, TurnsAt, AssignsAt, ForeachAt, DealAt, SwitchAt, RestAt, FormulaAt, LinksAt, ArgumentsAt, TakenAt}
 use Rattle.code.specs.declared.instruction.Instruction.{Instruction}
 use Rattle.code.specs.declared.instruction.Instruction.TheVariants as i
-use Rattle.conditions.specs.Branches.{Branch}
+use Rattle.code.specs.Branches.{Branch}
 use Rattle.state.specs.Piece.{FormulaText}
 use Rattle.state.specs.Prelude.{IsTree, LoopTree, ScriptText, ScriptTree}
 use Rattle.steps.specs.Each.{Each}
@@ -97,21 +97,11 @@ module _ {A : Type 0} (code : List (Instruction A)) where
     pub begins : At code turn (i.Begin body ends)
     pub done : At code (turn + 1) i.Done
 
-  -- the branches of if that are left, each a test, its body, a jump behind all of them, and what is
-  -- left after it; and then the last body, or the empty text
-  abbrev pub ChoosesAt : ℕ → List Branch → Option (List ℕ) → ℕ → Type 0
-  ChoosesAt place [] None end = At code place (i.Text []) × (end ≡ place + 1)
-  ChoosesAt place [] (Some body) end = BodyAt code place body end
-  ChoosesAt place (branch ∷ more) otherwise end =
-      (mid : ℕ) × ExpressionAt code place branch.test mid ×
-      ((jump : ℕ) × At code mid (i.Unless (jump + 1)) × BodyAt code (mid + 1) branch.body jump ×
-      At code jump (i.Jump end) × (jump + 1 ≤ end) × ChoosesAt (jump + 1) more otherwise end)
-
   -- after the value of a test: its body, and what is left after it
   abbrev pub ConditionAt : ℕ → List ℕ → List Branch → Option (List ℕ) → ℕ → Type 0
   ConditionAt place body more otherwise end =
       (jump : ℕ) × At code place (i.Unless (jump + 1)) × BodyAt code (place + 1) body jump ×
-      At code jump (i.Jump end) × (jump + 1 ≤ end) × ChoosesAt (jump + 1) more otherwise end
+      At code jump (i.Jump end) × (jump + 1 ≤ end) × BranchesAt code (jump + 1) more otherwise end
 
   -- after the value of an operand comes what it is evaluated for
   abbrev pub OperandAt : ℕ → List Outer → ℕ → Type 0
@@ -189,7 +179,7 @@ module _ {A : Type 0} (code : List (Instruction A)) where
       (mid : ℕ) × ExpressionAt code place text mid × OperandAt mid outer end
   HeadAt place (Values value outer) end = OperandAt place outer end
   HeadAt place (Starts ws) end = CommandAt code place ws end
-  HeadAt place (Chooses more otherwise) end = ChoosesAt place more otherwise end
+  HeadAt place (Chooses more otherwise) end = BranchesAt code place more otherwise end
   HeadAt place (Enters tree) end = EntersAt place tree end
   HeadAt place (Repeats loop) end = RepeatsAt place loop end
   HeadAt place Finishes end = At code place (i.Text []) × (end ≡ place + 1)

@@ -1,7 +1,7 @@
 -- What is left to be done at a place of the code, as the proof sees it.
 use Rattle.std.specs.Prelude.{ℕ, suc, ◌+◌, List, [], ◌∷◌, ◌++◌, Bool, true, false, Option, Some, None, decimal, length, reverse}
 use Rattle.bodies.specs.Catch.{caught, stores_in}
-use Rattle.conditions.specs.Branches.{Branch}
+use Rattle.code.specs.Branches.{Branch}
 use Rattle.conditions.specs.Conditional.{chooses, passes}
 use Rattle.conditions.specs.ForLoop.{started}
 use Rattle.conditions.specs.Formulas.{with_formula}

@@ -1,15 +1,14 @@
 -- A command that has code of its own.
-use Rattle.std.proofs.Common.{◌≡◌, ◌∙◌, ℕ, ◌+◌, ◌≤◌, List, [], ◌∷◌, Bool, false, Option, Some, None, option_map, codes, true, refl, ap, subst, sym, arith, if◌then◌else◌}
+use Rattle.std.proofs.Common.{◌≡◌, ◌∙◌, ℕ, ◌+◌, ◌≤◌, List, [], ◌∷◌, Bool, false, Option, Some, None, codes, true, refl, ap, subst, sym, arith, if◌then◌else◌}
 use Rattle.std.proofs.lemmas.Slice.Eq.{bytes_eq-Decides}
 use Rattle.std.specs.Prelude.{slice_get}
 use Rattle.std.specs.Str.{bytes_eq}
-use Rattle.code.specs.Code.{At, CommandAt, by_words, own, foreach_loop, switched, direct, OwnAt, conditional, while_loop, for_loop, evaluated, valued, argued, BranchesAt, branch, BehindAt, no_else, at_last, else_if, IsBranch, without_then, with_then, IsLast, with_else, without_else, WordsAt, one, over, caught, first as first_of, text as text_at}
+use Rattle.code.specs.Code.{At, CommandAt, by_words, own, foreach_loop, switched, direct, OwnAt, conditional, while_loop, for_loop, evaluated, valued, argued, BranchesAt, branch, no_else, at_last, WordsAt, one, over, caught, first as first_of, text as text_at}
 use Rattle.code.specs.Argument.{is_braced, takes_branches}
 use Rattle.code.specs.Switch.{words_before}
 use Rattle.code.specs.declared.instruction.Instruction.{Instruction}
 use Rattle.code.specs.declared.instruction.Instruction.TheVariants as i
-use Rattle.conditions.specs.Branches as definition
-use Rattle.conditions.specs.Branches.{Branch, Branches, alone, branches, last_body, no_branch, with_body, with_branch}
+use Rattle.code.specs.Branches.{Branch}
 use Rattle.conditions.specs.Conditional.{on_branches}
 use Rattle.dialog.specs.declared.standing.Side.TheVariants.{After, Before}
 use Rattle.expects.proofs.Answering.{after_name}
@@ -22,14 +21,14 @@ use Rattle.state.specs.Piece.{ArgumentText, ScriptText}
 use Rattle.state.specs.Prelude.{Dialogue, Outcome, Status}
 use Rattle.steps.specs.Follows.{Comes, Follows}
 use Rattle.steps.specs.Goes.{here, reads}
-use Rattle.steps.specs.Layout.{ChoosesAt, FramesAt}
+use Rattle.steps.specs.Layout.{FramesAt}
 use Rattle.steps.specs.Machine.{machine, unhidden}
 use Rattle.steps.specs.Operand.{Condition, Resulting}
 use Rattle.steps.specs.Places.{Has, Gathers, Expresses, Starts, Chooses, Frame, Skip, brackets, left_of, onward_of, spot_at}
 use Rattle.steps.proofs.Leads.Bodies.{body_begins, body_read, enters_leads}
 use Rattle.steps.proofs.Leads.Catches.{catch_begins}
 use Rattle.steps.proofs.Leads.Formulas.{expression_leads}
-use Rattle.steps.proofs.Leads.Grows.{behind_grows, own_grows, words_grow}
+use Rattle.steps.proofs.Leads.Grows.{branches_grow, own_grows, words_grow}
 use Rattle.state.proofs.Words.{literal, literal_words, text_words}
 use Rattle.steps.proofs.Leads.Loops.{for_begins, while_begins}
 use Rattle.steps.proofs.Leads.Meanings.{jump_leads}
@@ -44,80 +43,33 @@ use Rattle.tclstate.specs.Procs.{Procedure}
 use Rattle.state.specs.Words.{words}
 
 module _ {A X : Type 0} (code : List (Instruction A)) (last : Status → Outcome → Dialogue X) where
-  -- the branches that words make, and where they stand
-  record Found (place : ℕ) (args : List (List ℕ)) (end : ℕ) : Type 0 where
-    it : Branches
-    is : branches args ≡ Some it
-    at : ChoosesAt code place it.tests it.otherwise end
-
-  -- the same of the words after a body
-  record Behind (place : ℕ) (args : List (List ℕ)) (end : ℕ) : Type 0 where
-    it : Branches
-    is : definition.behind args ≡ Some it
-    at : ChoosesAt code place it.tests it.otherwise end
-
-  -- a branch before others, as the definition reads it
-  branch_is : (test body : List ℕ) (more args : List (List ℕ)) → IsBranch test body more args →
-      branches args ≡ option_map (with_branch test body) (definition.behind more)
-  branch_is test body more args (without_then other) =
-      ap (λ b. if b then with_body test more
-      else option_map (with_branch test body) (definition.behind more)) other
-  branch_is test body more args with_then = refl
-
-  -- the last body, as the definition reads it
-  last_is : (body : List ℕ) (args : List (List ℕ)) → IsLast body args →
-      definition.behind args ≡ Some (no_branch (Some body))
-  last_is body args with_else = refl
-  last_is body args (without_else other another) =
-      ap (λ b. if b then branches []
-      else option_map (λ t. no_branch (Some t)) (last_body (body ∷ []))) other
-      ∙ ap (λ b. option_map (λ t. no_branch (Some t))
-      (if b then alone [] else alone (body ∷ []))) another
-
-  mutual
-    behind_found : (place : ℕ) (args : List (List ℕ)) (end : ℕ) → BehindAt code place args end →
-        Behind place args end
-    behind_found place args end (no_else at) =
-        record { it = no_branch None; is = refl; at = (at, refl) }
-    behind_found place args end (at_last {body = body} words at) =
-        record { it = no_branch (Some body); is = last_is body args words; at = at }
-    behind_found place args end (else_if {args = rest} branches_at) =
-        let found_at = branches_found place rest end branches_at in
-        record { it = found_at.it; is = found_at.is; at = found_at.at }
-
-    branches_found : (place : ℕ) (args : List (List ℕ)) (end : ℕ) →
-        BranchesAt code place args end → Found place args end
-    branches_found place args end (branch {unless = mid} {jump = jump} {test = test} {body = body}
-        {behind = more} words test_at unless body_at jump_at behind_at) =
-        let rest = behind_found (jump + 1) more end behind_at in record {
-          it = with_branch test body rest.it;
-          is = branch_is test body more args words
-              ∙ ap (option_map (with_branch test body)) rest.is;
-          at = (
-            mid,
-            test_at,
-            (jump, unless, body_at, jump_at, behind_grows code behind_at, rest.at),
-          );
-        }
-
   -- the branches that are left
   pub chooses_lead : (levels end : ℕ) (fs : List Frame) (s : Status) (place : ℕ)
-      (more : List Branch) (otherwise : Option (List ℕ)) → ChoosesAt code place more otherwise end →
+      (more : List Branch) (otherwise : Option (List ℕ)) → BranchesAt code place more otherwise end →
       FramesAt code end fs → levels + brackets fs ≤ 255 →
       Follows code last
       (machine (slice_get code place) (spot_at place levels (Chooses more otherwise) fs) s)
       (left_of last levels (Chooses more otherwise) fs s)
-  chooses_lead levels end fs s place [] None at behind fits =
-      by code last (i.Text []) (spot_at place levels (Chooses [] None) fs) s _ at.0
-      (stands code last (place + 1) levels (Has []) fs (place + 1) s refl
-      (subst (λ n. FramesAt code n fs) at.1 behind) fits)
-  chooses_lead levels end fs s place [] (Some body) at behind fits =
-      let read = body_read code at in
-      silently code last _ (reads {text = ScriptText body} read.tree read.is here)
-      (enters_leads code last levels read.tree fs s place end read.at behind fits)
-  chooses_lead levels end fs s place (first ∷ more) otherwise at behind fits =
-      expression_leads code last levels end fs s (Condition first.body more otherwise ∷ []) place
-      first.test at.0 at.1 at.2 behind fits
+  chooses_lead levels end fs s place more otherwise at behind fits =
+      choice place end more otherwise at behind
+    where
+      choice : (place end : ℕ) (more : List Branch) (otherwise : Option (List ℕ)) →
+          BranchesAt code place more otherwise end → FramesAt code end fs →
+          Follows code last
+          (machine (slice_get code place) (spot_at place levels (Chooses more otherwise) fs) s)
+          (left_of last levels (Chooses more otherwise) fs s)
+      choice place end [] None (no_else at) behind =
+          by code last (i.Text []) (spot_at place levels (Chooses [] None) fs) s _ at
+          (stands code last (place + 1) levels (Has []) fs (place + 1) s refl behind fits)
+      choice place end [] (Some body) (at_last at) behind =
+          let read = body_read code at in
+          silently code last _ (reads {text = ScriptText body} read.tree read.is here)
+          (enters_leads code last levels read.tree fs s place end read.at behind fits)
+      choice place end (first ∷ more) otherwise
+          (branch {unless = mid} {jump = jump} test_at unless body_at jump_at rest) behind =
+          expression_leads code last levels end fs s (Condition first.body more otherwise ∷ [])
+          place first.test mid test_at
+          (jump, unless, body_at, jump_at, branches_grow code rest, rest) behind fits
 
   -- a command that takes branches, with an argument in braces
   record Takes (levels : ℕ) (name text : List ℕ) (s : Status) : Type 0 where
@@ -165,15 +117,15 @@ module _ {A X : Type 0} (code : List (Instruction A)) (last : Status → Outcome
       OwnAt code name place args end → FramesAt code end fs → levels + brackets fs ≤ 255 →
       Comes code last (spot_at place levels (Starts (literals (name ∷ args))) fs) s
       (left_of last levels (Starts (literals (name ∷ args))) fs s)
-  own_begins levels fs s name place args end none (conditional at) behind fits =
-      let branches_at = branches_found place args end at in
+  own_begins levels fs s name place args end none (conditional {found = found_there} is at) behind
+      fits =
       sooner code last _ s
       (same_goes (ap (λ c. and_then c (onward (onward_of last levels fs)))
       (literal_words levels (codes "if" ∷ args) [] s (command levels)
       ∙ ap (λ procedure. called procedure levels (codes "if") args s) none
-      ∙ ap (λ known. on_branches levels known s) branches_at.is)))
-      (stands code last place levels (Chooses branches_at.it.tests branches_at.it.otherwise) fs end
-      s branches_at.at behind fits)
+      ∙ ap (λ known. on_branches levels known s) is)))
+      (stands code last place levels (Chooses found_there.tests found_there.otherwise) fs end s at
+      behind fits)
   own_begins levels fs s name place args end none (while_loop {test = test} {body = body} at) behind
       fits =
       sooner code last _ s

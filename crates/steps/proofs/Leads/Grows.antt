@@ -1,6 +1,7 @@
 -- Code ends at its beginning, or after it.
 use Rattle.std.proofs.Common.{ℕ, ◌≤◌, List, Bool, Option, arith}
-use Rattle.code.specs.Code.{JoinsAt, first, joined, PartsAt, over, empty, text, value, item, bracket, WordsAt, begins, begins_counted, says, one, counts, spread, CommandAt, by_words, own, foreach_loop, direct, CommandsAt, done, next, FaultAt, none, fault, OwnAt, conditional, while_loop, for_loop, evaluated, valued, argued, TurnsAt, turns, StepAt, no_step, steps, AssignsAt, all_set, sets, NextAt, next_turn, ForeachAt, with_names, DealAt, deals, switched, SwitchAt, with_arms, RestAt, no_match, some_arms, ArmsAt, otherwise, shares, takes, BranchesAt, branch, BehindAt, no_else, at_last, else_if, BodyAt, deeper, by_text, ExpressionAt, by_formula, from_text, FormulaAt, number, parts, called, prefixed, in_row, chosen, LinksAt, no_more, both, and_also, or_else, ArgumentsAt, no_argument, argument, caught, TakenAt, dropped, taken}
+use Rattle.code.specs.Branches.{Branch}
+use Rattle.code.specs.Code.{JoinsAt, first, joined, PartsAt, over, empty, text, value, item, bracket, WordsAt, begins, begins_counted, says, one, counts, spread, CommandAt, by_words, own, foreach_loop, direct, CommandsAt, done, next, FaultAt, none, fault, OwnAt, conditional, while_loop, for_loop, evaluated, valued, argued, TurnsAt, turns, StepAt, no_step, steps, AssignsAt, all_set, sets, NextAt, next_turn, ForeachAt, with_names, DealAt, deals, switched, SwitchAt, with_arms, RestAt, no_match, some_arms, ArmsAt, otherwise, shares, takes, BranchesAt, branch, no_else, at_last, BodyAt, deeper, by_text, ExpressionAt, by_formula, from_text, FormulaAt, number, parts, called, prefixed, in_row, chosen, LinksAt, no_more, both, and_also, or_else, ArgumentsAt, no_argument, argument, caught, TakenAt, dropped, taken}
 use Rattle.code.specs.declared.instruction.Instruction.{Instruction}
 use Rattle.code.specs.declared.options.Options.{Options}
 use Rattle.tclparse.specs.Fault.{Fault}
@@ -65,7 +66,7 @@ module _ {A : Type 0} (code : List (Instruction A)) where
 
     pub own_grows : {name : List ℕ} {place : ℕ} {args : List (List ℕ)} {end : ℕ} →
         OwnAt code name place args end → place ≤ end
-    own_grows (conditional it) = branches_grow it
+    own_grows (conditional is it) = branches_grow it
     own_grows (while_loop it) = turns_grow it
     own_grows (for_loop start drops it) = omega (arith, body_grows start, turns_grow it)
     own_grows (evaluated body) = body_grows body
@@ -108,16 +109,12 @@ module _ {A : Type 0} (code : List (Instruction A)) where
     arms_grow (takes other unshared test drops body jump rest) =
         omega (arith, body_grows body, rest_grows rest)
 
-    branches_grow : {place : ℕ} {args : List (List ℕ)} {end : ℕ} → BranchesAt code place args end →
-        place ≤ end
-    branches_grow (branch words test unless body jump behind) =
-        omega (arith, expression_grows test, body_grows body, behind_grows behind)
-
-    pub behind_grows : {place : ℕ} {args : List (List ℕ)} {end : ℕ} → BehindAt code place args end →
-        place ≤ end
-    behind_grows (no_else at) = omega arith
-    behind_grows (at_last words body) = body_grows body
-    behind_grows (else_if it) = branches_grow it
+    pub branches_grow : {place : ℕ} {tests : List Branch} {last : Option (List ℕ)} {end : ℕ} →
+        BranchesAt code place tests last end → place ≤ end
+    branches_grow (no_else at) = omega arith
+    branches_grow (at_last body) = body_grows body
+    branches_grow (branch test unless body jump rest) =
+        omega (arith, expression_grows test, body_grows body, branches_grow rest)
 
     pub body_grows : {place : ℕ} {body : List ℕ} {end : ℕ} → BodyAt code place body end →
         place ≤ end

@@ -1,7 +1,7 @@
 use Rattle.std.proofs.Common.{ℕ, List, IfSome, [], ◌∷◌, rules, subst}
 use Rattle.code.proofs.Owns.{own_block}
 use Rattle.code.specs.Argument.{IsArgued}
-use Rattle.code.specs.Conditional.{Are}
+use Rattle.code.specs.Literals.{Are}
 use Rattle.tclparse.specs.Tree.{no_words}
 use Rattle.tclparse.specs.View.{words_then}
 use Rattle.code.proofs.argument.put_argued.Goals as goal

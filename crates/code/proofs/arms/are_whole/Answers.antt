@@ -1,5 +1,6 @@
 use Rattle.std.proofs.Common.{◌≡◌, ◌-◌, true, length, drop, take, rules, sym, subst}
-use Rattle.code.proofs.Choices.{arms_are, none_whole, one_whole}
+use Rattle.code.proofs.Choices.{none_whole, one_whole}
+use Rattle.code.proofs.Fronts.{two_first}
 use Rattle.code.specs.Switch.{AreWhole}
 use Rattle.code.proofs.arms.are_whole.Goals as goal
 
@@ -17,7 +18,7 @@ arms-preserved g c = λ whole.
     let has : c.has_body.result ≡ true = search rules in
     c.arms.invariant
     (subst (λ arms. AreWhole globs arms)
-    (sym (arms_are rest pattern body c.in-len2-up.len_at_least c.pattern-item.is c.body-item.is))
+    (sym (two_first rest pattern body c.in-len2-up.len_at_least c.pattern-item.is c.body-item.is))
     (one_whole globs pattern body more (c.is_short.ensures fits) (c.has_body.ensures has) whole))
 
 pub returns : goal.returns

@@ -1,8 +1,5 @@
-use Rattle.std.proofs.Common.{◌+◌, ◌*◌, length}
+use Rattle.std.proofs.Common.{◌-◌, length}
 use Rattle.code.proofs.conditional.+emit_branches.Given as goal
 
-abbrev pub decreases-emit_branch : goal.decreases-emit_branch
-decreases-emit_branch g l = 2 * length l.more.now + 1
-
-abbrev pub decreases-emit_behind : goal.decreases-emit_behind
-decreases-emit_behind g l = 2 * length l.branches.now
+abbrev pub decreases-emit_from : goal.decreases-emit_from
+decreases-emit_from g l = length l.own.now.tests.items - l.from

@@ -2,7 +2,7 @@ use Rattle.std.proofs.Common.{◌≡◌, true, codes, rules, subst}
 use Rattle.std.proofs.lemmas.Slice.Eq.{bytes_eq-Decides}
 use Rattle.std.specs.Str.{bytes_eq}
 use Rattle.code.specs.Code.{increments_last, returns_last}
-use Rattle.code.specs.Conditional.{IsLiteral}
+use Rattle.code.specs.Literals.{IsLiteral}
 use Rattle.code.proofs.direct.direct_of.Goals as goal
 
 pub returns-then-eq : goal.returns-then-eq

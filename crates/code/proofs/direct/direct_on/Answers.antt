@@ -2,7 +2,7 @@ use Rattle.std.proofs.Common.{◌≡◌, true, [], ◌∷◌, codes, rules, subs
 use Rattle.std.proofs.lemmas.Slice.Eq.{bytes_eq-Decides}
 use Rattle.std.specs.Str.{bytes_eq}
 use Rattle.code.specs.Code.{IsDirect, adds_last, appends_last, sets_last}
-use Rattle.code.specs.Conditional.{IsLiteral}
+use Rattle.code.specs.Literals.{IsLiteral}
 use Rattle.code.specs.declared.instruction.Instruction.TheVariants as i
 use Rattle.code.proofs.direct.direct_on.Goals as goal
 

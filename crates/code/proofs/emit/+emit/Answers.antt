@@ -11,7 +11,7 @@ use Rattle.code.proofs.Parts.{bracket_block, element_block, empty_block, first_l
 use Rattle.code.proofs.Places.{command_at, part_at, word_at}
 use Rattle.code.specs.Blocks.{OwnBlock, PartsBlock, ValuesBlock, WordBlock, WordsBlock}
 use Rattle.code.specs.Code.{AreNames, IsDirect, foreach_words, switch_words}
-use Rattle.code.specs.Conditional.{Are, IsLiteral}
+use Rattle.code.specs.Literals.{Are, IsLiteral}
 use Rattle.code.specs.Own.{IsOwn, name_of}
 use Rattle.code.specs.Switch.{AreArms, AreWhole, are_globs, words_before}
 use Rattle.tclparse.proofs.Trees.{view_Bracket, view_Command, view_Element, view_Literal, view_Variable, view_Word}

@@ -1,7 +1,8 @@
 use Rattle.std.proofs.Common.{◌≡◌, ◌-◌, ◌<◌, false, true, codes, drop, length, take, arith, rules}
 use Rattle.std.specs.Prelude.{slice_set}
 use Rattle.std.specs.Str.{bytes_eq}
-use Rattle.code.proofs.Choices.{arm_block, arms_are, default_arms, none_block, own_arms, shared_arms, shared_block, some_block}
+use Rattle.code.proofs.Choices.{arm_block, default_arms, none_block, own_arms, shared_arms, shared_block, some_block}
+use Rattle.code.proofs.Fronts.{two_first}
 use Rattle.code.specs.Code.{test_of}
 use Rattle.code.specs.Switch.{is_default}
 use Rattle.code.proofs.switch.+emit_arms.Goals as goal
@@ -44,7 +45,7 @@ emit_arms-returns-then-is_last_default g t c = λ some whole.
     let pattern = c.pattern-item.result in
     let body = c.body-item.result in
     let more = take (length arms - 2) (drop 2 arms) in
-    let split = arms_are arms pattern body c.in-len2-up.len_at_least c.pattern-item.is
+    let split = two_first arms pattern body c.in-len2-up.len_at_least c.pattern-item.is
     c.body-item.is in
     let is : is_default pattern more ≡ true = search rules in
     let done = default_arms c.args.code.now.items c.emit_chosen.new.code.items c.args.globs arms
@@ -57,7 +58,7 @@ emit_arms-returns-then-eq g t c = λ some whole.
     let pattern = c.pattern-item.result in
     let body = c.body-item.result in
     let more = take (length arms - 2) (drop 2 arms) in
-    let split = arms_are arms pattern body c.in-len2-up.len_at_least c.pattern-item.is
+    let split = two_first arms pattern body c.in-len2-up.len_at_least c.pattern-item.is
     c.body-item.is in
     let other : is_default pattern more ≡ false = search rules in
     let same : bytes_eq body (codes "-") ≡ true = search rules in
@@ -70,7 +71,7 @@ emit_arms-returns g t c = λ some whole.
     let pattern = c.pattern-item.result in
     let body = c.body-item.result in
     let more = take (length arms - 2) (drop 2 arms) in
-    let split = arms_are arms pattern body c.in-len2-up.len_at_least c.pattern-item.is
+    let split = two_first arms pattern body c.in-len2-up.len_at_least c.pattern-item.is
     c.body-item.is in
     let other : is_default pattern more ≡ false = search rules in
     let own : bytes_eq body (codes "-") ≡ false = search rules in

@@ -3,8 +3,9 @@ use Rattle.std.proofs.lemmas.Result.{IfOk-weaker}
 use Rattle.std.specs.Prelude.{codes}
 use Rattle.acts.specs.Flaw as flaw
 use Rattle.state.specs.Prelude.{text_of, Leaves, Error}
-use Rattle.conditions.specs.Branches.{branches}
-use Rattle.conditions.specs.Choosing.{branches_of, next_of}
+use Rattle.code.specs.Branches.{branches}
+use Rattle.code.specs.Branching.{branches_of}
+use Rattle.conditions.specs.Choosing.{next_of}
 use Rattle.conditions.specs.Conditional.{on_branches}
 use Rattle.nesting.proofs.Nestings.{over}
 use Rattle.state.proofs.Reaches.{same_reaches, then_reaches}

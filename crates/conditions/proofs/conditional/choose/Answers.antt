@@ -1,6 +1,7 @@
 use Rattle.std.proofs.Common.{◌≡◌, ◌∙◌, suc, List, [], ◌∷◌, drop, length, map, refl, sym, ap, rules, arith}
 use Rattle.std.proofs.lemmas.Result.{IfOk-weaker}
-use Rattle.conditions.specs.Choosing.{asked_of, branch_of}
+use Rattle.code.specs.Branching.{branch_of}
+use Rattle.conditions.specs.Choosing.{asked_of}
 use Rattle.conditions.specs.Conditional.{chooses}
 use Rattle.conditions.specs.declared.conditional.Tested.{Tested}
 use Rattle.state.proofs.Reaches.{same_reaches, then_reaches}

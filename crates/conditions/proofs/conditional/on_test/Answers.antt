@@ -1,6 +1,6 @@
 use Rattle.std.proofs.Common.{◌∙◌, sym, ap, arith}
 use Rattle.std.proofs.lemmas.Result.{IfOk-weaker}
-use Rattle.conditions.specs.Choosing.{branches_of}
+use Rattle.code.specs.Branching.{branches_of}
 use Rattle.conditions.specs.Conditional.{chosen, passes}
 use Rattle.conditions.specs.Test.{course_of_test}
 use Rattle.conditions.specs.declared.test.Test.TheVariants as test

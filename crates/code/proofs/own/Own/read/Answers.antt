@@ -1,58 +1,59 @@
-use Rattle.std.proofs.Common.{◌≡◌, ℕ, List, [], ◌∷◌, IfSome, Some, None, codes, refl, subst}
-use Rattle.code.specs.Code.{HasFormula, IsTaker}
-use Rattle.code.specs.Conditional.{Are}
-use Rattle.code.specs.Repeat.{for_args}
-use Rattle.pure.specs.Concat.{concatenated}
+use Rattle.std.proofs.Common.{◌-◌, codes, drop, length, refl, rules, take}
+use Rattle.code.proofs.Fronts.{one_first}
+use Rattle.code.proofs.Owns.{read_by_name}
+use Rattle.code.specs.declared.own.Own.TheVariants as own
 use Rattle.code.proofs.own.Own.read.Goals as goal
 
-pub returns-in-Some-2 : goal.returns-in-Some-2
-returns-in-Some-2 g c =
-    let words = c.args.words.now in
-    let own = c.in-Some-2.own in
-    let read : (own.step ≡ None) × HasFormula own.test ×
-    Are words (codes "while" ∷ own.test ∷ own.body ∷ []) =
-    subst (λ r. IfSome r (λ it. (it.step ≡ None) × HasFormula it.test ×
-    Are words (codes "while" ∷ it.test ∷ it.body ∷ []))) c.in-Some-2.is c.in_ok-own-2.ensures in
-    (own.test ∷ own.body ∷ [], read.2, (read.0, read.1, refl))
+pub returns-then-eq : goal.returns-then-eq
+returns-then-eq g c =
+    let texts = c.args.texts.now in
+    let name = c.name-item.result in
+    read_by_name own.If (codes "if") name texts (take (length texts - 1) (drop 1 texts))
+    c.in_ok-read_if.field-0 c.map.result (λ it. refl) (search rules)
+    (one_first texts name c.in-len1-up.len_at_least c.name-item.is) c.in_ok-read_if.ensures
+    (search rules)
 
-pub returns-in-Some-3 : goal.returns-in-Some-3
-returns-in-Some-3 g c =
-    let words = c.args.words.now in
-    let own = c.in-Some-3.own in
-    let read : (step : List ℕ) × (own.turns.step ≡ Some step) × HasFormula own.turns.test ×
-    Are words (codes "for" ∷ for_args own step) =
-    subst (λ r. IfSome r (λ it. (step : List ℕ) × (it.turns.step ≡ Some step) ×
-    HasFormula it.turns.test × Are words (codes "for" ∷ for_args it step))) c.in-Some-3.is
-    c.in_ok-own-3.ensures in
-    (for_args own read.0, read.3, (read.0, read.1, read.2, refl))
+pub returns-then-eq-2 : goal.returns-then-eq-2
+returns-then-eq-2 g c =
+    let texts = c.args.texts.now in
+    let name = c.name-item.result in
+    read_by_name own.While (codes "while") name texts (take (length texts - 1) (drop 1 texts))
+    c.in_ok-read_while.field-0 c.map-then-eq-2.result (λ it. refl) (search rules)
+    (one_first texts name c.in-len1-up.len_at_least c.name-item.is) c.in_ok-read_while.ensures
+    (search rules)
 
-pub returns-in-Some-4 : goal.returns-in-Some-4
-returns-in-Some-4 g c =
-    let words = c.args.words.now in
-    let own = c.in-Some-4.own in
-    let read : (text : List ℕ) × Are words (codes "eval" ∷ text ∷ []) ×
-    (own ≡ concatenated (text ∷ [])) =
-    subst (λ r. IfSome r (λ it. (text : List ℕ) × Are words (codes "eval" ∷ text ∷ []) ×
-    (it ≡ concatenated (text ∷ [])))) c.in-Some-4.is c.in_ok-own-4.ensures in
-    (read.0 ∷ [], read.1, (read.0, refl, read.2))
+pub returns-then-eq-3 : goal.returns-then-eq-3
+returns-then-eq-3 g c =
+    let texts = c.args.texts.now in
+    let name = c.name-item.result in
+    read_by_name own.For (codes "for") name texts (take (length texts - 1) (drop 1 texts))
+    c.in_ok-read_for.field-0 c.map-then-eq-3.result (λ it. refl) (search rules)
+    (one_first texts name c.in-len1-up.len_at_least c.name-item.is) c.in_ok-read_for.ensures
+    (search rules)
 
-pub returns-in-Some-5 : goal.returns-in-Some-5
-returns-in-Some-5 g c =
-    let words = c.args.words.now in
-    let own = c.in-Some-5.own in
-    let read : (more : List (List ℕ)) × Are words (codes "catch" ∷ own.body ∷ more) ×
-    IsTaker own.variable more =
-    subst (λ r. IfSome r (λ it. (more : List (List ℕ)) ×
-    Are words (codes "catch" ∷ it.body ∷ more) × IsTaker it.variable more)) c.in-Some-5.is
-    c.in_ok-own-5.ensures in
-    (own.body ∷ read.0, read.1, (read.0, read.2, refl))
+pub returns-then-eq-4 : goal.returns-then-eq-4
+returns-then-eq-4 g c =
+    let texts = c.args.texts.now in
+    let name = c.name-item.result in
+    read_by_name own.Eval (codes "eval") name texts (take (length texts - 1) (drop 1 texts))
+    c.in_ok-read_joined.field-0 c.map-then-eq-4.result (λ it. refl) (search rules)
+    (one_first texts name c.in-len1-up.len_at_least c.name-item.is) c.in_ok-read_joined.ensures
+    (search rules)
 
-pub returns-in-Some-6 : goal.returns-in-Some-6
-returns-in-Some-6 g c =
-    let words = c.args.words.now in
-    let own = c.in-Some-6.own in
-    let read : (text : List ℕ) × Are words (codes "expr" ∷ text ∷ []) ×
-    (own ≡ concatenated (text ∷ [])) =
-    subst (λ r. IfSome r (λ it. (text : List ℕ) × Are words (codes "expr" ∷ text ∷ []) ×
-    (it ≡ concatenated (text ∷ [])))) c.in-Some-6.is c.in_ok-own-6.ensures in
-    (read.0 ∷ [], read.1, (read.0, refl, read.2))
+pub returns-then-eq-5 : goal.returns-then-eq-5
+returns-then-eq-5 g c =
+    let texts = c.args.texts.now in
+    let name = c.name-item.result in
+    read_by_name own.Catch (codes "catch") name texts (take (length texts - 1) (drop 1 texts))
+    c.in_ok-read_catch.field-0 c.map-then-eq-5.result (λ it. refl) (search rules)
+    (one_first texts name c.in-len1-up.len_at_least c.name-item.is) c.in_ok-read_catch.ensures
+    (search rules)
+
+pub returns-then-eq-6 : goal.returns-then-eq-6
+returns-then-eq-6 g c =
+    let texts = c.args.texts.now in
+    let name = c.name-item.result in
+    read_by_name own.Expr (codes "expr") name texts (take (length texts - 1) (drop 1 texts))
+    c.in_ok-read_joined-2.field-0 c.map-then-eq-6.result (λ it. refl) (search rules)
+    (one_first texts name c.in-len1-up.len_at_least c.name-item.is) c.in_ok-read_joined-2.ensures
+    (search rules)

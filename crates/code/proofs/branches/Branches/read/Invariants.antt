@@ -1,8 +1,8 @@
 use Rattle.std.proofs.Common.{◌≡◌, length, map, option_map}
-use Rattle.conditions.proofs.Branching.{prefixed}
-use Rattle.conditions.specs.Branches.{branches}
-use Rattle.conditions.specs.Choosing.{branch_of}
-use Rattle.conditions.proofs.branches.Branches.read.Given as goal
+use Rattle.code.proofs.Branching.{prefixed}
+use Rattle.code.specs.Branches.{branches}
+use Rattle.code.specs.Branching.{branch_of}
+use Rattle.code.proofs.branches.Branches.read.Given as goal
 
 -- the branches so far stand before those that the rest of the words makes
 abbrev pub invariant-branches : goal.invariant-branches

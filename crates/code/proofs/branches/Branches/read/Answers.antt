@@ -1,9 +1,9 @@
 use Rattle.std.proofs.Common.{◌≡◌, ◌∙◌, [], ◌∷◌, ◌++◌, map, option_map, sym, ap}
 use Rattle.std.proofs.lemmas.List.{map-append}
-use Rattle.conditions.proofs.Branching.{one_more, prefixed}
-use Rattle.conditions.specs.Branches.{Branch, behind, branches}
-use Rattle.conditions.specs.Choosing.{branch_of}
-use Rattle.conditions.proofs.branches.Branches.read.Goals as goal
+use Rattle.code.proofs.Branching.{one_more, prefixed}
+use Rattle.code.specs.Branches.{Branch, behind, branches}
+use Rattle.code.specs.Branching.{branch_of}
+use Rattle.code.proofs.branches.Branches.read.Goals as goal
 
 pub branches-preserved : goal.branches-preserved
 branches-preserved g c =

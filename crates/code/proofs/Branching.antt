@@ -1,9 +1,9 @@
 -- The branches of if, read from left to right.
 use Rattle.std.proofs.Common.{◌≡◌, ℕ, ◌-◌, ◌≤◌, true, false, List, [], ◌∷◌, ◌++◌, length, drop, take, get_or, Option, Some, None, option_map, append_assoc, refl, sym, ap, arith}
-use Rattle.std.proofs.Math.Seq.{take-length}
 use Rattle.std.specs.Prelude.{codes}
 use Rattle.std.specs.Str.{bytes_eq}
-use Rattle.conditions.specs.Branches.{Branch, Branches, behind, branches, with_body, with_branch}
+use Rattle.code.proofs.Fronts.{behind_one, behind_two}
+use Rattle.code.specs.Branches.{Branch, Branches, behind, branches, with_body, with_branch}
 
 -- branches before others
 abbrev pub prefixed : List Branch → Branches → Branches
@@ -22,17 +22,6 @@ one_more first test body (Some more) =
     let with_tests : List Branch → Option Branches = λ tests.
     let all : Branches = record { tests = tests; otherwise = more.otherwise } in Some all in
     ap with_tests (sym (append_assoc first (last ∷ []) more.tests))
-
--- the rest of a list after two elements, and after one
-pub behind_two : {X : Type 0} (x y : X) (more : List X) →
-    take (length (x ∷ y ∷ more) - 2) (drop 2 (x ∷ y ∷ more)) ≡ more
-behind_two x y more =
-    let n : length (x ∷ y ∷ more) - 2 ≡ length more = omega arith in rw n (take-length more)
-
-pub behind_one : {X : Type 0} (x : X) (more : List X) →
-    take (length (x ∷ more) - 1) (drop 1 (x ∷ more)) ≡ more
-behind_one x more =
-    let n : length (x ∷ more) - 1 ≡ length more = omega arith in rw n (take-length more)
 
 -- words after a test, of which the next is then or a body
 pub behind_then : (words : List (List ℕ)) (test word : List ℕ) → 2 ≤ length words →

@@ -1,7 +1,7 @@
 use Rattle.std.proofs.Common.{sym, subst}
-use Rattle.conditions.proofs.Branching.{behind_test, behind_then}
-use Rattle.conditions.specs.Choosing.{IsFront}
-use Rattle.conditions.proofs.branches.first_branch.Goals as goal
+use Rattle.code.proofs.Branching.{behind_test, behind_then}
+use Rattle.code.specs.Branching.{IsFront}
+use Rattle.code.proofs.branches.first_branch.Goals as goal
 
 pub returns-then-is_word-clause-front : goal.returns-then-is_word-clause-front
 returns-then-is_word-clause-front g c =
