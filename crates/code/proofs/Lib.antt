@@ -21,3 +21,4 @@ pub mod Arguments
 pub mod Choices
 pub mod Texts
 pub mod Catches
+pub mod Doings

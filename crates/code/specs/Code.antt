@@ -1,5 +1,5 @@
 -- Where the code of a tree stands.
-use Rattle.std.specs.Prelude.{◌≡◌, ℕ, ◌+◌, ◌<◌, Bool, true, false, List, [], ◌∷◌, codes, length, Option, Some, None, Ok, Vec, is_some, slice_get}
+use Rattle.std.specs.Prelude.{◌≡◌, ℕ, ◌+◌, ◌<◌, Bool, true, false, List, [], ◌∷◌, codes, length, Option, Some, None, Ok, Err, Vec, is_some, slice_get}
 use Rattle.std.specs.List.{list_all}
 use Rattle.std.specs.Str.{bytes_eq}
 use Rattle.code.specs.Argument.{is_braced, takes_branches}
@@ -12,6 +12,7 @@ use Rattle.pure.specs.Concat.{concatenated}
 use Rattle.tclparse.specs.Fault.{Fault}
 use Rattle.tclparse.specs.Formula.{Formula, Formulas, Links}
 use Rattle.tclparse.specs.Formula as tree
+use Rattle.tclparse.specs.FormulaFault.{FormulaFault}
 use Rattle.tclparse.specs.FormulaGrammar.{IsFormula}
 use Rattle.tclparse.specs.Grammar.{IsArgument, IsScript}
 use Rattle.tclparse.specs.Seen.{fault_of}
@@ -114,6 +115,10 @@ pub data IsDirect {A : Type 0} : Instruction A → List (List ℕ) → Type 0 wh
 -- a text is a formula (expr(n))
 abbrev pub HasFormula : List ℕ → Type 0
 HasFormula text = (f : Formula) × IsFormula (Ok f) text
+
+-- a text is no formula, for this reason (expr(n))
+abbrev pub LacksFormula : List ℕ → Type 0
+LacksFormula text = (why : FormulaFault) × IsFormula (Err why) text
 
 -- The code of the tree stands from the first place up to the second.
 mutual
@@ -221,9 +226,10 @@ mutual
         is_braced text ≡ true → IsArgument ws None text → At code place (i.Text name) →
         WordsAt code true false 1 (place + 1) ws end → OwnAt code name place (text ∷ []) end
 
-  -- the turns of a loop with this test, which is a formula, this script after each turn, if there
-  -- is one, and this body: the body stands before the test, with which the loop begins, and after
-  -- both of them the empty value (while(n); for(n))
+  -- the turns of a loop with this test, this script after each turn, if there is one, and this
+  -- body: the body stands before the test, with which the loop begins, and after both of them the
+  -- empty value; where the test is no formula, it stands alone, and has no value (while(n);
+  -- for(n))
   pub data TurnsAt {A : Type 0} (code : List (Instruction A)) :
       ℕ → List ℕ → Option (List ℕ) → List ℕ → ℕ → Type 0 where
     turns : {place mid again turn : ℕ} {test body : List ℕ} {step : Option (List ℕ)} →
@@ -231,6 +237,8 @@ mutual
         StepAt code mid step again → ExpressionAt code again test turn →
         At code turn (i.Turn (place + 1) mid) →
         At code (turn + 1) (i.Text []) → TurnsAt code place test step body (turn + 2)
+    no_turns : {place : ℕ} {test body : List ℕ} {step : Option (List ℕ)} → LacksFormula test →
+        At code place (i.Evaluate test) → TurnsAt code place test step body (place + 1)
 
   -- what stands after the body of a turn: the end of the turn, and before that the script that runs
   -- after each turn, if there is one (for(n))

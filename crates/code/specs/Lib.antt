@@ -9,5 +9,6 @@ pub mod Argument
 pub mod Own
 pub mod StoredFormula
 pub mod CodeOf
+pub mod Doing
 pub mod Made
 pub mod ReadsCode

@@ -8,6 +8,7 @@ pub mod branches;
 mod catch;
 mod conditional;
 mod direct;
+mod doing;
 mod each;
 mod emit;
 mod evaluate;
@@ -24,6 +25,7 @@ mod switch;
 mod whole;
 
 pub use argument::is_braced;
+pub use doing::Doing;
 pub use instruction::Instruction;
 pub use literal::texts_of;
 pub use made::{CodedArgument, CodedFormula, CodedScript, Entry, Made};

@@ -6,6 +6,7 @@ ghost use Rattle.tclparse.specs.ScriptTree.{seen};
 ghost use Rattle.formulas.specs.View.{formula_of};
 ghost use Rattle.tclparse.specs.View.{words_of};
 
+use crate::doing::Doing;
 use crate::instruction::Instruction;
 use crate::whole::{argument_code, code_of, formula_code};
 use formulas::{Formula, ReadError};
@@ -263,18 +264,24 @@ pub enum Entry<A: Allocator> {
     Made(Made<A>),
     /// The words of an argument in braces, which give the branches of their command.
     Argument(CodedArgument<A>),
+    /// What a command does that began by its words, whose outcome is that of the command.
+    Does(Doing<A>),
 }
 
-impl<A: Allocator> Entry<A> {
+impl<A: Allocator + Copy> Entry<A> {
     ghost use Rattle.code.specs.Made.{IsCodeOfEntry};
 
-    /// The instructions alone.
-    pub fn into_code(self) -> Rc<Vec<Instruction<A>, A>, A>
-        ensures { IsCodeOfEntry result.value.items self }
+    /// The instructions alone; those of what a command does are made here.
+    ///
+    /// # Errors
+    /// `NoMemory`, after which nothing stays allocated.
+    pub fn into_code(self, alloc: A) -> Result<Rc<Vec<Instruction<A>, A>, A>, NoMemory>
+        ensures { IfOk result (λ code. IsCodeOfEntry code.value.items self) }
     {
         match self {
-            Entry::Made(made) => made.into_code(),
-            Entry::Argument(argument) => argument.into_code(),
+            Entry::Made(made) => Ok(made.into_code()),
+            Entry::Argument(argument) => Ok(argument.into_code()),
+            Entry::Does(doing) => Ok(Rc::new(alloc, doing.into_code(alloc)?)?),
         }
     }
 }

@@ -3,6 +3,7 @@
 ghost use Rattle.std.specs.Prelude.{◌≡◌, [], ◌∷◌, ℕ, List, None, Some, codes, IfOk, IfSome, OnOk};
 ghost use Rattle.code.specs.Blocks.{ItsBlock, StepBlock, TurnsBlock};
 ghost use Rattle.code.specs.Code.{HasFormula};
+ghost use Rattle.code.specs.Doing.{Tells};
 ghost use Rattle.code.specs.Repeat.{for_args};
 
 use crate::formula::fill;
@@ -29,14 +30,15 @@ pub(crate) struct For<A: Allocator> {
     turns: Turns<A>,
 }
 
-/// The text of a formula, which was read and is let go.
-fn text_of<A: Allocator>(
-    text: &Value<A>,
-    _formula: Formula<A>,
-) -> Result<Option<Value<A>>, NoMemory>
-    ensures { IfOk result (λ test. test ≡ Some text.now) }
+/// Whether a text is a formula (expr(n)).
+pub(crate) fn has_formula<A: Allocator + Copy>(alloc: A, text: &Value<A>) -> Result<bool, NoMemory>
+    ensures { IfOk result (λ is. Tells is text.now) }
 {
-    Ok(Some(text.share()?))
+    match Formula::read(alloc, text.as_slice()) {
+        Ok(_formula) => Ok(true),
+        Err(ReadError::Fault(_fault)) => Ok(false),
+        Err(ReadError::Memory(refusal)) => Err(refusal),
+    }
 }
 
 /// The test of a loop, where it is a formula.
@@ -44,10 +46,10 @@ fn test_of<A: Allocator + Copy>(alloc: A, text: &Value<A>) -> Result<Option<Valu
     ensures { IfOk result (λ read. IfSome read (λ test.
         (test ≡ text.now) × HasFormula test)) }
 {
-    match Formula::read(alloc, text.as_slice()) {
-        Ok(formula) => Ok(text_of(text, formula)?),
-        Err(ReadError::Fault(_)) => Ok(None),
-        Err(ReadError::Memory(refusal)) => Err(refusal),
+    if has_formula(alloc, text)? {
+        Ok(Some(text.share()?))
+    } else {
+        Ok(None)
     }
 }
 

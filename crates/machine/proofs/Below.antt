@@ -1,12 +1,12 @@
 -- Frames, the code below them, and the parts below that.
-use Rattle.std.proofs.Common.{◌≡◌, ◌∙◌, ℕ, zero, suc, ◌+◌, ◌-◌, ◌*◌, ◌<◌, ◌≤◌, List, [], ◌∷◌, ◌++◌, Option, Some, None, option_map, Result, Vec, length, refl, reverse, slice_get, sym, ap, subst, arith}
+use Rattle.std.proofs.Common.{◌≡◌, ◌∙◌, ℕ, zero, suc, ◌+◌, ◌-◌, ◌*◌, ◌≤◌, List, [], ◌∷◌, ◌++◌, Option, Some, None, option_map, Result, Vec, length, refl, reverse, slice_get, sym, ap, subst, arith}
 use Rattle.std.proofs.lemmas.List.{reverse-append}
 use Rattle.tclparse.specs.ScriptTree.{seen}
 use Rattle.code.specs.declared.instruction.Instruction.{Instruction}
 use Rattle.machine.specs.Frames.{Onward, left_of, onward_of, stack}
 use Rattle.machine.specs.Inner.{Puts}
 use Rattle.machine.specs.Phases.{Begins, Leads, course_of_next}
-use Rattle.machine.specs.Below.{Beneath, ComesFrom, ComesOver, Falls, GoesOn, Hands, IsBack, IsBelow, IsLess, IsOpen, IsWhole, Opens, StandsOver, StaysDeep, depth, height, parts_of, places_in, takes_of, waits_in}
+use Rattle.machine.specs.Below.{Beneath, ComesFrom, ComesOver, Falls, FallsTo, GoesOn, Hands, IsBack, IsBelow, IsLess, IsOpen, IsWhole, Opens, StandsOver, depth, height, parts_of, places_in, takes_of, waits_in}
 use Rattle.machine.specs.declared.frame.Frame.{Frame}
 use Rattle.machine.specs.declared.phase.Phase.{Phase}
 use Rattle.machine.specs.declared.running.Handed.{Handed}
@@ -222,13 +222,12 @@ module _ {A : Type 0} where
   none_left (it ∷ its) zero none = absurd cc
   none_left (it ∷ its) (suc place) none = omega (arith, none_left its place none)
 
-  -- an outcome is handed on to what was there
-  pub stays_falls : (h : Handed A) (old mid new : Running A) → StaysDeep h mid new →
-      depth mid < depth old → Falls h old new
-  stays_falls (handed.Over outcome) old mid new stays less = tt
-  stays_falls (handed.Begins n) old mid new stays less = tt
-  stays_falls (handed.Has outcome) old mid new stays less =
-      subst (λ now. depth now < depth old) (sym stays) less
+  -- what is less than this is less than more
+  pub falls_to_more : (h : Handed A) (new : Running A) (few most : ℕ) → few ≤ most →
+      FallsTo h new few → FallsTo h new most
+  falls_to_more (handed.Over outcome) new few most more falls = tt
+  falls_to_more (handed.Begins n) new few most more falls = tt
+  falls_to_more (handed.Has outcome) new few most more falls = omega (arith, more, falls)
 
   -- a session that has this outcome hands it on
   pub leads_over : (running : Running A) {state : State A} (o : Result (List ℕ) (Leave A))

@@ -1,21 +1,25 @@
 -- Commands that run scripts, and what they hold meanwhile.
-use Rattle.std.proofs.Common.{◌≡◌, ◌∙◌, ℕ, List, [], ◌∷◌, Result, Ok, sym, ap}
+use Rattle.std.proofs.Common.{◌≡◌, ◌∙◌, ℕ, List, [], ◌∷◌, Result, sym, ap}
+use Rattle.code.specs.Doing.{doing_of}
+use Rattle.code.specs.declared.doing.Doing.{Doing}
 use Rattle.code.specs.declared.made.Entry.TheVariants as entry
 use Rattle.code.specs.declared.made.Made.{Made}
 use Rattle.code.specs.declared.made.Made.TheVariants as made
-use Rattle.conditions.specs.GoesOn.{Comes}
-use Rattle.control.specs.View as control
-use Rattle.control.specs.declared.held.Held.{Held}
+use Rattle.nesting.specs.Doing.{done}
+use Rattle.nesting.specs.Eval.{passed}
+use Rattle.nesting.specs.Nesting.{Nests}
+use Rattle.nesting.specs.View as control
+use Rattle.nesting.specs.declared.held.Held.{Held}
 use Rattle.machine.specs.Frames.{Onward, left_of, onward_of}
 use Rattle.steps.specs.Goes.{Goes, here, calls}
 use Rattle.machine.specs.Phases.{Begins, Leads, course_of_next}
 use Rattle.machine.specs.declared.starting.Next.TheVariants as next
 use Rattle.machine.specs.declared.frame.Frame.{Frame}
 use Rattle.machine.specs.declared.frame.Frame.TheVariants as frame
-use Rattle.machine.proofs.Silent.{comes_goes}
+use Rattle.machine.proofs.Silent.{reaches_goes}
 use Rattle.steps.proofs.Leads.Silent.{same_goes, then_goes}
-use Rattle.state.specs.Prelude.{Course, gives, Gives, Status}
-use Rattle.plan.proofs.Joined.{associates}
+use Rattle.state.specs.Prelude.{Course, gives, Status}
+use Rattle.plan.proofs.Joined.{associates, ends_unit}
 use Rattle.plan.specs.Plan.{onward}
 use Rattle.state.specs.Evaluated.{evaluated}
 use Rattle.nesting.specs.Nesting as nests
@@ -27,12 +31,12 @@ use Rattle.state.specs.declared.state.State.{State}
 module _ {A : Type 0} (last : Onward) (fs : List (Frame A)) where
   -- a command that is over continues under the frames
   pub over_held : (r : Result (List ℕ) (Leave A)) (state : State A) (course : Course) →
-      Comes (control.next_of {A = A}) (nesting.Has r) state course →
+      Nests (control.next_of {A = A}) (nesting.Has r) state course →
       Leads last (at_hand.Has r) fs state (left_of last course fs)
   over_held r state course shown = record {
     status = shown.status;
     fits = shown.fits;
-    goes = comes_goes last fs shown.goes;
+    goes = reaches_goes last fs shown.reaches;
   }
 
   -- a script or a formula stands on the stack above the command that runs it
@@ -53,25 +57,28 @@ module _ {A : Type 0} (last : Onward) (fs : List (Frame A)) where
   pub runs_held : (it : Made A) (levels : ℕ) (held : Held A) (new : List (Frame A))
       (state : State A) (course : Course) →
       new ≡ frame.Code (entry.Made it) levels ∷ frame.Held held ∷ fs →
-      Comes (control.next_of {A = A}) (nesting.Runs it levels held) state course →
+      Nests (control.next_of {A = A}) (nesting.Runs it levels held) state course →
       Begins last (course_of_next {A = A} next.Again) new state (left_of last course fs)
   runs_held it levels held new state course on shown = record {
     status = shown.status;
     fits = shown.fits;
-    goes = then_goes (comes_goes last fs shown.goes)
+    goes = then_goes (reaches_goes last fs shown.reaches)
         (held_goes it levels held new shown.status on);
   }
 
-  -- the same, where the command took no tick
-  pub runs_on : (it : Made A) (levels : ℕ) (held : Held A) (new : List (Frame A))
-      (state : State A) (course : Course) (none : List ℕ) → none ≡ [] →
-      new ≡ frame.Code (entry.Made it) levels ∷ frame.Held held ∷ fs →
-      Comes (control.next_of {A = A}) (nesting.Runs it levels held) state course →
-      Leads last (at_hand.Has (Ok none)) new state (left_of last course fs)
-  runs_on it levels held new state course none is on shown = record {
-    status = shown.status;
-    fits = shown.fits;
-    goes = then_goes (comes_goes last fs shown.goes)
-        (then_goes (held_goes it levels held new shown.status on)
-        (same_goes (ap (λ v. onward_of last new shown.status (Gives v)) (sym is))));
-  }
+  -- something runs, or is done, in place of a command
+  pub runs_instead : (it : Made A) (levels : ℕ) (new : List (Frame A)) (s : Status) →
+      new ≡ frame.Code (entry.Made it) levels ∷ fs →
+      Goes (left_of last (nests.runs it levels s passed) fs) (left_of last (gives [] s) new)
+  runs_instead (made.Script tree) levels new s on =
+      then_goes (calls here) (same_goes (ap (λ l. left_of last (gives [] s) l) (sym on)))
+  runs_instead (made.Formula f) levels new s on =
+      same_goes
+      (ap (λ c. left_of last c fs) (ends_unit (evaluated levels f s (λ t value. gives value t)))
+      ∙ ap (λ l. left_of last (gives [] s) l) (sym on))
+
+  pub does_instead : (doing : Doing A) (levels : ℕ) (new : List (Frame A)) (s : Status) →
+      new ≡ frame.Code (entry.Does doing) levels ∷ fs →
+      Goes (left_of last (done (doing_of doing) levels s) fs) (left_of last (gives [] s) new)
+  does_instead doing levels new s on =
+      same_goes (ap (λ l. left_of last (gives [] s) l) (sym on))

@@ -1,9 +1,10 @@
-pub mod Stacks
-pub mod Silent
-pub mod Closings
-pub mod Machines
-pub mod Held
-pub mod Waiting
 pub mod Added
 pub mod Below
+pub mod Closings
+pub mod Entering
+pub mod Held
+pub mod Machines
+pub mod Silent
+pub mod Stacks
 pub mod Texts
+pub mod Waiting

@@ -1,7 +1,5 @@
 -- Silent steps: one after the other, under frames, and what they do to the remaining runs.
 use Rattle.std.proofs.Common.{◌≡◌, List, ap}
-use Rattle.conditions.specs.GoesOn as loops_go
-use Rattle.conditions.specs.GoesOn.{GoesOn}
 use Rattle.machine.specs.Frames.{Onward, left_of}
 use Rattle.steps.specs.Goes.{Goes, here, calls, reads}
 use Rattle.machine.specs.declared.frame.Frame.{Frame}
@@ -21,14 +19,6 @@ pub reaches_goes : {A : Type 0} (last : Onward) (frames : List (Frame A)) {p q :
     Goes (left_of last p frames) (left_of last q frames)
 reaches_goes last frames words_reach.here = here
 reaches_goes last frames (words_reach.reads tree is a) = reads tree is (reaches_goes last frames a)
-
--- so does a course that begins turns of loops as well
-pub comes_goes : {A : Type 0} (last : Onward) (frames : List (Frame A)) {p q : Course} →
-    GoesOn p q →
-    Goes (left_of last p frames) (left_of last q frames)
-comes_goes last frames loops_go.here = here
-comes_goes last frames (loops_go.reads tree is a) = reads tree is (comes_goes last frames a)
-comes_goes last frames (loops_go.turning a) = calls (comes_goes last frames a)
 
 -- equal courses continue alike
 pub same_left : {A : Type 0} (last : Onward) (frames : List (Frame A)) {p q : Course} → p ≡ q →

@@ -5,7 +5,7 @@ use Rattle.code.specs.ReadsCode.{ReadsCode}
 use Rattle.code.specs.declared.made.Entry.TheVariants as entry
 use Rattle.code.specs.declared.made.Made.{Made}
 use Rattle.code.specs.declared.made.Made.TheVariants as made
-use Rattle.conditions.specs.Formulas.{flaw_of_formula}
+use Rattle.nesting.specs.Formulas.{flaw_of_formula}
 use Rattle.formulas.specs.Seen.{fault_of}
 use Rattle.formulas.specs.declared.error.ReadError.{ReadError}
 use Rattle.formulas.specs.declared.error.ReadError.TheVariants as error

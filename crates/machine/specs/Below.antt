@@ -1,5 +1,7 @@
 -- What a session has still to do: frames, the code below them, and the parts below that.
-use Rattle.std.specs.Prelude.{◌≡◌, ℕ, ◌+◌, ◌*◌, ◌<◌, ◌≤◌, List, [], ◌∷◌, reverse, Option, Some, None, Result, Vec}
+use Rattle.std.specs.Prelude.{◌≡◌, ℕ, ◌+◌, ◌*◌, ◌<◌, ◌≤◌, List, [], ◌∷◌, reverse, Option, Some, None, Result, Vec, if◌then◌else◌}
+use Rattle.code.specs.Doing.{are_still}
+use Rattle.code.specs.declared.made.Entry.{Entry}
 use Rattle.machine.specs.Frames.{Onward, onward_of, stack, weight, words_in}
 use Rattle.machine.specs.Phases.{Begins, IsTold, Leads, Stands, course_of_next, more_of}
 use Rattle.machine.specs.declared.advancing.Settled.{Settled}
@@ -21,7 +23,7 @@ use Rattle.state.specs.declared.leaf.Leaf.TheVariants as leaf
 use Rattle.state.specs.declared.outcome.Leave.{Leave}
 use Rattle.state.specs.declared.state.State.{State}
 use Rattle.steps.specs.Goes.{Goes}
-use Rattle.steps.specs.Run.{Awaits, places_left}
+use Rattle.steps.specs.Run.{Awaits, branches_in, places_left}
 use Rattle.steps.specs.declared.run.Run.{Run}
 
 -- the parts that wait, the top one first
@@ -82,17 +84,24 @@ abbrev pub places_in : {A : Type 0} → Option (Run A) → ℕ
 places_in None = 0
 places_in (Some run) = places_left run
 
--- how much more may begin in the parts that wait, before the next tick: from their frames, and two
--- from each place of their code, since a command may begin there, and may end by exp_continue
+-- how much may begin by a code before the next tick: two from each place, since a command may begin
+-- there, and may end by exp_continue; nothing where no command begins by it
+abbrev pub begins_left : {A : Type 0} → Run A → ℕ
+begins_left run = if are_still run.code.value.items then 0 else 2 * places_left run
+
+abbrev pub begins_in : {A : Type 0} → Option (Run A) → ℕ
+begins_in None = 0
+begins_in (Some run) = begins_left run
+
+-- how much more may begin in the parts that wait, before the next tick
 abbrev pub waits_in : {A : Type 0} → List (Part A) → ℕ
 waits_in [] = 0
-waits_in (part ∷ parts) =
-    words_in (stack part.frames) + 2 * places_in part.code + waits_in parts
+waits_in (part ∷ parts) = words_in (stack part.frames) + begins_in part.code + waits_in parts
 
 -- how much more may begin in a session before the next tick
 abbrev pub rest_of : {A : Type 0} → Running A → ℕ
 rest_of running =
-    words_in (stack running.frames) + 2 * places_in running.code + waits_in (parts_of running)
+    words_in (stack running.frames) + begins_in running.code + waits_in (parts_of running)
 
 -- how often a code may take an outcome before the next tick: once, and after each of its texts,
 -- which stands above it then
@@ -111,11 +120,15 @@ abbrev pub depth : {A : Type 0} → Running A → ℕ
 depth running =
     2 * weight (stack running.frames) + takes_of running.code + height (parts_of running)
 
--- where an outcome is handed on without a tick, less is left to hand it to
+-- where an outcome is handed on without a tick, less is left to hand it to than this
+abbrev pub FallsTo : {A : Type 0} → Handed A → Running A → ℕ → Type 0
+FallsTo (handed.Over outcome) new most = Unit {0}
+FallsTo (handed.Begins next) new most = Unit {0}
+FallsTo (handed.Has outcome) new most = depth new < most
+
+-- less is left then than before
 abbrev pub Falls : {A : Type 0} → Handed A → Running A → Running A → Type 0
-Falls (handed.Over outcome) old new = Unit {0}
-Falls (handed.Begins next) old new = Unit {0}
-Falls (handed.Has outcome) old new = depth new < depth old
+Falls h old new = FallsTo h new (depth old)
 
 -- without a tick less is left that may begin, or not more where nothing begins
 abbrev pub IsLess : {A : Type 0} → Handed A → Running A → ℕ → Type 0
@@ -129,12 +142,6 @@ HasTicked (handed.Over outcome) now left = Unit {0}
 HasTicked (handed.Begins next) now left = Unit {0}
 HasTicked (handed.Has outcome) now left = now < left
 
--- where an outcome is handed on, nothing else has changed but what is kept of texts
-abbrev pub StaysDeep : {A : Type 0} → Handed A → Running A → Running A → Type 0
-StaysDeep (handed.Over outcome) old new = Unit {0}
-StaysDeep (handed.Begins next) old new = Unit {0}
-StaysDeep (handed.Has outcome) old new = new ≡ record old { parsed = new.parsed }
-
 -- nothing has begun but branches that are given last, where they may be given, and what the code
 -- ends with is not of exp_continue
 abbrev pub TicksFirst : {A : Type 0} → ℕ → Led A → Run A → Type 0
@@ -143,11 +150,18 @@ TicksFirst said (led.Has outcome) run = ⊥
 TicksFirst said (led.Begins next) run =
     (0 < said) × (more_of next ≡ 0) × (places_left run ≡ 0)
 
+-- how much may begin by a code that was entered with a value, before the next tick: its branches,
+-- and no more
+abbrev pub EntersLess : {A : Type 0} → Entry A → Led A → Run A → Type 0
+EntersLess it (led.Over outcome) run = again_of (outcome_of outcome) ≡ 0
+EntersLess it (led.Has outcome) run = begins_left run ≡ 0
+EntersLess it (led.Begins next) run = more_of next + begins_left run < branches_in it
+
 -- how much may begin by the code before the next tick, and one more where something begins
 abbrev pub left_to_run : {A : Type 0} → Led A → Run A → ℕ
 left_to_run (led.Over outcome) run = again_of (outcome_of outcome)
-left_to_run (led.Has outcome) run = 2 * places_left run
-left_to_run (led.Begins next) run = 1 + more_of next + 2 * places_left run
+left_to_run (led.Has outcome) run = begins_left run
+left_to_run (led.Begins next) run = 1 + more_of next + begins_left run
 
 -- a code that is not over stands further on than before
 abbrev pub IsOnward : {A : Type 0} → Led A → Run A → Run A → Type 0

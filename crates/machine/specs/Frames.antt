@@ -2,7 +2,10 @@
 use Rattle.std.specs.Prelude.{ℕ, ◌+◌, ◌*◌, List, [], ◌∷◌, map, reverse}
 use Rattle.state.specs.Prelude.{Course, Dialogue, on_value, Outcome, Status}
 use Rattle.std.specs.declared.vec.Vec.{Vec}
-use Rattle.control.specs.View as control
+use Rattle.code.specs.Doing.{doing_of, size_of}
+use Rattle.code.specs.declared.made.Entry.{Entry}
+use Rattle.code.specs.declared.made.Entry.TheVariants as entry
+use Rattle.nesting.specs.View as control
 use Rattle.machine.specs.declared.frame.Frame.{Frame}
 use Rattle.machine.specs.declared.frame.Frame.TheVariants as frame
 use Rattle.expects.specs.Turn.{behind}
@@ -36,10 +39,17 @@ onward_of last frames = after (map next_of frames) last
 abbrev pub left_of : {A : Type 0} → Onward → Course → List (Frame A) → Dialogue Over
 left_of last course frames = and_then course (onward (onward_of last frames))
 
+-- how often a code may put what a text is read as on the stack before the next tick, and once more:
+-- that of what a command does begins no command, and texts stand in it
+abbrev pub weight_in : {A : Type 0} → Entry A → ℕ
+weight_in (entry.Made it) = 1
+weight_in (entry.Argument words) = 1
+weight_in (entry.Does doing) = 1 + 2 * size_of (doing_of doing)
+
 -- how much a frame may still put on the stack between two ticks
 abbrev pub weight_of : {A : Type 0} → Frame A → ℕ
-weight_of (frame.Code it levels) = 1
-weight_of (frame.Held held) = 1 + 2 * control.runs_held held
+weight_of (frame.Code it levels) = weight_in it
+weight_of (frame.Held held) = 1
 weight_of (frame.Turn turn) = 1
 
 -- how much all frames together may still put on the stack between two ticks

@@ -5,7 +5,7 @@ use Rattle.acts.specs.History.{History}
 use Rattle.acts.specs.declared.answer.Answer.{Answer}
 use Rattle.machine.specs.Waiting.{next_of}
 use Rattle.machine.specs.declared.waits.Waits.{Waits}
-use Rattle.machine.specs.Frames.{Onward, load, onward_of, left_of, weight, words_in}
+use Rattle.machine.specs.Frames.{Onward, load, onward_of, left_of, weight, weight_in, words_in}
 use Rattle.steps.specs.Goes.{Goes}
 use Rattle.machine.specs.View.{ending_of}
 use Rattle.machine.specs.declared.closing.Closing.{Closing}
@@ -78,13 +78,14 @@ Lightens (unwound.Has outcome) frames state most waiting left =
 Lightens (unwound.Begins next) frames state most waiting left =
     more_of next + load frames state < left + waiting
 Lightens (unwound.Enters it levels value) frames state most waiting left =
-    (weight frames < most) × (branches_in it + words_in frames ≤ waiting) × (state.left ≤ left)
+    (weight_in it + weight frames ≤ most) × (branches_in it + words_in frames ≤ waiting)
+    × (state.left ≤ left)
 
--- where a code is entered, its frame is gone
+-- where a code is entered, its frame is gone, with its weight
 abbrev pub IsLighter : {A : Type 0} → Unwound A → List (Frame A) → ℕ → Type 0
 IsLighter (unwound.Has outcome) frames most = Unit {0}
 IsLighter (unwound.Begins next) frames most = Unit {0}
-IsLighter (unwound.Enters it levels value) frames most = weight frames < most
+IsLighter (unwound.Enters it levels value) frames most = weight_in it + weight frames ≤ most
 
 -- all frames are gone where there is an outcome
 abbrev pub IsEmptied : {A : Type 0} → Unwound A → List (Frame A) → Type 0

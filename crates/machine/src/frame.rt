@@ -7,8 +7,8 @@ ghost use Rattle.machine.specs.declared.frame.Frame.TheVariants as frame;
 
 use acts::NoMemory;
 use code::{Entry, Made};
-use control::Held;
 use expects::turn::Turn;
+use nesting::Held;
 use std::alloc::Allocator;
 
 /// What is done next with the outcome of the part within the frame.

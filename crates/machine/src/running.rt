@@ -2,12 +2,12 @@
 //! for this code.
 
 ghost use Rattle.std.specs.Prelude.{◌≡◌, ◌+◌, ◌*◌, ◌≤◌, ℕ, [], Some, IfOk, OnOk};
-ghost use Rattle.machine.specs.Frames.{Onward, left_of, onward_of, stack};
-ghost use Rattle.machine.specs.Below.{Falls, GoesOn, HasTicked, IsAbove, IsBack, IsBelow, IsLess, IsOnward, IsOpen, IsWhole, RunsOn, StaysDeep, TicksFirst, left_to_run, parts_of, rest_of};
+ghost use Rattle.machine.specs.Frames.{Onward, left_of, onward_of, stack, weight_in};
+ghost use Rattle.machine.specs.Below.{Falls, FallsTo, GoesOn, HasTicked, IsAbove, IsBack, IsBelow, IsLess, IsOnward, IsOpen, IsWhole, RunsOn, TicksFirst, begins_left, depth, left_to_run, parts_of, rest_of};
 ghost use Rattle.state.specs.Budget.{again_of};
 ghost use Rattle.state.specs.Prelude.{Status, FitsState, outcome_of};
 ghost use Rattle.steps.specs.Entered.{entered};
-ghost use Rattle.steps.specs.Run.{Awaits, IsFresh, IsValue, branches_in, places_left};
+ghost use Rattle.steps.specs.Run.{Awaits, IsFresh, IsValue, branches_in};
 
 use crate::frame::Frame;
 use crate::inner::{put_script, put_value};
@@ -123,7 +123,7 @@ impl<A: Allocator + Copy> Running<A> {
         let tree = Script::read(alloc, text)?;
         let script = CodedScript::new(alloc, tree)?;
         let script = Entry::Made(Made::Script(script));
-        let run = Run::begin(alloc, script, MOST_LEVELS);
+        let run = Run::begin(alloc, script, MOST_LEVELS)?;
         Ok(Running {
             frames: Vec::new(alloc),
             code: Some(run),
@@ -187,13 +187,7 @@ fn hand_once<A: Allocator + Copy, T: Watch<A, Running<A>, State<A>, Leaf<A, Wait
         Falls handed running.old running.new) }
     ensures watched { T.told watch.old [] watch.new }
 {
-    match unwind(
-        alloc,
-        &mut running.frames,
-        &mut running.parsed,
-        state,
-        outcome,
-    )? {
+    match unwind(alloc, &mut running.frames, state, outcome)? {
         Unwound::Begins(next) => Ok(Handed::Begins(next)),
         Unwound::Enters(it, levels, value) => {
             Ok(enter(alloc, running, state, it, levels, value, watch)?)
@@ -219,10 +213,10 @@ fn enter<A: Allocator + Copy, T: Watch<A, Running<A>, State<A>, Leaf<A, Waits<A>
     ensures less { IfOk result (λ handed. state.new.left ≡ state.old.left →
         IsLess handed running.new (branches_in it + rest_of running.old)) }
     ensures falls { IfOk result (λ handed. state.new.left ≡ state.old.left →
-        StaysDeep handed running.old running.new) }
+        FallsTo handed running.new (2 * weight_in it + depth running.old)) }
     ensures watched { T.told watch.old [] watch.new }
 {
-    let mut run = Run::begin(alloc, it, levels);
+    let mut run = Run::begin(alloc, it, levels)?;
     let mut frames = Vec::new(alloc);
     let parsed = &mut running.parsed;
     match go_on(
@@ -309,7 +303,7 @@ fn go_on<A: Allocator + Copy, T: Watch<A, Running<A>, State<A>, Leaf<A, Waits<A>
     ensures above { IfOk result (λ led. IsAbove led (stack frames.old) (stack frames.new)) }
     ensures left { IfOk result (λ _. state.new.left ≤ state.old.left) }
     ensures less { IfOk result (λ led. state.new.left ≡ state.old.left →
-        left_to_run led run.new ≤ again_of (outcome_of outcome) + 2 * places_left run.old) }
+        left_to_run led run.new ≤ again_of (outcome_of outcome) + begins_left run.old) }
     ensures onward { IfOk result (λ led. state.new.left ≡ state.old.left →
         IsOnward led run.old run.new) }
     ensures first { (said : ℕ) → IsFresh said run.old → IsValue outcome → IfOk result (λ led.

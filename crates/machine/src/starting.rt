@@ -7,9 +7,9 @@
 ghost use Rattle.std.specs.Prelude.{◌≡◌, ◌+◌, ◌≤◌, [], ◌∷◌, List, None, IfNone, IfOk, MatchOption, drop};
 ghost use Rattle.state.specs.Prelude.{Status, FitsState, outcome_of};
 ghost use Rattle.commands.specs.Commands as plain;
-ghost use Rattle.control.specs.Commands as controls;
-ghost use Rattle.control.specs.View as control;
-ghost use Rattle.control.specs.View.{control_of};
+ghost use Rattle.nesting.specs.Commands as controls;
+ghost use Rattle.nesting.specs.View as control;
+ghost use Rattle.nesting.specs.View.{control_of};
 ghost use Rattle.expects.specs.Expect.{by_name};
 ghost use Rattle.machine.specs.Began.{HasBegun, asking_load, begun_load, course_of_asking};
 ghost use Rattle.machine.specs.Frames.{Onward, left_of, load, onward_of, stack, words_in};
@@ -30,12 +30,12 @@ use crate::turns::{say, take_turn, wait};
 use crate::waits::{Waits, plainly};
 use crate::watch::Watch;
 use acts::NoMemory;
+use code::Entry;
 use commands::{Acting, Began};
-use control::{Control, Held};
 use expects::form::Form;
 use expects::turn::Turn;
 use kept::{Kept, Parsed};
-use nesting::Nesting;
+use nesting::{self, Control, Held, Nesting};
 use state::{Leaf, Outcome, State};
 use std::alloc::Allocator;
 use tcltext::Value;
@@ -261,7 +261,7 @@ fn enter_procedure<A: Allocator + Copy>(
     ensures kept { IfOk result (λ called. IfNone called (stack frames.new ≡ stack frames.old)) }
     ensures left { state.new.left ≤ state.old.left }
 {
-    match control::call(alloc, kept, state, name, args, levels)? {
+    match nesting::call(alloc, kept, state, name, args, levels)? {
         Some(nesting) => Ok(Some(hold(frames, nesting)?)),
         None => Ok(None),
     }
@@ -287,8 +287,8 @@ fn begin_control<A: Allocator + Copy>(
         ≤ 1 + load (stack frames.old) state.old) }
     ensures left { state.new.left ≤ state.old.left }
 {
-    let nesting = control::begin(alloc, parsed, state, control, args, levels)?;
-    hold(frames, nesting)
+    let begun = nesting::begin(alloc, parsed, state, control, args, levels)?;
+    put_begun(frames, begun)
 }
 
 /// Begins a command that takes branches, or one that runs no script, up to an outcome or to what
@@ -406,6 +406,35 @@ fn hold<A: Allocator>(
     match nesting {
         Nesting::Has(outcome) => Ok(outcome),
         Nesting::Runs(it, levels, held) => {
+            put_above(frames, it, levels, Frame::Held(held))?;
+            Ok(Ok(Value::empty()))
+        }
+    }
+}
+
+/// Puts what a command that runs scripts has begun on the stack.
+fn put_begun<A: Allocator>(
+    frames: &mut Vec<Frame<A>, A>,
+    begun: nesting::Begun<A>,
+) -> Result<Outcome<A>, NoMemory>
+    ensures goes { (last : Onward) (s : Status) → IfOk result (λ outcome.
+        Goes (left_of last (control.course_of_begun begun s) (stack frames.old))
+        (onward_of last (stack frames.new) s (outcome_of outcome))) }
+    ensures words { IfOk result (λ outcome.
+        again_of (outcome_of outcome) + words_in (stack frames.new)
+        ≤ 1 + words_in (stack frames.old)) }
+{
+    match begun {
+        nesting::Begun::Has(outcome) => Ok(outcome),
+        nesting::Begun::Runs(it, levels) => {
+            Frame::Code(Entry::Made(it), levels).push(frames)?;
+            Ok(Ok(Value::empty()))
+        }
+        nesting::Begun::Does(doing, levels) => {
+            Frame::Code(Entry::Does(doing), levels).push(frames)?;
+            Ok(Ok(Value::empty()))
+        }
+        nesting::Begun::Holds(it, levels, held) => {
             put_above(frames, it, levels, Frame::Held(held))?;
             Ok(Ok(Value::empty()))
         }

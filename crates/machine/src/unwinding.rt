@@ -2,9 +2,8 @@
 
 ghost use Rattle.std.specs.Prelude.{◌≤◌, ◌+◌, ◌*◌, List, IfOk};
 ghost use Rattle.state.specs.Prelude.{Status, FitsState, outcome_of};
-ghost use Rattle.control.specs.View as control;
-ghost use Rattle.control.specs.View.{runs_held};
-ghost use Rattle.machine.specs.Frames.{Onward, left_of, next_of, onward_of, stack, weight, weight_of, words_in, words_of_frame};
+ghost use Rattle.nesting.specs.View as control;
+ghost use Rattle.machine.specs.Frames.{Onward, left_of, next_of, onward_of, stack, weight, weight_in, weight_of, words_in, words_of_frame};
 ghost use Rattle.expects.specs.Turn.{behind as behind_body};
 ghost use Rattle.expects.specs.View.{turn_of};
 ghost use Rattle.machine.specs.Phases.{IsEmptied, IsLighter, Lightens, Unwinds};
@@ -18,11 +17,9 @@ use crate::frame::{Frame, put_above};
 use crate::starting::Next;
 use acts::NoMemory;
 use code::Entry;
-use control::Held;
 use expects::resuming::resumed;
 use expects::turn::{Opening, Turn};
-use kept::Parsed;
-use nesting::Nesting;
+use nesting::{self, Held, Nesting};
 use state::{Outcome, State};
 use std::alloc::Allocator;
 use tcltext::Value;
@@ -42,7 +39,6 @@ pub enum Unwound<A: Allocator> {
 pub(crate) fn unwind<A: Allocator + Copy>(
     alloc: A,
     frames: &mut Vec<Frame<A>, A>,
-    parsed: &mut Parsed<A>,
     state: &mut State<A>,
     mut outcome: Outcome<A>,
 ) -> Result<Unwound<A>, NoMemory>
@@ -61,7 +57,7 @@ pub(crate) fn unwind<A: Allocator + Copy>(
         let Some(frame) = Frame::pop(frames) else {
             return Ok(Unwound::Has(outcome));
         };
-        match resume(alloc, frames, parsed, state, frame, outcome)? {
+        match resume(alloc, frames, state, frame, outcome)? {
             Unwound::Has(next) => outcome = next,
             Unwound::Begins(next) => return Ok(Unwound::Begins(next)),
             Unwound::Enters(it, levels, value) => {
@@ -75,7 +71,6 @@ pub(crate) fn unwind<A: Allocator + Copy>(
 fn resume<A: Allocator + Copy>(
     alloc: A,
     frames: &mut Vec<Frame<A>, A>,
-    parsed: &mut Parsed<A>,
     state: &mut State<A>,
     frame: Frame<A>,
     outcome: Outcome<A>,
@@ -92,7 +87,7 @@ fn resume<A: Allocator + Copy>(
 {
     match frame {
         Frame::Code(it, levels) => Ok(code_on(it, levels, outcome)),
-        Frame::Held(held) => held_on(alloc, frames, parsed, state, held, outcome),
+        Frame::Held(held) => held_on(alloc, frames, state, held, outcome),
         Frame::Turn(turn) => turn_on(alloc, frames, state, turn, outcome),
     }
 }
@@ -104,7 +99,7 @@ fn code_on<A: Allocator>(it: Entry<A>, levels: u8, outcome: Outcome<A>) -> Unwou
         (s : Status) → FitsState state s → Unwinds last result frames state
         (left_of last (next_of (frames_are.Code it levels) s (outcome_of outcome)) frames) }
     ensures lightens { (frames : List (framed.Frame A)) (state : stated.State A) →
-        Lightens result frames state (1 + weight frames)
+        Lightens result frames state (weight_in it + weight frames)
         (again_of (outcome_of outcome) + (branches_in it + words_in frames)) state.left }
 {
     match outcome {
@@ -137,12 +132,11 @@ fn turn_on<A: Allocator + Copy>(
     }
 }
 
-/// Continues a command after a script or a formula that it ran.
+/// Continues a command, or a call, after a script or a formula that it ran.
 #[inline(never)]
 fn held_on<A: Allocator + Copy>(
     alloc: A,
     frames: &mut Vec<Frame<A>, A>,
-    parsed: &mut Parsed<A>,
     state: &mut State<A>,
     held: Held<A>,
     outcome: Outcome<A>,
@@ -151,22 +145,15 @@ fn held_on<A: Allocator + Copy>(
         IfOk result (λ unwound. Unwinds last unwound (stack frames.new) state.new
         (left_of last (control.next_of held s (outcome_of outcome)) (stack frames.old))) }
     ensures lightens { IfOk result (λ unwound.
-        Lightens unwound (stack frames.new) state.new
-        (1 + 2 * runs_held held + weight (stack frames.old))
+        Lightens unwound (stack frames.new) state.new (1 + weight (stack frames.old))
         (1 + words_in (stack frames.old)) state.old.left) }
     ensures left { state.new.left ≤ state.old.left }
 {
-    let left = state.left;
-    let nesting = control::resumed(alloc, parsed, state, held, outcome)?;
-    match nesting {
+    match nesting::resumed(alloc, state, held, outcome)? {
         Nesting::Has(outcome) => Ok(Unwound::Has(outcome)),
         Nesting::Runs(it, levels, held) => {
             put_above(frames, it, levels, Frame::Held(held))?;
-            if state.left < left {
-                Ok(Unwound::Begins(Next::Again))
-            } else {
-                Ok(Unwound::Has(Ok(Value::empty())))
-            }
+            Ok(Unwound::Begins(Next::Again))
         }
     }
 }

@@ -1,7 +1,7 @@
 -- How far a command that runs scripts or formulas has come, where it is known how it came there.
-use Rattle.std.proofs.Common.{◌≡◌, ◌∙◌, ℕ, suc, List, Result, refl, sym, ap, subst}
+use Rattle.std.proofs.Common.{◌≡◌, ◌∙◌, ℕ, suc, List, Result, Ok, Err, IfOk, refl, sym, ap, subst}
 use Rattle.state.specs.Prelude.{Ends, Course, inside, Outcome, Reaches, here, Status, FitsState, outcome_of}
-use Rattle.nesting.specs.Nesting.{Nests}
+use Rattle.nesting.specs.Nesting.{Nests, course_of}
 use Rattle.state.proofs.Reaches.{same_reaches, then_reaches}
 use Rattle.nesting.specs.declared.Nesting.{Nesting}
 use Rattle.nesting.specs.declared.Nesting.TheVariants as nesting
@@ -9,6 +9,12 @@ use Rattle.state.specs.declared.outcome.Leave.{Leave}
 use Rattle.state.specs.declared.state.State.{State}
 use Rattle.code.specs.declared.made.CodedScript.{CodedScript}
 use Rattle.code.specs.declared.made.Made.TheVariants as made
+
+-- where P implies Q, a result whose value has P has a value that has Q
+pub on_ok : {X E : Type 0} (r : Result X E) {P Q : X → Type 0} → ((x : X) → P x → Q x) →
+    IfOk r P → IfOk r Q
+on_ok (Ok x) each holds = each x holds
+on_ok (Err e) each holds = holds
 
 module _ {A H : Type 0} (next : H → Status → Outcome → Course) (state : State A) where
   -- the command has ended with this outcome
@@ -43,3 +49,16 @@ module _ {A H : Type 0} (next : H → Status → Outcome → Course) (state : St
       (inside levels script s (next held))
   script_nests script levels inner held s fits deeper =
       rw deeper (record { status = s; fits = fits; reaches = here })
+
+-- where what is at hand has the same course for a larger command, a course that is as far for the
+-- one is as far for the other
+pub nests_lifted : {A H K : Type 0} (own : H → Status → Outcome → Course)
+    (all : K → Status → Outcome → Course) (state : State A) (n : Nesting A H)
+    (lifted : Nesting A K) (course : Course) →
+    ((s : Status) → course_of own n s ≡ course_of all lifted s) → Nests own n state course →
+    Nests all lifted state course
+nests_lifted own all state n lifted course same nests = record {
+  status = nests.status;
+  fits = nests.fits;
+  reaches = then_reaches nests.reaches (same_reaches (same nests.status));
+}

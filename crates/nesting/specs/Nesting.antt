@@ -1,5 +1,5 @@
 -- How far a command that runs scripts or formulas has come, as a course.
-use Rattle.std.specs.Prelude.{ℕ, ◌<◌, ◌⊎◌}
+use Rattle.std.specs.Prelude.{ℕ, ◌<◌}
 use Rattle.code.specs.declared.made.Made.{Made}
 use Rattle.code.specs.declared.made.Made.TheVariants as made
 use Rattle.plan.specs.Plan.{Ends, Calls, and_then, onward}
@@ -36,8 +36,7 @@ pub record Nests {A H : Type 0} (next : H → Status → Outcome → Course) (n 
   pub fits : FitsState state status
   pub reaches : Reaches course (course_of next n status)
 
--- something runs again only after a tick, or where fewer than most may follow it without a tick
--- (this project's own rule)
-abbrev pub Advances : {A H : Type 0} → (H → ℕ) → Nesting A H → ℕ → ℕ → ℕ → Type 0
-Advances rest (nesting.Has outcome) new old most = Unit {0}
-Advances rest (nesting.Runs it levels held) new old most = (new < old) ⊎ (rest held < most)
+-- something runs again only after a tick (this project's own rule)
+abbrev pub TicksFirst : {A H : Type 0} → Nesting A H → ℕ → ℕ → Type 0
+TicksFirst (nesting.Has outcome) new old = Unit {0}
+TicksFirst (nesting.Runs it levels held) new old = new < old

@@ -1,11 +1,11 @@
 -- A property that is closed under the steps of which courses are made holds of each command,
 -- procedures among them, where it holds of the commands that run no script, of loops and of turns.
 use Rattle.std.proofs.Common.{ℕ, List, [], ◌∷◌, Option, Some, None}
-use Rattle.bodies.proofs.Closed.{call_closed}
+use Rattle.nesting.proofs.ClosedBodies.{call_closed}
 use Rattle.commands.specs.Commands as leaf
-use Rattle.control.specs.Commands.{named}
-use Rattle.control.specs.Control.{Control}
-use Rattle.control.proofs.Behaves.{does_closed}
+use Rattle.nesting.specs.Commands.{named}
+use Rattle.nesting.specs.Control.{Control}
+use Rattle.nesting.proofs.Behaves.{does_closed}
 use Rattle.expects.proofs.Closed.{expect_closed}
 use Rattle.expects.specs.Words.{Form, named as form_of}
 use Rattle.runs.specs.Commands.{called, chosen, command, formed}

@@ -1,8 +1,8 @@
 -- What holds of each piece, proved from the pieces that it calls.
 use Rattle.std.proofs.Common.{ℕ, ◌<◌, List, [], Option, Some, None, refl, arith}
 use Rattle.commands.specs.Commands as leaf
-use Rattle.conditions.proofs.Closed.{turns_closed}
-use Rattle.conditions.specs.Loop.{turns as loop_turns}
+use Rattle.nesting.proofs.Closed.{turns_closed}
+use Rattle.nesting.specs.Loop.{turns as loop_turns}
 use Rattle.dialog.specs.Standing.{Standing}
 use Rattle.state.specs.Prelude.{Ends, Reads, Calls, Course, Outcome, LoopTree, TurnTree, Status, Scopes}
 use Rattle.runs.specs.Commands.{command}

@@ -2,9 +2,9 @@
 use Rattle.std.specs.Prelude.{ℕ, List, [], ◌∷◌, Option, Some, None}
 use Rattle.state.specs.Prelude.{Course, gives, Status}
 use Rattle.commands.specs.Commands as leaf
-use Rattle.bodies.specs.Calls.{call}
-use Rattle.control.specs.Commands.{does, named}
-use Rattle.control.specs.Control.{Control}
+use Rattle.nesting.specs.Calls.{call}
+use Rattle.nesting.specs.Commands.{does, named}
+use Rattle.nesting.specs.Control.{Control}
 use Rattle.expects.specs.Expect.{expect}
 use Rattle.expects.specs.Words.{Form, named as form_of}
 use Rattle.tclstate.specs.Pairs.{found}

@@ -1,7 +1,7 @@
 -- What scripts, commands, loops and turns of expect do.
 use Rattle.std.specs.Prelude.{ℕ, List, [], Option, Some, None}
 use Rattle.state.specs.Prelude.{Calls, Course, gives, raises, on_value, Status}
-use Rattle.conditions.specs.Loop as loops
+use Rattle.nesting.specs.Loop as loops
 use Rattle.expects.specs.Turn.{turns}
 use Rattle.runs.specs.Commands.{command}
 use Rattle.state.specs.Dialogue.{tick}

@@ -3,7 +3,7 @@ use Rattle.std.proofs.Common.{◌≡◌, ◌∙◌, ℕ, ◌+◌, ◌-◌, ◌*�
 use Rattle.std.proofs.Math.Nat.{mul-le-mul_right}
 use Rattle.code.specs.declared.instruction.Instruction.{Instruction}
 use Rattle.commands.specs.Commands as plain
-use Rattle.control.specs.Commands.{named}
+use Rattle.nesting.specs.Commands.{named}
 use Rattle.expects.specs.Words.{named as form_of}
 use Rattle.plan.specs.Plan.{and_then, onward}
 use Rattle.runs.specs.Commands.{command}

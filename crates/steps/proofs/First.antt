@@ -10,7 +10,7 @@ use Rattle.state.specs.Prelude.{Again, AgainRunning, Break, Code, Continue, Erro
 use Rattle.steps.specs.Does.{Does}
 use Rattle.steps.specs.Does as it_does
 use Rattle.steps.specs.Handling.{handled, led, outside, resumed, way_of, with_code}
-use Rattle.bodies.specs.Catch.{number_of}
+use Rattle.nesting.specs.Catch.{number_of}
 use Rattle.steps.specs.Machine.{machine}
 use Rattle.steps.specs.Moves.{jumping, on_top}
 use Rattle.steps.specs.Run.{IsIdle, IsValue}

@@ -2,7 +2,7 @@
 use Rattle.std.proofs.Common.{◌≡◌, ◌∙◌, Bool, true, false, List, [], ◌∷◌, ◌++◌, ℕ, Option, None, Some, length, map, option_to_list, refl, sym, ap, subst, if◌then◌else◌}
 use Rattle.std.specs.Prelude.{nat_le, reverse}
 use Rattle.std.proofs.lemmas.List.{map-append, nil_from_length, reverse-append}
-use Rattle.bodies.specs.Catch.{number_of}
+use Rattle.nesting.specs.Catch.{number_of}
 use Rattle.state.specs.Prelude.{Code, Gives, Leaves, Outcome, Status, Stops}
 use Rattle.steps.specs.Handling.{handled, led, outside, resumed, way_of, with_code}
 use Rattle.steps.specs.Moves.{jumping}

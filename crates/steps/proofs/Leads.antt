@@ -13,6 +13,7 @@ pub mod Loops
 pub mod Stores
 pub mod Foreach
 pub mod Catches
+pub mod Doings
 pub mod Scripts
 pub mod Bodies
 pub mod Operators

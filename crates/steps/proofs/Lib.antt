@@ -14,3 +14,4 @@ pub mod Named
 pub mod AtOnce
 pub mod First
 pub mod Quiet
+pub mod Still

@@ -2,9 +2,9 @@
 use Rattle.std.proofs.Common.{◌≡◌, ◌∙◌, ◌-◌, ℕ, ◌≤◌, List, [], ◌∷◌, drop, get_or, length, take, Some, None, refl, sym, ap}
 use Rattle.commands.proofs.Words.{first_word, rest_words}
 use Rattle.commands.specs.Commands as leaf
-use Rattle.bodies.specs.Calls.{call}
-use Rattle.control.specs.Commands.{does, named}
-use Rattle.control.specs.Control.{Control}
+use Rattle.nesting.specs.Calls.{call}
+use Rattle.nesting.specs.Commands.{does, named}
+use Rattle.nesting.specs.Control.{Control}
 use Rattle.expects.specs.Expect.{expect}
 use Rattle.expects.specs.Words.{Form, named as form_of}
 use Rattle.runs.specs.Commands.{command, other_command}

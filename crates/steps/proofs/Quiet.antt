@@ -29,12 +29,13 @@ use Rattle.steps.specs.Formulas.{choosing, deciding, gives, on_meaning, on_split
 use Rattle.steps.specs.Handling.{fails}
 use Rattle.steps.specs.Machine.{ahead, does, entering, machine, reading, spread, with_value}
 use Rattle.steps.specs.Moves.{jumping, on_top, ticked, with_operands}
-use Rattle.steps.specs.Run.{Forks, IsIdle, IsPlain, IsQuiet, branches_in}
+use Rattle.steps.specs.Run.{Forks, IsBegun, IsIdle, IsPlain, IsQuiet}
 use Rattle.steps.specs.Run as run
 use Rattle.steps.specs.Spot.{Spot, Did, Went, Reads, Begins, Says, Runs, Evaluates, Over, Stuck, with_top}
-use Rattle.steps.specs.View.{did_of}
+use Rattle.steps.specs.View.{did_of, spot_of}
 use Rattle.steps.specs.declared.progress.Progress.{Progress}
 use Rattle.steps.specs.declared.progress.Progress.TheVariants as went
+use Rattle.steps.specs.declared.run.Run.{Run}
 use Rattle.steps.specs.declared.spot.Spot as coded
 use Rattle.tclparse.specs.Formula.{Formula, Formulas, Links}
 use Rattle.tclparse.specs.Fault.{Fault}
@@ -424,9 +425,21 @@ made_quiet : {A : Type 0} (code : List (Instruction A)) (it : Made A) →
 made_quiet code (made.Script tree) at = script_quiet 0 code tree.commands tree.fault at
 made_quiet code (made.Formula f) at = formula_quiet 0 code f at.0 at.1
 
--- each of the three
-pub entry_quiet : {A : Type 0} (code : List (Instruction A)) (it : Entry A) →
-    IsCodeOfEntry code it → IsQuiet (branches_in it) code 0
-entry_quiet code (entry.Made it) at = made_quiet code it at
-entry_quiet code (entry.Argument ws) at =
-    words_quiet 1 code (omega arith) at (slice_get_past code (length code) (omega arith))
+-- each entry
+pub entry_begun : {A : Type 0} (it : Entry A) (run : Run A) →
+    IsCodeOfEntry run.code.value.items it → run.spot.place ≡ 0 →
+    (spot_of run.spot).handlers ≡ [] → IsBegun it run
+entry_begun (entry.Made it) run at start none = record {
+  quiet = subst (λ n. IsQuiet 0 run.code.value.items n) (sym start)
+      (made_quiet run.code.value.items it at);
+  handlers = none;
+}
+entry_begun (entry.Argument ws) run at start none =
+    let code = run.code.value.items in
+    record {
+      quiet = subst (λ n. IsQuiet 1 code n) (sym start)
+          (words_quiet 1 code (omega arith) at (slice_get_past code (length code) (omega arith)));
+      handlers = none;
+    }
+entry_begun (entry.Does doing) run at start none =
+    record { still = at.still; short = at.short }

@@ -2,7 +2,7 @@
 use Rattle.std.proofs.Common.{◌≡◌, ◌∙◌, ℕ, suc, ◌+◌, ◌-◌, ◌<◌, ◌/◌, ◌%◌, ◌⊎◌, inl, inr, min, List, [], ◌∷◌, length, drop, sym, ap, arith, append-nil, eq-zero-or-pos, length-drop}
 use Rattle.std.proofs.Math.Nat.{add-div_right, add-mod_right, div-eq_of_lt, max-zero, mod-eq_of_lt, zero-div, zero-mod}
 use Rattle.std.specs.Int.{div_ceil}
-use Rattle.bodies.specs.Foreach.{asked, dealt, most_asked, rows, turns}
+use Rattle.nesting.specs.Foreach.{asked, dealt, most_asked, rows, turns}
 use Rattle.state.specs.Prelude.{gives, Status}
 use Rattle.steps.specs.Each.{Each, pair_of, turn_left, turns_left}
 

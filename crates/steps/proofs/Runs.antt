@@ -2,6 +2,7 @@
 use Rattle.std.proofs.Common.{◌≡◌, ℕ, ◌≤◌, true, false, List, [], ◌∷◌, length, refl, sym, subst, arith}
 use Rattle.std.proofs.lemmas.Option.{slice_get_past}
 use Rattle.code.specs.Code.{At, FormulaAt, ScriptAt, WordsAt}
+use Rattle.code.specs.Doing.{Doing, IsCodeOfDoing, doing_of}
 use Rattle.code.specs.declared.instruction.Instruction.{Instruction}
 use Rattle.code.specs.declared.instruction.Instruction.TheVariants as i
 use Rattle.code.specs.Made.{IsCodeOfEntry, IsCodeOfMade}
@@ -10,6 +11,7 @@ use Rattle.code.specs.declared.made.Entry.TheVariants as entry
 use Rattle.code.specs.declared.made.Made.{Made}
 use Rattle.code.specs.declared.made.Made.TheVariants as made
 use Rattle.expects.specs.Expect.{by_name}
+use Rattle.nesting.specs.Doing.{done}
 use Rattle.state.specs.Evaluated.{evaluated}
 use Rattle.plan.specs.Plan.{and_then, onward}
 use Rattle.runs.specs.Scripts.{script}
@@ -20,7 +22,7 @@ use Rattle.steps.specs.Does.{Arrives}
 use Rattle.steps.specs.Entered.{entered, run_of}
 use Rattle.steps.specs.Follows.{Follows, Resumes}
 use Rattle.steps.specs.Handling.{resumed}
-use Rattle.steps.specs.Places.{Alone, Gathers, Rest}
+use Rattle.steps.specs.Places.{Alone, Command, Gathers, Rest}
 use Rattle.steps.specs.Spot.{Spot, Did, Went}
 use Rattle.steps.specs.View.{with_parts}
 use Rattle.steps.proofs.Leads.Each.{code_leads}
@@ -114,7 +116,22 @@ module _ {A X : Type 0} (code : List (Instruction A)) (last : Status → Outcome
   made_awaits (made.Formula f) levels spot fits at is s outcome =
       formula_awaits f levels spot fits at.0 at.1 is s outcome
 
-  -- each of the three
+  -- and so does what a command does, after the value at hand is dropped
+  doing_awaits : (doing : Doing) (levels : ℕ) (spot : Spot) → levels ≤ 255 →
+      IsCodeOfDoing code doing →
+      spot ≡ record { place = 0; operands = []; marks = []; levels = levels; handlers = [] } →
+      (s : Status) (outcome : Outcome) →
+      Resumes code last (resumed spot outcome s)
+      (and_then (on_value (λ t value. done doing levels t) s outcome) (onward last))
+  doing_awaits doing levels spot fits at is s outcome =
+      subst (λ there. Resumes code last (resumed there outcome s)
+      (and_then (on_value (λ t value. done doing levels t) s outcome) (onward last)))
+      (sym is)
+      (outcome_leads code last 0 levels (Command doing ∷ []) s
+      (at.drops, (length code, at.lies, slice_get_past code (length code) (omega arith)))
+      (omega (arith, fits)) outcome)
+
+  -- each entry
   pub entry_awaits : (it : Entry A) (levels : ℕ) (spot : Spot) → levels ≤ 255 →
       IsCodeOfEntry code it →
       spot ≡ record { place = 0; operands = []; marks = []; levels = levels; handlers = [] } →
@@ -125,6 +142,8 @@ module _ {A X : Type 0} (code : List (Instruction A)) (last : Status → Outcome
       made_awaits it levels spot fits at is s outcome
   entry_awaits (entry.Argument ws) levels spot fits at is s outcome =
       argument_awaits ws levels spot fits at is s outcome
+  entry_awaits (entry.Does doing) levels spot fits at is s outcome =
+      doing_awaits (doing_of doing) levels spot fits at is s outcome
 
   -- the outcome leads on, and several instructions after it
   pub arrives_follow : (spot : Spot) (s t : Status) (did : Did) (p : Dialogue X) → t ≡ s →

@@ -1,6 +1,6 @@
 -- A foreach that is being done, as the proof sees it.
 use Rattle.std.specs.Prelude.{ℕ, List, [], ◌∷◌, drop, length}
-use Rattle.bodies.specs.Foreach.{Pair, assigns, begins, dealt, most_asked, rows, turns}
+use Rattle.nesting.specs.Foreach.{Pair, assigns, begins, dealt, most_asked, rows, turns}
 use Rattle.state.specs.Dialogue.{tick}
 use Rattle.state.specs.Listed.{with_list}
 use Rattle.state.specs.Prelude.{Course, inside, ScriptTree, Status}

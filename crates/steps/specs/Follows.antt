@@ -3,7 +3,7 @@ use Rattle.std.specs.Prelude.{◌≡◌, ℕ, ◌+◌, ◌≤◌, List, [], Resu
 use Rattle.code.specs.Code.{FormulaAt, ScriptAt}
 use Rattle.expects.specs.Expect.{by_name}
 use Rattle.code.specs.declared.instruction.Instruction.{Instruction}
-use Rattle.conditions.specs.Formulas.{on_formula}
+use Rattle.nesting.specs.Formulas.{on_formula}
 use Rattle.state.specs.Evaluated.{evaluated}
 use Rattle.plan.specs.Plan as plan
 use Rattle.plan.specs.Plan.{and_then, onward}

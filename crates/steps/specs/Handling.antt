@@ -1,6 +1,6 @@
 -- Where an outcome leads that is no value: to what takes it of all that is open.
 use Rattle.std.specs.Prelude.{ℕ, List, [], ◌∷◌, decimal, Option, Some, None}
-use Rattle.bodies.specs.Catch.{number_of}
+use Rattle.nesting.specs.Catch.{number_of}
 use Rattle.state.specs.Prelude.{Break, Code, Continue, Error, Flaw, Gives, Leaves, Outcome, Status, Stops, text_of}
 use Rattle.steps.specs.Moves.{jumping, lowest}
 use Rattle.steps.specs.Spot.{Did, Handler, Over, Spot, Went, with_top}

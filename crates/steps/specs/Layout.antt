@@ -1,6 +1,7 @@
 -- Where the code of what is left to be done stands.
-use Rattle.std.specs.Prelude.{◌≡◌, ℕ, suc, ◌+◌, ◌<◌, ◌≤◌, List, [], ◌∷◌, Bool, true, false, Option, Some, None, Ok, is_some, length, slice_get}
+use Rattle.std.specs.Prelude.{◌≡◌, ℕ, suc, ◌+◌, ◌<◌, ◌≤◌, List, [], ◌∷◌, Bool, true, false, Option, Some, None, Ok, Err, is_some, length, slice_get}
 use Rattle.code.specs.Code.{At, IsDirect, JoinsAt, PartsAt, WordsAt, CommandAt, ScriptAt, BranchesAt, BodyAt, ExpressionAt, TurnsAt, AssignsAt, ForeachAt, DealAt, SwitchAt, RestAt, FormulaAt, LinksAt, ArgumentsAt, TakenAt}
+use Rattle.code.specs.Doing.{DoneAt}
 use Rattle.code.specs.declared.instruction.Instruction.{Instruction}
 use Rattle.code.specs.declared.instruction.Instruction.TheVariants as i
 use Rattle.code.specs.Branches.{Branch}
@@ -8,7 +9,7 @@ use Rattle.state.specs.Piece.{FormulaText}
 use Rattle.state.specs.Prelude.{IsTree, LoopTree, ScriptText, ScriptTree}
 use Rattle.steps.specs.Each.{Each}
 use Rattle.steps.specs.Operand.{Outer, Prefixed, Row, Right, Holds, Argument, Test, Chosen, Condition, Turning, Resulting}
-use Rattle.steps.specs.Places.{Head, Has, Part, Joins, Gathers, Evaluates, Expresses, Values, Starts, Chooses, Enters, Repeats, Finishes, Deals, Takes, Sets, Drops, Compares, Runs, Frame, Rest, Bracket, Body, Skip, Alone, For, Turns, Elements, Tries, Stores, Catches}
+use Rattle.steps.specs.Places.{Head, Has, Part, Joins, Gathers, Evaluates, Expresses, Lacks, Values, Starts, Chooses, Enters, Repeats, Finishes, Deals, Takes, Sets, Drops, Compares, Runs, Frame, Rest, Bracket, Body, Skip, Alone, Command, For, Turns, Elements, Tries, Stores, Catches}
 use Rattle.steps.specs.Word.{Around, Open, Word, Plain, Expands, Operand, Listed, Switched, Last}
 use Rattle.tclparse.specs.Formula.{Formula}
 
@@ -177,6 +178,8 @@ module _ {A : Type 0} (code : List (Instruction A)) where
       (mid : ℕ) × EvaluatesAt place f mid × OperandAt mid outer end
   HeadAt place (Expresses text outer) end =
       (mid : ℕ) × ExpressionAt code place text mid × OperandAt mid outer end
+  HeadAt place (Lacks text why) end =
+      At code place (i.Evaluate text) × IsTree (FormulaText text) (Err why) × (end ≡ place + 1)
   HeadAt place (Values value outer) end = OperandAt place outer end
   HeadAt place (Starts ws) end = CommandAt code place ws end
   HeadAt place (Chooses more otherwise) end = BranchesAt code place more otherwise end
@@ -211,6 +214,9 @@ module _ {A : Type 0} (code : List (Instruction A)) where
   FramesAt place (Alone f ∷ frames) =
       At code place i.Discard ×
       ((end : ℕ) × FormulaAt code (place + 1) f end × FramesAt end frames)
+  FramesAt place (Command doing ∷ frames) =
+      At code place i.Discard ×
+      ((end : ℕ) × DoneAt code doing (place + 1) end × FramesAt end frames)
   FramesAt place (For test step body ∷ frames) =
       At code place i.Discard ×
       ((end : ℕ) × TurnsAt code (place + 1) test (Some step) body end × FramesAt end frames)

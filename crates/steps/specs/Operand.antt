@@ -1,8 +1,8 @@
 -- A formula that is being evaluated, as the proof sees it.
 use Rattle.std.specs.Prelude.{ℕ, List, [], ◌∷◌, ◌++◌, Option, if◌then◌else◌, reverse}
 use Rattle.code.specs.Branches.{Branch}
-use Rattle.conditions.specs.Conditional.{chosen}
-use Rattle.conditions.specs.Loop.{turned}
+use Rattle.nesting.specs.Conditional.{chosen}
+use Rattle.nesting.specs.Loop.{turned}
 use Rattle.state.specs.Evaluated.{arguments, evaluated, linked, on_truth, told}
 use Rattle.operators.specs.Binary.{binary}
 use Rattle.operators.specs.Function as function

@@ -1,16 +1,18 @@
 -- What is left to be done at a place of the code, as the proof sees it.
 use Rattle.std.specs.Prelude.{ℕ, suc, ◌+◌, List, [], ◌∷◌, ◌++◌, Bool, true, false, Option, Some, None, decimal, length, reverse}
-use Rattle.bodies.specs.Catch.{caught, stores_in}
+use Rattle.nesting.specs.Catch.{caught, stores_in}
 use Rattle.code.specs.Branches.{Branch}
-use Rattle.conditions.specs.Conditional.{chooses, passes}
-use Rattle.conditions.specs.ForLoop.{started}
-use Rattle.conditions.specs.Formulas.{with_formula}
-use Rattle.conditions.specs.Loop.{again, behind_body, on_step}
+use Rattle.code.specs.Doing.{Doing}
+use Rattle.nesting.specs.Conditional.{chooses, passes}
+use Rattle.nesting.specs.Doing.{done}
+use Rattle.nesting.specs.ForLoop.{started}
+use Rattle.nesting.specs.Formulas.{flaw_of_formula, with_formula}
+use Rattle.nesting.specs.Loop.{again, behind_body, on_step}
 use Rattle.state.specs.Evaluated.{evaluated}
 use Rattle.plan.specs.Plan.{and_then, onward, after}
 use Rattle.runs.specs.Commands.{command}
 use Rattle.runs.specs.Scripts.{script}
-use Rattle.state.specs.Prelude.{Course, Dialogue, gives, inside, LoopTree, on_value, Outcome, ScriptTree, Status, within}
+use Rattle.state.specs.Prelude.{Course, Dialogue, gives, inside, LoopTree, on_value, Outcome, raises, ScriptTree, Status, within}
 use Rattle.state.specs.Turn.{on_turn}
 use Rattle.steps.specs.Each.{Each, listed, turn_left, turns_left}
 use Rattle.steps.specs.Operand.{Outer, operand_on, waiting}
@@ -21,14 +23,15 @@ use Rattle.steps.specs.declared.handler.Covered.TheVariants as covers
 use Rattle.steps.specs.Word.{Open, bytes_of, call_of, course_with, is_counted, operands_of}
 use Rattle.tclparse.specs.Fault.{Fault}
 use Rattle.tclparse.specs.Formula.{Formula}
+use Rattle.tclparse.specs.FormulaFault.{FormulaFault}
 use Rattle.tclparse.specs.Tree.{Commands, Words}
 use Rattle.state.specs.Words.{words}
 
 -- what is being done at a place: a value is on top; an open word goes on with its next part; a
 -- value is put after the bytes of an open word; a command, or an argument in braces, goes on with
 -- its next word, after these words, the last one first, which are counted or not; a formula is
--- evaluated; a text is read as a formula, which is evaluated then; the value of an
--- operand is on top; a command begins with its first word, or with its own code; the branches of if
+-- evaluated; a text is read as a formula, which is evaluated then; a text is evaluated that is no
+-- formula, for this reason; the value of an operand is on top; a command begins with its first word, or with its own code; the branches of if
 -- that are left are looked through; a body begins; a loop goes on with its next turn; a loop is
 -- over; the list of a foreach is on top; a foreach goes on with its next turn; the variables of a
 -- turn that are left are set; a foreach is over; the patterns of a switch that are left, globs or
@@ -43,6 +46,7 @@ pub data Head : Type 0 where
   Gathers : (braced counted : Bool) (before : List (List ℕ)) (rest : Words) → Head
   Evaluates : (formula : Formula) (outer : List Outer) → Head
   Expresses : (text : List ℕ) (outer : List Outer) → Head
+  Lacks : (text : List ℕ) (why : FormulaFault) → Head
   Values : (value : List ℕ) (outer : List Outer) → Head
   Starts : (words : Words) → Head
   Chooses : (more : List Branch) (otherwise : Option (List ℕ)) → Head
@@ -61,7 +65,8 @@ pub data Head : Type 0 where
 -- what is done with a value once it is on top: the commands of a script that are left follow; or a
 -- script in brackets is over, and its value is put after the bytes of an open word; or a body is
 -- over, and its outcome is passed on; or the code goes on elsewhere; or the value is dropped, and a
--- formula is evaluated, whose value is then on top; or the start of for is over,
+-- formula is evaluated, whose value is then on top; or the value is dropped, and this is done, whose
+-- value is then on top; or the start of for is over,
 -- and turns with this test, this script after each turn and this body follow; or the body of a turn
 -- is over, at the place where it ends, or else, without a place, the script after it is, and then
 -- the loop goes on, whose next turn begins at the other place; or the body of a turn of foreach is
@@ -75,6 +80,7 @@ pub data Frame : Type 0 where
   Body : Frame
   Skip : Frame
   Alone : (formula : Formula) → Frame
+  Command : (doing : Doing) → Frame
   For : (test step body : List ℕ) → Frame
   Turns : (loop : LoopTree) (ends : Option ℕ) (turn : ℕ) → Frame
   Elements : (each : Each) (elements : List (List ℕ)) (ends turn : ℕ) → Frame
@@ -90,6 +96,7 @@ course_of levels (Gathers braced counted before rest) s =
 course_of levels (Evaluates f outer) s = evaluated levels f s (operand_on levels outer)
 course_of levels (Expresses text outer) s =
     with_formula text s (λ f. evaluated levels f s (operand_on levels outer))
+course_of levels (Lacks text why) s = raises (flaw_of_formula why) s
 course_of levels (Values value outer) s = operand_on levels outer s value
 course_of levels (Starts ws) s = words levels ws [] s (command levels)
 course_of levels (Chooses more otherwise) s = chooses levels more otherwise s
@@ -122,6 +129,8 @@ nexts levels (Body ∷ frames) = passes ∷ nexts (suc levels) frames
 nexts levels (Skip ∷ frames) = nexts levels frames
 nexts levels (Alone f ∷ frames) =
     on_value (λ s value. course_of levels (Evaluates f []) s) ∷ nexts levels frames
+nexts levels (Command doing ∷ frames) =
+    on_value (λ s value. done doing levels s) ∷ nexts levels frames
 nexts levels (For test step body ∷ frames) =
     on_value (started levels test step body) ∷ nexts levels frames
 nexts levels (Turns loop ends turn ∷ frames) = behind_part loop levels ends ∷ nexts levels frames
@@ -148,6 +157,7 @@ beneath (Bracket word ∷ frames) = operands_of word (beneath frames)
 beneath (Body ∷ frames) = beneath frames
 beneath (Skip ∷ frames) = beneath frames
 beneath (Alone f ∷ frames) = beneath frames
+beneath (Command doing ∷ frames) = beneath frames
 beneath (For test step body ∷ frames) = beneath frames
 beneath (Turns loop ends turn ∷ frames) = beneath frames
 beneath (Elements each elements ends turn ∷ frames) = elements ++ beneath frames
@@ -167,6 +177,7 @@ marks_beneath (Bracket word ∷ frames) =
 marks_beneath (Body ∷ frames) = marks_beneath frames
 marks_beneath (Skip ∷ frames) = marks_beneath frames
 marks_beneath (Alone f ∷ frames) = marks_beneath frames
+marks_beneath (Command doing ∷ frames) = marks_beneath frames
 marks_beneath (For test step body ∷ frames) = marks_beneath frames
 marks_beneath (Turns loop ends turn ∷ frames) = marks_beneath frames
 marks_beneath (Elements each elements ends turn ∷ frames) =
@@ -186,6 +197,7 @@ handlers_beneath levels (Bracket word ∷ frames) = handlers_beneath (suc levels
 handlers_beneath levels (Body ∷ frames) = handlers_beneath (suc levels) frames
 handlers_beneath levels (Skip ∷ frames) = handlers_beneath levels frames
 handlers_beneath levels (Alone f ∷ frames) = handlers_beneath levels frames
+handlers_beneath levels (Command doing ∷ frames) = handlers_beneath levels frames
 handlers_beneath levels (For test step body ∷ frames) = handlers_beneath levels frames
 handlers_beneath levels (Turns loop ends turn ∷ frames) =
     record {
@@ -220,6 +232,7 @@ operands_at (Joins value word) frames = value ∷ operands_of word (beneath fram
 operands_at (Gathers braced counted before rest) frames = before ++ beneath frames
 operands_at (Evaluates f outer) frames = waiting outer (beneath frames)
 operands_at (Expresses text outer) frames = waiting outer (beneath frames)
+operands_at (Lacks text why) frames = beneath frames
 operands_at (Values value outer) frames = value ∷ waiting outer (beneath frames)
 operands_at (Starts ws) frames = beneath frames
 operands_at (Chooses more otherwise) frames = beneath frames
@@ -244,6 +257,7 @@ marks_at (Gathers braced counted before rest) frames =
     marked counted (length (beneath frames)) (marks_beneath frames)
 marks_at (Evaluates f outer) frames = marks_beneath frames
 marks_at (Expresses text outer) frames = marks_beneath frames
+marks_at (Lacks text why) frames = marks_beneath frames
 marks_at (Values value outer) frames = marks_beneath frames
 marks_at (Starts ws) frames = marks_beneath frames
 marks_at (Chooses more otherwise) frames = marks_beneath frames
@@ -277,6 +291,7 @@ brackets (Bracket word ∷ frames) = suc (brackets frames)
 brackets (Body ∷ frames) = suc (brackets frames)
 brackets (Skip ∷ frames) = brackets frames
 brackets (Alone f ∷ frames) = brackets frames
+brackets (Command doing ∷ frames) = brackets frames
 brackets (For test step body ∷ frames) = brackets frames
 brackets (Turns loop ends turn ∷ frames) = brackets frames
 brackets (Elements each elements ends turn ∷ frames) = brackets frames

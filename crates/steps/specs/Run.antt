@@ -1,6 +1,7 @@
 -- The run of a code as one value.
-use Rattle.std.specs.Prelude.{◌≡◌, ◌≢◌, ℕ, ◌+◌, ◌-◌, ◌*◌, ◌<◌, List, [], None, Result, Ok, Err, length, slice_get}
+use Rattle.std.specs.Prelude.{◌≡◌, ◌≢◌, ℕ, ◌+◌, ◌-◌, ◌*◌, ◌<◌, ◌≤◌, true, List, [], None, Result, Ok, Err, length, slice_get}
 use Rattle.code.specs.Code.{At}
+use Rattle.code.specs.Doing.{are_still, doing_of, size_of}
 use Rattle.code.specs.declared.instruction.Instruction.{Instruction}
 use Rattle.code.specs.declared.instruction.Instruction.TheVariants as i
 use Rattle.code.specs.declared.made.Entry.{Entry}
@@ -60,6 +61,7 @@ pub data Forks {A : Type 0} : Instruction A → ℕ → Type 0 where
 abbrev pub branches_in : {A : Type 0} → Entry A → ℕ
 branches_in (entry.Made it) = 0
 branches_in (entry.Argument words) = 1
+branches_in (entry.Does doing) = 0
 
 -- from this place on a tick is taken, or the code ends, before a command begins; or branches are
 -- given last, where they may be given (this project's own rule)
@@ -97,6 +99,29 @@ IsIdle said code went.Stuck spot = Unit {0}
 pub record IsFresh {A : Type 0} (said : ℕ) (run : Run A) : Type 0 where
   pub quiet : IsQuiet said run.code.value.items run.spot.place
   pub handlers : (spot_of run.spot).handlers ≡ []
+
+-- where no command begins by a code: nothing begins but what texts are read as, and the code ends
+-- with an outcome that counts no more than this, as one of exp_continue counts (this project's own
+-- rule)
+abbrev pub StaysStill : {A : Type 0} → Progress → coded.Spot A → ℕ → Type 0
+StaysStill went.GoesOn spot most = Unit {0}
+StaysStill went.Begins spot most = ⊥
+StaysStill went.Says spot most = ⊥
+StaysStill went.Runs spot most = Unit {0}
+StaysStill went.Evaluates spot most = Unit {0}
+StaysStill went.Over spot most = again_of (outcome_of spot.outcome) ≤ most
+StaysStill went.Stuck spot most = Unit {0}
+
+-- no command begins by the code of a run, which has at most so many instructions
+pub record IsStillRun {A : Type 0} (most : ℕ) (run : Run A) : Type 0 where
+  pub still : are_still run.code.value.items ≡ true
+  pub short : length run.code.value.items ≤ most
+
+-- a run of which nothing is done yet
+abbrev pub IsBegun : {A : Type 0} → Entry A → Run A → Type 0
+IsBegun (entry.Made it) run = IsFresh 0 run
+IsBegun (entry.Argument words) run = IsFresh 1 run
+IsBegun (entry.Does doing) run = IsStillRun (size_of (doing_of doing)) run
 
 -- for some state of the definition that the code's state fits, the course ends with this outcome,
 -- once the texts that it reads are read

@@ -1,6 +1,6 @@
 -- A switch that is being done, as the proof sees it.
 use Rattle.std.specs.Prelude.{ℕ, Bool, true, false, List}
-use Rattle.bodies.specs.Switch.{Exact, Glob, Mode, chosen, runs_body}
+use Rattle.nesting.specs.Switch.{Exact, Glob, Mode, chosen, runs_body}
 use Rattle.state.specs.Prelude.{Course, Status}
 
 -- how its patterns are compared, which are globs or are not (switch(n))

@@ -8,8 +8,8 @@ ghost use Rattle.steps.specs.Run.{IsDone};
 
 use acts::NoMemory;
 use commands::Began;
-use control::Control;
 use expects::form::Form;
+use nesting::Control;
 use state::{Outcome, State};
 use std::alloc::Allocator;
 use tclstate::Procs;

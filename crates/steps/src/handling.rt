@@ -1,7 +1,7 @@
 //! Where the outcome of a command, or the error of an instruction, leads.
 
 ghost use Rattle.std.specs.Prelude.{◌≡◌, ◌∷◌, ◌≤◌, [], option_copied, ℕ, List, Some, Err, IfOk, OnOk};
-ghost use Rattle.bodies.specs.Catch as catch;
+ghost use Rattle.nesting.specs.Catch as catch;
 ghost use Rattle.state.specs.Prelude.{Fault as Failure, Status, flaw_of, outcome_of};
 ghost use Rattle.state.specs.Stores.{IsTold};
 ghost use Rattle.state.specs.View as states;

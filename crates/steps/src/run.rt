@@ -1,6 +1,6 @@
 //! The run of a code as one value: the code, which is shared, and where the run stands in it.
 
-ghost use Rattle.std.specs.Prelude.{◌≡◌, ◌+◌, ◌*◌, ◌<◌, ◌≤◌, ℕ, IfOk};
+ghost use Rattle.std.specs.Prelude.{◌≡◌, ◌+◌, ◌*◌, ◌<◌, ◌≤◌, ℕ, true, IfOk};
 ghost use Rattle.plan.specs.Plan.{and_then, onward};
 ghost use Rattle.runs.specs.Ending.{Over};
 ghost use Rattle.state.specs.Budget.{again_of};
@@ -33,20 +33,25 @@ impl<A: Allocator> Drop for Run<A> {
 }
 
 impl<A: Allocator + Copy> Run<A> {
-    ghost use Rattle.steps.specs.Run.{Awaits, HasCome, HasStopped, IsFresh, IsIdle, IsValue, branches_in, most_commands, places_left};
+    ghost use Rattle.steps.specs.Run.{Awaits, HasCome, HasStopped, IsBegun, IsFresh, IsIdle, IsValue, StaysStill, most_commands, places_left};
+    ghost use Rattle.code.specs.Doing.{are_still};
     ghost use Rattle.steps.specs.View.{IsCall};
     ghost use Rattle.steps.specs.declared.progress.Progress.TheVariants as went;
 
-    /// The run of a script, of a formula, or of the words of an argument in braces, of which
-    /// nothing is done yet, in which this many levels may nest.
-    pub fn begin(alloc: A, it: Entry<A>, levels: u8) -> Run<A>
-        ensures awaits { (last : Status → Ending → Dialogue Over) → Awaits last result (λ s outcome.
-            and_then (on_value (entered it levels) s outcome) (onward last)) }
-        ensures fresh { IsFresh (branches_in it) result }
+    /// The run of a script, of a formula, of the words of an argument in braces, or of what a
+    /// command does, of which nothing is done yet, in which this many levels may nest.
+    ///
+    /// # Errors
+    /// `NoMemory` where memory is refused.
+    pub fn begin(alloc: A, it: Entry<A>, levels: u8) -> Result<Run<A>, NoMemory>
+        ensures awaits { (last : Status → Ending → Dialogue Over) →
+            IfOk result (λ run. Awaits last run (λ s outcome.
+            and_then (on_value (entered it levels) s outcome) (onward last))) }
+        ensures begun { IfOk result (IsBegun it) }
     {
         let spot = Spot::first(alloc, levels);
-        let code = it.into_code();
-        Run { code, spot }
+        let code = it.into_code(alloc)?;
+        Ok(Run { code, spot })
     }
 
     /// Hands in the outcome that the run waits for, and runs the code up to the next command that
@@ -56,7 +61,8 @@ impl<A: Allocator + Copy> Run<A> {
     ///
     /// What begins without a tick before it stands further on in the code than what began before,
     /// so that a run ends after so many outcomes. A run of which nothing is done yet takes a tick
-    /// before its first command and before a text, and gives branches last.
+    /// before its first command and before a text, and gives branches last; one of what a command
+    /// does begins no command at all.
     ///
     /// # Errors
     /// `NoMemory` where memory is refused.
@@ -78,6 +84,10 @@ impl<A: Allocator + Copy> Run<A> {
         ensures first { (said : ℕ) → IsFresh said self.old → IsValue outcome →
             IfOk result (λ progress. state.new.left ≡ state.old.left →
             IsIdle said self.new.code.value.items progress self.new.spot) }
+        ensures still { are_still self.old.code.value.items ≡ true → IfOk result (λ progress.
+            StaysStill progress self.new.spot (again_of (outcome_of outcome))) }
+        ensures code { IfOk result (λ _.
+            self.new.code.value.items ≡ self.old.code.value.items) }
         ensures again { IfOk result (λ progress. progress ≡ went.Over →
             state.new.left ≡ state.old.left →
             again_of (outcome_of self.new.spot.outcome)
@@ -138,6 +148,9 @@ impl<A: Allocator + Copy> Run<A> {
         ensures first { (said : ℕ) → IsFresh said self.old → IsValue outcome →
             IfOk result (λ progress. state.new.left ≡ state.old.left →
             IsIdle said self.new.code.value.items progress self.new.spot) }
+        ensures still { are_still self.old.code.value.items ≡ true → IfOk result (λ progress.
+            StaysStill progress self.new.spot (again_of (outcome_of outcome))) }
+        ensures code { self.new.code.value.items ≡ self.old.code.value.items }
         ensures again { IfOk result (λ progress. progress ≡ went.Over →
             again_of (outcome_of self.new.spot.outcome)
             ≤ again_of (outcome_of outcome) + 2 * places_left self.old) }

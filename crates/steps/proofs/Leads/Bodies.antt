@@ -5,7 +5,7 @@ use Rattle.acts.specs.Flaw as flaw
 use Rattle.code.specs.Code.{BodyAt, deeper, by_text}
 use Rattle.code.specs.declared.instruction.Instruction.{Instruction}
 use Rattle.code.specs.declared.instruction.Instruction.TheVariants as i
-use Rattle.conditions.specs.Conditional.{passes}
+use Rattle.nesting.specs.Conditional.{passes}
 use Rattle.plan.specs.Plan.{and_then, onward}
 use Rattle.runs.proofs.Trees.{has_tree, one_tree}
 use Rattle.state.specs.Piece.{IsTree, ScriptText}

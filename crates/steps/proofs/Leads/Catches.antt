@@ -1,7 +1,7 @@
 -- A catch: its script begins, its script is over, and what it ended with is kept.
 use Rattle.std.proofs.Common.{◌≡◌, ℕ, ◌+◌, ◌≤◌, List, [], ◌∷◌, true, Option, None, Some, is_some, refl, sym, ap, subst, arith}
 use Rattle.std.specs.Prelude.{decimal, slice_get}
-use Rattle.bodies.specs.Catch.{catch, caught}
+use Rattle.nesting.specs.Catch.{catch, caught}
 use Rattle.code.specs.Code.{At, BodyAt, IsTaker, TakenAt, dropped, no_taker, taken, taker}
 use Rattle.code.specs.declared.instruction.Instruction.{Instruction}
 use Rattle.code.specs.declared.instruction.Instruction.TheVariants as i
@@ -87,7 +87,20 @@ module _ {A X : Type 0} (code : List (Instruction A)) (last : Status → Outcome
       (stands code last (place + 1) levels (Enters tree) (Catches variable ends ∷ fs) ends s enters
       (end, ended, refl, takes, behind) fits))
 
-  -- catch begins: its script is read
+  -- its script is read
+  pub caught_begins : (levels : ℕ) (fs : List Frame) (s : Status) (place mid : ℕ)
+      (text : List ℕ) (variable : Option (List ℕ)) (end : ℕ) → At code place (i.Catch (mid + 1)) →
+      BodyAt code (place + 1) text mid → At code mid i.EndCatch →
+      TakenAt code (mid + 1) variable end → FramesAt code end fs → levels + brackets fs ≤ 255 →
+      Comes code last (below_at code last place levels [] fs) s
+      (and_then (within levels text s (caught variable)) (onward (onward_of last levels fs)))
+  caught_begins levels fs s place mid text variable end begins body_at ended takes behind fits =
+      let read = body_read code body_at in
+      sooner code last _ s (reads {text = ScriptText text} read.tree read.is here)
+      (stands code last place levels (Tries read.tree variable) fs end s
+      (mid, begins, read.at, ended, takes) behind fits)
+
+  -- catch begins
   pub catch_begins : (levels : ℕ) (fs : List Frame) (s : Status) (place mid : ℕ)
       (text : List ℕ) (variable : Option (List ℕ)) (more : List (List ℕ)) (end : ℕ) →
       IsTaker variable more → At code place (i.Catch (mid + 1)) → BodyAt code (place + 1) text mid →
@@ -97,10 +110,7 @@ module _ {A X : Type 0} (code : List (Instruction A)) (last : Status → Outcome
       (and_then (catch levels (text ∷ more) s) (onward (onward_of last levels fs)))
   catch_begins levels fs s place mid text variable more end words begins body_at ended takes behind
       fits =
-      let read = body_read code body_at in
       sooner code last _ s
       (same_goes (ap (λ c. and_then c (onward (onward_of last levels fs)))
       (catch_is levels text variable more s words)))
-      (sooner code last _ s (reads {text = ScriptText text} read.tree read.is here)
-      (stands code last place levels (Tries read.tree variable) fs end s
-      (mid, begins, read.at, ended, takes) behind fits))
+      (caught_begins levels fs s place mid text variable end begins body_at ended takes behind fits)

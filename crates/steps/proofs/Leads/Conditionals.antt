@@ -9,7 +9,7 @@ use Rattle.code.specs.Switch.{words_before}
 use Rattle.code.specs.declared.instruction.Instruction.{Instruction}
 use Rattle.code.specs.declared.instruction.Instruction.TheVariants as i
 use Rattle.code.specs.Branches.{Branch}
-use Rattle.conditions.specs.Conditional.{on_branches}
+use Rattle.nesting.specs.Conditional.{on_branches}
 use Rattle.dialog.specs.declared.standing.Side.TheVariants.{After, Before}
 use Rattle.expects.proofs.Answering.{after_name}
 use Rattle.expects.specs.Expect.{by_argument, by_name, by_words as said_by}

@@ -15,14 +15,14 @@ use Rattle.steps.specs.Does.{Does, same, reads, Arrives, stays, then}
 use Rattle.steps.specs.Goes.{here}
 use Rattle.steps.specs.Layout.{FramesAt, HeadAt, formula_code}
 use Rattle.steps.specs.Machine.{machine}
-use Rattle.steps.specs.Places.{Head, Has, Part, Joins, Gathers, Evaluates, Expresses, Values, Starts, Chooses, Enters, Repeats, Finishes, Deals, Takes, Sets, Drops, Compares, Runs, Frame, Rest, brackets, left_of, spot_at, Tries, Stores}
+use Rattle.steps.specs.Places.{Head, Has, Part, Joins, Gathers, Evaluates, Expresses, Lacks, Values, Starts, Chooses, Enters, Repeats, Finishes, Deals, Takes, Sets, Drops, Compares, Runs, Frame, Rest, brackets, left_of, spot_at, Tries, Stores}
 use Rattle.steps.specs.Spot.{Spot, Did, beginning_at}
 use Rattle.steps.proofs.Leads.Bodies.{enters_leads}
 use Rattle.steps.proofs.Leads.Catches.{kept_leads, tries_lead}
 use Rattle.steps.proofs.Leads.Conditionals.{chooses_lead, starts_leads}
 use Rattle.steps.proofs.Leads.Opened.{joins_lead, open_leads}
 use Rattle.steps.proofs.Leads.Foreach.{deals_lead, drops_lead, sets_lead, takes_lead}
-use Rattle.steps.proofs.Leads.Formulas.{evaluates_lead, expression_leads}
+use Rattle.steps.proofs.Leads.Formulas.{evaluates_lead, expression_leads, lacks_lead}
 use Rattle.steps.proofs.Leads.Loops.{finishes_lead, repeats_lead}
 use Rattle.steps.proofs.Leads.Operators.{operand_leads}
 use Rattle.steps.proofs.Leads.Scripts.{has_leads}
@@ -51,6 +51,8 @@ module _ {A X : Type 0} (code : List (Instruction A)) (last : Status → Outcome
       evaluates_lead code last levels end frames s outer place f at.0 at.1 at.2 behind fits
   head_leads place levels (Expresses text outer) frames end s at behind fits =
       expression_leads code last levels end frames s outer place text at.0 at.1 at.2 behind fits
+  head_leads place levels (Lacks text why) frames end s at behind fits =
+      lacks_lead code last levels end frames s place text why at.0 at.1 at.2 behind fits
   head_leads place levels (Values v outer) frames end s at behind fits =
       operand_leads code last levels end frames s place v outer at behind fits
   head_leads place levels (Starts ws) frames end s at behind fits =

@@ -4,7 +4,7 @@ use Rattle.std.proofs.Common.{◌≡◌, ℕ, ◌+◌, ◌<◌, ◌≤◌, List,
 use Rattle.std.proofs.Math.Seq.{drop-nil}
 use Rattle.std.proofs.lemmas.Bool.{le-leb, lt-leb}
 use Rattle.std.specs.Prelude.{slice_get}
-use Rattle.bodies.specs.Foreach.{assigns, dealt}
+use Rattle.nesting.specs.Foreach.{assigns, dealt}
 use Rattle.code.specs.Code.{At, AssignsAt, BodyAt, DealAt, NextAt, all_set, deals, next_turn, sets}
 use Rattle.code.specs.declared.instruction.Instruction.{Instruction}
 use Rattle.code.specs.declared.instruction.Instruction.TheVariants as i

@@ -1,17 +1,17 @@
 -- A formula that is evaluated: its first instruction.
-use Rattle.std.proofs.Common.{◌≡◌, ◌∙◌, ℕ, ◌+◌, ◌≤◌, List, [], ◌∷◌, Result, Ok, Err, refl, ap, subst, arith}
+use Rattle.std.proofs.Common.{◌≡◌, ◌∙◌, ℕ, ◌+◌, ◌≤◌, List, [], ◌∷◌, Result, Ok, Err, refl, sym, ap, subst, arith}
 use Rattle.std.specs.Prelude.{slice_get}
-use Rattle.code.specs.Code.{ExpressionAt, by_formula, from_text, FormulaAt, number, parts, called, prefixed, in_row, chosen, no_argument, argument}
+use Rattle.code.specs.Code.{At, ExpressionAt, by_formula, from_text, FormulaAt, number, parts, called, prefixed, in_row, chosen, no_argument, argument}
 use Rattle.code.specs.declared.instruction.Instruction.{Instruction}
 use Rattle.code.specs.declared.instruction.Instruction.TheVariants as i
-use Rattle.conditions.proofs.Asked.{evaluated_then}
-use Rattle.conditions.specs.Formulas.{on_formula}
+use Rattle.nesting.proofs.Asked.{evaluated_then}
+use Rattle.nesting.specs.Formulas.{on_formula}
 use Rattle.operators.specs.Value.{written}
 use Rattle.plan.proofs.Joined.{associates}
 use Rattle.plan.specs.Plan.{and_then, onward}
 use Rattle.runs.proofs.Trees.{one_tree}
 use Rattle.state.specs.Evaluated.{evaluated}
-use Rattle.state.specs.Piece.{FormulaText}
+use Rattle.state.specs.Piece.{FormulaText, IsTree}
 use Rattle.state.specs.Prelude.{Dialogue, Gives, gives, Leaves, on_value, Outcome, Status, Stops}
 use Rattle.steps.specs.Follows.{Follows, Resumes, Waits, value_by}
 use Rattle.steps.specs.Goes.{here, reads}
@@ -19,7 +19,7 @@ use Rattle.steps.specs.Handling.{resumed}
 use Rattle.steps.specs.Layout.{EvaluatesAt, FramesAt, OperandAt, formula_code, formula_text}
 use Rattle.steps.specs.Machine.{machine}
 use Rattle.steps.specs.Operand.{Outer, Prefixed, Row, Argument, Test, operand_on}
-use Rattle.steps.specs.Places.{Evaluates, Expresses, Values, Frame, brackets, left_of, onward_of, spot_at}
+use Rattle.steps.specs.Places.{Evaluates, Expresses, Lacks, Values, Frame, brackets, left_of, onward_of, spot_at}
 use Rattle.steps.specs.Word.{Operand}
 use Rattle.steps.proofs.Leads.Forwards.{operand_grows}
 use Rattle.steps.proofs.Leads.Meanings.{amid_below, below_at, call_leads, gives_leads}
@@ -147,3 +147,17 @@ module _ {A X : Type 0} (code : List (Instruction A)) (last : Status → Outcome
       (λ tree is. waits_silently code last (value_by tree levels s)
       (below_at code last (place + 1) levels outer fs) (reads {text = FormulaText text} tree is here)
       (value_waits levels end fs s outer (place + 1) tree over behind fits))
+
+  -- a text that is no formula leads to its error
+  pub lacks_lead : (levels end : ℕ) (fs : List Frame) (s : Status) (place : ℕ) (text : List ℕ)
+      (why : FormulaFault) → At code place (i.Evaluate text) → IsTree (FormulaText text) (Err why) →
+      end ≡ place + 1 → FramesAt code end fs → levels + brackets fs ≤ 255 →
+      Follows code last
+      (machine (slice_get code place) (spot_at place levels (Lacks text why) fs) s)
+      (left_of last levels (Lacks text why) fs s)
+  lacks_lead levels end fs s place text why at is ends behind fits =
+      by code last (i.Evaluate text) (spot_at place levels (Lacks text why) fs) s _ at
+      (λ tree also. subst (λ it. Waits code last (value_by it levels s)
+      (below_at code last (place + 1) levels [] fs) (left_of last levels (Lacks text why) fs s))
+      (one_tree (FormulaText text) (Err why) tree is also)
+      (value_waits levels end fs s [] (place + 1) (Err why) (sym ends) behind fits))

@@ -3,7 +3,7 @@ use Rattle.std.proofs.Common.{◌≡◌, ◌∙◌, ℕ, ◌+◌, ◌≤◌, Boo
 use Rattle.std.proofs.lemmas.Slice.Eq.{bytes_eq-Decides}
 use Rattle.std.specs.Str.{bytes_eq}
 use Rattle.code.specs.declared.instruction.Instruction.{Instruction}
-use Rattle.control.specs.Commands as control
+use Rattle.nesting.specs.Commands as control
 use Rattle.plan.specs.Plan.{and_then, onward}
 use Rattle.pure.specs.Pure.{named, says}
 use Rattle.pure.specs.declared.command.Pure.{Pure}

@@ -1,7 +1,8 @@
 -- Code ends at its beginning, or after it.
 use Rattle.std.proofs.Common.{ℕ, ◌≤◌, List, Bool, Option, arith}
 use Rattle.code.specs.Branches.{Branch}
-use Rattle.code.specs.Code.{JoinsAt, first, joined, PartsAt, over, empty, text, value, item, bracket, WordsAt, begins, begins_counted, says, one, counts, spread, CommandAt, by_words, own, foreach_loop, direct, CommandsAt, done, next, FaultAt, none, fault, OwnAt, conditional, while_loop, for_loop, evaluated, valued, argued, TurnsAt, turns, StepAt, no_step, steps, AssignsAt, all_set, sets, NextAt, next_turn, ForeachAt, with_names, DealAt, deals, switched, SwitchAt, with_arms, RestAt, no_match, some_arms, ArmsAt, otherwise, shares, takes, BranchesAt, branch, no_else, at_last, BodyAt, deeper, by_text, ExpressionAt, by_formula, from_text, FormulaAt, number, parts, called, prefixed, in_row, chosen, LinksAt, no_more, both, and_also, or_else, ArgumentsAt, no_argument, argument, caught, TakenAt, dropped, taken}
+use Rattle.code.specs.Code.{JoinsAt, first, joined, PartsAt, over, empty, text, value, item, bracket, WordsAt, begins, begins_counted, says, one, counts, spread, CommandAt, by_words, own, foreach_loop, direct, CommandsAt, done, next, FaultAt, none, fault, OwnAt, conditional, while_loop, for_loop, evaluated, valued, argued, TurnsAt, turns, no_turns, StepAt, no_step, steps, AssignsAt, all_set, sets, NextAt, next_turn, ForeachAt, with_names, DealAt, deals, switched, SwitchAt, with_arms, RestAt, no_match, some_arms, ArmsAt, otherwise, shares, takes, BranchesAt, branch, no_else, at_last, BodyAt, deeper, by_text, ExpressionAt, by_formula, from_text, FormulaAt, number, parts, called, prefixed, in_row, chosen, LinksAt, no_more, both, and_also, or_else, ArgumentsAt, no_argument, argument, caught, TakenAt, dropped, taken}
+use Rattle.code.specs.Doing.{Doing, If, While, For, Catch, DoneAt}
 use Rattle.code.specs.declared.instruction.Instruction.{Instruction}
 use Rattle.code.specs.declared.options.Options.{Options}
 use Rattle.tclparse.specs.Fault.{Fault}
@@ -79,6 +80,7 @@ module _ {A : Type 0} (code : List (Instruction A)) where
         TurnsAt code place test step body end → place ≤ end
     turns_grow (turns is jump body after test turn last) =
         omega (arith, body_grows body, step_grows after, expression_grows test)
+    turns_grow (no_turns lacks at) = omega arith
 
     step_grows : {place : ℕ} {step : Option (List ℕ)} {end : ℕ} → StepAt code place step end →
         place ≤ end
@@ -155,3 +157,11 @@ module _ {A : Type 0} (code : List (Instruction A)) where
   taken_ahead (otherwise drops unshared body) = omega arith
   taken_ahead (shares other test rest) = omega (arith, taken_ahead rest)
   taken_ahead (takes other unshared test drops body jump rest) = omega arith
+
+  -- what a command does
+  pub done_grows : (doing : Doing) (place end : ℕ) → DoneAt code doing place end → place ≤ end
+  done_grows (If found) place end at = branches_grow at
+  done_grows (While test body) place end at = turns_grow at
+  done_grows (For start test step body) place end at =
+      omega (arith, body_grows at.1, turns_grow at.3)
+  done_grows (Catch body variable) place end at = omega (arith, body_grows at.2, taken_grows at.4)

@@ -1,7 +1,7 @@
 -- The value of the list of a foreach is on top.
 use Rattle.std.proofs.Common.{◌≡◌, ◌∙◌, ℕ, ◌+◌, ◌≤◌, List, [], ◌∷◌, codes, Option, Some, None, Ok, refl, sym, ap, subst, if◌then◌else◌}
 use Rattle.std.proofs.lemmas.Bool.{le-leb}
-use Rattle.bodies.proofs.Names.{names_good}
+use Rattle.nesting.proofs.Names.{names_good}
 use Rattle.code.specs.Code.{AreNames, DealAt, ForeachAt, with_names}
 use Rattle.code.specs.declared.instruction.Instruction.{Instruction}
 use Rattle.code.specs.declared.instruction.Instruction.TheVariants as i

@@ -1,14 +1,14 @@
 -- A loop: a turn begins, a part of it is over, the loop goes on with its test, and it is over.
-use Rattle.std.proofs.Common.{◌≡◌, ℕ, ◌+◌, ◌≤◌, List, [], ◌∷◌, Option, None, Some, Ok, refl, sym, subst, arith}
+use Rattle.std.proofs.Common.{◌≡◌, ℕ, ◌+◌, ◌≤◌, List, [], ◌∷◌, Option, None, Some, Ok, Err, refl, sym, subst, arith}
 use Rattle.std.specs.Prelude.{slice_get}
-use Rattle.code.specs.Code.{At, BodyAt, ExpressionAt, HasFormula, TurnsAt, by_formula, from_text, no_step, steps, turns}
+use Rattle.code.specs.Code.{At, BodyAt, ExpressionAt, HasFormula, TurnsAt, by_formula, from_text, no_step, no_turns, steps, turns}
 use Rattle.code.specs.declared.instruction.Instruction.{Instruction}
 use Rattle.code.specs.declared.instruction.Instruction.TheVariants as i
-use Rattle.conditions.specs.ForLoop as fors
-use Rattle.conditions.specs.ForLoop.{started}
-use Rattle.conditions.specs.Loop as loops
-use Rattle.conditions.specs.Loop.{again, behind_body, on_step}
-use Rattle.conditions.specs.WhileLoop as whiles
+use Rattle.nesting.specs.ForLoop as fors
+use Rattle.nesting.specs.ForLoop.{started}
+use Rattle.nesting.specs.Loop as loops
+use Rattle.nesting.specs.Loop.{again, behind_body, on_step}
+use Rattle.nesting.specs.WhileLoop as whiles
 use Rattle.plan.specs.Plan.{and_then, onward}
 use Rattle.state.specs.Piece.{FormulaText, ScriptText}
 use Rattle.state.specs.Prelude.{Dialogue, inside, IsTree, LoopTree, on_value, Outcome, ScriptTree, Status}
@@ -18,7 +18,7 @@ use Rattle.steps.specs.Layout.{EntersAt, EvaluatesAt, formula_code, formula_text
 use Rattle.steps.specs.Loops.{begin_turn}
 use Rattle.steps.specs.Machine.{machine}
 use Rattle.steps.specs.Operand.{Turning}
-use Rattle.steps.specs.Places.{Has, Enters, Repeats, Finishes, Frame, For, Turns, brackets, left_of, onward_of, spot_at}
+use Rattle.steps.specs.Places.{Has, Enters, Lacks, Repeats, Finishes, Frame, For, Turns, brackets, left_of, onward_of, spot_at}
 use Rattle.steps.proofs.Leads.Bodies.{body_read, inside_passes}
 use Rattle.steps.proofs.Leads.Formulas.{evaluates_lead}
 use Rattle.steps.proofs.Leads.Grows.{body_grows}
@@ -194,6 +194,9 @@ module _ {A X : Type 0} (code : List (Instruction A)) (last : Status → Outcome
       (record { test = tested.formula; body = read.tree; step = None }) read.at (ended, refl) tested.at
       jump
       (omega (arith, body_grows code body_at)) begins over behind fits)
+  while_begins levels fs s place test body end (no_turns lacks at) behind fits =
+      sooner code last _ s (reads {text = FormulaText test} (Err lacks.0) lacks.1 here)
+      (stands code last place levels (Lacks test lacks.0) fs end s (at, lacks.1, refl) behind fits)
 
   -- the turns of for begin: its test, the script after each turn and its body are read
   pub for_turns : (levels : ℕ) (fs : List Frame) (s : Status) (v : List ℕ) (place : ℕ)
@@ -215,6 +218,9 @@ module _ {A X : Type 0} (code : List (Instruction A)) (last : Status → Outcome
       (record { test = tested.formula; body = read.tree; step = Some after.tree }) read.at
       (over_step, enters, after.at, ended, refl) tested.at jump
       (omega (arith, body_grows code body_at, body_grows code step_at)) begins over behind fits)
+  for_turns levels fs s v place test step body end (no_turns lacks at) behind fits =
+      sooner code last _ s (reads {text = FormulaText test} (Err lacks.0) lacks.1 here)
+      (stands code last place levels (Lacks test lacks.0) fs end s (at, lacks.1, refl) behind fits)
 
   -- for begins: its start is read
   pub for_begins : (levels : ℕ) (fs : List Frame) (s : Status) (place mid : ℕ)

@@ -2,8 +2,8 @@
 use Rattle.std.proofs.Common.{◌≡◌, ℕ, suc, ◌+◌, ◌-◌, ◌≤◌, List, [], ◌∷◌, ◌++◌, true, false, length, refl, sym, subst, arith, if◌then◌else◌}
 use Rattle.std.specs.Prelude.{slice_get, reverse}
 use Rattle.code.specs.Code.{At, LinksAt, no_more, both, and_also, or_else, ArgumentsAt, no_argument, argument}
-use Rattle.conditions.specs.Conditional as definition
-use Rattle.conditions.specs.Loop as loops
+use Rattle.nesting.specs.Conditional as definition
+use Rattle.nesting.specs.Loop as loops
 use Rattle.code.specs.declared.instruction.Instruction.{Instruction}
 use Rattle.code.specs.declared.instruction.Instruction.TheVariants as i
 use Rattle.state.specs.Evaluated.{arguments, evaluated, told}

@@ -3,7 +3,7 @@
 use Rattle.std.proofs.Common.{◌≡◌, ◌∙◌, ℕ, suc, ◌+◌, ◌≤◌, List, [], ◌∷◌, ◌++◌, Option, None, Some, length, refl, sym, subst, arith, if◌then◌else◌}
 use Rattle.std.specs.Prelude.{decimal}
 use Rattle.std.proofs.lemmas.Bool.{le-leb}
-use Rattle.bodies.specs.Catch.{number_of}
+use Rattle.nesting.specs.Catch.{number_of}
 use Rattle.code.specs.declared.instruction.Instruction.{Instruction}
 use Rattle.state.specs.Prelude.{Again, AgainRunning, Break, Code, Continue, Dialogue, Error, Flaw, Gives, Leaves, LoopTree, Outcome, Return, Status, Stops, text_of}
 use Rattle.steps.specs.Each.{Each}
@@ -11,14 +11,14 @@ use Rattle.steps.specs.Follows.{Follows, Here, Resumes}
 use Rattle.steps.specs.Handling.{fails, handled, led, resumed, way_of}
 use Rattle.steps.specs.Layout.{FramesAt}
 use Rattle.steps.specs.Moves.{jumping, lowest}
-use Rattle.steps.specs.Places.{Has, Finishes, Drops, Stores, Part, Frame, Rest, Bracket, Body, Skip, Alone, For, Turns, Elements, Catches, beneath, brackets, handlers_beneath, marks_beneath, onward_of, part_of, spot_at}
+use Rattle.steps.specs.Places.{Has, Finishes, Drops, Stores, Part, Frame, Rest, Bracket, Body, Skip, Alone, Command, For, Turns, Elements, Catches, beneath, brackets, handlers_beneath, marks_beneath, onward_of, part_of, spot_at}
 use Rattle.steps.specs.Spot.{Did, Went, Reads, Begins, Says, Runs, Evaluates, Over, Stuck, Handler, Spot}
 use Rattle.steps.specs.Word.{Open, is_counted, operands_of}
 use Rattle.steps.specs.declared.handler.Covered.{Covered}
 use Rattle.steps.specs.declared.handler.Covered.TheVariants as covers
 use Rattle.steps.proofs.Leads.Above.{LiesOn, lies_on, lowest_of, mark_above, those, word_above}
 use Rattle.steps.proofs.Leads.Forwards.{joined_grows, part_grows, script_grows}
-use Rattle.steps.proofs.Leads.Grows.{assigns_grow, formula_grows, turns_grow}
+use Rattle.steps.proofs.Leads.Grows.{assigns_grow, done_grows, formula_grows, turns_grow}
 use Rattle.steps.proofs.Leads.Silent.{same_goes}
 use Rattle.steps.proofs.Leads.Standing.{comes_here, stands_here, stops_pass}
 
@@ -197,6 +197,10 @@ module _ {A X : Type 0} (code : List (Instruction A)) (last : Status → Outcome
       handled_leads c value spot s levels at.1.0 fs at.1.2 fits
       (further spot place at.1.0 (beneath fs) (marks_beneath fs)
       (omega (arith, formula_grows code at.1.1)) within)
+  handled_leads c value spot s levels place (Command doing ∷ fs) at fits within =
+      handled_leads c value spot s levels at.1.0 fs at.1.2 fits
+      (further spot place at.1.0 (beneath fs) (marks_beneath fs)
+      (omega (arith, done_grows code doing (place + 1) at.1.0 at.1.1)) within)
   handled_leads c value spot s levels place (For test step body ∷ fs) at fits within =
       handled_leads c value spot s levels at.1.0 fs at.1.2 fits
       (further spot place at.1.0 (beneath fs) (marks_beneath fs)

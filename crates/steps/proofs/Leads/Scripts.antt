@@ -3,6 +3,7 @@ use Rattle.std.proofs.Common.{ℕ, suc, ◌+◌, ◌≤◌, List, [], ◌∷◌,
 use Rattle.std.proofs.lemmas.Bool.{lt-leb}
 use Rattle.std.specs.Prelude.{slice_get}
 use Rattle.code.specs.Code.{CommandsAt, done, next, FaultAt, none, fault}
+use Rattle.code.specs.Doing.{Doing}
 use Rattle.code.specs.declared.instruction.Instruction.{Instruction}
 use Rattle.code.specs.declared.instruction.Instruction.TheVariants as i
 use Rattle.runs.specs.Commands.{command}
@@ -12,10 +13,11 @@ use Rattle.steps.specs.Follows.{Follows}
 use Rattle.steps.specs.Goes.{here, calls}
 use Rattle.steps.specs.Layout.{FramesAt, formula_code}
 use Rattle.steps.specs.Machine.{ahead, machine}
-use Rattle.steps.specs.Places.{Has, Evaluates, Joins, Starts, Frame, Rest, Bracket, Body, Skip, Alone, For, Turns, Elements, Catches, beneath, brackets, onward_of, spot_at}
+use Rattle.steps.specs.Places.{Has, Evaluates, Joins, Starts, Frame, Rest, Bracket, Body, Skip, Alone, Command, For, Turns, Elements, Catches, beneath, brackets, onward_of, spot_at}
 use Rattle.steps.specs.Spot.{Went, Stuck}
 use Rattle.steps.proofs.Leads.Above.{those}
 use Rattle.steps.proofs.Leads.Catches.{caught_over}
+use Rattle.steps.proofs.Leads.Doings.{doing_begins}
 use Rattle.steps.proofs.Leads.Foreach.{round_over}
 use Rattle.steps.proofs.Leads.Loops.{for_turns, part_over}
 use Rattle.steps.proofs.Leads.Meanings.{jump_leads}
@@ -109,6 +111,14 @@ module _ {A X : Type 0} (code : List (Instruction A)) (last : Status → Outcome
       (stands code last (place + 1) levels (Evaluates f []) fs at.1.0 s
       (at.1.0, formula_code at.1.1, refl) at.1.2 fits)
 
+  -- the value is dropped, and what a command does begins
+  command_leads : (place levels : ℕ) (doing : Doing) (fs : List Frame) (v : List ℕ) (s : Status) →
+      FramesAt code place (Command doing ∷ fs) → levels + brackets fs ≤ 255 →
+      ValueLeads place levels (Command doing ∷ fs) v s
+  command_leads place levels doing fs v s at fits =
+      by code last i.Discard (spot_at place levels (Has v) (Command doing ∷ fs)) s _ at.0
+      (doing_begins code last levels fs s doing (place + 1) at.1.0 at.1.1 at.1.2 fits)
+
   -- each frame
   pub has_leads : (place levels : ℕ) (fs : List Frame) (v : List ℕ) (s : Status) →
       FramesAt code place fs → levels + brackets fs ≤ 255 → ValueLeads place levels fs v s
@@ -123,6 +133,8 @@ module _ {A X : Type 0} (code : List (Instruction A)) (last : Status → Outcome
   has_leads place levels (Body ∷ fs) v s at fits = body_leads place levels fs v s at fits
   has_leads place levels (Skip ∷ fs) v s at fits = skip_leads place levels fs v s at fits
   has_leads place levels (Alone f ∷ fs) v s at fits = alone_leads place levels f fs v s at fits
+  has_leads place levels (Command doing ∷ fs) v s at fits =
+      command_leads place levels doing fs v s at fits
   has_leads place levels (For test step body ∷ fs) v s at fits =
       start_leads place levels test step body fs v s at fits
   has_leads place levels (Turns loop ends turn ∷ fs) v s at fits =

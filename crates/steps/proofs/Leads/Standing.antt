@@ -14,7 +14,7 @@ use Rattle.steps.specs.Goes.{Goes, here}
 use Rattle.steps.specs.Layout.{HeadAt, FramesAt}
 use Rattle.steps.specs.Machine.{machine}
 use Rattle.steps.specs.Moves.{ticked}
-use Rattle.steps.specs.Places.{Head, Frame, Rest, Bracket, Body, Skip, Alone, For, Turns, Elements, Catches, brackets, left_of, onward_of, spot_at}
+use Rattle.steps.specs.Places.{Head, Frame, Rest, Bracket, Body, Skip, Alone, Command, For, Turns, Elements, Catches, brackets, left_of, onward_of, spot_at}
 use Rattle.steps.specs.Spot.{Spot, Did, Went, Reads, Begins, Says, Runs, Evaluates, Over, Stuck}
 use Rattle.steps.proofs.Leads.Silent.{same_goes, then_goes}
 
@@ -37,6 +37,7 @@ module _ {A X : Type 0} (code : List (Instruction A)) (last : Status → Outcome
   stops_pass levels (Body ∷ frames) s stop = stops_pass (suc levels) frames s stop
   stops_pass levels (Skip ∷ frames) s stop = stops_pass levels frames s stop
   stops_pass levels (Alone f ∷ frames) s stop = stops_pass levels frames s stop
+  stops_pass levels (Command doing ∷ frames) s stop = stops_pass levels frames s stop
   stops_pass levels (For test step body ∷ frames) s stop = stops_pass levels frames s stop
   stops_pass levels (Turns loop (Some end) turn ∷ frames) s stop = stops_pass levels frames s stop
   stops_pass levels (Turns loop None turn ∷ frames) s stop = stops_pass levels frames s stop

@@ -2,10 +2,10 @@
 use Rattle.std.proofs.Common.{◌≡◌, ◌∙◌, ℕ, ◌+◌, ◌<◌, ◌≤◌, Bool, true, false, List, [], ◌∷◌, ◌++◌, codes, length, Option, Some, None, Ok, append_assoc, refl, sym, ap, subst, arith, if◌then◌else◌}
 use Rattle.std.proofs.lemmas.Bool.{and_left, le-leb, lt-leb, ne_eqb}
 use Rattle.std.specs.Prelude.{◌==◌, ◌||◌, not}
-use Rattle.bodies.proofs.Choosing.{arms_tried}
+use Rattle.nesting.proofs.Choosing.{arms_tried}
 use Rattle.std.specs.Str.{bytes_eq}
-use Rattle.bodies.specs.Switch as definition
-use Rattle.bodies.specs.Switch.{Exact, Mode, behind_flag, chosen, left_over, on_flags, on_words, runs_body, switch, wrong_word}
+use Rattle.nesting.specs.Switch as definition
+use Rattle.nesting.specs.Switch.{Exact, Mode, behind_flag, chosen, left_over, on_flags, on_words, runs_body, switch, wrong_word}
 use Rattle.code.specs.Code.{ArmsAt, RestAt, SwitchAt, no_match, otherwise, shares, some_arms, takes, with_arms}
 use Rattle.code.specs.Switch.{AreArms, are_globs, of_list, of_words, option_words, words_before}
 use Rattle.code.specs.declared.instruction.Instruction.{Instruction}

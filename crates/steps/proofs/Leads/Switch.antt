@@ -4,11 +4,11 @@ use Rattle.std.proofs.lemmas.Bool.{le-ltb}
 use Rattle.std.specs.Prelude.{slice_get}
 use Rattle.std.specs.Str.{bytes_eq}
 use Rattle.acts.specs.Flaw as flaw
-use Rattle.bodies.specs.Switch.{body_of, chosen, is_default, runs_body, tried}
+use Rattle.nesting.specs.Switch.{body_of, chosen, is_default, runs_body, tried}
 use Rattle.code.specs.Code.{ArmsAt, At, BodyAt, RestAt, TestAt, no_match, otherwise, shares, some_arms, takes}
 use Rattle.code.specs.declared.instruction.Instruction.{Instruction}
 use Rattle.code.specs.declared.instruction.Instruction.TheVariants as i
-use Rattle.conditions.specs.Conditional.{passes}
+use Rattle.nesting.specs.Conditional.{passes}
 use Rattle.plan.specs.Plan.{and_then, onward}
 use Rattle.state.specs.Piece.{TestText}
 use Rattle.state.specs.Prelude.{Course, Dialogue, Outcome, raises, Reads, Status, within}

@@ -1,11 +1,11 @@
-use Rattle.std.proofs.Common.{◌≡◌, ◌∙◌, ◌+◌, ◌*◌, [], ap, arith, subst, sym, reverse}
-use Rattle.machine.specs.Below.{IsAbove, IsOpen, RunsOn, TicksFirst, places_in, parts_of, waits_in}
+use Rattle.std.proofs.Common.{◌∙◌, ◌*◌, ◌≤◌, [], ap, arith, subst, sym, reverse}
+use Rattle.machine.specs.Below.{EntersLess, IsAbove, IsOnward, IsOpen, RunsOn, TicksFirst, begins_left, left_to_run}
 use Rattle.machine.specs.declared.running.Running.{Running}
-use Rattle.machine.specs.Frames.{left_of, onward_of, stack, words_in}
+use Rattle.machine.specs.Frames.{left_of, onward_of, stack, weight, weight_in, words_in}
 use Rattle.machine.specs.Phases.{Begins, course_of_next}
 use Rattle.steps.specs.Entered.{entered}
-use Rattle.steps.specs.Run.{branches_in}
 use Rattle.machine.proofs.Below.{open_below, opened}
+use Rattle.machine.proofs.Entering.{enters_less, enters_short, open_deep, open_less, some_weight}
 use Rattle.machine.proofs.running.enter.Goals as goal
 
 pub returns-in-Over-clause-goes_on : goal.returns-in-Over-clause-goes_on
@@ -15,7 +15,7 @@ returns-in-Over-clause-goes_on g c = λ last s fits below.
     let leads = subst (λ l. RunsOn (onward_of last frames) l (stack c.go_on.new.frames)
     c.go_on.new.run c.go_on.new.state p) c.in-Over.is
     (c.in_ok-outcome.ensures.runs (onward_of last frames) _ s fits
-    (ap reverse c.new-frames.ensures.items) (c.begin-run.ensures.awaits (onward_of last frames))) in
+    (ap reverse c.new-frames.ensures.items) (c.in_ok-run.ensures.awaits (onward_of last frames))) in
     record {
       last = last;
       below = below;
@@ -24,9 +24,17 @@ returns-in-Over-clause-goes_on g c = λ last s fits below.
 
 pub returns-in-Over-clause-less : goal.returns-in-Over-clause-less
 returns-in-Over-clause-less g c = λ same.
-    let none = subst (λ l. TicksFirst (branches_in c.args.it) l c.go_on.new.run) c.in-Over.is
-    (c.in_ok-outcome.ensures.first (branches_in c.args.it) c.begin-run.ensures.fresh tt same) in
-    omega (arith, none)
+    let it = c.args.it in
+    let old = c.args.running.now in
+    let first = c.in_ok-run.run' in
+    let run = c.go_on.new.run in
+    let most : left_to_run c.in_ok-outcome.field-0 run ≤ begins_left first =
+    omega (arith, c.in_ok-outcome.ensures.less same) in
+    let enters = subst (λ l. EntersLess it l run) c.in-Over.is
+    (enters_less it first run c.in_ok-outcome.field-0 c.in_ok-run.ensures.begun
+    (λ said fresh. c.in_ok-outcome.ensures.first said fresh tt same)
+    most) in
+    omega (arith, enters)
 
 pub returns-in_ok-open-in-Has-clause-goes_on : goal.returns-in_ok-open-in-Has-clause-goes_on
 returns-in_ok-open-in-Has-clause-goes_on g c = λ last s fits below.
@@ -36,7 +44,7 @@ returns-in_ok-open-in-Has-clause-goes_on g c = λ last s fits below.
     let opens = subst (λ l. RunsOn (onward_of last frames) l (stack c.go_on.new.frames)
     c.go_on.new.run c.go_on.new.state p) c.in-Has.is
     (c.in_ok-outcome.ensures.runs (onward_of last frames) _ s fits
-    (ap reverse c.new-frames.ensures.items) (c.begin-run.ensures.awaits (onward_of last frames))) in
+    (ap reverse c.new-frames.ensures.items) (c.in_ok-run.ensures.awaits (onward_of last frames))) in
     record {
       last = opens.onward;
       below = open_below old c.open.new.self c.go_on.new.run c.go_on.new.frames last opens.onward
@@ -46,13 +54,37 @@ returns-in_ok-open-in-Has-clause-goes_on g c = λ last s fits below.
 
 pub returns-in_ok-open-in-Has-clause-less : goal.returns-in_ok-open-in-Has-clause-less
 returns-in_ok-open-in-Has-clause-less g c = λ same.
-    absurd (subst (λ l. TicksFirst (branches_in c.args.it) l c.go_on.new.run) c.in-Has.is
-    (c.in_ok-outcome.ensures.first (branches_in c.args.it) c.begin-run.ensures.fresh tt same))
+    let it = c.args.it in
+    let old = c.args.running.now in
+    let first = c.in_ok-run.run' in
+    let run = c.go_on.new.run in
+    let most : left_to_run c.in_ok-outcome.field-0 run ≤ begins_left first =
+    omega (arith, c.in_ok-outcome.ensures.less same) in
+    let enters = subst (λ l. EntersLess it l run) c.in-Has.is
+    (enters_less it first run c.in_ok-outcome.field-0 c.in_ok-run.ensures.begun
+    (λ said fresh. c.in_ok-outcome.ensures.first said fresh tt same)
+    most) in
+    let above = subst (λ l. IsAbove l (stack c.new-frames.result) (stack c.go_on.new.frames))
+    c.in-Has.is c.in_ok-outcome.ensures.above in
+    let none = ap words_in (ap reverse c.new-frames.ensures.items) in
+    let rest = open_less old c.open.new.self run c.go_on.new.frames c.in_ok-open-in-Has.ensures in
+    omega (arith, enters, above.0, none, rest)
 
 pub returns-in_ok-open-in-Has-clause-falls : goal.returns-in_ok-open-in-Has-clause-falls
 returns-in_ok-open-in-Has-clause-falls g c = λ same.
-    absurd (subst (λ l. TicksFirst (branches_in c.args.it) l c.go_on.new.run) c.in-Has.is
-    (c.in_ok-outcome.ensures.first (branches_in c.args.it) c.begin-run.ensures.fresh tt same))
+    let it = c.args.it in
+    let old = c.args.running.now in
+    let first = c.in_ok-run.run' in
+    let run = c.go_on.new.run in
+    let above = subst (λ l. IsAbove l (stack c.new-frames.result) (stack c.go_on.new.frames))
+    c.in-Has.is c.in_ok-outcome.ensures.above in
+    let none = ap weight (ap reverse c.new-frames.ensures.items) in
+    let onward = subst (λ l. IsOnward l first run) c.in-Has.is (c.in_ok-outcome.ensures.onward same) in
+    let short = enters_short it first run c.in-Has.outcome c.in_ok-run.ensures.begun
+    (λ said fresh. subst (λ l. TicksFirst said l run) c.in-Has.is
+    (c.in_ok-outcome.ensures.first said fresh tt same)) onward in
+    open_deep old c.open.new.self run c.go_on.new.frames (2 * weight_in it)
+    c.in_ok-open-in-Has.ensures (omega (arith, above.1, none)) short
 
 pub returns-in_ok-open-in-Has-clause-watched : goal.returns-in_ok-open-in-Has-clause-watched
 returns-in_ok-open-in-Has-clause-watched g c =
@@ -75,7 +107,7 @@ returns-in_ok-push-in-Begins-clause-goes_on g c = λ last s fits below.
     let opens = subst (λ l. RunsOn (onward_of last frames) l above run c.go_on.new.state p)
     c.in-Begins.is
     (c.in_ok-outcome.ensures.runs (onward_of last frames) _ s fits
-    (ap reverse c.new-frames.ensures.items) (c.begin-run.ensures.awaits (onward_of last frames))) in
+    (ap reverse c.new-frames.ensures.items) (c.in_ok-run.ensures.awaits (onward_of last frames))) in
     let none = subst (λ l. IsAbove l (stack c.new-frames.result) above) c.in-Begins.is
     c.in_ok-outcome.ensures.above ∙ ap reverse c.new-frames.ensures.items in
     let is : IsOpen old run c.go_on.new.frames new =
@@ -92,7 +124,16 @@ returns-in_ok-push-in-Begins-clause-goes_on g c = λ last s fits below.
 
 pub returns-in_ok-push-in-Begins-clause-less : goal.returns-in_ok-push-in-Begins-clause-less
 returns-in_ok-push-in-Begins-clause-less g c = λ same.
+    let it = c.args.it in
     let old = c.args.running.now in
+    let first = c.in_ok-run.run' in
+    let run = c.go_on.new.run in
+    let most : left_to_run c.in_ok-outcome.field-0 run ≤ begins_left first =
+    omega (arith, c.in_ok-outcome.ensures.less same) in
+    let enters = subst (λ l. EntersLess it l run) c.in-Begins.is
+    (enters_less it first run c.in_ok-outcome.field-0 c.in_ok-run.ensures.begun
+    (λ said fresh. c.in_ok-outcome.ensures.first said fresh tt same)
+    most) in
     let new : Running g.row.A.Denot =
     record {
       frames = c.replace-frames.new.dest;
@@ -100,19 +141,17 @@ returns-in_ok-push-in-Begins-clause-less g c = λ same.
       parts = c.push.new.self;
       parsed = c.go_on.new.parsed;
     } in
-    let above = stack c.go_on.new.frames in
-    let is : IsOpen old c.go_on.new.run c.go_on.new.frames new =
-    opened old new c.go_on.new.run c.go_on.new.frames c.replace-frames.result
-    c.replace-code.result c.replace-frames.ensures.value c.replace-code.ensures.value
+    let frames = c.go_on.new.frames in
+    let is : IsOpen old run frames new =
+    opened old new run frames c.replace-frames.result c.replace-code.result
+    c.replace-frames.ensures.value c.replace-code.ensures.value
     c.in_ok-push-in-Begins.ensures.items c.replace-frames.ensures.after
     c.replace-code.ensures.after in
-    let given = subst (λ l. TicksFirst (branches_in c.args.it) l c.go_on.new.run) c.in-Begins.is
-    (c.in_ok-outcome.ensures.first (branches_in c.args.it) c.begin-run.ensures.fresh tt same) in
-    let empty = subst (λ l. IsAbove l (stack c.new-frames.result) above) c.in-Begins.is
+    let empty = subst (λ l. IsAbove l (stack c.new-frames.result) (stack frames)) c.in-Begins.is
     c.in_ok-outcome.ensures.above ∙ ap reverse c.new-frames.ensures.items in
-    let none : words_in (stack new.frames) ≡ 0 = ap words_in (ap stack is.1 ∙ empty) in
-    let code = ap places_in is.2 in
-    let waits : waits_in (parts_of new)
-    ≡ words_in (stack old.frames) + 2 * places_in old.code + waits_in (parts_of old) =
-    ap waits_in is.0 in
-    omega (arith, given.0, given.1, given.2, none, code, waits)
+    let none = ap words_in empty in
+    let rest = open_less old new run frames is in
+    omega (arith, enters, none, rest)
+
+pub returns-in-Over-clause-falls : goal.returns-in-Over-clause-falls
+returns-in-Over-clause-falls g c = λ same. omega (arith, some_weight c.args.it)

@@ -1,4 +1,5 @@
-use Rattle.std.proofs.Common.{◌≡◌, ◌+◌, ◌-◌, ◌*◌, ◌≤◌, rules, refl, sym, subst, arith}
+use Rattle.std.proofs.Common.{◌≡◌, ◌+◌, ◌-◌, ◌≤◌, rules, refl, sym, subst, arith}
+use Rattle.machine.specs.Below.{begins_left}
 use Rattle.machine.specs.Frames.{stack}
 use Rattle.machine.specs.Inner.{PutsScript, PutsValue}
 use Rattle.runs.specs.Commands.{command}
@@ -6,10 +7,11 @@ use Rattle.expects.specs.Expect.{by_name}
 use Rattle.state.specs.Budget.{again_of}
 use Rattle.state.specs.Prelude.{outcome_of}
 use Rattle.steps.specs.Follows.{run_by, value_by}
-use Rattle.steps.specs.Run.{HasStopped, IsIdle, places_left}
+use Rattle.steps.specs.Run.{HasStopped, IsIdle, StaysStill}
 use Rattle.steps.specs.View.{IsCall, text_in}
 use Rattle.machine.specs.declared.starting.Next.TheVariants as next
 use Rattle.machine.proofs.Below.{begins_in, never_stops, none_left, over_in, puts_in}
+use Rattle.machine.proofs.Entering.{left_called, left_ended, left_onward}
 use Rattle.machine.proofs.running.go_on.Goals as goal
 
 pub returns-in-Begins-clause-runs : goal.returns-in-Begins-clause-runs
@@ -74,7 +76,8 @@ returns-in_ok-put_script-in-Runs-clause-above g c =
 pub returns-in_ok-put_script-in-Runs-clause-less : goal.returns-in_ok-put_script-in-Runs-clause-less
 returns-in_ok-put_script-in-Runs-clause-less g c = λ same.
     let on = c.in_ok-go_on.ensures.onward (subst IsCall (sym c.in-Runs.is) tt) same in
-    omega (arith, on)
+    let less = left_onward c.args.run.now c.go_on.new.self c.in_ok-go_on.ensures.code on in
+    omega (arith, less)
 
 pub returns-in_ok-put_script-in-Runs-clause-onward : goal.returns-in_ok-put_script-in-Runs-clause-onward
 returns-in_ok-put_script-in-Runs-clause-onward g c = λ same.
@@ -112,7 +115,8 @@ returns-in_ok-put_value-in-Evaluates-clause-above g c =
 pub returns-in_ok-put_value-in-Evaluates-clause-less : goal.returns-in_ok-put_value-in-Evaluates-clause-less
 returns-in_ok-put_value-in-Evaluates-clause-less g c = λ same.
     let on = c.in_ok-go_on.ensures.onward (subst IsCall (sym c.in-Evaluates.is) tt) same in
-    omega (arith, on)
+    let less = left_onward c.args.run.now c.go_on.new.self c.in_ok-go_on.ensures.code on in
+    omega (arith, less)
 
 pub returns-in_ok-put_value-in-Evaluates-clause-onward : goal.returns-in_ok-put_value-in-Evaluates-clause-onward
 returns-in_ok-put_value-in-Evaluates-clause-onward g c = λ same.
@@ -126,6 +130,22 @@ returns-in_ok-put_value-in-Evaluates-clause-first g c = λ said fresh value same
 pub returns-in_ok-put_value-in-Evaluates-clause-watched : goal.returns-in_ok-put_value-in-Evaluates-clause-watched
 returns-in_ok-put_value-in-Evaluates-clause-watched g c = g.met.T.Watch.stays c.args.watch.now
 
+pub returns-in-Begins-clause-less : goal.returns-in-Begins-clause-less
+returns-in-Begins-clause-less g c = λ same.
+    let on = c.in_ok-go_on.ensures.onward (subst IsCall (sym c.in-Begins.is) tt) same in
+    let less = left_called c.args.run.now c.go_on.new.self c.in_ok-go_on.ensures.code
+    (λ is. subst (λ progress. StaysStill progress c.go_on.new.self.spot
+    (again_of (outcome_of c.args.outcome))) c.in-Begins.is (c.in_ok-go_on.ensures.still is)) on in
+    omega (arith, less)
+
+pub returns-in-Says-clause-less : goal.returns-in-Says-clause-less
+returns-in-Says-clause-less g c = λ same.
+    let on = c.in_ok-go_on.ensures.onward (subst IsCall (sym c.in-Says.is) tt) same in
+    let less = left_called c.args.run.now c.go_on.new.self c.in_ok-go_on.ensures.code
+    (λ is. subst (λ progress. StaysStill progress c.go_on.new.self.spot
+    (again_of (outcome_of c.args.outcome))) c.in-Says.is (c.in_ok-go_on.ensures.still is)) on in
+    omega (arith, less)
+
 pub returns-in-Over-clause-runs : goal.returns-in-Over-clause-runs
 returns-in-Over-clause-runs g c = λ last onward s fits empty awaits.
     let run = c.go_on.new.self in
@@ -137,9 +157,14 @@ returns-in-Over-clause-runs g c = λ last onward s fits empty awaits.
 
 pub returns-in-Over-clause-less : goal.returns-in-Over-clause-less
 returns-in-Over-clause-less g c = λ same.
-    subst (λ o. again_of (outcome_of o)
-    ≤ again_of (outcome_of c.args.outcome) + 2 * places_left c.args.run.now)
-    (sym c.replace-outcome.ensures.value) (c.in_ok-go_on.ensures.again c.in-Over.is same)
+    let again = again_of (outcome_of c.go_on.new.self.spot.outcome) in
+    let first = again_of (outcome_of c.args.outcome) in
+    subst (λ o. again_of (outcome_of o) ≤ first + begins_left c.args.run.now)
+    (sym c.replace-outcome.ensures.value)
+    (left_ended c.args.run.now again first
+    (λ is. subst (λ progress. StaysStill progress c.go_on.new.self.spot first) c.in-Over.is
+    (c.in_ok-go_on.ensures.still is))
+    (c.in_ok-go_on.ensures.again c.in-Over.is same))
 
 pub returns-in-Over-clause-first : goal.returns-in-Over-clause-first
 returns-in-Over-clause-first g c = λ said fresh value same.

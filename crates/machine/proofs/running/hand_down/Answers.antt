@@ -1,10 +1,9 @@
-use Rattle.std.proofs.Common.{◌∙◌, ◌+◌, ◌*◌, ◌≤◌, [], ap, subst, sym, arith}
-use Rattle.machine.specs.Below.{IsAbove, IsOnward, RunsOn, Under, left_to_run, parts_of, places_in, rest_of, takes_of}
+use Rattle.std.proofs.Common.{◌∙◌, ◌+◌, ◌≤◌, [], ap, subst, sym, arith}
+use Rattle.machine.specs.Below.{IsAbove, IsOnward, RunsOn, Under, begins_in, begins_left, left_to_run, parts_of, rest_of, takes_of}
 use Rattle.machine.specs.Frames.{stack, words_in}
 use Rattle.machine.specs.Phases.{Begins, course_of_next}
 use Rattle.state.specs.Budget.{again_of}
 use Rattle.state.specs.Prelude.{outcome_of}
-use Rattle.steps.specs.Run.{places_left}
 use Rattle.steps.proofs.Leads.Silent.{same_goes}
 use Rattle.machine.proofs.Below.{end_goes, end_less}
 use Rattle.machine.proofs.running.hand_down.Goals as goal
@@ -36,10 +35,10 @@ returns-in-Over-clause-goes_on g c = λ last s fits none below.
 pub returns-in-Over-clause-less : goal.returns-in-Over-clause-less
 returns-in-Over-clause-less g c = λ same.
     let old = c.args.running.now in
-    let most = again_of (outcome_of c.args.outcome) + 2 * places_left c.in-Some.run' in
+    let most = again_of (outcome_of c.args.outcome) + begins_left c.in-Some.run' in
     let less = subst (λ l. left_to_run l c.go_on.new.run ≤ most) c.in-Over.is
     (c.in_ok-last.ensures.less same) in
-    let code = ap places_in c.in-Some.is in
+    let code = ap begins_in c.in-Some.is in
     end_less (parts_of old) c.end_part-in-Over.result c.in-Over.last c.end_part-in-Over.new.self
     (again_of (outcome_of c.args.outcome) + rest_of old) c.end_part-in-Over.ensures
     (omega (arith, less, code))
@@ -59,12 +58,12 @@ returns-in-Has-clause-goes_on g c = λ last s fits none below.
 
 pub returns-in-Has-clause-less : goal.returns-in-Has-clause-less
 returns-in-Has-clause-less g c = λ same.
-    let most = again_of (outcome_of c.args.outcome) + 2 * places_left c.in-Some.run' in
+    let most = again_of (outcome_of c.args.outcome) + begins_left c.in-Some.run' in
     let less = subst (λ l. left_to_run l c.go_on.new.run ≤ most) c.in-Has.is
     (c.in_ok-last.ensures.less same) in
     let above = subst (λ l. IsAbove l (stack c.args.running.now.frames) (stack c.go_on.new.frames))
     c.in-Has.is c.in_ok-last.ensures.above in
-    let code = ap places_in c.in-Some.is in
+    let code = ap begins_in c.in-Some.is in
     omega (arith, less, above.0, code)
 
 pub returns-in-Has-clause-falls : goal.returns-in-Has-clause-falls
@@ -98,10 +97,10 @@ returns-in-Begins-clause-goes_on g c = λ last s fits none below.
 
 pub returns-in-Begins-clause-less : goal.returns-in-Begins-clause-less
 returns-in-Begins-clause-less g c = λ same.
-    let most = again_of (outcome_of c.args.outcome) + 2 * places_left c.in-Some.run' in
+    let most = again_of (outcome_of c.args.outcome) + begins_left c.in-Some.run' in
     let less = subst (λ l. left_to_run l c.go_on.new.run ≤ most) c.in-Begins.is
     (c.in_ok-last.ensures.less same) in
     let above = subst (λ l. IsAbove l (stack c.args.running.now.frames) (stack c.go_on.new.frames))
     c.in-Begins.is c.in_ok-last.ensures.above in
-    let code = ap places_in c.in-Some.is in
+    let code = ap begins_in c.in-Some.is in
     omega (arith, less, ap words_in above, code)

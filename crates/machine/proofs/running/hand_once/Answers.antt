@@ -1,9 +1,9 @@
-use Rattle.std.proofs.Common.{◌+◌, ap, subst, arith}
-use Rattle.machine.specs.Below.{rest_of}
-use Rattle.machine.specs.Frames.{onward_of, stack, weight, words_in}
+use Rattle.std.proofs.Common.{◌+◌, ◌*◌, ap, subst, arith}
+use Rattle.machine.specs.Below.{depth, rest_of}
+use Rattle.machine.specs.Frames.{onward_of, stack, weight, weight_in, words_in}
 use Rattle.machine.specs.Phases.{IsEmptied, IsLighter, Lightens, Unwinds}
 use Rattle.machine.proofs.Machines.{on_ok}
-use Rattle.machine.proofs.Below.{goes_on_from, less_more, stays_falls}
+use Rattle.machine.proofs.Below.{falls_to_more, goes_on_from, less_more}
 use Rattle.steps.proofs.Leads.Silent.{same_goes, then_goes}
 use Rattle.state.specs.Budget.{again_of}
 use Rattle.state.specs.Prelude.{outcome_of}
@@ -64,11 +64,11 @@ returns-in_ok-enter-in-Enters-clause-falls g c = λ same.
     c.args.state.now.left) c.in-Enters.is c.in_ok-next.ensures.lightens in
     let lighter = subst (λ u. IsLighter u frames (weight (stack old.frames))) c.in-Enters.is
     c.in_ok-next.ensures.lighter in
-    stays_falls c.in_ok-enter-in-Enters.field-0 old
-    (record old { frames = c.unwind.new.frames; parsed = c.unwind.new.parsed }) new
+    falls_to_more c.in_ok-enter-in-Enters.field-0 new
+    (2 * weight_in c.in-Enters.it + depth (record old { frames = c.unwind.new.frames })) (depth old)
+    (omega (arith, lighter))
     (c.in_ok-enter-in-Enters.ensures.falls
     (omega (arith, same, light.2, c.in_ok-enter-in-Enters.ensures.left)))
-    (omega (arith, lighter))
 
 pub returns-in-Has-clause-goes_on : goal.returns-in-Has-clause-goes_on
 returns-in-Has-clause-goes_on g c = λ last s fits below.

@@ -1,7 +1,7 @@
 use Rattle.std.proofs.Common.{◌≡◌, ◌∙◌, ◌-◌, ◌∷◌, drop, length, take, None, Some, MatchOption, refl, subst, sym, ap, rules, arith}
 use Rattle.commands.proofs.Words.{no_word}
-use Rattle.control.specs.Commands.{does, named}
-use Rattle.control.specs.View.{control_of}
+use Rattle.nesting.specs.Commands.{does, named}
+use Rattle.nesting.specs.View.{control_of}
 use Rattle.machine.specs.Frames.{left_of, stack}
 use Rattle.machine.specs.Phases.{Leads}
 use Rattle.steps.proofs.Named.{command_none, command_other, command_runs, other_none, taken_apart}

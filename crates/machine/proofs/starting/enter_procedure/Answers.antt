@@ -1,6 +1,6 @@
 use Rattle.std.proofs.Common.{◌∷◌, refl, subst}
-use Rattle.bodies.specs.View.{IsCalled}
-use Rattle.control.specs.View.{next_of}
+use Rattle.nesting.specs.Called.{IsCalled}
+use Rattle.nesting.specs.View.{next_of}
 use Rattle.machine.specs.Frames.{stack}
 use Rattle.steps.proofs.Named.{command_calls}
 use Rattle.machine.proofs.Silent.{reaches_goes, same_left}

@@ -1,5 +1,5 @@
 use Rattle.std.proofs.Common.{sym, ap}
-use Rattle.control.specs.View as control
+use Rattle.nesting.specs.View as control
 use Rattle.machine.specs.Frames.{left_of, onward_of, stack}
 use Rattle.machine.proofs.Held.{held_goes}
 use Rattle.steps.proofs.Leads.Silent.{same_goes, then_goes}

@@ -1,8 +1,10 @@
-use Rattle.std.proofs.Common.{Ok, Err, ap}
+use Rattle.std.proofs.Common.{Ok, Err, ap, arith}
 use Rattle.machine.specs.Frames.{next_of}
 use Rattle.machine.specs.declared.frame.Frame.TheVariants as frame
+use Rattle.machine.proofs.Entering.{some_weight}
 use Rattle.machine.proofs.Machines.{code_passes}
 use Rattle.machine.proofs.Silent.{same_left}
+use Rattle.state.specs.Budget.{again_of}
 use Rattle.state.specs.View.{outcome_of}
 use Rattle.steps.proofs.Leads.Silent.{then_goes}
 use Rattle.machine.proofs.unwinding.code_on.Goals as goal
@@ -26,3 +28,8 @@ returns-in-Err-clause-unwinds g c = λ last frames state s fits. record {
       c.in-Err.is))
       (same_left last frames (code_passes c.args.it c.args.levels s c.in-Err.leave));
 }
+
+pub returns-in-Err-clause-lightens : goal.returns-in-Err-clause-lightens
+returns-in-Err-clause-lightens g c = λ frames state.
+    let same = ap (λ o. again_of (outcome_of o)) c.in-Err.is in
+    (omega (arith, some_weight c.args.it), omega (arith, same), omega arith)

@@ -1,5 +1,5 @@
 use Rattle.std.proofs.Common.{◌∙◌, [], ◌∷◌, Some, sym, ap}
-use Rattle.bodies.specs.Catch.{number_of}
+use Rattle.nesting.specs.Catch.{number_of}
 use Rattle.state.specs.View.{code_of}
 use Rattle.steps.specs.Handling.{led, with_code}
 use Rattle.steps.specs.Moves.{jumping}

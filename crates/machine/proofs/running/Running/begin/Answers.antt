@@ -10,9 +10,9 @@ use Rattle.machine.proofs.running.Running.begin.Goals as goal
 
 pub returns : goal.returns
 returns g c =
-    code_whole c.in_ok-tree.tree c.args.text.now c.in_ok-tree.ensures.tree _ c.begin-run.result refl
+    code_whole c.in_ok-tree.tree c.args.text.now c.in_ok-tree.ensures.tree _ c.in_ok-run.run' refl
     (ap reverse c.new-2.ensures.items) (ap reverse c.new-3.ensures.items)
     (λ last. subst
-    (λ (tree : ScriptTree). Awaits last c.begin-run.result (λ s outcome.
+    (λ (tree : ScriptTree). Awaits last c.in_ok-run.run' (λ s outcome.
     and_then (on_value (meant most_levels tree.commands tree.fault) s outcome) (onward last)))
-    c.in_ok-script.ensures (c.begin-run.ensures.awaits last))
+    c.in_ok-script.ensures (c.in_ok-run.ensures.awaits last))

@@ -1,15 +1,17 @@
 use Rattle.std.proofs.Common.{◌≡◌, ◌∙◌, MatchOption, inl, inr, refl, subst, sym, ap, ⊎_elim, arith}
+use Rattle.code.specs.Doing.{are_still}
 use Rattle.runs.specs.Commands.{command}
 use Rattle.state.specs.Budget.{again_of}
 use Rattle.state.specs.Prelude.{FitsState, outcome_of}
 use Rattle.steps.specs.Goes.{here}
-use Rattle.steps.specs.Run.{HasCome, HasStopped, IsDone, IsFresh, IsIdle, IsValue}
+use Rattle.steps.specs.Run.{HasCome, HasStopped, IsDone, IsFresh, IsIdle, IsValue, StaysStill}
 use Rattle.steps.specs.View.{IsCall}
 use Rattle.steps.specs.declared.progress.Progress.TheVariants as went
 use Rattle.steps.specs.declared.run.Run.{Run}
 use Rattle.steps.proofs.AtOnce.{begun_stops, comes_after, done_stands, fewer_commands, same_commands}
 use Rattle.steps.proofs.First.{again_small, idle_stays, ticked_by}
 use Rattle.steps.proofs.Goes.{begins, begun_call}
+use Rattle.steps.proofs.Still.{stays_on}
 use Rattle.steps.proofs.run.Run.go_on.Goals as goal
 
 pub commands-init : goal.commands-init
@@ -25,6 +27,8 @@ commands-init g c = record {
   fewer = omega arith;
   onward = λ same. omega arith;
   first = λ said fresh value. inr (refl, refl, refl);
+  code = refl;
+  still = λ is. omega arith;
   again = λ same. omega arith;
 }
 
@@ -126,6 +130,10 @@ commands-preserved g c =
           (subst IsValue (sym same.1) value)) in
           omega (arith, took, same.2, c.perform.ensures.left))
           (before.first said fresh value));
+      code = c.reach_command.ensures.code ∙ before.code;
+      still = λ is.
+          absurd (subst (λ it. StaysStill it run.spot (again_of (outcome_of c.commands.outcome))) begun
+          (c.in_ok-progress.ensures.still (ap are_still before.code ∙ is)));
       again = λ same.
           let one : c.reach_command.new.state.left ≡ c.commands.state.left =
           omega (arith, same, c.in_ok-progress.ensures.left, c.perform.ensures.left, before.left) in
@@ -191,3 +199,30 @@ returns-in-None-clause-first g c = λ said fresh value still.
     (subst IsValue (sym same.1) value)) in
     absurd (omega (arith, took, same.2, still, c.perform.ensures.left)))
     (c.commands.invariant.first said fresh value)
+
+pub returns-then-ne-clause-still : goal.returns-then-ne-clause-still
+returns-then-ne-clause-still g c = λ is.
+    let progress = c.in_ok-progress.progress in
+    let new = c.stop.new.self.spot in
+    let most = again_of (outcome_of c.args.outcome) in
+    subst (λ it. StaysStill it new most) (sym c.in_ok-stop.ensures.same)
+    (stays_on progress c.reach_command.new.self.spot new (again_of (outcome_of c.commands.outcome))
+    most
+    (λ ended. ap (λ (run : Run g.row.A.Denot). run.spot.outcome) (c.stop.ensures.outcome ended))
+    (c.commands.invariant.still is)
+    (c.in_ok-progress.ensures.still (ap are_still c.commands.invariant.code ∙ is)))
+
+pub returns-then-ne-clause-code : goal.returns-then-ne-clause-code
+returns-then-ne-clause-code g c =
+    c.stop.ensures.code ∙ c.reach_command.ensures.code ∙ c.commands.invariant.code
+
+pub returns-in-None-clause-still : goal.returns-in-None-clause-still
+returns-in-None-clause-still g c = λ is.
+    let begun : c.in_ok-progress.progress ≡ went.Begins =
+    begins c.in_ok-progress.progress (sym c.ne.ensures ∙ c.if-ne.false) in
+    absurd (subst (λ it. StaysStill it c.reach_command.new.self.spot
+    (again_of (outcome_of c.commands.outcome))) begun
+    (c.in_ok-progress.ensures.still (ap are_still c.commands.invariant.code ∙ is)))
+
+pub returns-in-None-clause-code : goal.returns-in-None-clause-code
+returns-in-None-clause-code g c = c.reach_command.ensures.code ∙ c.commands.invariant.code

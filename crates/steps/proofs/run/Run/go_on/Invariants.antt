@@ -1,4 +1,5 @@
-use Rattle.std.proofs.Common.{◌≡◌, ℕ, ◌+◌, ◌*◌, ◌<◌, ◌≤◌, ◌⊎◌}
+use Rattle.std.proofs.Common.{◌≡◌, ℕ, ◌+◌, ◌*◌, ◌<◌, ◌≤◌, ◌⊎◌, true}
+use Rattle.code.specs.Doing.{are_still}
 use Rattle.runs.specs.Ending.{Over}
 use Rattle.state.specs.Budget.{again_of}
 use Rattle.state.specs.Prelude.{Dialogue, FitsState, Outcome, Status, outcome_of}
@@ -16,6 +17,9 @@ invariant-commands g l = record {
   onward : l.state.left ≡ l.fn.state.left → places_left l.self ≤ places_left l.fn.self;
   first : (said : ℕ) → IsFresh said l.fn.self → IsValue l.fn.outcome → (l.state.left < l.fn.state.left)
       ⊎ ((l.self ≡ l.fn.self) × (l.outcome ≡ l.fn.outcome) × (l.state.left ≡ l.fn.state.left));
+  code : l.self.code.value.items ≡ l.fn.self.code.value.items;
+  still : are_still l.fn.self.code.value.items ≡ true →
+      again_of (outcome_of l.outcome) ≤ again_of (outcome_of l.fn.outcome);
   again : l.state.left ≡ l.fn.state.left →
       again_of (outcome_of l.outcome) + 2 * places_left l.self
       ≤ again_of (outcome_of l.fn.outcome) + 2 * places_left l.fn.self;

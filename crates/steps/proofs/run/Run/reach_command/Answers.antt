@@ -8,12 +8,13 @@ use Rattle.steps.specs.Run.{IsIdle, IsQuiet}
 use Rattle.steps.specs.Spot.{Went}
 use Rattle.steps.specs.View.{did_of, spot_of, with_parts}
 use Rattle.steps.specs.declared.progress.Progress.TheVariants as went
-use Rattle.steps.proofs.First.{again_small, outcome_counts, places_bound, stands_still, value_idle}
+use Rattle.steps.proofs.First.{again_small, any_state, outcome_counts, places_bound, stands_still, value_idle}
 use Rattle.steps.proofs.Goes.{goes_on}
 use Rattle.steps.proofs.Handlers.{leads_nowhere}
 use Rattle.steps.proofs.Leads.Resumed.{resumes_so}
 use Rattle.steps.proofs.Measure.{command_falls}
 use Rattle.steps.proofs.Runs.{arrives_follow, same_parts}
+use Rattle.steps.proofs.Still.{outcome_stays, stays_still, still_arrives}
 use Rattle.steps.proofs.run.Run.reach_command.Goals as goal
 
 pub returns-then-ne-clause-stops : goal.returns-then-ne-clause-stops
@@ -138,3 +139,23 @@ returns-clause-again g c = λ over.
     (subst (λ items. length items ≤ c.resume.new.spot.place) (sym is_code)
     (omega (arith, past, c.resume.ensures.place))) over) in
     omega (arith, bound)
+
+pub returns-then-ne-clause-still : goal.returns-then-ne-clause-still
+returns-then-ne-clause-still g c = λ is.
+    outcome_stays c.in_ok-progress.progress c.resume.new.spot (spot_of c.args.self.now.spot)
+    (outcome_of c.args.outcome) c.in_ok-progress.ensures.does
+
+pub returns-clause-still : goal.returns-clause-still
+returns-clause-still g c = λ is.
+    let code = c.args.self.now.code.value.items in
+    let state = c.args.state.now in
+    let s = any_state in
+    let is_code : c.deref-2.result.now ≡ code = search rules in
+    let parts = with_parts c.advance.new.scopes state.procs c.advance.new.left s in
+    let from = with_parts state.scopes state.procs state.left s in
+    let did = did_of c.in_ok-advance.field-0 c.advance.new.spot parts in
+    let came : Arrives code (spot_of c.resume.new.spot) from did =
+    subst (λ items. Arrives items (spot_of c.resume.new.spot) from did) is_code
+    (c.in_ok-advance.ensures.arrives s) in
+    stays_still c.in_ok-advance.field-0 c.advance.new.spot parts (again_of (outcome_of c.args.outcome))
+    (still_arrives code is came)

@@ -1,7 +1,0 @@
-use Rattle.bodies.proofs.Calling.{none_left}
-use Rattle.bodies.proofs.calls.bind_rest.Goals as goal
-
-pub returns-in-len1-up : goal.returns-in-len1-up
-returns-in-len1-up g c =
-    none_left c.args.takes_rest c.args.words.now c.args.frame.now c.if-takes_rest.false
-    c.in-len1-up.len_at_least

@@ -1,0 +1,16 @@
+use Rattle.std.proofs.Common.{◌≡◌, false, rules, subst, true}
+use Rattle.code.specs.Doing.{Tells}
+use Rattle.code.proofs.Doings.{for_alone, for_loop}
+use Rattle.code.proofs.doing.for_code.Goals as goal
+
+pub returns-then-not-is_formula : goal.returns-then-not-is_formula
+returns-then-not-is_formula g c =
+    let is : c.in_ok-is_formula.is_formula ≡ false = search rules in
+    for_alone _ c.args.start c.args.test c.args.step c.args.body (subst (λ b. Tells b c.args.test) is c.in_ok-is_formula.ensures)
+    (search rules)
+
+pub returns : goal.returns
+returns g c =
+    let is : c.in_ok-is_formula.is_formula ≡ true = search rules in
+    for_loop _ c.args.start c.args.test c.args.step c.args.body (subst (λ b. Tells b c.args.test) is c.in_ok-is_formula.ensures)
+    (search rules)

@@ -1,2 +1,0 @@
-pub mod Behaves
-pub mod Lifted

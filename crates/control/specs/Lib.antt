@@ -1,3 +1,0 @@
-pub mod Control
-pub mod Commands
-pub mod View

@@ -1,0 +1,23 @@
+//! `while test body` (while(n)).
+
+ghost use Rattle.acts.specs.Raise.{Answers};
+ghost use Rattle.code.specs.Doing.{doing_of};
+ghost use Rattle.nesting.specs.Doing.{while_words};
+
+use acts::Raise;
+use acts::raise::wrong_args;
+use code::Doing;
+use std::alloc::Allocator;
+use tcltext::Value;
+
+/// Reads the words after the name.
+pub(crate) fn read<A: Allocator + Copy>(alloc: A, args: &[Value<A>]) -> Result<Doing<A>, Raise<A>>
+    ensures { Answers doing_of (while_words args.now) result }
+{
+    let [test, body] = args else {
+        return Err(wrong_args(alloc, b"while"));
+    };
+    let test = test.share()?;
+    let body = body.share()?;
+    Ok(Doing::While { test, body })
+}
